@@ -1,0 +1,145 @@
+// The book of levels.
+ghost use Rattle.std.specs.Prelude.{◌≡◌, ◌≤◌, ◌<◌, [], ◌∷◌, length, slice_get, Some};
+ghost use Rattle.level_book.specs.BookCosts.{plain};
+
+use std::marker::Model;
+
+/// The name of a level: 1 to 16 bytes, which take no memory.
+#[derive(Drop)]
+pub struct Name {
+    text: [u8; 16],
+    len: usize,
+}
+
+impl Model for Name {
+    ghost use Rattle.std.specs.Prelude.{◌≤◌, ℕ, List, take};
+
+    ghost Value = { List ℕ };
+
+    ghost view = { λ n. take n.len n.text };
+
+    ghost invariant = { λ n. (1 ≤ n.len) × (n.len ≤ 16) };
+}
+
+impl Name {
+    /// The bytes of the name.
+    pub fn bytes(&self) -> &[u8]
+        ensures value { result.now ≡ self.now }
+        ensures room { (1 ≤ length result.now) × (length result.now ≤ 16) }
+    {
+        &self.text[..self.len]
+    }
+}
+
+/// How many images a level holds at once.
+#[derive(Clone, Copy, Debug, PartialEq, Eq)]
+pub enum Slots {
+    /// So many.
+    Count(u32),
+    /// As many as there are.
+    Unlimited,
+}
+
+/// A level of storage. Costs are those of one image, in the units of the book.
+#[derive(Drop)]
+pub struct Level {
+    pub name: Name,
+    pub slots: Slots,
+    pub write: u32,
+    pub read: u32,
+}
+
+/// What steps and levels cost. Level 0 is the fastest; there are 1 to 4.
+#[derive(Drop)]
+pub struct Book {
+    forward: u32,
+    reverse: u32,
+    levels: [Level; 4],
+    count: u8,
+}
+
+impl Model for Book {
+    ghost use Rattle.std.specs.Prelude.{◌≤◌, length, take};
+    ghost use Rattle.level_book.specs.BookCosts.{BookCosts};
+
+    ghost Value = { BookCosts };
+
+    ghost view = { λ b. record { forward = b.forward; reverse = b.reverse; levels = take b.count b.levels } };
+
+    ghost invariant = { λ b. (1 ≤ b.count) × (b.count ≤ 4) × (b.count ≤ length b.levels) };
+}
+
+impl Book {
+    /// The book of one level `RAM` with so many slots, free to write and to read, and steps that cost 1.
+    pub fn plain(slots: u32) -> Book
+        requires { slots ≤ 1000000 }
+        ensures { result ≡ plain slots }
+    {
+        Book {
+            forward: 1,
+            reverse: 1,
+            levels: [ram(slots), ram(0), ram(0), ram(0)],
+            count: 1,
+        }
+    }
+
+    /// The cost of one forward step.
+    pub fn forward(&self) -> u32
+        ensures { result ≡ self.now.forward }
+    {
+        self.forward
+    }
+
+    /// The cost of one reversed step.
+    pub fn reverse(&self) -> u32
+        ensures { result ≡ self.now.reverse }
+    {
+        self.reverse
+    }
+
+    /// The number of levels.
+    pub fn levels(&self) -> u8
+        ensures value { result ≡ length self.now.levels }
+        ensures range { (1 ≤ result) × (result ≤ 4) }
+    {
+        self.count
+    }
+
+    /// The level with this number, counted from 0.
+    pub fn level(&self, k: u8) -> &Level
+        requires { k < length self.now.levels }
+        ensures { slice_get self.now.levels k ≡ Some result.now }
+    {
+        &self.levels[k as usize]
+    }
+}
+
+// A level `RAM` that costs nothing.
+fn ram(slots: u32) -> Level
+    ensures { (result.name ≡ 82 ∷ 65 ∷ 77 ∷ []) × (result.slots ≡ Slots.Count slots) × (result.write ≡ 0) × (result.read ≡ 0) }
+{
+    Level {
+        name: Name {
+            text: *b"RAM\0\0\0\0\0\0\0\0\0\0\0\0\0",
+            len: 3,
+        },
+        slots: Slots::Count(slots),
+        write: 0,
+        read: 0,
+    }
+}
+
+#[cfg(test)]
+mod tests {
+    use super::*;
+
+    #[test]
+    fn the_plain_book_has_one_free_level(rt: HostRuntime) {
+        let book = Book::plain(3);
+        assert_eq!(rt; (book.forward(), book.reverse(), book.levels()), (1, 1, 1));
+        let level = book.level(0);
+        assert_eq!(rt; level.name.bytes(), b"RAM".as_slice());
+        assert_eq!(rt; level.slots, Slots::Count(3));
+        assert_eq!(rt; (level.write, level.read), (0, 0));
+    }
+}

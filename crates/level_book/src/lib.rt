@@ -1,0 +1,9 @@
+//! The book: the levels on which images are kept, with their slots and costs. It stands on `plan_types`, and every crate
+//! that judges, makes or prices a schedule stands on it. Its `specs/` hold what those crates speak of: `Configuration`
+//! (what is held where), `Moves` (which action leads where), `Rules` (which rule an action breaks), `Valid` (which lists
+//! reverse a computation) and `CostFold` (what a list costs). Nothing here knows how a configuration is kept in memory.
+#![tactic(auto)]
+
+mod book;
+
+pub use crate::book::{Book, Level, Name, Slots};

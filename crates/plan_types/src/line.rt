@@ -1,0 +1,86 @@
+// A line of text that takes no memory.
+ghost use Rattle.std.specs.Prelude.{◌≡◌, ◌+◌, ◌≤◌, List, ℕ, [], ◌++◌, length, take, decimal};
+
+use itoa::Buffer;
+use std::marker::Model;
+
+/// How many bytes a `Line` has room for.
+pub const LINE_ROOM: usize = 512;
+
+/// A text of at most 512 bytes that takes no memory.
+#[derive(Drop)]
+pub struct Line {
+    text: [u8; 512],
+    len: usize,
+}
+
+impl Model for Line {
+    ghost Value = { List ℕ };
+
+    ghost view = { λ l. take l.len l.text };
+
+    ghost invariant = { λ l. l.len ≤ 512 };
+}
+
+impl Line {
+    /// The empty line.
+    pub fn new() -> Line
+        ensures { result ≡ [] }
+    {
+        Line {
+            text: [0; 512],
+            len: 0,
+        }
+    }
+
+    /// Its bytes.
+    pub fn bytes(&self) -> &[u8]
+        ensures value { result.now ≡ self.now }
+        ensures short { length result.now ≤ 512 }
+    {
+        &self.text[..self.len]
+    }
+
+    /// Makes it empty.
+    pub fn clear(&mut self)
+        ensures { self.new ≡ [] }
+    {
+        self.len = 0;
+    }
+
+    /// Adds bytes at its end.
+    pub fn push(&mut self, piece: &[u8])
+        requires { length self.old + length piece.now ≤ 512 }
+        ensures { self.new ≡ self.old ++ piece.now }
+    {
+        let end = self.len + piece.len();
+        self.text[self.len..end].copy_from_slice(piece);
+        self.len = end;
+    }
+
+    /// Adds a number in decimal digits.
+    pub fn push_decimal(&mut self, n: u64)
+        requires { length self.old + length (decimal n) ≤ 512 }
+        ensures { self.new ≡ self.old ++ decimal n }
+    {
+        let mut digits = Buffer::new();
+        self.push(digits.format(n).as_bytes());
+    }
+}
+
+#[cfg(test)]
+mod tests {
+    use super::*;
+
+    #[test]
+    fn pieces_and_numbers_stand_one_after_the_other(rt: HostRuntime) {
+        let mut line = Line::new();
+        assert_eq!(rt; line.bytes(), b"".as_slice());
+        line.push(b"n ");
+        line.push_decimal(18446744073709551615);
+        assert_eq!(rt; line.bytes(), b"n 18446744073709551615".as_slice());
+        line.clear();
+        line.push_decimal(0);
+        assert_eq!(rt; line.bytes(), b"0".as_slice());
+    }
+}
