@@ -1,0 +1,59 @@
+// A journal of recorded input.
+ghost use Rattle.std.specs.Prelude.{◌≡◌, ◌<◌, ◌≤◌, ◌^◌, [], length, slice_get, Some};
+ghost use Rattle.std.specs.Vec.{vec_len};
+
+use std::alloc::Global;
+use std::marker::Model;
+
+/// The items of recorded input, in the order in which they are read.
+#[derive(Drop)]
+pub struct Journal {
+    items: Vec<Vec<u8>>,
+}
+
+impl Model for Journal {
+    ghost use Rattle.std.specs.Prelude.{◌≤◌, ℕ, List, map};
+    ghost use Rattle.std.specs.Vec.{vec_len};
+
+    ghost Value = { List (List ℕ) };
+
+    ghost view = { λ j. map (λ item. item.items) j.items.items };
+
+    ghost invariant = { λ j. vec_len j.items ≤ 65536 };
+}
+
+impl Journal {
+    /// The journal without items. It takes no memory.
+    pub fn none(alloc: Global) -> Journal
+        ensures { result ≡ [] }
+    {
+        Journal {
+            items: Vec::new(alloc),
+        }
+    }
+
+    /// The number of items.
+    pub fn count(&self) -> u32
+        ensures { result ≡ length self.now }
+    {
+        self.items.len() as u32
+    }
+
+    /// The bytes of the item with this index, counted from 0.
+    pub fn item(&self, index: u32) -> &[u8]
+        requires { index < length self.now }
+        ensures { slice_get self.now index ≡ Some result.now }
+    {
+        self.items[index as usize].as_slice()
+    }
+}
+
+#[cfg(test)]
+mod tests {
+    use super::*;
+
+    #[test]
+    fn the_journal_without_items_has_none(rt: HostRuntime) {
+        assert_eq!(rt; Journal::none(rt.alloc()).count(), 0);
+    }
+}

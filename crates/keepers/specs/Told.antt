@@ -1,0 +1,37 @@
+-- What an object tells of its content, which is its own choice: it tells it always or never.
+use Rattle.std.specs.Prelude.{◌≡◌, ℕ, List, [], ◌++◌, take, Option, None, Some, unwrap_or}
+use Rattle.std.specs.Ordering.{nat_cmp}
+use Rattle.std.specs.Cmp.Lexicographic.{slice_cmp}
+use Rattle.std.specs.FinMap as finmap
+
+-- the images in slots
+abbrev pub Images : Type 0
+Images = finmap.FinMap nat_cmp (List ℕ)
+
+-- inputs by their names
+abbrev pub Files : Type 0
+Files = finmap.FinMap (slice_cmp nat_cmp) (List ℕ)
+
+-- Where the object told before, it tells now, and what it tells is related so. Where it told nothing, it tells nothing.
+abbrev pub Tells : {A : Type 0} → Option A → Option A → (A → A → Type 0) → Type 0
+Tells None None related = Unit {0}
+Tells (Some old) (Some new) related = related old new
+Tells None (Some new) related = ⊥
+Tells (Some old) None related = ⊥
+
+-- a fact about what is told, where it is told
+abbrev pub WhereTold : {A : Type 0} → Option A → (A → Type 0) → Type 0
+WhereTold None P = Unit {0}
+WhereTold (Some told) P = P told
+
+-- the image in a slot; an empty slot counts as no bytes
+abbrev pub image_in : Images → ℕ → List ℕ
+image_in images slot = unwrap_or (finmap.get images slot) []
+
+-- all slots but this one hold what they held
+abbrev pub SameButAt : ℕ → Images → Images → Type 0
+SameButAt slot old new = (other : ℕ) → (other ≡ slot → ⊥) → finmap.get new other ≡ finmap.get old other
+
+-- a prefix of the piece was added
+abbrev pub AddsPrefix : List ℕ → List ℕ → List ℕ → Type 0
+AddsPrefix piece old new = (k : ℕ) × (new ≡ old ++ take k piece)

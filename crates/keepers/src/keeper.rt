@@ -1,0 +1,75 @@
+// Where images are kept.
+ghost use Rattle.std.specs.Prelude.{◌≡◌, ◌⊎◌, ℕ, ◌<◌, ◌≤◌, take, Option, Err, OnOk, OnErr};
+ghost use Rattle.std.specs.Vec.{vec_len, vec_capacity};
+ghost use Rattle.std.specs.FinMap as finmap;
+ghost use Rattle.keepers.specs.Counts.{Rose, raised};
+ghost use Rattle.keepers.specs.Told.{Images, Tells, WhereTold, image_in, SameButAt};
+
+use thiserror::Error;
+
+/// Why a keeper refuses a call.
+#[derive(Clone, Copy, Debug, PartialEq, Eq, Error)]
+pub enum KeepFault {
+    /// The storage failed.
+    #[error("the storage failed")]
+    Failed,
+    /// There was no memory.
+    #[error("out of memory")]
+    Memory,
+}
+
+/// Slots of storage, each of which holds an image or nothing.
+pub trait Keeper {
+    /// The images that it holds by their slots, where it tells.
+    ghost told: { Self → Option Images };
+    /// How many slots it has.
+    ghost slot_count: { Self → ℕ };
+    /// How often each call was made, refused calls among them.
+    ghost put_count: { Self → ℕ };
+    ghost get_count: { Self → ℕ };
+    ghost free_count: { Self → ℕ };
+    ghost fault_count: { Self → ℕ };
+
+    /// The number of slots.
+    fn slots(&self) -> u32
+        ensures { result ≡ slot_count self.now };
+
+    /// Puts an image into a slot, in place of what was there. After a refusal the slot may hold anything.
+    fn put(&mut self, slot: u32, image: &[u8]) -> Result<(), KeepFault>
+        requires { slot < slot_count self.old }
+        ensures ok { OnOk result (Tells (told self.old) (told self.new) (λ old new. new ≡ finmap.insert old slot image.now)) }
+        ensures refused { OnErr result (Tells (told self.old) (told self.new) (SameButAt slot)) }
+        ensures slots { slot_count self.new ≡ slot_count self.old }
+        ensures puts { put_count self.new ≡ raised (put_count self.old) 1 }
+        ensures gets { get_count self.new ≡ get_count self.old }
+        ensures frees { free_count self.new ≡ free_count self.old }
+        ensures later { fault_count self.old ≤ fault_count self.new }
+        ensures cause { result ≡ Err KeepFault.Failed → Rose (fault_count self.old) (fault_count self.new) };
+
+    /// Gets the first `len` bytes of the image in a slot, and no bytes where the slot is empty. After a refusal `into`
+    /// may hold anything.
+    fn get(&mut self, slot: u32, len: u32, into: &mut Vec<u8>) -> Result<(), KeepFault>
+        requires { slot < slot_count self.old }
+        ensures ok { OnOk result (WhereTold (told self.old) (λ old. into.new.items ≡ take len (image_in old slot))) }
+        ensures short { OnOk result (vec_len into.new ≤ len) }
+        ensures reserved { vec_capacity into.old ≤ vec_capacity into.new }
+        ensures same { told self.new ≡ told self.old }
+        ensures slots { slot_count self.new ≡ slot_count self.old }
+        ensures gets { get_count self.new ≡ raised (get_count self.old) 1 }
+        ensures puts { put_count self.new ≡ put_count self.old }
+        ensures frees { free_count self.new ≡ free_count self.old }
+        ensures later { fault_count self.old ≤ fault_count self.new }
+        ensures cause { result ≡ Err KeepFault.Failed → Rose (fault_count self.old) (fault_count self.new) };
+
+    /// Empties a slot. After a refusal the slot holds what it held, or nothing.
+    fn free(&mut self, slot: u32) -> Result<(), KeepFault>
+        requires { slot < slot_count self.old }
+        ensures ok { OnOk result (Tells (told self.old) (told self.new) (λ old new. new ≡ finmap.remove old slot)) }
+        ensures refused { OnErr result (Tells (told self.old) (told self.new) (λ old new. (new ≡ old) ⊎ (new ≡ finmap.remove old slot))) }
+        ensures slots { slot_count self.new ≡ slot_count self.old }
+        ensures frees { free_count self.new ≡ raised (free_count self.old) 1 }
+        ensures puts { put_count self.new ≡ put_count self.old }
+        ensures gets { get_count self.new ≡ get_count self.old }
+        ensures later { fault_count self.old ≤ fault_count self.new }
+        ensures cause { result ≡ Err KeepFault.Failed → Rose (fault_count self.old) (fault_count self.new) };
+}

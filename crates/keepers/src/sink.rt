@@ -1,0 +1,28 @@
+// Where output is written.
+ghost use Rattle.std.specs.Prelude.{◌≡◌, ℕ, ◌≤◌, List, ◌++◌, take, Option, OnOk, OnErr};
+ghost use Rattle.keepers.specs.Counts.{Rose};
+ghost use Rattle.keepers.specs.Told.{Tells, AddsPrefix};
+
+use thiserror::Error;
+
+/// Why output can't be written.
+#[derive(Clone, Copy, Debug, PartialEq, Eq, Error)]
+pub enum SinkFault {
+    /// Writing failed.
+    #[error("the output can't be written")]
+    Failed,
+}
+
+/// Takes output, a piece at a time.
+pub trait Sink {
+    /// The bytes that it took, where it tells.
+    ghost told: { Self → Option (List ℕ) };
+    ghost fault_count: { Self → ℕ };
+
+    /// Adds a piece. After a refusal a prefix of the piece was added.
+    fn write(&mut self, piece: &[u8]) -> Result<(), SinkFault>
+        ensures ok { OnOk result (Tells (told self.old) (told self.new) (λ old new. new ≡ old ++ piece.now)) }
+        ensures refused { OnErr result (Tells (told self.old) (told self.new) (AddsPrefix piece.now)) }
+        ensures later { fault_count self.old ≤ fault_count self.new }
+        ensures cause { OnErr result (Rose (fault_count self.old) (fault_count self.new)) };
+}

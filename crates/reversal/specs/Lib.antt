@@ -1,0 +1,4 @@
+pub mod Command
+pub mod BookForm
+pub mod ProgramForm
+pub mod ScheduleForm

@@ -1,0 +1,4 @@
+pub mod MachineState
+pub mod Words
+pub mod StepTable
+pub mod States
