@@ -1,1 +1,2 @@
 pub mod BitsLemmas
+pub mod LevelLemmas

@@ -1,2 +1,4 @@
 pub mod Bits
 pub mod Situation
+pub mod Kept
+pub mod Verdicts

@@ -4,7 +4,7 @@
 //! mentions them. Nothing here runs a machine or reads text.
 #![tactic(auto)]
 
-
+mod config;
 mod positions;
 
-
+pub use crate::config::{Broken, Config};

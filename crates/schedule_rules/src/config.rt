@@ -1,0 +1,316 @@
+// A configuration, which action may be done at it, and what the action does to it.
+ghost use Rattle.std.specs.Prelude.{◌≡◌, ◌<◌, ◌≤◌, ℕ, ◌+◌, ◌==◌, ◌||◌, not, false, is_some, length, map, slice_index_or, nat_lt, MatchResult, IfOk, cond, Option};
+ghost use Rattle.std.specs.FinSet as set;
+ghost use Rattle.level_book.specs.BookCosts.{slots_of};
+ghost use Rattle.level_book.specs.Configuration.{start, held_on};
+ghost use Rattle.level_book.specs.Moves.{Goes};
+ghost use Rattle.level_book.specs.Rules.{rule, is_full, target};
+ghost use Rattle.schedule_rules.specs.Verdicts.{refusal};
+
+use crate::positions::Positions;
+use level_book::{Book, Slots};
+use plan_types::{Action, Dest, Keep};
+use std::alloc::{AllocError, Global};
+use std::marker::Model;
+
+/// Why an action may not be done.
+#[derive(Clone, Copy, Debug, PartialEq, Eq)]
+pub enum Broken {
+    /// It breaks the rule with this number, and no rule with a lower one. The level is that of rule 4, and else 0.
+    Rule { rule: u8, level: u8 },
+}
+
+// One level of the book: how many images it may hold, and which it holds.
+#[derive(Drop)]
+pub(crate) struct LevelHeld {
+    pub slots: Slots,
+    pub images: Positions,
+}
+
+/// What a list of actions has done so far, for a number of steps and a book. All memory is reserved at the start.
+#[derive(Drop)]
+pub struct Config {
+    steps: u32,
+    levels: Vec<LevelHeld>,
+    work: u32,
+    tape: Option<u32>,
+    reverse: u32,
+    forward_ended: bool,
+    ended: bool,
+}
+
+impl Model for Config {
+    ghost use Rattle.schedule_rules.specs.Situation.{Situation, situation_code};
+
+    ghost Value = { Situation };
+
+    ghost coded = { situation_code };
+
+    ghost use Rattle.schedule_rules.specs.Kept.{situation_of, IsKept};
+
+    ghost view = { situation_of };
+
+    ghost invariant = { IsKept };
+}
+
+impl Config {
+    /// The number of the state in work.
+    pub fn work(&self) -> u32
+        ensures { result ≡ self.now.at.work }
+    {
+        self.work
+    }
+
+    /// How many steps are still to be reversed.
+    pub fn reverse(&self) -> u32
+        ensures { result ≡ self.now.at.reverse }
+    {
+        self.reverse
+    }
+
+    /// The number of the state on the tape, if there is one.
+    pub fn taped(&self) -> Option<u32>
+        ensures { result ≡ self.now.at.tape }
+    {
+        self.tape
+    }
+
+    /// Whether EndForward was done.
+    pub fn forward_ended(&self) -> bool
+        ensures { result ≡ self.now.at.forward_ended }
+    {
+        self.forward_ended
+    }
+
+    /// Whether EndReverse was done.
+    pub fn ended(&self) -> bool
+        ensures { result ≡ self.now.at.ended }
+    {
+        self.ended
+    }
+
+    /// Whether the image of state `n` is held on a level. A level that the book doesn't have holds nothing.
+    pub fn held(&self, n: u32, level: u8) -> bool
+        ensures { result ≡ set.contains (held_on self.now.at level) n }
+    {
+        match self.levels.get(level as usize) {
+            Some(held) => held.images.contains(n),
+            None => false,
+        }
+    }
+
+    /// How many images are held on a level.
+    pub fn held_count(&self, level: u8) -> u32
+        ensures { result ≡ set.len (held_on self.now.at level) }
+    {
+        match self.levels.get(level as usize) {
+            Some(held) => held.images.count,
+            None => 0,
+        }
+    }
+
+    // Whether the book has a level.
+    fn has_level(&self, k: u8) -> bool
+        ensures { result ≡ nat_lt k (length self.now.slots) }
+    {
+        (k as usize) < self.levels.len()
+    }
+
+    // Whether a level of the book holds as many images as its slots.
+    fn is_full(&self, k: u8) -> bool
+        requires { k < length self.now.slots }
+        ensures { result ≡ is_full (slice_index_or self.now.slots k (Slots.Count 0)) (held_on self.now.at k) }
+    {
+        let level = &self.levels[k as usize];
+        match level.slots {
+            Slots::Count(slots) => slots <= level.images.count,
+            Slots::Unlimited => false,
+        }
+    }
+
+    /// Whether an action may be done, and if not, the lowest rule that it breaks. It changes nothing and takes no memory.
+    pub fn judge(&self, action: &Action) -> Result<(), Broken>
+        ensures { MatchResult result
+            (λ _. rule self.now.steps self.now.slots self.now.at action.now ≡ 0)
+            (λ broken. broken ≡ refusal self.now.steps self.now.slots self.now.at action.now) }
+    {
+        let number = if self.ended {
+            15
+        } else {
+            match *action {
+                Action::Forward { from, to, keep } => self.judge_forward(from, to, keep),
+                Action::Reverse { from, to } => self.judge_reverse(from, to),
+                Action::Copy { n, from, dest } => self.judge_transfer(n, from, dest),
+                Action::Move { n, from, dest } => self.judge_transfer(n, from, dest),
+                Action::EndForward => self.judge_end_forward(),
+                Action::EndReverse => self.judge_end_reverse(),
+            }
+        };
+        match number {
+            0 => Ok(()),
+            4 => Err(Broken::Rule {
+                rule: 4,
+                level: target(action),
+            }),
+            rule => Err(Broken::Rule { rule, level: 0 }),
+        }
+    }
+
+    // The lowest rule that a Forward breaks, 0 where it breaks none.
+    fn judge_forward(&self, from: u32, to: u32, keep: Keep) -> u8
+        requires { self.now.at.ended ≡ false }
+        ensures { result ≡ rule self.now.steps self.now.slots self.now.at (Action.Forward from to keep) }
+    {
+        if from != self.work {
+            1
+        } else if to <= from || self.steps < to {
+            2
+        } else if self.reverse < to {
+            3
+        } else {
+            match keep {
+                Keep::Nothing => 0,
+                Keep::Store(level) => self.judge_store(from, level),
+                Keep::Tape => self.judge_tape(from, to),
+            }
+        }
+    }
+
+    // The same of what a Tape adds to a Forward.
+    fn judge_tape(&self, from: u32, to: u32) -> u8
+        requires { from < to }
+        ensures { result ≡ cond (not (to == from + 1) || not (to == self.now.at.reverse)) 8 (cond (is_some self.now.at.tape) 9 0) }
+    {
+        if to - from != 1 || to != self.reverse {
+            8
+        } else if self.tape.is_some() {
+            9
+        } else {
+            0
+        }
+    }
+
+    // The same of what a Store adds.
+    fn judge_store(&self, n: u32, level: u8) -> u8
+        ensures { result ≡ cond (nat_lt level (length self.now.slots))
+            (cond (is_full (slice_index_or self.now.slots level (Slots.Count 0)) (held_on self.now.at level)) 4
+                (cond (set.contains (held_on self.now.at level) n) 5 0))
+            17 }
+    {
+        if !self.has_level(level) {
+            17
+        } else if self.is_full(level) {
+            4
+        } else if self.held(n, level) {
+            5
+        } else {
+            0
+        }
+    }
+
+    // The lowest rule that a Copy or a Move breaks.
+    fn judge_transfer(&self, n: u32, from: u8, dest: Dest) -> u8
+        requires { self.now.at.ended ≡ false }
+        ensures copy { result ≡ rule self.now.steps self.now.slots self.now.at (Action.Copy n from dest) }
+        ensures move_ { result ≡ rule self.now.steps self.now.slots self.now.at (Action.Move n from dest) }
+    {
+        match dest {
+            Dest::Work => {
+                if !self.has_level(from) {
+                    17
+                } else if !self.held(n, from) {
+                    6
+                } else {
+                    0
+                }
+            }
+            Dest::Level(to) => self.judge_to_level(n, from, to),
+        }
+    }
+
+    // The same where it goes to a level.
+    fn judge_to_level(&self, n: u32, from: u8, to: u8) -> u8
+        requires { self.now.at.ended ≡ false }
+        ensures copy { result ≡ rule self.now.steps self.now.slots self.now.at (Action.Copy n from (Dest.Level to)) }
+        ensures move_ { result ≡ rule self.now.steps self.now.slots self.now.at (Action.Move n from (Dest.Level to)) }
+    {
+        if !self.has_level(from) || !self.has_level(to) {
+            17
+        } else if to == from {
+            if self.held(n, from) { 7 } else { 6 }
+        } else if self.is_full(to) {
+            4
+        } else if self.held(n, to) {
+            5
+        } else if !self.held(n, from) {
+            6
+        } else {
+            0
+        }
+    }
+
+    // The lowest rule that a Reverse breaks.
+    fn judge_reverse(&self, from: u32, to: u32) -> u8
+        requires { self.now.at.ended ≡ false }
+        ensures { result ≡ rule self.now.steps self.now.slots self.now.at (Action.Reverse from to) }
+    {
+        if self.tape.is_none() {
+            10
+        } else if from != self.reverse || to >= from || from - to != 1 {
+            11
+        } else if !self.forward_ended {
+            12
+        } else {
+            0
+        }
+    }
+
+    // The lowest rule that EndForward breaks.
+    fn judge_end_forward(&self) -> u8
+        requires { self.now.at.ended ≡ false }
+        ensures { result ≡ rule self.now.steps self.now.slots self.now.at Action.EndForward }
+    {
+        if self.forward_ended {
+            13
+        } else if self.work != self.steps {
+            14
+        } else {
+            0
+        }
+    }
+
+    // The lowest rule that EndReverse breaks.
+    fn judge_end_reverse(&self) -> u8
+        requires { self.now.at.ended ≡ false }
+        ensures { result ≡ rule self.now.steps self.now.slots self.now.at Action.EndReverse }
+    {
+        if !self.forward_ended {
+            12
+        } else if self.reverse != 0 {
+            16
+        } else {
+            0
+        }
+    }
+}
+
+// The level to which an action adds an image, 0 where there is none.
+fn target(action: &Action) -> u8
+    ensures { result ≡ target action.now }
+{
+    match *action {
+        Action::Forward {
+            keep: Keep::Store(level),
+            ..
+        } => level,
+        Action::Copy {
+            dest: Dest::Level(level),
+            ..
+        } => level,
+        Action::Move {
+            dest: Dest::Level(level),
+            ..
+        } => level,
+        _ => 0,
+    }
+}
