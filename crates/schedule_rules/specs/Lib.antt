@@ -2,3 +2,4 @@ pub mod Bits
 pub mod Situation
 pub mod Kept
 pub mod Verdicts
+pub mod After
