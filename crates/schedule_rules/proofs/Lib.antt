@@ -1,3 +1,4 @@
 pub mod BitsLemmas
 pub mod LevelLemmas
 pub mod Moving
+pub mod EmptyLevels

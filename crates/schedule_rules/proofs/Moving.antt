@@ -210,3 +210,10 @@ unbroken steps slots c (Move n k (Level j)) d r g =
     let m = g.1 in let f = g.3 in let room = not_full _ _ f.room in grind (arith, nat_tests, room)
 unbroken steps slots c EndForward d r g = grind (arith, nat_tests)
 unbroken steps slots c EndReverse d r g = grind (arith, nat_tests)
+
+-- what a Copy or a Move to a level takes is held, where no rule is broken
+pub copied_is_held : (steps : ℕ) (slots : List Slots) (c : Configuration) (a : Action) (n k j : ℕ) → rule steps slots c a ≡ 0 → a ≡ Copy n k (Level j) → set.contains (held_on c k) n ≡ true
+copied_is_held steps slots c a n k j e is = (goes steps slots c (Copy n k (Level j)) (ap (rule steps slots c) (sym is) ∙ e)).1.there
+
+pub moved_is_held : (steps : ℕ) (slots : List Slots) (c : Configuration) (a : Action) (n k j : ℕ) → rule steps slots c a ≡ 0 → a ≡ Move n k (Level j) → set.contains (held_on c k) n ≡ true
+moved_is_held steps slots c a n k j e is = (goes steps slots c (Move n k (Level j)) (ap (rule steps slots c) (sym is) ∙ e)).1.there

@@ -1,8 +1,8 @@
 -- How a configuration is kept: the fields of `Config` as what they stand for, and what holds of them.
-use Rattle.std.specs.Prelude.{◌≡◌, ℕ, ◌+◌, ◌/◌, ◌≤◌, List, map, length}
+use Rattle.std.specs.Prelude.{◌≤◌, map}
 use Rattle.std.specs.List.{AllByRecursion}
 use Rattle.schedule_rules.specs.declared.config.Config.TheInside.{Inside}
-use Rattle.schedule_rules.specs.declared.config.LevelHeld.{LevelHeld}
+use Rattle.schedule_rules.specs.HasBits.{HasBits}
 use Rattle.schedule_rules.specs.Bits.{set_of}
 use Rattle.schedule_rules.specs.Situation.{Situation}
 
@@ -19,10 +19,6 @@ situation_of c = record {
     ended = c.ended;
   };
 }
-
--- each level has a bit for each position up to this one
-abbrev pub HasBits : ℕ → LevelHeld → Type 0
-HasBits steps level = length level.images.words.items ≡ steps / 64 + 1
 
 pub record IsKept (c : Inside) : Type 0 where
   pub most : c.steps ≤ 1000000

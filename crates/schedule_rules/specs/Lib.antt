@@ -3,3 +3,4 @@ pub mod Situation
 pub mod Kept
 pub mod Verdicts
 pub mod After
+pub mod HasBits

@@ -1,11 +1,14 @@
 // A configuration, which action may be done at it, and what the action does to it.
-ghost use Rattle.std.specs.Prelude.{◌≡◌, ◌<◌, ◌≤◌, ℕ, ◌+◌, ◌==◌, ◌||◌, not, false, is_some, length, map, slice_index_or, nat_lt, MatchResult, IfOk, cond, Option};
+ghost use Rattle.std.specs.Prelude.{◌≡◌, ◌<◌, ◌≤◌, ℕ, ◌+◌, ◌/◌, ◌==◌, ◌||◌, not, true, false, is_some, length, map, slice_index_or, nat_lt, MatchResult, IfOk, cond, Option};
 ghost use Rattle.std.specs.FinSet as set;
 ghost use Rattle.level_book.specs.BookCosts.{slots_of};
-ghost use Rattle.level_book.specs.Configuration.{start, held_on};
+ghost use Rattle.level_book.specs.Configuration.{start, held_on, with_held, without_held};
 ghost use Rattle.level_book.specs.Moves.{Goes};
 ghost use Rattle.level_book.specs.Rules.{rule, is_full, target};
+ghost use Rattle.std.specs.List.{AllByRecursion};
+ghost use Rattle.schedule_rules.specs.Bits.{set_of};
 ghost use Rattle.schedule_rules.specs.Verdicts.{refusal};
+ghost use Rattle.schedule_rules.specs.HasBits.{HasBits};
 
 use crate::positions::Positions;
 use level_book::{Book, Slots};
@@ -54,6 +57,78 @@ impl Model for Config {
 }
 
 impl Config {
+    /// The start, for a number of steps and a book.
+    pub fn new(alloc: Global, steps: u32, book: &Book) -> Result<Config, AllocError>
+        requires { steps ≤ 1000000 }
+        ensures { IfOk result (λ config. config ≡ record { steps = steps; slots = slots_of book.now; at = start steps (slots_of book.now) }) }
+    {
+        Ok(Config {
+            steps,
+            levels: empty_levels(alloc, steps, book)?,
+            work: 0,
+            tape: None,
+            reverse: steps,
+            forward_ended: false,
+            ended: false,
+        })
+    }
+
+    /// Does an action that `judge` allows. It takes no memory.
+    pub fn take(&mut self, action: &Action)
+        requires { rule self.old.steps self.old.slots self.old.at action.now ≡ 0 }
+        ensures goes { Goes self.old.steps self.old.slots self.old.at action.now self.new.at }
+        ensures steps { self.new.steps ≡ self.old.steps }
+        ensures slots { self.new.slots ≡ self.old.slots }
+    {
+        let _levels = &self.levels;
+        match *action {
+            Action::Forward { from, to, keep } => {
+                match keep {
+                    Keep::Nothing => {}
+                    Keep::Store(level) => self.hold(from, level),
+                    Keep::Tape => self.tape = Some(from),
+                }
+                self.work = to;
+            }
+            Action::Reverse { to, .. } => {
+                self.reverse = to;
+                self.tape = None;
+            }
+            Action::Copy { n, dest, .. } => match dest {
+                Dest::Work => self.work = n,
+                Dest::Level(level) => self.hold(n, level),
+            },
+            Action::Move { n, from, dest } => {
+                self.release(n, from);
+                match dest {
+                    Dest::Work => self.work = n,
+                    Dest::Level(level) => self.hold(n, level),
+                }
+            }
+            Action::EndForward => self.forward_ended = true,
+            Action::EndReverse => self.ended = true,
+        }
+    }
+
+    // Holds the image of state `n` on a level that doesn't hold it.
+    fn hold(&mut self, n: u32, level: u8)
+        requires level { level < length self.old.slots }
+        requires position { n / 64 ≤ self.old.steps / 64 }
+        requires new { set.contains (held_on self.old.at level) n ≡ false }
+        ensures { self.new ≡ record self.old { at = with_held self.old.at n level } }
+    {
+        self.levels[level as usize].images.insert(n);
+    }
+
+    // Holds the image of state `n` on a level no longer.
+    fn release(&mut self, n: u32, level: u8)
+        requires level { level < length self.old.slots }
+        requires there { set.contains (held_on self.old.at level) n ≡ true }
+        ensures { self.new ≡ record self.old { at = without_held self.old.at n level } }
+    {
+        self.levels[level as usize].images.remove(n);
+    }
+
     /// The number of the state in work.
     pub fn work(&self) -> u32
         ensures { result ≡ self.now.at.work }
@@ -292,6 +367,24 @@ impl Config {
             0
         }
     }
+}
+
+// The levels of a book, each with room for the positions up to `steps`, and without images.
+fn empty_levels(alloc: Global, steps: u32, book: &Book) -> Result<Vec<LevelHeld>, AllocError>
+    requires { steps ≤ 1000000 }
+    ensures slots { IfOk result (λ levels. map (λ level. level.slots) levels.items ≡ slots_of book.now) }
+    ensures held { IfOk result (λ levels. map (λ level. set_of level.images.words.items) levels.items ≡ map (λ _. set.empty) (slots_of book.now)) }
+    ensures bits { IfOk result (λ levels. AllByRecursion (HasBits steps) levels.items) }
+{
+    let count = book.levels();
+    let mut levels = Vec::with_capacity(alloc, count as usize)?;
+    for k in 0..count {
+        levels.push(LevelHeld {
+            slots: book.level(k).slots,
+            images: Positions::new(alloc, steps)?,
+        })?;
+    }
+    Ok(levels)
 }
 
 // The level to which an action adds an image, 0 where there is none.
