@@ -44,11 +44,11 @@ level_changed c s k old images now view within is became =
     let slots = map-set_same (λ (level : LevelHeld). level.slots) c.levels.items k new old (ap (λ (level : LevelHeld). level.slots) is) in
     let held = map-set images_of c.levels.items k new ∙ ap (put (map images_of c.levels.items) k) became in
     let kept : situation_of (record c { levels = with_item c.levels k new }) ≡ record (situation_of c) { at = record (situation_of c).at { held = put (map images_of c.levels.items) k now } } =
-        λ i. record {
-          steps = c.steps;
-          slots = slots i;
-          at = record { work = c.work; held = held i; tape = c.tape; reverse = c.reverse; forward_ended = c.forward_ended; ended = c.ended };
-        } in
+    λ i. record {
+      steps = c.steps;
+      slots = slots i;
+      at = record { work = c.work; held = held i; tape = c.tape; reverse = c.reverse; forward_ended = c.forward_ended; ended = c.ended };
+    } in
     kept ∙ ap (λ (s : Situation). record s { at = record s.at { held = put s.at.held k now } }) view
 
 one_of : (levels : List LevelHeld) (k : ℕ) → k < length levels → LevelHeld

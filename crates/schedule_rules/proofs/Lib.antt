@@ -2,3 +2,5 @@ pub mod BitsLemmas
 pub mod LevelLemmas
 pub mod Moving
 pub mod EmptyLevels
+pub mod Reaching
+pub mod Judging

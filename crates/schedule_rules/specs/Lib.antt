@@ -4,3 +4,6 @@ pub mod Kept
 pub mod Verdicts
 pub mod After
 pub mod HasBits
+pub mod Reached
+pub mod Judged
+pub mod Laws

@@ -207,7 +207,8 @@ impl Config {
     pub fn judge(&self, action: &Action) -> Result<(), Broken>
         ensures { MatchResult result
             (λ _. rule self.now.steps self.now.slots self.now.at action.now ≡ 0)
-            (λ broken. broken ≡ refusal self.now.steps self.now.slots self.now.at action.now) }
+            (λ broken. (0 < rule self.now.steps self.now.slots self.now.at action.now)
+            × (broken ≡ refusal self.now.steps self.now.slots self.now.at action.now)) }
     {
         let number = if self.ended {
             15
@@ -269,7 +270,7 @@ impl Config {
     fn judge_store(&self, n: u32, level: u8) -> u8
         ensures { result ≡ cond (nat_lt level (length self.now.slots))
             (cond (is_full (slice_index_or self.now.slots level (Slots.Count 0)) (held_on self.now.at level)) 4
-                (cond (set.contains (held_on self.now.at level) n) 5 0))
+            (cond (set.contains (held_on self.now.at level) n) 5 0))
             17 }
     {
         if !self.has_level(level) {

@@ -5,6 +5,9 @@
 #![tactic(auto)]
 
 mod config;
+pub mod laws;
 mod positions;
+mod whole_list;
 
 pub use crate::config::{Broken, Config};
+pub use crate::whole_list::{Verdict, check};

@@ -1,0 +1,32 @@
+-- What the definitions of moves, rules and valid lists imply.
+use Rattle.std.specs.Prelude.{◌≡◌, ◌≢◌, ◌↔◌, ℕ, ◌+◌, ◌<◌, List, length, slice_get, Some}
+use Rattle.plan_types.specs.declared.action.Action.{Action}
+use Rattle.plan_types.specs.declared.action.Action.TheVariants.{EndReverse}
+use Rattle.level_book.specs.declared.book.Slots.{Slots}
+use Rattle.level_book.specs.Configuration.{Configuration}
+use Rattle.level_book.specs.Moves.{Goes}
+use Rattle.level_book.specs.Rules.{rule}
+use Rattle.level_book.specs.Valid.{BrokenAt}
+use Rattle.schedule_rules.specs.Reached.{IsReached, IsSound}
+
+-- at a configuration that is reached, no rule is broken exactly where the action leads somewhere
+abbrev pub RulesAreMoves : ℕ → List Slots → Configuration → Action → Type 0
+RulesAreMoves steps slots c a = IsReached steps slots c → (rule steps slots c a ≡ 0) ↔ ((d : Configuration) × Goes steps slots c a d)
+
+-- an action leads to at most one configuration
+abbrev pub MovesAreUnique : ℕ → List Slots → Configuration → Action → Type 0
+MovesAreUnique steps slots c a = (d e : Configuration) → Goes steps slots c a d → Goes steps slots c a e → d ≡ e
+
+-- what is reached is sound
+abbrev pub ReachedIsSound : ℕ → List Slots → Configuration → Type 0
+ReachedIsSound steps slots c = IsReached steps slots c → IsSound steps slots c
+
+-- an action of the list is EndReverse exactly where it is the last
+abbrev pub EndReverseIsLast : List Action → Type 0
+EndReverseIsLast list = (k : ℕ) → k < length list → (slice_get list k ≡ Some EndReverse) ↔ (k + 1 ≡ length list)
+
+-- two places at which a list is broken are one, and so are the rules and the levels
+abbrev pub FirstBrokenIsUnique : ℕ → List Slots → List Action → Type 0
+FirstBrokenIsUnique steps slots list =
+    (place place' number number' level level' : ℕ) → BrokenAt steps slots list place number level → BrokenAt steps slots list place' number' level' →
+    (place ≡ place') × (number ≡ number') × (level ≡ level')

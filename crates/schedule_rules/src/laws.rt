@@ -1,0 +1,32 @@
+// Laws over the definitions of moves, rules and valid lists. Each function does nothing; its contract is the law.
+ghost use Rattle.std.specs.Prelude.{ℕ, List};
+ghost use Rattle.plan_types.specs.declared.action.Action.{Action};
+ghost use Rattle.level_book.specs.declared.book.Slots.{Slots};
+ghost use Rattle.level_book.specs.Configuration.{Configuration};
+ghost use Rattle.level_book.specs.Valid.{Valid};
+ghost use Rattle.schedule_rules.specs.Laws.{RulesAreMoves, MovesAreUnique, ReachedIsSound, EndReverseIsLast, FirstBrokenIsUnique};
+
+/// At a configuration that is reached, an action breaks no rule exactly where it leads somewhere.
+pub fn rules_are_moves()
+    ensures { (steps : ℕ) (slots : List Slots) (c : Configuration) (a : Action) → RulesAreMoves steps slots c a }
+{}
+
+/// From one configuration an action leads to at most one.
+pub fn moves_are_unique()
+    ensures { (steps : ℕ) (slots : List Slots) (c : Configuration) (a : Action) → MovesAreUnique steps slots c a }
+{}
+
+/// Every configuration that is reached is sound: each level is within its slots, and the tape holds the next step.
+pub fn reached_is_sound()
+    ensures { (steps : ℕ) (slots : List Slots) (c : Configuration) → ReachedIsSound steps slots c }
+{}
+
+/// EndReverse is the last action of a valid list, and stands nowhere else in it.
+pub fn end_reverse_is_last()
+    ensures { (steps : ℕ) (slots : List Slots) (list : List Action) → Valid steps slots list → EndReverseIsLast list }
+{}
+
+/// A list is broken at one place at most, and there by one rule.
+pub fn first_broken_is_unique()
+    ensures { (steps : ℕ) (slots : List Slots) (list : List Action) → FirstBrokenIsUnique steps slots list }
+{}
