@@ -36,13 +36,13 @@ take_one_more xs i x e = ap (λ n. take n xs) (add-one i) ∙ by_suc xs i x e
     by_suc (y ∷ ys) zero x e = ap (λ z. z ∷ []) (some_is y x e)
     by_suc (y ∷ ys) (suc i) x e = ap (λ zs. y ∷ zs) (by_suc ys i x e)
 
--- no rule is broken in a valid list by an action whose front leads there
-kept_by_valid : (steps : ℕ) (slots : List Slots) (list : List Action) (i : ℕ) (c : Configuration) (a : Action) → slice_get list i ≡ Some a →
-    Leads steps slots (start steps slots) (take i list) c → Valid steps slots list → rule steps slots c a ≡ 0
-kept_by_valid steps slots list i c a at leads valid =
+-- no rule is broken by an action that a list takes on its way
+pub kept_on_the_way : (steps : ℕ) (slots : List Slots) (list : List Action) (i : ℕ) (c : Configuration) (a : Action) (last : Configuration) → slice_get list i ≡ Some a →
+    Leads steps slots (start steps slots) (take i list) c → Leads steps slots (start steps slots) list last → rule steps slots c a ≡ 0
+kept_on_the_way steps slots list i c a last at leads whole =
     let parts = around list i a at in
-    let P : List Action → Type 0 = λ xs. Leads steps slots (start steps slots) xs valid.0 in
-    let apart = leads_apart steps slots (start steps slots) (take i list) (a ∷ parts.0) valid.0 (subst P parts.1 valid.1) in
+    let P : List Action → Type 0 = λ xs. Leads steps slots (start steps slots) xs last in
+    let apart = leads_apart steps slots (start steps slots) (take i list) (a ∷ parts.0) last (subst P parts.1 whole) in
     let same = leads_unique steps slots (start steps slots) (take i list) apart.0 c apart.1 leads in
     let Q : Configuration → Type 0 = λ m. Goes steps slots m a apart.2.0 in
     unbroken steps slots c a apart.2.0 (sound_on steps slots (start steps slots) (take i list) c (sound_start steps slots) leads).within (subst Q same apart.2.1)
@@ -62,7 +62,7 @@ broken_here steps slots list i c a within at leads breaks =
         leads = subst P place leads;
         breaks = subst Q (sym at ∙ ap (slice_get list) place) (refl, breaks, refl);
       },
-      λ valid. absurd (omega (arith, kept_by_valid steps slots list i c a at leads valid)),
+      λ valid. absurd (omega (arith, kept_on_the_way steps slots list i c a valid.0 at leads valid.1)),
     )
 
 -- a list that ends without EndReverse is broken one past its end

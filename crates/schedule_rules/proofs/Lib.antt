@@ -4,3 +4,4 @@ pub mod Moving
 pub mod EmptyLevels
 pub mod Reaching
 pub mod Judging
+pub mod Lawful
