@@ -12,7 +12,7 @@ use std::marker::Model;
 /// The bytes of a page.
 pub const PAGE: usize = 4096;
 
-/// Memory of mapped pages.
+/// Memory of mapped pages. Only `map` and `clone` take memory.
 #[derive(Drop)]
 pub struct Pages {
     numbers: Vec<u32>,
@@ -38,9 +38,10 @@ impl Clone for Pages {
     ghost is_clone = { λ p q. q ≡ p };
 
     fn clone(&self) -> Result<Pages, AllocError> {
+        let alloc = *self.bytes.allocator();
         Ok(Pages {
-            numbers: self.numbers.clone()?,
-            bytes: self.bytes.clone()?,
+            numbers: Vec::from_slice(alloc, &self.numbers)?,
+            bytes: Vec::from_slice(alloc, &self.bytes)?,
         })
     }
 }
@@ -110,5 +111,74 @@ impl Pages {
     {
         let start = index as usize * PAGE;
         self.bytes[start..start + PAGE].copy_from_slice(bytes);
+    }
+}
+
+#[cfg(test)]
+mod tests {
+    use super::*;
+    use std::test::Fail;
+
+    // Pages 1, 2 and the last: 2 follows on 1, and the address after the last page is 0, which is not mapped.
+    fn three_pages(alloc: Global) -> Result<Pages, AllocError>
+        ensures { IfOk result (λ p. length (page_numbers p) ≡ 3) }
+    {
+        let numbers = [1, 2, 0xFFFFF];
+        Pages::map(alloc, &numbers)
+    }
+
+    // The bytes 0 to 15 at either end of the page, and zeros between them.
+    fn counted() -> [u8; 4096] {
+        let mut bytes = [0; 4096];
+        for i in 0..16u8 {
+            bytes[i as usize] = i;
+            bytes[4080 + i as usize] = i;
+        }
+        bytes
+    }
+
+    #[test]
+    fn words_are_little_endian_and_may_lie_in_two_pages(rt: HostRuntime) -> Result<(), Fail> {
+        let mut pages = three_pages(rt.alloc())?;
+        let bytes = counted();
+        pages.set_page(0, &bytes);
+        pages.set_page(1, &bytes);
+        assert_eq!(rt; pages.load32(0x1004), Some(0x07060504));
+        assert_eq!(rt; pages.load32(0x1FFC), Some(0x0F0E0D0C));
+        assert_eq!(rt; pages.load32(0x1FFE), Some(0x01000F0E));
+        assert_eq!(rt; pages.load32(0x2FFE), None);
+        assert_eq!(rt; pages.load32(0xFFE), None);
+        assert_eq!(rt; pages.load32(0xFFFFF000), Some(0));
+        assert_eq!(rt; pages.load32(0xFFFFFFFE), None);
+        Ok(())
+    }
+
+    #[test]
+    fn a_word_at_the_end_of_memory_goes_on_at_its_start(rt: HostRuntime) -> Result<(), Fail> {
+        let numbers = [0, 0xFFFFF];
+        let mut pages = Pages::map(rt.alloc(), &numbers)?;
+        let bytes = counted();
+        pages.set_page(0, &bytes);
+        pages.set_page(1, &bytes);
+        assert_eq!(rt; pages.load32(0xFFFFFFFD), Some(0x000F0E0D));
+        Ok(())
+    }
+
+    #[test]
+    fn pages_are_read_and_copied_whole(rt: HostRuntime) -> Result<(), Fail> {
+        let mut pages = three_pages(rt.alloc())?;
+        let bytes = counted();
+        pages.set_page(2, &bytes);
+        assert_eq!(rt; pages.count(), 3);
+        assert_eq!(rt; pages.number(2), 0xFFFFF);
+        assert!(rt; pages.page(2) == bytes.as_slice());
+        let twin = pages.clone()?;
+        let zeros = [0; 4096];
+        pages.set_page(2, &zeros);
+        assert_eq!(rt; pages.load32(0xFFFFF001), Some(0));
+        assert_eq!(rt; twin.load32(0xFFFFF001), Some(0x04030201));
+        pages.copy_from(&twin);
+        assert_eq!(rt; pages.load32(0xFFFFF001), Some(0x04030201));
+        Ok(())
     }
 }
