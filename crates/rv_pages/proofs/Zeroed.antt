@@ -17,14 +17,19 @@ zeros_numbered a (suc n) = ap (λ es. (a, 0) ∷ es) (zeros_numbered (a + 1) n)
 joined : {es fs gs hs : List (ℕ × ℕ)} → es ≡ fs → gs ≡ hs → es ++ gs ≡ fs ++ hs
 joined p q = λ i. p i ++ q i
 
+-- of so many zeros in a row, the first page and the pages after it
+first_zeros : (a size all : ℕ) → size ≤ all → zeros_from a size ≡ enumerate_from a (take size (replicate all 0))
+first_zeros a size all h = zeros_numbered a size ∙ ap (enumerate_from a) (sym (take-replicate size all 0 h))
+
+later_zeros : (size : ℕ) (numbers : List ℕ) (all : ℕ) → entries_kept size numbers (replicate (all - size) 0) ≡ entries_kept size numbers (drop size (replicate all 0))
+later_zeros size numbers all = ap (entries_kept size numbers) (sym (drop-replicate size all 0))
+
 zeros_kept : (size : ℕ) (numbers : List ℕ) (all : ℕ) → all ≡ size * length numbers → flat_map (λ page. zeros_from (page * size) size) numbers ≡ entries_kept size numbers (replicate all 0)
 zeros_kept size [] all e = refl
 zeros_kept size (n ∷ ns) all e =
     let long : size ≤ all = grind arith in
     let rest : all - size ≡ size * length ns = grind arith in
-    let front : take size (replicate all 0) ≡ replicate size 0 = take-replicate size all 0 long in
-    let back : drop size (replicate all 0) ≡ replicate (all - size) 0 = drop-replicate size all 0 in
-    joined (zeros_numbered (n * size) size ∙ ap (enumerate_from (n * size)) (sym front)) (zeros_kept size ns (all - size) rest ∙ ap (entries_kept size ns) (sym back))
+    joined (first_zeros (n * size) size all long) (zeros_kept size ns (all - size) rest ∙ later_zeros size ns all)
 
 pub kept_zeros : (numbers : List ℕ) → AreKept numbers (replicate (4096 * length numbers) 0) → memory_kept numbers (replicate (4096 * length numbers) 0) ≡ zeroed numbers
 unfolding memory_kept zeroed
