@@ -2,3 +2,4 @@ pub mod MachineState
 pub mod Words
 pub mod StepTable
 pub mod States
+pub mod Meaning

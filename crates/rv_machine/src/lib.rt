@@ -4,6 +4,10 @@
 //! has is one that it stepped to, copied, or was given.
 #![tactic(auto)]
 
+mod instruction;
 mod status;
+mod steps;
 
+pub use crate::instruction::is_instruction;
 pub use crate::status::Status;
+pub use crate::steps::Steps;
