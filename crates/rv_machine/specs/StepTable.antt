@@ -12,16 +12,16 @@ use Rattle.rv_machine.specs.Words.{rd, rs1, rs2, imm_i, imm_u, is_u, is_i, is_r}
 -- word of no row is illegal.
 abbrev pub value_of : ℕ → ℕ → ℕ → Option ℕ
 value_of w a b =
-    if is_u 0b0110111 w then Some (imm_u w)                                    -- LUI
-    else (if is_i 0b0010011 0b000 w then Some (wrapped (a + imm_i w))          -- ADDI
-    else (if is_i 0b0010011 0b100 w then Some (bit_xor a (imm_i w))            -- XORI
-    else (if is_i 0b0010011 0b110 w then Some (bit_or a (imm_i w))             -- ORI
-    else (if is_i 0b0010011 0b111 w then Some (bit_and a (imm_i w))            -- ANDI
-    else (if is_r 0b0110011 0b000 0b0000000 w then Some (wrapped (a + b))      -- ADD
-    else (if is_r 0b0110011 0b000 0b0100000 w then Some (wrapped (a + 2 ^ 32 - b)) -- SUB
-    else (if is_r 0b0110011 0b100 0b0000000 w then Some (bit_xor a b)          -- XOR
-    else (if is_r 0b0110011 0b110 0b0000000 w then Some (bit_or a b)           -- OR
-    else (if is_r 0b0110011 0b111 0b0000000 w then Some (bit_and a b)          -- AND
+    if is_u 0b0110111 w then Some (imm_u w)  -- LUI
+    else (if is_i 0b0010011 0b000 w then Some (wrapped (a + imm_i w))  -- ADDI
+    else (if is_i 0b0010011 0b100 w then Some (bit_xor a (imm_i w))  -- XORI
+    else (if is_i 0b0010011 0b110 w then Some (bit_or a (imm_i w))  -- ORI
+    else (if is_i 0b0010011 0b111 w then Some (bit_and a (imm_i w))  -- ANDI
+    else (if is_r 0b0110011 0b000 0b0000000 w then Some (wrapped (a + b))  -- ADD
+    else (if is_r 0b0110011 0b000 0b0100000 w then Some (wrapped (a + 2 ^ 32 - b))  -- SUB
+    else (if is_r 0b0110011 0b100 0b0000000 w then Some (bit_xor a b)  -- XOR
+    else (if is_r 0b0110011 0b110 0b0000000 w then Some (bit_or a b)  -- OR
+    else (if is_r 0b0110011 0b111 0b0000000 w then Some (bit_and a b)  -- AND
     else None)))))))))
 
 -- whether a word is one of the instructions that are built so far

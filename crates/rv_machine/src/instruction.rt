@@ -74,15 +74,16 @@ fn upper_immediate(word: u32) -> u32
 impl Instruction {
     /// The instruction that a word says, or `None` for a word that says none of them.
     pub(crate) fn decode(word: u32) -> Option<Instruction>
-        ensures value {
-            (x : List ℕ) → option_map (λ i. written_by i x) result ≡ value_of word (slice_index x (rs1_of word)) (slice_index x (rs2_of word))
-        }
+        ensures value { (x : List ℕ) → option_map (λ i. written_by i x) result ≡ value_of word (slice_index x (rs1_of word)) (slice_index x (rs2_of word)) }
         ensures destination { IfSome result (λ i. destination_of i ≡ rd_of word) }
         ensures registers { IfSome result NamesRegisters }
     {
         let (rd, rs1, rs2, imm) = (rd(word), rs1(word), rs2(word), immediate(word));
         match (opcode(word), funct3(word), funct7(word)) {
-            (0b0110111, _, _) => Some(Instruction::Lui { rd, imm: upper_immediate(word) }),
+            (0b0110111, _, _) => Some(Instruction::Lui {
+                rd,
+                imm: upper_immediate(word),
+            }),
             (0b0010011, 0b000, _) => Some(Instruction::Addi { rd, rs1, imm }),
             (0b0010011, 0b100, _) => Some(Instruction::Xori { rd, rs1, imm }),
             (0b0010011, 0b110, _) => Some(Instruction::Ori { rd, rs1, imm }),

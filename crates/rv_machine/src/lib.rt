@@ -5,9 +5,13 @@
 #![tactic(auto)]
 
 mod instruction;
+mod state;
 mod status;
+mod stepping;
 mod steps;
 
 pub use crate::instruction::is_instruction;
+pub use crate::state::State;
 pub use crate::status::Status;
+pub use crate::stepping::step;
 pub use crate::steps::Steps;

@@ -30,10 +30,7 @@ impl<L: Ledger> Steps<L> {
         ensures { result ≡ 0 }
     {
         let (book, share) = blank.open::<L>();
-        Steps {
-            book,
-            share,
-        }
+        Steps { book, share }
     }
 
     pub(crate) fn tick(&mut self)
