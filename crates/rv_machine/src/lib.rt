@@ -5,12 +5,14 @@
 #![tactic(auto)]
 
 mod instruction;
+mod raw;
 mod state;
 mod status;
 mod stepping;
 mod steps;
 
 pub use crate::instruction::is_instruction;
+pub use crate::raw::load_raw;
 pub use crate::state::State;
 pub use crate::status::Status;
 pub use crate::stepping::step;

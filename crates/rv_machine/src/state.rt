@@ -1,11 +1,11 @@
 // A state of the machine.
-ghost use Rattle.std.specs.Prelude.{◌≡◌, ◌<◌, IfOk};
+ghost use Rattle.std.specs.Prelude.{◌≡◌, ◌<◌};
 ghost use Rattle.rv_pages.specs.Memory.{page_numbers};
 ghost use Rattle.rv_machine.specs.StepTable.{with_register};
 
 use crate::status::Status;
 use rv_pages::Pages;
-use std::alloc::{AllocError, Global};
+use std::alloc::AllocError;
 use std::marker::Model;
 
 /// A state of the machine: all that its next step depends on, beside the recorded input.
@@ -40,6 +40,22 @@ impl Model for State {
     ghost invariant = { IsState };
 }
 
+impl Clone for State {
+    ghost is_clone = { λ s t. t ≡ s };
+
+    fn clone(&self) -> Result<State, AllocError> {
+        Ok(State {
+            pc: self.pc,
+            x: self.x,
+            status: self.status,
+            item: self.item,
+            offset: self.offset,
+            written: self.written,
+            pages: self.pages.clone()?,
+        })
+    }
+}
+
 impl State {
     /// Makes this state the other one. It takes no memory: the pages are those that are mapped already.
     pub fn copy_from(&mut self, other: &State)
@@ -63,20 +79,5 @@ impl State {
         if register != 0 {
             self.x[register as usize] = value;
         }
-    }
-
-    /// A state of its own that is the same.
-    pub fn duplicate(&self, alloc: Global) -> Result<State, AllocError>
-        ensures { IfOk result (λ s. s ≡ self.now) }
-    {
-        Ok(State {
-            pc: self.pc,
-            x: self.x,
-            status: self.status,
-            item: self.item,
-            offset: self.offset,
-            written: self.written,
-            pages: self.pages.duplicate(alloc)?,
-        })
     }
 }
