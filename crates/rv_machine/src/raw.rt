@@ -1,6 +1,6 @@
 // The start of a program of raw words.
-ghost use Rattle.std.specs.Prelude.{◌≡◌, ◌≤◌, ◌%◌, length, IfOk};
-ghost use Rattle.rv_machine.specs.States.{raw_start};
+ghost use Rattle.std.specs.Prelude.{◌≡◌, ℕ, ◌<◌, ◌≤◌, ◌%◌, length, slice_index, IfOk};
+ghost use Rattle.rv_machine.specs.States.{raw_memory, raw_start};
 
 use crate::state::State;
 use crate::status::Status;
@@ -9,6 +9,7 @@ use std::alloc::{AllocError, Global};
 
 // The address of the first word, and that of the program's page and of the sixteen pages of the stack.
 const PROGRAM: u32 = 0x10000;
+
 const MAPPED: [u32; 17] = [
     0x10, 0xbfff0, 0xbfff1, 0xbfff2, 0xbfff3, 0xbfff4, 0xbfff5, 0xbfff6, 0xbfff7, 0xbfff8, 0xbfff9,
     0xbfffa, 0xbfffb, 0xbfffc, 0xbfffd, 0xbfffe, 0xbffff,
@@ -25,10 +26,7 @@ pub fn load_raw(alloc: Global, bytes: &[u8]) -> Result<State, AllocError>
     requires words { length bytes.now % 4 ≡ 0 }
     ensures { IfOk result (λ s. s ≡ raw_start bytes.now) }
 {
-    let mut page = [0; PAGE];
-    page[..bytes.len()].copy_from_slice(bytes);
-    let mut pages = Pages::map(alloc, &MAPPED)?;
-    pages.set_page(0, &page);
+    let pages = map_raw(alloc, bytes)?;
     let mut x = [0; 32];
     x[2] = STACK_POINTER;
     Ok(State {
@@ -40,4 +38,26 @@ pub fn load_raw(alloc: Global, bytes: &[u8]) -> Result<State, AllocError>
         written: 0,
         pages,
     })
+}
+
+// The memory of a program of raw words.
+fn map_raw(alloc: Global, bytes: &[u8]) -> Result<Pages, AllocError>
+    requires { length bytes.now ≤ 4096 }
+    ensures { IfOk result (λ p. p ≡ raw_memory bytes.now) }
+{
+    let mut pages = Pages::map(alloc, &MAPPED)?;
+    let page = first_page(bytes);
+    pages.set_page(0, &page);
+    Ok(pages)
+}
+
+// A page that begins with these bytes, and has the byte 0 from there on.
+fn first_page(bytes: &[u8]) -> [u8; PAGE]
+    requires { length bytes.now ≤ 4096 }
+    ensures bytes { (k : ℕ) → k < length bytes.now → slice_index result k ≡ slice_index bytes.now k }
+    ensures zeros { (k : ℕ) → length bytes.now ≤ k → slice_index result k ≡ 0 }
+{
+    let mut page = [0; PAGE];
+    page[..bytes.len()].copy_from_slice(bytes);
+    page
 }
