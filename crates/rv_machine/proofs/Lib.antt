@@ -1,1 +1,2 @@
 pub mod RawMemory
+pub mod Laws

@@ -1,5 +1,5 @@
 -- What the fields of a state stand for, and what is true of them.
-use Rattle.std.specs.Prelude.{◌≡◌, ℕ, ◌%◌, ◌<◌, length, slice_index}
+use Rattle.std.specs.Prelude.{◌≡◌, ◌%◌, length, slice_index}
 use Rattle.rv_machine.specs.declared.state.State.TheInside.{Inside}
 use Rattle.rv_machine.specs.MachineState.{MachineState, IsStatus}
 

@@ -1,10 +1,10 @@
 -- One step of the machine: the rows of RV32I (RISC-V unprivileged manual, "RV32I Base Integer Instruction Set") that are
 -- built so far, a line each, and the traps at a fetch, which are our own. It reads the fields of the word, and memory
 -- as a map of single bytes; it knows no variants of an instruction, and no pages.
-use Rattle.std.specs.Prelude.{ℕ, ◌+◌, ◌-◌, ◌*◌, ◌^◌, ◌==◌, Bool, true, false, cond, if◌then◌else◌, List, slice_index, slice_set, bit_and, bit_or, bit_xor, Option, Some, None, is_some}
+use Rattle.std.specs.Prelude.{ℕ, ◌+◌, ◌-◌, ◌^◌, ◌==◌, Bool, true, false, cond, if◌then◌else◌, List, slice_index, slice_set, bit_and, bit_or, bit_xor, Option, Some, None, is_some}
 use Rattle.rv_pages.specs.Memory.{wrapped, word_at}
 use Rattle.rv_machine.specs.declared.status.Status.{Status}
-use Rattle.rv_machine.specs.declared.status.Status.TheVariants.{Running, Exited, Trapped}
+use Rattle.rv_machine.specs.declared.status.Status.TheVariants.{Running, Trapped}
 use Rattle.rv_machine.specs.MachineState.{MachineState}
 use Rattle.rv_machine.specs.Words.{rd, rs1, rs2, imm_i, imm_u, is_u, is_i, is_r}
 

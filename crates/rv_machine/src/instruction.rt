@@ -6,6 +6,8 @@ ghost use Rattle.rv_machine.specs.Words.{opcode as opcode_of, funct3 as funct3_o
 ghost use Rattle.rv_machine.specs.StepTable.{value_of, is_built};
 ghost use Rattle.rv_machine.specs.Meaning.{destination_of, written_by, NamesRegisters};
 
+use Instruction::{Add, Addi, And, Andi, Lui, Or, Ori, Sub, Xor, Xori};
+
 /// An instruction with its registers, and its immediate as one of 32 bits.
 #[derive(Clone, Copy)]
 pub(crate) enum Instruction {
@@ -78,21 +80,19 @@ impl Instruction {
         ensures destination { IfSome result (λ i. destination_of i ≡ rd_of word) }
         ensures registers { IfSome result NamesRegisters }
     {
-        let (rd, rs1, rs2, imm) = (rd(word), rs1(word), rs2(word), immediate(word));
+        let (rd, rs1, rs2) = (rd(word), rs1(word), rs2(word));
+        let (imm, upper) = (immediate(word), upper_immediate(word));
         match (opcode(word), funct3(word), funct7(word)) {
-            (0b0110111, _, _) => Some(Instruction::Lui {
-                rd,
-                imm: upper_immediate(word),
-            }),
-            (0b0010011, 0b000, _) => Some(Instruction::Addi { rd, rs1, imm }),
-            (0b0010011, 0b100, _) => Some(Instruction::Xori { rd, rs1, imm }),
-            (0b0010011, 0b110, _) => Some(Instruction::Ori { rd, rs1, imm }),
-            (0b0010011, 0b111, _) => Some(Instruction::Andi { rd, rs1, imm }),
-            (0b0110011, 0b000, 0b0000000) => Some(Instruction::Add { rd, rs1, rs2 }),
-            (0b0110011, 0b000, 0b0100000) => Some(Instruction::Sub { rd, rs1, rs2 }),
-            (0b0110011, 0b100, 0b0000000) => Some(Instruction::Xor { rd, rs1, rs2 }),
-            (0b0110011, 0b110, 0b0000000) => Some(Instruction::Or { rd, rs1, rs2 }),
-            (0b0110011, 0b111, 0b0000000) => Some(Instruction::And { rd, rs1, rs2 }),
+            (0b0110111, _, _) => Some(Lui { rd, imm: upper }),
+            (0b0010011, 0b000, _) => Some(Addi { rd, rs1, imm }),
+            (0b0010011, 0b100, _) => Some(Xori { rd, rs1, imm }),
+            (0b0010011, 0b110, _) => Some(Ori { rd, rs1, imm }),
+            (0b0010011, 0b111, _) => Some(Andi { rd, rs1, imm }),
+            (0b0110011, 0b000, 0b0000000) => Some(Add { rd, rs1, rs2 }),
+            (0b0110011, 0b000, 0b0100000) => Some(Sub { rd, rs1, rs2 }),
+            (0b0110011, 0b100, 0b0000000) => Some(Xor { rd, rs1, rs2 }),
+            (0b0110011, 0b110, 0b0000000) => Some(Or { rd, rs1, rs2 }),
+            (0b0110011, 0b111, 0b0000000) => Some(And { rd, rs1, rs2 }),
             _ => None,
         }
     }
@@ -102,16 +102,9 @@ impl Instruction {
         ensures { result ≡ destination_of self }
     {
         match self {
-            Instruction::Lui { rd, .. } => rd,
-            Instruction::Addi { rd, .. } => rd,
-            Instruction::Xori { rd, .. } => rd,
-            Instruction::Ori { rd, .. } => rd,
-            Instruction::Andi { rd, .. } => rd,
-            Instruction::Add { rd, .. } => rd,
-            Instruction::Sub { rd, .. } => rd,
-            Instruction::Xor { rd, .. } => rd,
-            Instruction::Or { rd, .. } => rd,
-            Instruction::And { rd, .. } => rd,
+            Lui { rd, .. } | Addi { rd, .. } | Xori { rd, .. } | Ori { rd, .. } | Andi { rd, .. } =>
+                rd,
+            Add { rd, .. } | Sub { rd, .. } | Xor { rd, .. } | Or { rd, .. } | And { rd, .. } => rd,
         }
     }
 
@@ -121,16 +114,16 @@ impl Instruction {
         ensures { result ≡ written_by self x.now }
     {
         match self {
-            Instruction::Lui { imm, .. } => imm,
-            Instruction::Addi { rs1, imm, .. } => x[rs1 as usize].wrapping_add(imm),
-            Instruction::Xori { rs1, imm, .. } => x[rs1 as usize] ^ imm,
-            Instruction::Ori { rs1, imm, .. } => x[rs1 as usize] | imm,
-            Instruction::Andi { rs1, imm, .. } => x[rs1 as usize] & imm,
-            Instruction::Add { rs1, rs2, .. } => x[rs1 as usize].wrapping_add(x[rs2 as usize]),
-            Instruction::Sub { rs1, rs2, .. } => x[rs1 as usize].wrapping_sub(x[rs2 as usize]),
-            Instruction::Xor { rs1, rs2, .. } => x[rs1 as usize] ^ x[rs2 as usize],
-            Instruction::Or { rs1, rs2, .. } => x[rs1 as usize] | x[rs2 as usize],
-            Instruction::And { rs1, rs2, .. } => x[rs1 as usize] & x[rs2 as usize],
+            Lui { imm, .. } => imm,
+            Addi { rs1, imm, .. } => x[rs1 as usize].wrapping_add(imm),
+            Xori { rs1, imm, .. } => x[rs1 as usize] ^ imm,
+            Ori { rs1, imm, .. } => x[rs1 as usize] | imm,
+            Andi { rs1, imm, .. } => x[rs1 as usize] & imm,
+            Add { rs1, rs2, .. } => x[rs1 as usize].wrapping_add(x[rs2 as usize]),
+            Sub { rs1, rs2, .. } => x[rs1 as usize].wrapping_sub(x[rs2 as usize]),
+            Xor { rs1, rs2, .. } => x[rs1 as usize] ^ x[rs2 as usize],
+            Or { rs1, rs2, .. } => x[rs1 as usize] | x[rs2 as usize],
+            And { rs1, rs2, .. } => x[rs1 as usize] & x[rs2 as usize],
         }
     }
 }

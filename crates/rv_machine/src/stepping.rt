@@ -11,6 +11,11 @@ use crate::steps::Steps;
 use input_journal::Journal;
 use std::sync::ledger::Ledger;
 
+// The causes of traps: the word at pc is not mapped, or is no instruction.
+const UNMAPPED: u8 = 1;
+
+const ILLEGAL: u8 = 2;
+
 /// Takes one step, with the recorded input. It takes no memory. A stopped state stays as it is, and the step counts all
 /// the same.
 pub fn step<L: Ledger>(state: &mut State, journal: &Journal, steps: &mut Steps<L>)
@@ -22,7 +27,7 @@ pub fn step<L: Ledger>(state: &mut State, journal: &Journal, steps: &mut Steps<L
     if let Status::Running = state.status {
         match state.pages.load32(state.pc) {
             Some(word) => execute(state, word),
-            None => state.status = Status::Trapped(1),
+            None => state.status = Status::Trapped(UNMAPPED),
         }
     }
 }
@@ -37,6 +42,6 @@ fn execute(state: &mut State, word: u32)
             state.set_register(instruction.destination(), value);
             state.pc = state.pc.wrapping_add(4);
         }
-        None => state.status = Status::Trapped(2),
+        None => state.status = Status::Trapped(ILLEGAL),
     }
 }

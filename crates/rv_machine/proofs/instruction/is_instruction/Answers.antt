@@ -1,5 +1,5 @@
 -- The value of a decoded word is there exactly where the instruction is: at registers that are all 0, as without any.
-use Rattle.std.proofs.Common.{◌≡◌, List, [], is_some, ap, sym, ◌∙◌, refl, Option, None, Some}
+use Rattle.std.proofs.Common.{◌≡◌, [], is_some, ap, sym, ◌∙◌, refl, Option, None, Some}
 use Rattle.std.specs.Option.{option_map}
 use Rattle.rv_machine.proofs.instruction.is_instruction.Goals as goal
 
