@@ -134,3 +134,19 @@ pub fn is_instruction(word: u32) -> bool
 {
     Instruction::decode(word).is_some()
 }
+
+#[cfg(test)]
+mod tests {
+    use super::*;
+
+    #[test]
+    fn other_words_are_no_instructions(rt: HostRuntime) {
+        // a zero word, SLLI, MUL, SLL, AUIPC, and ADD with a wrong funct7
+        for word in [
+            0, 0x00101013, 0x02628533, 0x00629533, 0x00000517, 0xfe628533,
+        ] {
+            assert!(rt; !is_instruction(word), "at {word:x}");
+        }
+        assert!(rt; is_instruction(0x00700513));
+    }
+}

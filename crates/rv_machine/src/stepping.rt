@@ -45,3 +45,6 @@ fn execute(state: &mut State, word: u32)
         None => state.status = Status::Trapped(ILLEGAL),
     }
 }
+
+#[cfg(test)]
+mod tests;
