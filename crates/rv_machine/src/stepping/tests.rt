@@ -1,5 +1,6 @@
 // Programs of a few words, with values by hand from the manual.
-ghost use Rattle.std.specs.Prelude.{◌≡◌, ◌≤◌, ◌<◌, ◌%◌, length};
+ghost use Rattle.std.specs.Prelude.{◌≡◌, ◌≤◌, ◌<◌, length};
+ghost use Rattle.rv_pages.specs.Memory.{page_numbers};
 
 use super::*;
 use crate::raw::load_raw;
@@ -19,25 +20,21 @@ fn run(alloc: Global, words: &[u32], count: u32) -> Result<State, AllocError>
     for word in words {
         bytes.extend_from_slice(&word.to_le_bytes())?;
     }
-    run_from::<Brand>(load_raw(alloc, &bytes)?, alloc, count, Blank::new(1))
+    Ok(run_from::<Brand>(load_raw(alloc, &bytes)?, alloc, count, Blank::new(1)))
 }
 
-fn run_from<L: Ledger>(
-    mut state: State,
-    alloc: Global,
-    count: u32,
-    blank: Blank,
-) -> Result<State, AllocError>
+fn run_from<L: Ledger>(mut state: State, alloc: Global, count: u32, blank: Blank) -> State
     requires name { blank.name ≡ L.name }
     requires parts { blank.parts ≡ L.parts }
     requires some { 0 < blank.parts }
+    ensures { page_numbers result.memory ≡ page_numbers state.memory }
 {
     let journal = Journal::none(alloc);
     let mut steps = Steps::<L>::new(blank);
     for _ in 0..count {
         step(&mut state, &journal, &mut steps);
     }
-    Ok(state)
+    state
 }
 
 #[test]
@@ -117,7 +114,7 @@ fn sums_wrap(rt: HostRuntime) -> Result<(), Fail> {
 #[test]
 fn a_clone_goes_its_own_way_until_it_is_copied_over(rt: HostRuntime) -> Result<(), Fail> {
     let start = run(rt.alloc(), &EXIT, 0)?;
-    let mut state = run_from::<Brand>(start.clone()?, rt.alloc(), 1, Blank::new(1))?;
+    let mut state = run_from::<Brand>(start.clone()?, rt.alloc(), 1, Blank::new(1));
     assert_eq!(rt; (state.pc, state.x[10]), (0x10004, 7));
     state.copy_from(&start);
     assert_eq!(rt; (state.pc, state.x[10]), (0x10000, 0));
