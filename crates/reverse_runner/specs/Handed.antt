@@ -1,0 +1,15 @@
+-- Which states a list hands out, in order.
+use Rattle.std.specs.Prelude.{ℕ, List, [], ◌∷◌}
+use Rattle.std.specs.List.{flat_map}
+use Rattle.plan_types.specs.declared.action.Action.{Action}
+use Rattle.plan_types.specs.declared.action.Action.TheVariants.{Reverse, EndForward}
+
+-- the numbers of the states that an action hands out: EndForward the last, a Reverse the one that it leads back to
+abbrev pub handed_by : ℕ → Action → List ℕ
+handed_by steps EndForward = steps ∷ []
+handed_by steps (Reverse from to) = to ∷ []
+handed_by steps _ = []
+
+-- the numbers of the states that a list hands out, for so many steps
+abbrev pub handed : ℕ → List Action → List ℕ
+handed steps list = flat_map (handed_by steps) list

@@ -1,0 +1,32 @@
+// What gets the states that a session hands out.
+ghost use Rattle.std.specs.Prelude.{ℕ, ◌≤◌, List, OnOk, OnErr};
+ghost use Rattle.keepers.specs.Counts.{Rose};
+ghost use Rattle.rv_machine.specs.MachineState.{MachineState};
+
+use input_journal::Journal;
+use rv_machine::State;
+use thiserror::Error;
+
+/// Why a visitor refuses a state.
+#[derive(Clone, Copy, Debug, PartialEq, Eq, Error)]
+pub enum VisitFault {
+    /// It failed.
+    #[error("the visitor failed")]
+    Failed,
+}
+
+/// Gets the states that a session hands out, each with its number and the session's journal.
+pub trait Visitor {
+    /// The visitor before a call, a number, a state and a journal, and the visitor after it: after Ok.
+    ghost got: { Self → ℕ → MachineState → List (List ℕ) → Self → Type 0 };
+    /// The same after Failed.
+    ghost missed: { Self → ℕ → MachineState → List (List ℕ) → Self → Type 0 };
+    ghost fault_count: { Self → ℕ };
+
+    /// Gets state number `n`.
+    fn state(&mut self, n: u32, state: &State, journal: &Journal) -> Result<(), VisitFault>
+        ensures ok { OnOk result (got self.old n state.now journal.now self.new) }
+        ensures refused { OnErr result (missed self.old n state.now journal.now self.new) }
+        ensures later { fault_count self.old ≤ fault_count self.new }
+        ensures cause { OnErr result (Rose (fault_count self.old) (fault_count self.new)) };
+}
