@@ -75,6 +75,7 @@ fn upper_immediate(word: u32) -> u32
 
 impl Instruction {
     /// The instruction that a word says, or `None` for a word that says none of them.
+    #[inline(always)]
     pub(crate) fn decode(word: u32) -> Option<Instruction>
         ensures value { (x : List ℕ) → option_map (λ i. written_by i x) result ≡ value_of word (slice_index x (rs1_of word)) (slice_index x (rs2_of word)) }
         ensures destination { IfSome result (λ i. destination_of i ≡ rd_of word) }
@@ -98,6 +99,7 @@ impl Instruction {
     }
 
     /// The number of the register that it writes.
+    #[inline(always)]
     pub(crate) fn destination(self) -> u8
         ensures { result ≡ destination_of self }
     {
@@ -109,6 +111,7 @@ impl Instruction {
     }
 
     /// The value that it writes, with the registers `x`.
+    #[inline(always)]
     pub(crate) fn value(self, x: &[u32; 32]) -> u32
         requires { NamesRegisters self }
         ensures { result ≡ written_by self x.now }

@@ -7,9 +7,10 @@ use crate::status::Status;
 use rv_pages::{PAGE, Pages};
 use std::alloc::{AllocError, Global};
 
-// The address of the first word, and that of the program's page and of the sixteen pages of the stack.
+// The address of the first word.
 const PROGRAM: u32 = 0x10000;
 
+// The numbers of the mapped pages: that of the program, and the sixteen of the stack.
 const MAPPED: [u32; 17] = [
     0x10, 0xbfff0, 0xbfff1, 0xbfff2, 0xbfff3, 0xbfff4, 0xbfff5, 0xbfff6, 0xbfff7, 0xbfff8, 0xbfff9,
     0xbfffa, 0xbfffb, 0xbfffc, 0xbfffd, 0xbfffe, 0xbffff,

@@ -15,6 +15,7 @@ pub struct State {
     pub pc: u32,
     /// The registers x0 to x31.
     pub x: [u32; 32],
+    /// Whether it runs. A step of a stopped state changes nothing.
     pub status: Status,
     /// The item of the recorded input that is read next.
     pub item: u32,
@@ -22,6 +23,7 @@ pub struct State {
     pub offset: u32,
     /// The bytes that the program wrote, modulo 2 ^ 64.
     pub written: u64,
+    /// The memory.
     pub pages: Pages,
 }
 
