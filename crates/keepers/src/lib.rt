@@ -6,8 +6,12 @@
 
 mod inputs;
 mod keeper;
+mod memory_keeper;
+mod memory_sink;
 mod sink;
 
 pub use crate::inputs::{InputFault, Inputs, Whole};
 pub use crate::keeper::{KeepFault, Keeper};
+pub use crate::memory_keeper::MemoryKeeper;
+pub use crate::memory_sink::MemorySink;
 pub use crate::sink::{Sink, SinkFault};
