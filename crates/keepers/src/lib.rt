@@ -6,12 +6,15 @@
 
 mod inputs;
 mod keeper;
+mod memory_inputs;
 mod memory_keeper;
 mod memory_sink;
+mod names;
 mod sink;
 
 pub use crate::inputs::{InputFault, Inputs, Whole};
 pub use crate::keeper::{KeepFault, Keeper};
+pub use crate::memory_inputs::MemoryInputs;
 pub use crate::memory_keeper::MemoryKeeper;
 pub use crate::memory_sink::MemorySink;
 pub use crate::sink::{Sink, SinkFault};

@@ -1,4 +1,4 @@
-use Rattle.std.proofs.Common.{◌≡◌, ℕ, ◌≤◌, ap, ◌∙◌, sym, subst, arith}
+use Rattle.std.proofs.Common.{◌≤◌, ap, ◌∙◌, sym, subst, arith}
 use Rattle.std.specs.FinMap as finmap
 use Rattle.keepers.proofs.Images.{bytes_of, len-seen, seen_fits}
 use Rattle.keepers.proofs.memory_keeper.MemoryKeeper.filled.Goals as goal
