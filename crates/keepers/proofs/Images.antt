@@ -73,18 +73,18 @@ module _ {X Y : Type 0} (g : X → Y) where
       → seen new ≡ finmap.remove (seen old) k
   seen-remove old new k same = same_map nat_cmp_total nat_cmp-IsAntisymmetric _ _
       (λ q. get-seen new q ∙ ap (option_map g) (same q) ∙ map-cond_none g (is_at (nat_cmp k) q) _
-          ∙ ap (λ b. cond b None (option_map g (lookup (is_at (nat_cmp q)) old))) (flips k q)
-          ∙ ap (cond (eq_by_cmp nat_cmp q k) None) (sym (get-seen old q))
-          ∙ sym (get-remove nat_cmp_total (seen old) k q))
+      ∙ ap (λ b. cond b None (option_map g (lookup (is_at (nat_cmp q)) old))) (flips k q)
+      ∙ ap (cond (eq_by_cmp nat_cmp q k) None) (sym (get-seen old q))
+      ∙ sym (get-remove nat_cmp_total (seen old) k q))
 
   pub seen-insert : (old new : List (ℕ × X)) (k : ℕ) (v : X)
       → ((q : ℕ) → lookup (is_at (nat_cmp q)) new ≡ cond (is_at (nat_cmp k) q) (Some v) (lookup (is_at (nat_cmp q)) old))
       → seen new ≡ finmap.insert (seen old) k (g v)
   seen-insert old new k v same = same_map nat_cmp_total nat_cmp-IsAntisymmetric _ _
       (λ q. get-seen new q ∙ ap (option_map g) (same q) ∙ map-cond g (is_at (nat_cmp k) q) v _
-          ∙ ap (λ b. cond b (Some (g v)) (option_map g (lookup (is_at (nat_cmp q)) old))) (flips k q)
-          ∙ ap (cond (eq_by_cmp nat_cmp q k) (Some (g v))) (sym (get-seen old q))
-          ∙ sym (get-insert nat_cmp_total (seen old) k (g v) q))
+      ∙ ap (λ b. cond b (Some (g v)) (option_map g (lookup (is_at (nat_cmp q)) old))) (flips k q)
+      ∙ ap (cond (eq_by_cmp nat_cmp q k) (Some (g v))) (sym (get-seen old q))
+      ∙ sym (get-insert nat_cmp_total (seen old) k (g v) q))
 
   pub len-seen : (es : List (ℕ × X)) → IsStrictlySortedBy nat_cmp (keys_of es) → finmap.len (seen es) ≡ length es
   len-seen [] h = len-empty nat_cmp Y
@@ -105,9 +105,9 @@ module _ {X Y : Type 0} (g : X → Y) where
 pub put_again : {Y : Type 0} (images : finmap.FinMap nat_cmp Y) (k : ℕ) (v : Y) → finmap.insert (finmap.remove images k) k v ≡ finmap.insert images k v
 put_again images k v = same_map nat_cmp_total nat_cmp-IsAntisymmetric _ _
     (λ q. get-insert nat_cmp_total (finmap.remove images k) k v q
-        ∙ ap (cond (eq_by_cmp nat_cmp q k) (Some v)) (get-remove nat_cmp_total images k q)
-        ∙ twice (eq_by_cmp nat_cmp q k) _ _ _
-        ∙ sym (get-insert nat_cmp_total images k v q))
+    ∙ ap (cond (eq_by_cmp nat_cmp q k) (Some v)) (get-remove nat_cmp_total images k q)
+    ∙ twice (eq_by_cmp nat_cmp q k) _ _ _
+    ∙ sym (get-insert nat_cmp_total images k v q))
 
 pub others_stay : (images : Images) (k : ℕ) → SameButAt k images (finmap.remove images k)
 others_stay images k q apart = get-remove nat_cmp_total images k q ∙ ap (λ b. cond b None (finmap.get images q)) (not_at k q apart)

@@ -1,6 +1,5 @@
 -- What a keeper in memory is seen as.
-use Rattle.std.specs.Prelude.{ℕ, List, refl}
-use Rattle.std.specs.Ordering.{nat_cmp}
+use Rattle.std.specs.Prelude.{ℕ, refl}
 use Rattle.std.specs.Coded.{Coded, code_by, coded×, coded_ℕ, coded_list}
 use Rattle.std.specs.FinMap as finmap
 use Rattle.keepers.specs.Told.{Images}

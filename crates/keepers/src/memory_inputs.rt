@@ -81,12 +81,7 @@ impl Inputs for MemoryInputs {
 
     ghost fault_count = { λ s. s.faults };
 
-    fn read(
-        &mut self,
-        name: &[u8],
-        limit: u32,
-        into: &mut Vec<u8>,
-    ) -> Result<Whole, InputFault>
+    fn read(&mut self, name: &[u8], limit: u32, into: &mut Vec<u8>) -> Result<Whole, InputFault>
         ensures all { result ≡ Ok Whole.All → finmap.get self.old.files name.now ≡ Some into.new.items }
         ensures fits { result ≡ Ok Whole.All → vec_len into.new ≤ limit }
         ensures longer { result ≡ Ok Whole.Longer → IsSomeAnd (finmap.get self.old.files name.now) (λ bytes. limit < length bytes) }

@@ -1,10 +1,7 @@
-use Rattle.std.proofs.Common.{◌≡◌, ℕ, ◌<◌, Some, true, false, nat_eq, length, ap, sym, ◌∙◌, arith}
-use Rattle.std.specs.Ordering.{nat_cmp}
-use Rattle.std.specs.Cmp.{nat_cmp_total}
+use Rattle.std.proofs.Common.{◌≡◌, ◌<◌, Some, true, false, nat_eq, length, ap, sym, ◌∙◌, arith}
 use Rattle.std.specs.Cmp.Lexicographic.{pointwise, nat_list_cmp_total}
 use Rattle.std.specs.FinMap as finmap
 use Rattle.std.specs.FinMap.{get-from_entries}
-use Rattle.std.proofs.lemmas.Grind.{common_steps}
 use Rattle.keepers.proofs.Files.{found_from, found_here, found_later}
 use Rattle.keepers.proofs.memory_inputs.MemoryInputs.find.Goals as goal
 

@@ -6,7 +6,7 @@ use Rattle.keepers.proofs.memory_keeper.MemoryKeeper.filled.Goals as goal
 pub overflow_cast-result : goal.overflow_cast-result
 overflow_cast-result c =
     let fits : c.len.result ≤ c.self.inside.slots =
-          subst (λ n. n ≤ c.self.inside.slots) (sym c.len.ensures.len) (seen_fits bytes_of c.self.inside.images.entries c.self.inside.slots c.len.ensures.ordered c.self.invariant.2) in
+    subst (λ n. n ≤ c.self.inside.slots) (sym c.len.ensures.len) (seen_fits bytes_of c.self.inside.images.entries c.self.inside.slots c.len.ensures.ordered c.self.invariant.2) in
     omega (arith, fits)
 
 pub returns : goal.returns
