@@ -135,3 +135,33 @@ fn read_whole<F: Read>(
     }
     Err(InputFault::Failed)
 }
+
+#[cfg(test)]
+mod tests {
+    use super::*;
+    use std::test::Fail;
+
+    #[test]
+    fn reads_a_file_up_to_a_limit(rt: HostRuntime) -> Result<(), Fail> {
+        fs::write(&rt, "word.txt", "reverse\n")?;
+        let mut into = Vec::new(rt.alloc());
+        let mut inputs = FileInputs::new(rt.clone()?);
+        assert_eq!(rt; inputs.read(b"word.txt", 8, &mut into), Ok(Whole::All));
+        assert_eq!(rt; into.as_slice(), b"reverse\n".as_slice());
+        assert_eq!(rt; inputs.read(b"word.txt", 7, &mut into), Ok(Whole::Longer));
+        assert_eq!(rt; inputs.faults(), 0);
+        assert_eq!(rt;
+            inputs.read(b"words.txt", 8, &mut into),
+            Err(InputFault::Failed),
+            "no such file"
+        );
+        assert_eq!(rt;
+            inputs.read(b"\xff", 8, &mut into),
+            Err(InputFault::Failed),
+            "not UTF-8"
+        );
+        assert_eq!(rt; inputs.faults(), 2);
+        fs::remove_file(&rt, "word.txt")?;
+        Ok(())
+    }
+}

@@ -123,3 +123,37 @@ impl Inputs for MemoryInputs {
         Ok(Whole::All)
     }
 }
+
+#[cfg(test)]
+mod tests {
+    use super::*;
+    use std::test::Fail;
+
+    #[test]
+    fn reads_what_is_there_and_counts_what_fails(rt: HostRuntime) -> Result<(), Fail> {
+        let name = Vec::from_slice(rt.alloc(), b"plan")?;
+        let bytes = Vec::from_slice(rt.alloc(), b"step 1")?;
+        let list = vec![in rt.alloc(); (name, bytes)]?;
+        let listed = vec![in rt.alloc(); 4u64]?;
+        let mut inputs = MemoryInputs::new(rt.alloc(), list).failing(listed);
+        let mut into = Vec::new(rt.alloc());
+        assert_eq!(rt; inputs.read(b"plan", 6, &mut into), Ok(Whole::All));
+        assert_eq!(rt; into.as_slice(), b"step 1".as_slice());
+        assert_eq!(rt; inputs.read(b"plan", 5, &mut into), Ok(Whole::Longer));
+        assert_eq!(rt;
+            inputs.read(b"plans", 6, &mut into),
+            Err(InputFault::Failed),
+            "no such name"
+        );
+        assert_eq!(rt; inputs.faults(), 1);
+        assert_eq!(rt;
+            inputs.read(b"plan", 6, &mut into),
+            Err(InputFault::Failed),
+            "call 4 is listed"
+        );
+        assert_eq!(rt; inputs.faults(), 2);
+        assert_eq!(rt; inputs.read(b"plan", 6, &mut into), Ok(Whole::All));
+        assert_eq!(rt; into.as_slice(), b"step 1".as_slice());
+        Ok(())
+    }
+}

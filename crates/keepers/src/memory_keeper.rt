@@ -140,3 +140,45 @@ impl Keeper for MemoryKeeper {
         Ok(())
     }
 }
+
+#[cfg(test)]
+mod tests {
+    use super::*;
+    use std::test::Fail;
+
+    fn put_both<K: Keeper>(keeper: &mut K, first: &[u8], second: &[u8]) -> Result<(), KeepFault>
+        requires { K.slot_count keeper.old ≡ 2 }
+        ensures { K.slot_count keeper.new ≡ K.slot_count keeper.old }
+    {
+        keeper.put(0, first)?;
+        keeper.put(1, second)
+    }
+
+    #[test]
+    fn keeps_what_was_put_last_until_it_is_freed(rt: HostRuntime) -> Result<(), Fail> {
+        let mut keeper = MemoryKeeper::new(rt.alloc(), 2);
+        let mut image = Vec::new(rt.alloc());
+        assert_eq!(rt; (keeper.slots(), keeper.filled()), (2, 0));
+        put_both(&mut keeper, b"first", b"second")?;
+        keeper.put(1, b"2nd")?;
+        assert_eq!(rt; keeper.filled(), 2);
+        keeper.get(0, 9, &mut image)?;
+        assert_eq!(rt; image.as_slice(), b"first".as_slice());
+        keeper.get(1, 2, &mut image)?;
+        assert_eq!(rt; image.as_slice(), b"2n".as_slice());
+        keeper.free(0)?;
+        keeper.get(0, 9, &mut image)?;
+        assert!(rt; image.is_empty());
+        assert_eq!(rt; keeper.filled(), 1);
+        assert_eq!(rt;
+            (
+                keeper.puts(),
+                keeper.gets(),
+                keeper.frees(),
+                keeper.faults()
+            ),
+            (3, 3, 1, 0)
+        );
+        Ok(())
+    }
+}

@@ -70,3 +70,16 @@ fn write_whole<W: Write>(out: &mut W, piece: &[u8]) -> Result<(), SinkFault>
     }
     Err(SinkFault::Failed)
 }
+
+#[cfg(test)]
+mod tests {
+    use super::*;
+
+    #[test]
+    fn writes_a_piece(rt: HostRuntime) -> io::Result<()> {
+        let mut sink = StdoutSink::new(rt.clone()?);
+        assert_eq!(rt; sink.write(b"a piece\n"), Ok(()));
+        assert_eq!(rt; sink.faults(), 0);
+        Ok(())
+    }
+}
