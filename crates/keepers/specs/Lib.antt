@@ -1,2 +1,5 @@
 pub mod Counts
+pub mod InputsState
+pub mod KeeperState
+pub mod SinkState
 pub mod Told

@@ -33,6 +33,7 @@ pub trait Inputs {
     ghost told: { Self → Option Files };
     /// The names that were asked for, in order.
     ghost asked: { Self → List (List ℕ) };
+
     ghost fault_count: { Self → ℕ };
 
     /// Reads the named input into `into`, in place of what was there. An input of more than `limit` bytes is not read to

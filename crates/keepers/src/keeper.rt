@@ -26,8 +26,11 @@ pub trait Keeper {
     ghost slot_count: { Self → ℕ };
     /// How often each call was made, refused calls among them.
     ghost put_count: { Self → ℕ };
+
     ghost get_count: { Self → ℕ };
+
     ghost free_count: { Self → ℕ };
+
     ghost fault_count: { Self → ℕ };
 
     /// The number of slots.

@@ -4,10 +4,21 @@
 //! answered only where the outside failed: `specs/Told.antt` and `specs/Counts.antt`.
 #![tactic(auto)]
 
+mod file_inputs;
 mod inputs;
 mod keeper;
+mod memory_inputs;
+mod memory_keeper;
+mod memory_sink;
+mod names;
 mod sink;
+mod stdout_sink;
 
+pub use crate::file_inputs::FileInputs;
 pub use crate::inputs::{InputFault, Inputs, Whole};
 pub use crate::keeper::{KeepFault, Keeper};
+pub use crate::memory_inputs::MemoryInputs;
+pub use crate::memory_keeper::MemoryKeeper;
+pub use crate::memory_sink::MemorySink;
 pub use crate::sink::{Sink, SinkFault};
+pub use crate::stdout_sink::StdoutSink;

@@ -17,6 +17,7 @@ pub enum SinkFault {
 pub trait Sink {
     /// The bytes that it took, where it tells.
     ghost told: { Self → Option (List ℕ) };
+
     ghost fault_count: { Self → ℕ };
 
     /// Adds a piece. After a refusal a prefix of the piece was added.

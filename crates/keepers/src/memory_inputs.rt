@@ -1,0 +1,159 @@
+// Inputs in memory.
+ghost use Rattle.std.specs.Prelude.{◌≡◌, ◌≢◌, ◌⊎◌, ℕ, ◌<◌, ◌≤◌, [], ◌∷◌, ◌++◌, length, map, Contains, None, Some, Ok, Err, IsErr, IsSomeAnd, MatchOption};
+ghost use Rattle.std.specs.Vec.{vec_len, vec_capacity};
+ghost use Rattle.std.specs.FinMap as finmap;
+ghost use Rattle.keepers.specs.Counts.{raised};
+
+use crate::inputs::{InputFault, Inputs, Whole};
+use crate::names::Names;
+use std::alloc::Global;
+use std::marker::Model;
+
+/// Inputs in memory, by their names.
+#[derive(Drop)]
+pub struct MemoryInputs {
+    list: Vec<(Vec<u8>, Vec<u8>)>,
+    asked: Names,
+    failing: Vec<u64>,
+    calls: u64,
+    faults: u64,
+}
+
+impl Model for MemoryInputs {
+    ghost use Rattle.std.specs.Prelude.{map};
+    ghost use Rattle.std.specs.FinMap as finmap;
+    ghost use Rattle.keepers.specs.InputsState.{InputsState, inputs_state_code};
+
+    ghost Value = { InputsState };
+
+    ghost coded = { inputs_state_code };
+
+    ghost view = { λ s. record { files = finmap.from_entries (map (λ e. (e.0.items, e.1.items)) s.list.items); asked = s.asked; failing = s.failing.items; calls = s.calls; faults = s.faults } };
+}
+
+impl MemoryInputs {
+    /// Has the inputs of a list of names and bytes. Where a name stands twice, its first bytes count.
+    pub fn new(alloc: Global, list: Vec<(Vec<u8>, Vec<u8>)>) -> Self
+        ensures { result ≡ record { files = finmap.from_entries (map (λ e. (e.0.items, e.1.items)) list.items); asked = []; failing = []; calls = 0; faults = 0 } }
+    {
+        Self {
+            list,
+            asked: Names::new(alloc),
+            failing: Vec::new(alloc),
+            calls: 0,
+            faults: 0,
+        }
+    }
+
+    /// Lets the listed calls of `read` fail, where the first call is number 1.
+    pub fn failing(self, list: Vec<u64>) -> Self
+        ensures { result ≡ record self { failing = list.items } }
+    {
+        Self {
+            failing: list,
+            ..self
+        }
+    }
+
+    /// How often `read` failed, up to `u64::MAX`.
+    pub fn faults(&self) -> u64
+        ensures { result ≡ self.now.faults }
+    {
+        self.faults
+    }
+
+    fn find(&self, name: &[u8]) -> Option<&[u8]>
+        ensures { MatchOption result (finmap.get self.now.files name.now ≡ None) (λ bytes. finmap.get self.now.files name.now ≡ Some bytes.now) }
+    {
+        for (key, bytes) in &self.list {
+            if key.as_slice() == name {
+                return Some(bytes.as_slice());
+            }
+        }
+        None
+    }
+}
+
+impl Inputs for MemoryInputs {
+    ghost told = { λ s. Some s.files };
+
+    ghost asked = { λ s. s.asked };
+
+    ghost fault_count = { λ s. s.faults };
+
+    fn read(&mut self, name: &[u8], limit: u32, into: &mut Vec<u8>) -> Result<Whole, InputFault>
+        ensures all { result ≡ Ok Whole.All → finmap.get self.old.files name.now ≡ Some into.new.items }
+        ensures fits { result ≡ Ok Whole.All → vec_len into.new ≤ limit }
+        ensures longer { result ≡ Ok Whole.Longer → IsSomeAnd (finmap.get self.old.files name.now) (λ bytes. limit < length bytes) }
+        ensures reserved { vec_capacity into.old ≤ vec_capacity into.new }
+
+        // Want of memory aside, it fails just where the call is listed or the name is missing.
+        ensures listed { Contains self.old.failing (raised self.old.calls 1) → IsErr result }
+        ensures missing { finmap.get self.old.files name.now ≡ None → IsErr result }
+        ensures fails { result ≡ Err InputFault.Failed → Contains self.old.failing (raised self.old.calls 1) ⊎ (finmap.get self.old.files name.now ≡ None) }
+
+        ensures same { self.new.files ≡ self.old.files }
+        ensures same_list { self.new.failing ≡ self.old.failing }
+        ensures calls { self.new.calls ≡ raised self.old.calls 1 }
+        ensures asks { result ≢ Err InputFault.Memory → self.new.asked ≡ self.old.asked ++ name.now ∷ [] }
+        ensures may_ask { result ≡ Err InputFault.Memory → (self.new.asked ≡ self.old.asked) ⊎ (self.new.asked ≡ self.old.asked ++ name.now ∷ []) }
+        ensures later { self.old.faults ≤ self.new.faults }
+        ensures cause { result ≡ Err InputFault.Failed → self.new.faults ≡ raised self.old.faults 1 }
+        ensures no_cause { result ≢ Err InputFault.Failed → self.new.faults ≡ self.old.faults }
+    {
+        self.calls = self.calls.saturating_add(1);
+        if self.asked.push(name).is_err() {
+            return Err(InputFault::Memory);
+        }
+        if self.failing.contains(&self.calls) {
+            self.faults = self.faults.saturating_add(1);
+            return Err(InputFault::Failed);
+        }
+        let Some(bytes) = self.find(name) else {
+            self.faults = self.faults.saturating_add(1);
+            return Err(InputFault::Failed);
+        };
+        if bytes.len() > limit as usize {
+            return Ok(Whole::Longer);
+        }
+        into.clear();
+        if into.extend_from_slice(bytes).is_err() {
+            return Err(InputFault::Memory);
+        }
+        Ok(Whole::All)
+    }
+}
+
+#[cfg(test)]
+mod tests {
+    use super::*;
+    use std::test::Fail;
+
+    #[test]
+    fn reads_what_is_there_and_counts_what_fails(rt: HostRuntime) -> Result<(), Fail> {
+        let name = Vec::from_slice(rt.alloc(), b"plan")?;
+        let bytes = Vec::from_slice(rt.alloc(), b"step 1")?;
+        let list = vec![in rt.alloc(); (name, bytes)]?;
+        let listed = vec![in rt.alloc(); 4u64]?;
+        let mut inputs = MemoryInputs::new(rt.alloc(), list).failing(listed);
+        let mut into = Vec::new(rt.alloc());
+        assert_eq!(rt; inputs.read(b"plan", 6, &mut into), Ok(Whole::All));
+        assert_eq!(rt; into.as_slice(), b"step 1".as_slice());
+        assert_eq!(rt; inputs.read(b"plan", 5, &mut into), Ok(Whole::Longer));
+        assert_eq!(rt;
+            inputs.read(b"plans", 6, &mut into),
+            Err(InputFault::Failed),
+            "no such name"
+        );
+        assert_eq!(rt; inputs.faults(), 1);
+        assert_eq!(rt;
+            inputs.read(b"plan", 6, &mut into),
+            Err(InputFault::Failed),
+            "call 4 is listed"
+        );
+        assert_eq!(rt; inputs.faults(), 2);
+        assert_eq!(rt; inputs.read(b"plan", 6, &mut into), Ok(Whole::All));
+        assert_eq!(rt; into.as_slice(), b"step 1".as_slice());
+        Ok(())
+    }
+}

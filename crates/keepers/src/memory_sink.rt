@@ -1,0 +1,115 @@
+// Output that is taken in memory.
+ghost use Rattle.std.specs.Prelude.{◌≡◌, ℕ, ◌+◌, ◌≤◌, ◌↔◌, [], ◌++◌, length, Contains, IfOk, IsOk, OnOk, OnErr};
+ghost use Rattle.keepers.specs.Counts.{raised};
+
+use crate::sink::{Sink, SinkFault};
+use std::alloc::{AllocError, Global};
+use std::marker::Model;
+
+/// Takes output in memory, as far as its room goes.
+#[derive(Drop)]
+pub struct MemorySink {
+    bytes: Vec<u8>,
+    room: u32,
+    failing: Vec<u64>,
+    calls: u64,
+    faults: u64,
+}
+
+impl Model for MemorySink {
+    ghost use Rattle.std.specs.Prelude.{◌≤◌};
+    ghost use Rattle.std.specs.Vec.{vec_len, vec_capacity};
+    ghost use Rattle.keepers.specs.SinkState.{SinkState};
+
+    ghost Value = { SinkState };
+
+    ghost view = { λ s. record { bytes = s.bytes.items; room = s.room; failing = s.failing.items; calls = s.calls; faults = s.faults } };
+
+    ghost invariant = { λ s. (vec_len s.bytes ≤ s.room) × (s.room ≤ vec_capacity s.bytes) };
+}
+
+impl MemorySink {
+    /// Reserves room for `room` bytes, so that writing takes no memory.
+    pub fn new(alloc: Global, room: u32) -> Result<Self, AllocError>
+        ensures { IfOk result (λ sink. sink ≡ record { bytes = []; room = room; failing = []; calls = 0; faults = 0 }) }
+    {
+        Ok(Self {
+            bytes: Vec::with_capacity(alloc, room as usize)?,
+            room,
+            failing: Vec::new(alloc),
+            calls: 0,
+            faults: 0,
+        })
+    }
+
+    /// Lets the listed calls of `write` fail, where the first call is number 1.
+    pub fn failing(self, list: Vec<u64>) -> Self
+        ensures { result ≡ record self { failing = list.items } }
+    {
+        Self {
+            failing: list,
+            ..self
+        }
+    }
+
+    /// What was written.
+    pub fn bytes(&self) -> &[u8]
+        ensures { result.now ≡ self.now.bytes }
+    {
+        self.bytes.as_slice()
+    }
+
+    /// How often `write` failed, up to `u64::MAX`.
+    pub fn faults(&self) -> u64
+        ensures { result ≡ self.now.faults }
+    {
+        self.faults
+    }
+}
+
+impl Sink for MemorySink {
+    ghost use Rattle.std.specs.Prelude.{Some};
+
+    ghost told = { λ s. Some s.bytes };
+
+    ghost fault_count = { λ s. s.faults };
+
+    fn write(&mut self, piece: &[u8]) -> Result<(), SinkFault>
+        ensures taken { IsOk result ↔ ((length self.old.bytes + length piece.now ≤ self.old.room) × (Contains self.old.failing (raised self.old.calls 1) → ⊥)) }
+        ensures ok { OnOk result (self.new ≡ record self.old { bytes = self.old.bytes ++ piece.now; calls = raised self.old.calls 1 }) }
+        ensures refused { OnErr result (self.new ≡ record self.old { calls = raised self.old.calls 1; faults = raised self.old.faults 1 }) }
+        ensures later { self.old.faults ≤ self.new.faults }
+    {
+        self.calls = self.calls.saturating_add(1);
+        let fails = self.failing.contains(&self.calls);
+        if fails || piece.len() > self.room as usize - self.bytes.len() {
+            self.faults = self.faults.saturating_add(1);
+            return Err(SinkFault::Failed);
+        }
+        self.bytes.extend_from_slice(piece).unwrap();
+        Ok(())
+    }
+}
+
+#[cfg(test)]
+mod tests {
+    use super::*;
+    use std::test::Fail;
+
+    #[test]
+    fn refuses_listed_calls_and_what_does_not_fit(rt: HostRuntime) -> Result<(), Fail> {
+        let listed = vec![in rt.alloc(); 2u64]?;
+        let mut sink = MemorySink::new(rt.alloc(), 4)?.failing(listed);
+        assert_eq!(rt; sink.write(b"abc"), Ok(()));
+        assert_eq!(rt;
+            sink.write(b"d"),
+            Err(SinkFault::Failed),
+            "call 2 is listed"
+        );
+        assert_eq!(rt; sink.write(b"de"), Err(SinkFault::Failed), "one byte fits");
+        assert_eq!(rt; sink.write(b"d"), Ok(()));
+        assert_eq!(rt; sink.bytes(), b"abcd".as_slice());
+        assert_eq!(rt; sink.faults(), 2);
+        Ok(())
+    }
+}
