@@ -4,6 +4,7 @@
 //! far it keeps copies of states by itself: the keepers that it is given aren't called.
 #![tactic(auto)]
 
+mod acting;
 mod stored;
 mod visitor;
 
