@@ -5,7 +5,9 @@
 #![tactic(auto)]
 
 mod acting;
+mod session;
 mod stored;
 mod visitor;
 
+pub use crate::session::{RunFault, Session};
 pub use crate::visitor::{VisitFault, Visitor};
