@@ -2,3 +2,4 @@ pub mod Command
 pub mod BookForm
 pub mod ProgramForm
 pub mod ScheduleForm
+pub mod Reading

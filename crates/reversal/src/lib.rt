@@ -3,3 +3,5 @@
 //! are a command), `BookForm`, `ProgramForm` and `ScheduleForm` (what is read so far). Readers know nothing of runs, and
 //! the run nothing of text.
 #![tactic(auto)]
+
+mod number;
