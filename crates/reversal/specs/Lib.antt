@@ -3,3 +3,4 @@ pub mod BookForm
 pub mod ProgramForm
 pub mod ScheduleForm
 pub mod Reading
+pub mod LineReading

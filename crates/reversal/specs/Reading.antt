@@ -32,3 +32,21 @@ number_at limit (c ∷ cs) =
     if c == 48
     then (if starts_with_digit cs then None else Some (0, cs))
     else (if is_ascii_digit c then digits_at limit 0 (c ∷ cs) else None)
+
+-- ---- texts
+
+infixl 10 ◌>>=◌
+abbrev pub ◌>>=◌ : {A B : Type 0} → Option A → (A → Option B) → Option B
+None >>= f = None
+(Some x) >>= f = f x
+
+-- what f says of the value, or the other where there is none
+abbrev pub with_or : {A B : Type 0} → Option A → (A → B) → B → B
+with_or None f other = other
+with_or (Some x) f other = f x
+
+-- the bytes after this text at the front
+unfoldable pub after_of : List ℕ → List ℕ → Option (List ℕ)
+after_of [] bytes = Some bytes
+after_of (t ∷ ts) [] = None
+after_of (t ∷ ts) (b ∷ bs) = if t == b then after_of ts bs else None

@@ -5,3 +5,5 @@
 #![tactic(auto)]
 
 mod number;
+mod schedule_form;
+mod text;

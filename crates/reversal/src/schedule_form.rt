@@ -1,0 +1,123 @@
+// The canonical text of a schedule.
+ghost use Rattle.std.specs.Prelude.{◌≡◌, ◌≤◌, ℕ, List, IfOk, IfSome, IsErrOf};
+ghost use Rattle.plan_types.specs.declared.action.Action.{Action};
+ghost use Rattle.reversal.specs.ScheduleForm.{IsSchedule};
+ghost use Rattle.reversal.specs.Reading.{Gives, number_at};
+ghost use Rattle.reversal.specs.LineReading.{keep_of, dest_of, pair_of, forward_of, reverse_of, copy_of, move_of, action_of};
+
+use crate::number::decimal_at;
+use crate::text::after;
+use plan_types::{Action, Dest, Keep};
+
+// The number of a state.
+fn state_at(bytes: &[u8]) -> Option<(u32, &[u8])>
+    ensures small { IfSome result (λ x. x.0 ≤ 1000000) }
+    ensures gives { Gives (λ x. (x.0, x.1.now)) result (number_at 1000000 bytes.now) }
+{
+    let (n, rest) = decimal_at(bytes, 1_000_000)?;
+    Some((n as u32, rest))
+}
+
+// Two of them, with a comma between.
+#[tactic(auto, unfolding(crate::specs::LineReading::pair_of))]
+fn pair_at(bytes: &[u8]) -> Option<(u32, u32, &[u8])>
+    ensures small { IfSome result (λ x. (x.0 ≤ 1000000) × (x.1 ≤ 1000000)) }
+    ensures gives { Gives (λ x. (x.0, x.1, x.2.now)) result (pair_of bytes.now) }
+{
+    let (first, rest) = state_at(bytes)?;
+    let rest = after(rest, b", ")?;
+    let (second, rest) = state_at(rest)?;
+    Some((first, second, rest))
+}
+
+#[tactic(auto, unfolding(crate::specs::LineReading::keep_of))]
+fn keep_at(bytes: &[u8]) -> Option<(Keep, &[u8])>
+    ensures { Gives (λ x. (x.0, x.1.now)) result (keep_of bytes.now) }
+{
+    if let Some(rest) = after(bytes, b", False, False, NONE)\n") {
+        Some((Keep::Nothing, rest))
+    } else if let Some(rest) = after(bytes, b", True, False, RAM)\n") {
+        Some((Keep::Store(0), rest))
+    } else if let Some(rest) = after(bytes, b", False, True, WORK)\n") {
+        Some((Keep::Tape, rest))
+    } else {
+        None
+    }
+}
+
+#[tactic(auto, unfolding(crate::specs::LineReading::dest_of))]
+fn dest_at(bytes: &[u8]) -> Option<(Dest, &[u8])>
+    ensures { Gives (λ x. (x.0, x.1.now)) result (dest_of bytes.now) }
+{
+    if let Some(rest) = after(bytes, b", RAM, WORK)\n") {
+        Some((Dest::Work, rest))
+    } else if let Some(rest) = after(bytes, b", RAM, RAM)\n") {
+        Some((Dest::Level(0), rest))
+    } else {
+        None
+    }
+}
+
+#[tactic(auto, unfolding(crate::specs::LineReading::forward_of))]
+fn forward_at(bytes: &[u8]) -> Option<(Action, &[u8])>
+    ensures { Gives (λ x. (x.0, x.1.now)) result (forward_of bytes.now) }
+{
+    let (from, to, rest) = pair_at(bytes)?;
+    let (keep, rest) = keep_at(rest)?;
+    if matches!(keep, Keep::Tape) && to != from + 1 {
+        return None;
+    }
+    Some((Action::Forward { from, to, keep }, rest))
+}
+
+#[tactic(auto, unfolding(crate::specs::LineReading::reverse_of))]
+fn reverse_at(bytes: &[u8]) -> Option<(Action, &[u8])>
+    ensures { Gives (λ x. (x.0, x.1.now)) result (reverse_of bytes.now) }
+{
+    let (from, to, rest) = pair_at(bytes)?;
+    let rest = after(rest, b", True)\n")?;
+    if from != to + 1 {
+        return None;
+    }
+    Some((Action::Reverse { from, to }, rest))
+}
+
+#[tactic(auto, unfolding(crate::specs::LineReading::copy_of))]
+fn copy_at(bytes: &[u8]) -> Option<(Action, &[u8])>
+    ensures { Gives (λ x. (x.0, x.1.now)) result (copy_of bytes.now) }
+{
+    let (n, rest) = state_at(bytes)?;
+    let (dest, rest) = dest_at(rest)?;
+    Some((Action::Copy { n, from: 0, dest }, rest))
+}
+
+#[tactic(auto, unfolding(crate::specs::LineReading::move_of))]
+fn move_at(bytes: &[u8]) -> Option<(Action, &[u8])>
+    ensures { Gives (λ x. (x.0, x.1.now)) result (move_of bytes.now) }
+{
+    let (n, rest) = state_at(bytes)?;
+    let (dest, rest) = dest_at(rest)?;
+    Some((Action::Move { n, from: 0, dest }, rest))
+}
+
+// The action on the first line, and the bytes after that line.
+#[tactic(auto, unfolding(crate::specs::LineReading::action_of))]
+fn action_at(bytes: &[u8]) -> Option<(Action, &[u8])>
+    ensures { Gives (λ x. (x.0, x.1.now)) result (action_of bytes.now) }
+{
+    if let Some(rest) = after(bytes, b"Forward(") {
+        forward_at(rest)
+    } else if let Some(rest) = after(bytes, b"Reverse(") {
+        reverse_at(rest)
+    } else if let Some(rest) = after(bytes, b"Copy(") {
+        copy_at(rest)
+    } else if let Some(rest) = after(bytes, b"Move(") {
+        move_at(rest)
+    } else if let Some(rest) = after(bytes, b"EndForward()\n") {
+        Some((Action::EndForward, rest))
+    } else if let Some(rest) = after(bytes, b"EndReverse()\n") {
+        Some((Action::EndReverse, rest))
+    } else {
+        None
+    }
+}
