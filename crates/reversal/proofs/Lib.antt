@@ -1,3 +1,5 @@
 pub mod Steps
 pub mod Decimal
 pub mod Texts
+pub mod Lines
+pub mod Schedules

@@ -1,20 +1,50 @@
 // The canonical text of a schedule.
 ghost use Rattle.std.specs.Prelude.{◌≡◌, ◌≤◌, ℕ, List, IfOk, IfSome, IsErrOf};
 ghost use Rattle.plan_types.specs.declared.action.Action.{Action};
+ghost use Rattle.reversal.specs.declared.schedule_form.ScheduleFault.TheVariants.{NotBuilt, Memory};
 ghost use Rattle.reversal.specs.ScheduleForm.{IsSchedule};
 ghost use Rattle.reversal.specs.Reading.{Gives, number_at};
 ghost use Rattle.reversal.specs.LineReading.{keep_of, dest_of, pair_of, forward_of, reverse_of, copy_of, move_of, action_of};
 
 use crate::number::decimal_at;
 use crate::text::after;
-use plan_types::{Action, Dest, Keep};
+use plan_types::{Action, Dest, Keep, MOST_ACTIONS, MOST_STEPS};
+use std::alloc::{AllocError, AllocFailed, Global};
+
+// About how many bytes a line takes. Room is made for so many actions first, which may be too few.
+const LINE_LENGTH: usize = 32;
+
+/// Why a schedule isn't read.
+#[derive(Clone, Copy, Debug, PartialEq, Eq)]
+pub enum ScheduleFault {
+    /// The bytes aren't the canonical text of a list that is built.
+    NotBuilt,
+    /// Memory ran out.
+    Memory,
+}
+
+impl From<AllocError> for ScheduleFault {
+    ghost from_gives = { λ _ e. e ≡ Memory };
+
+    fn from(_e: AllocError) -> ScheduleFault {
+        ScheduleFault::Memory
+    }
+}
+
+impl<T: Drop> From<AllocFailed<T>> for ScheduleFault {
+    ghost from_gives = { λ _ e. e ≡ Memory };
+
+    fn from(_e: AllocFailed<T>) -> ScheduleFault {
+        ScheduleFault::Memory
+    }
+}
 
 // The number of a state.
 fn state_at(bytes: &[u8]) -> Option<(u32, &[u8])>
     ensures small { IfSome result (λ x. x.0 ≤ 1000000) }
     ensures gives { Gives (λ x. (x.0, x.1.now)) result (number_at 1000000 bytes.now) }
 {
-    let (n, rest) = decimal_at(bytes, 1_000_000)?;
+    let (n, rest) = decimal_at(bytes, u64::from(MOST_STEPS))?;
     Some((n as u32, rest))
 }
 
@@ -120,4 +150,24 @@ fn action_at(bytes: &[u8]) -> Option<(Action, &[u8])>
     } else {
         None
     }
+}
+
+/// The actions of a schedule, in one pass over its text.
+pub fn read_schedule(alloc: Global, bytes: &[u8]) -> Result<Vec<Action>, ScheduleFault>
+    ensures found { IfOk result (λ list. IsSchedule bytes.now list.items) }
+    ensures refused { IsErrOf result NotBuilt → (list : List Action) → IsSchedule bytes.now list → ⊥ }
+{
+    let mut list = Vec::with_capacity(alloc, bytes.len() / LINE_LENGTH)?;
+    let mut rest = bytes;
+    while !rest.is_empty() {
+        if list.len() == MOST_ACTIONS {
+            return Err(ScheduleFault::NotBuilt);
+        }
+        let Some((action, behind)) = action_at(rest) else {
+            return Err(ScheduleFault::NotBuilt);
+        };
+        list.push(action)?;
+        rest = behind;
+    }
+    Ok(list)
 }
