@@ -1,0 +1,2 @@
+pub mod RawMemory
+pub mod Laws

@@ -1,5 +1,5 @@
 -- A state of the machine: what the next step depends on, and nothing of how the code keeps it.
-use Rattle.std.specs.Prelude.{◌≡◌, ℕ, ◌%◌, ◌<◌, List, slice_index, length}
+use Rattle.std.specs.Prelude.{ℕ, ◌<◌, List}
 use Rattle.rv_pages.specs.Memory.{Memory}
 use Rattle.rv_machine.specs.declared.status.Status.{Status}
 use Rattle.rv_machine.specs.declared.status.Status.TheVariants.{Running, Exited, Trapped}

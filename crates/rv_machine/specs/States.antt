@@ -1,6 +1,6 @@
 -- The states of a run: the start state of a program's bytes, and the state after each number of steps. Nothing here
 -- knows of images or of schedules.
-use Rattle.std.specs.Prelude.{ℕ, zero, suc, ◌+◌, ◌-◌, ◌*◌, ◌/◌, List, [], ◌∷◌, ◌++◌, length, slice_set}
+use Rattle.std.specs.Prelude.{ℕ, zero, suc, List, ◌++◌, slice_set}
 use Rattle.std.specs.Prelude.{replicate}
 use Rattle.std.specs.List.{enumerate_from}
 use Rattle.std.specs.FinMap as finmap

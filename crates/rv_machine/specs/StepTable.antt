@@ -1,10 +1,10 @@
 -- One step of the machine: the rows of RV32I (RISC-V unprivileged manual, "RV32I Base Integer Instruction Set") that are
 -- built so far, a line each, and the traps at a fetch, which are our own. It reads the fields of the word, and memory
 -- as a map of single bytes; it knows no variants of an instruction, and no pages.
-use Rattle.std.specs.Prelude.{ℕ, ◌+◌, ◌-◌, ◌*◌, ◌^◌, ◌==◌, Bool, true, false, cond, if◌then◌else◌, List, slice_index, slice_set, bit_and, bit_or, bit_xor, Option, Some, None, is_some}
+use Rattle.std.specs.Prelude.{ℕ, ◌+◌, ◌-◌, ◌^◌, ◌==◌, Bool, true, false, cond, if◌then◌else◌, List, slice_index, slice_set, bit_and, bit_or, bit_xor, Option, Some, None, is_some}
 use Rattle.rv_pages.specs.Memory.{wrapped, word_at}
 use Rattle.rv_machine.specs.declared.status.Status.{Status}
-use Rattle.rv_machine.specs.declared.status.Status.TheVariants.{Running, Exited, Trapped}
+use Rattle.rv_machine.specs.declared.status.Status.TheVariants.{Running, Trapped}
 use Rattle.rv_machine.specs.MachineState.{MachineState}
 use Rattle.rv_machine.specs.Words.{rd, rs1, rs2, imm_i, imm_u, is_u, is_i, is_r}
 
@@ -12,16 +12,16 @@ use Rattle.rv_machine.specs.Words.{rd, rs1, rs2, imm_i, imm_u, is_u, is_i, is_r}
 -- word of no row is illegal.
 abbrev pub value_of : ℕ → ℕ → ℕ → Option ℕ
 value_of w a b =
-    if is_u 0b0110111 w then Some (imm_u w)                                    -- LUI
-    else (if is_i 0b0010011 0b000 w then Some (wrapped (a + imm_i w))          -- ADDI
-    else (if is_i 0b0010011 0b100 w then Some (bit_xor a (imm_i w))            -- XORI
-    else (if is_i 0b0010011 0b110 w then Some (bit_or a (imm_i w))             -- ORI
-    else (if is_i 0b0010011 0b111 w then Some (bit_and a (imm_i w))            -- ANDI
-    else (if is_r 0b0110011 0b000 0b0000000 w then Some (wrapped (a + b))      -- ADD
-    else (if is_r 0b0110011 0b000 0b0100000 w then Some (wrapped (a + 2 ^ 32 - b)) -- SUB
-    else (if is_r 0b0110011 0b100 0b0000000 w then Some (bit_xor a b)          -- XOR
-    else (if is_r 0b0110011 0b110 0b0000000 w then Some (bit_or a b)           -- OR
-    else (if is_r 0b0110011 0b111 0b0000000 w then Some (bit_and a b)          -- AND
+    if is_u 0b0110111 w then Some (imm_u w)  -- LUI
+    else (if is_i 0b0010011 0b000 w then Some (wrapped (a + imm_i w))  -- ADDI
+    else (if is_i 0b0010011 0b100 w then Some (bit_xor a (imm_i w))  -- XORI
+    else (if is_i 0b0010011 0b110 w then Some (bit_or a (imm_i w))  -- ORI
+    else (if is_i 0b0010011 0b111 w then Some (bit_and a (imm_i w))  -- ANDI
+    else (if is_r 0b0110011 0b000 0b0000000 w then Some (wrapped (a + b))  -- ADD
+    else (if is_r 0b0110011 0b000 0b0100000 w then Some (wrapped (a + 2 ^ 32 - b))  -- SUB
+    else (if is_r 0b0110011 0b100 0b0000000 w then Some (bit_xor a b)  -- XOR
+    else (if is_r 0b0110011 0b110 0b0000000 w then Some (bit_or a b)  -- OR
+    else (if is_r 0b0110011 0b111 0b0000000 w then Some (bit_and a b)  -- AND
     else None)))))))))
 
 -- whether a word is one of the instructions that are built so far

@@ -4,6 +4,16 @@
 //! has is one that it stepped to, copied, or was given.
 #![tactic(auto)]
 
+mod instruction;
+mod raw;
+mod state;
 mod status;
+mod stepping;
+mod steps;
 
+pub use crate::instruction::is_instruction;
+pub use crate::raw::load_raw;
+pub use crate::state::State;
 pub use crate::status::Status;
+pub use crate::stepping::step;
+pub use crate::steps::Steps;

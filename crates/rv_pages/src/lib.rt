@@ -4,5 +4,6 @@
 #![tactic(auto)]
 
 mod pages;
+mod places;
 
-pub use crate::pages::PAGE;
+pub use crate::pages::{PAGE, Pages};

@@ -1,6 +1,114 @@
 // Mapped pages.
-ghost use Rattle.std.specs.Prelude.{◌≡◌, length};
+ghost use Rattle.std.specs.Prelude.{◌≡◌, ℕ, ◌+◌, ◌*◌, ◌/◌, ◌%◌, ◌^◌, ◌<◌, ◌≤◌, ◌==◌, length, slice_index, slice_get, Some, IfOk, if◌then◌else◌};
+ghost use Rattle.std.specs.List.{All};
+ghost use Rattle.std.specs.List.Sorted.{IsStrictlyIncreasing};
+ghost use Rattle.std.specs.FinMap as finmap;
 ghost use Rattle.rv_pages.specs.Memory.{Memory, word_at, page_numbers, page_bytes, zeroed};
+
+use crate::places::word_of;
+use std::alloc::{AllocError, Global};
+use std::marker::Model;
 
 /// The bytes of a page.
 pub const PAGE: usize = 4096;
+
+/// Memory of mapped pages.
+#[derive(Drop)]
+pub struct Pages {
+    numbers: Vec<u32>,
+    bytes: Vec<u8>,
+}
+
+impl Model for Pages {
+    ghost use Rattle.std.specs.Coded.{coded_ℕ};
+    ghost use Rattle.std.specs.FinMap as finmap;
+    ghost use Rattle.rv_pages.specs.Memory.{Memory};
+    ghost use Rattle.rv_pages.specs.Kept.{AreKept, memory_kept};
+
+    ghost Value = { Memory };
+
+    ghost coded = { finmap.code coded_ℕ coded_ℕ };
+
+    ghost view = { λ p. memory_kept p.numbers.items p.bytes.items };
+
+    ghost invariant = { λ p. AreKept p.numbers.items p.bytes.items };
+}
+
+impl Clone for Pages {
+    ghost is_clone = { λ p q. q ≡ p };
+
+    fn clone(&self) -> Result<Pages, AllocError> {
+        Ok(Pages {
+            numbers: self.numbers.clone()?,
+            bytes: self.bytes.clone()?,
+        })
+    }
+}
+
+impl Pages {
+    /// Memory that maps the pages with these numbers, with the byte 0 everywhere.
+    pub fn map(alloc: Global, numbers: &[u32]) -> Result<Pages, AllocError>
+        requires ascending { IsStrictlyIncreasing numbers.now }
+        requires below { All (λ number. number < 2 ^ 20) numbers.now }
+        requires few { length numbers.now ≤ 4096 }
+        ensures memory { IfOk result (λ p. p ≡ zeroed numbers.now) }
+        ensures pages { IfOk result (λ p. page_numbers p ≡ numbers.now) }
+    {
+        Ok(Pages {
+            numbers: Vec::from_slice(alloc, numbers)?,
+            bytes: vec![in alloc; 0; PAGE * numbers.len()]?,
+        })
+    }
+
+    /// The word at an address, if its four bytes are mapped.
+    pub fn load32(&self, at: u32) -> Option<u32>
+        ensures { result ≡ word_at self.now at }
+    {
+        word_of(&self.numbers, &self.bytes, at)
+    }
+
+    /// Takes over the bytes of memory that maps the same pages.
+    pub fn copy_from(&mut self, other: &Pages)
+        requires { page_numbers self.old ≡ page_numbers other.now }
+        ensures { self.new ≡ other.now }
+    {
+        self.bytes.copy_from_slice(&other.bytes);
+    }
+
+    /// How many pages are mapped.
+    pub fn count(&self) -> u32
+        ensures value { result ≡ length (page_numbers self.now) }
+        ensures few { result ≤ 4096 }
+    {
+        self.numbers.len() as u32
+    }
+
+    /// The number of the page with this index, in ascending order.
+    pub fn number(&self, index: u32) -> u32
+        requires { index < length (page_numbers self.now) }
+        ensures { slice_get (page_numbers self.now) index ≡ Some result }
+    {
+        self.numbers[index as usize]
+    }
+
+    /// The bytes of the page with this index.
+    pub fn page(&self, index: u32) -> &[u8]
+        requires { index < length (page_numbers self.now) }
+        ensures value { result.now ≡ page_bytes self.now (slice_index (page_numbers self.now) index) }
+        ensures whole { length result.now ≡ 4096 }
+    {
+        let start = index as usize * PAGE;
+        &self.bytes[start..start + PAGE]
+    }
+
+    /// Writes all bytes of the page with this index.
+    pub fn set_page(&mut self, index: u32, bytes: &[u8])
+        requires index { index < length (page_numbers self.old) }
+        requires whole { length bytes.now ≡ 4096 }
+        ensures pages { page_numbers self.new ≡ page_numbers self.old }
+        ensures bytes { (at : ℕ) → finmap.get self.new at ≡ (if at / 4096 == slice_index (page_numbers self.old) index then Some (slice_index bytes.now (at % 4096)) else finmap.get self.old at) }
+    {
+        let start = index as usize * PAGE;
+        self.bytes[start..start + PAGE].copy_from_slice(bytes);
+    }
+}

@@ -1,0 +1,83 @@
+// A state of the machine.
+ghost use Rattle.std.specs.Prelude.{◌≡◌, ◌<◌};
+ghost use Rattle.rv_pages.specs.Memory.{page_numbers};
+ghost use Rattle.rv_machine.specs.StepTable.{with_register};
+
+use crate::status::Status;
+use rv_pages::Pages;
+use std::alloc::AllocError;
+use std::marker::Model;
+
+/// A state of the machine: all that its next step depends on, beside the recorded input.
+#[derive(Drop)]
+pub struct State {
+    /// The address of the next instruction.
+    pub pc: u32,
+    /// The registers x0 to x31.
+    pub x: [u32; 32],
+    pub status: Status,
+    /// The item of the recorded input that is read next.
+    pub item: u32,
+    /// The bytes of that item that were read.
+    pub offset: u32,
+    /// The bytes that the program wrote, modulo 2 ^ 64.
+    pub written: u64,
+    pub pages: Pages,
+}
+
+impl Model for State {
+    ghost use Rattle.rv_machine.specs.MachineState.{MachineState};
+    ghost use Rattle.rv_machine.specs.StateCode.{state_code};
+
+    ghost Value = { MachineState };
+
+    ghost coded = { state_code };
+
+    ghost use Rattle.rv_machine.specs.StateFields.{machine_state, IsState};
+
+    ghost view = { machine_state };
+
+    ghost invariant = { IsState };
+}
+
+impl Clone for State {
+    ghost is_clone = { λ s t. t ≡ s };
+
+    fn clone(&self) -> Result<State, AllocError> {
+        Ok(State {
+            pc: self.pc,
+            x: self.x,
+            status: self.status,
+            item: self.item,
+            offset: self.offset,
+            written: self.written,
+            pages: self.pages.clone()?,
+        })
+    }
+}
+
+impl State {
+    /// Makes this state the other one. It takes no memory: the pages are those that are mapped already.
+    pub fn copy_from(&mut self, other: &State)
+        requires { page_numbers self.old.memory ≡ page_numbers other.now.memory }
+        ensures { self.new ≡ other.now }
+    {
+        self.pc = other.pc;
+        self.x = other.x;
+        self.status = other.status;
+        self.item = other.item;
+        self.offset = other.offset;
+        self.written = other.written;
+        self.pages.copy_from(&other.pages);
+    }
+
+    // Writes a register; x0 stays 0.
+    pub(crate) fn set_register(&mut self, register: u8, value: u32)
+        requires { register < 32 }
+        ensures { self.new ≡ record self.old { registers = with_register self.old.registers register value } }
+    {
+        if register != 0 {
+            self.x[register as usize] = value;
+        }
+    }
+}

@@ -1,0 +1,29 @@
+-- How pages are kept: their numbers in ascending order, and the bytes of all of them, one page after the other.
+use Rattle.std.specs.Prelude.{◌≡◌, ℕ, ◌*◌, ◌^◌, ◌<◌, ◌≤◌, List, [], ◌∷◌, ◌++◌, length, take, drop, slice_index, Option, MatchOption}
+use Rattle.std.specs.List.{All, enumerate_from}
+use Rattle.std.specs.List.Sorted.{IsStrictlyIncreasing}
+use Rattle.std.specs.FinMap as finmap
+use Rattle.rv_pages.specs.Memory.{Memory}
+
+-- the addresses of the pages with their bytes, where a page has so many bytes
+abbrev pub entries_kept : ℕ → List ℕ → List ℕ → List (ℕ × ℕ)
+entries_kept size [] bytes = []
+entries_kept size (number ∷ numbers) bytes = enumerate_from (number * size) (take size bytes) ++ entries_kept size numbers (drop size bytes)
+
+-- the memory that is kept so
+unfoldable pub memory_kept : List ℕ → List ℕ → Memory
+memory_kept numbers bytes = finmap.from_sorted (entries_kept 4096 numbers bytes)
+
+-- what is true of pages that are kept
+pub record AreKept (numbers bytes : List ℕ) : Type 0 where
+  pub ascending : IsStrictlyIncreasing numbers
+  pub below : All (λ number. number < 2 ^ 20) numbers
+  pub few : length numbers ≤ 4096
+  pub whole : length bytes ≡ 4096 * length numbers
+
+-- where a number stands in a list, if it does
+abbrev pub IsPlaceOf : List ℕ → ℕ → Option ℕ → Type 0
+IsPlaceOf numbers number place =
+    MatchOption place
+    ((k : ℕ) → k < length numbers → slice_index numbers k ≡ number → ⊥)
+    (λ k. (k < length numbers) × (slice_index numbers k ≡ number))
