@@ -3,3 +3,4 @@ pub mod Decimal
 pub mod Texts
 pub mod Lines
 pub mod Schedules
+pub mod Books

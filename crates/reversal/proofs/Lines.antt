@@ -12,7 +12,7 @@ use Rattle.plan_types.specs.declared.action.Action.TheVariants.{Forward, Reverse
 use Rattle.reversal.specs.ScheduleForm.{spelled, HasSpelling}
 use Rattle.reversal.specs.Reading.{starts_with_digit, IsNumberAt, ◌>>=◌, with_or, after_of, number_at}
 use Rattle.reversal.specs.LineReading.{keep_of, dest_of, pair_of, is_one_step, forward_of, reverse_of, copy_of, move_of, action_of}
-use Rattle.reversal.proofs.Steps.{passed_then}
+use Rattle.reversal.proofs.Steps.{passed_then, bind_some}
 use Rattle.reversal.proofs.Decimal.{number_taken, number_again}
 use Rattle.reversal.proofs.Texts.{after_taken}
 
@@ -27,11 +27,6 @@ pub record IsLineAt (bytes : List ℕ) (a : Action) (rest : List ℕ) : Type 0 w
 
 wide : 1000000 < 2 ^ 64
 wide = omega arith
-
--- the value of a step that did not fail
-bind_some : {A B : Type 0} (o : Option A) (f : A → Option B) (y : B) → (o >>= f) ≡ Some y → (x : A) × (o ≡ Some x) × (f x ≡ Some y)
-bind_some None f y e = absurd cc
-bind_some (Some x) f y e = (x, refl, e)
 
 -- which of two it was
 which_of : {A B : Type 0} (o : Option A) (f : A → Option B) (other : Option B) (y : B) → with_or o f other ≡ Some y → ((x : A) × (o ≡ Some x) × (f x ≡ Some y)) ⊎ (other ≡ Some y)

@@ -4,3 +4,4 @@ pub mod ProgramForm
 pub mod ScheduleForm
 pub mod Reading
 pub mod LineReading
+pub mod BookReading

@@ -4,6 +4,7 @@
 //! the run nothing of text.
 #![tactic(auto)]
 
+mod book_form;
 mod number;
 mod schedule_form;
 mod text;
