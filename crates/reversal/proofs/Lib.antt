@@ -4,3 +4,4 @@ pub mod Texts
 pub mod Lines
 pub mod Schedules
 pub mod Books
+pub mod Commands

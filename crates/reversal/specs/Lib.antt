@@ -5,3 +5,4 @@ pub mod ScheduleForm
 pub mod Reading
 pub mod LineReading
 pub mod BookReading
+pub mod CommandReading

@@ -8,3 +8,4 @@ mod book_form;
 mod number;
 mod schedule_form;
 mod text;
+mod words;
