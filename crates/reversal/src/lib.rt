@@ -6,6 +6,7 @@
 
 mod book_form;
 mod number;
+mod program_form;
 mod schedule_form;
 mod text;
 mod words;
