@@ -1,9 +1,9 @@
 -- What the words of a command say.
-use Rattle.std.proofs.Common.{◌≡◌, ℕ, ◌^◌, ◌<◌, ◌≤◌, List, [], ◌∷◌, ◌++◌, Option, Some, refl, sym, ap, ◌∙◌, arith, length, get_or}
-use Rattle.std.specs.Prelude.{decimal, codes}
+use Rattle.std.proofs.Common.{◌≡◌, ℕ, ◌^◌, ◌<◌, List, [], ◌∷◌, Some, refl, sym, ap, ◌∙◌, arith, length, get_or}
+use Rattle.std.specs.Prelude.{decimal}
 use Rattle.std.proofs.lemmas.List.{append-nil}
 use Rattle.std.proofs.lemmas.Option.{some_pair_parts}
-use Rattle.reversal.specs.Command.{RunCommand, Says}
+use Rattle.reversal.specs.Command.{Says}
 use Rattle.reversal.specs.Reading.{IsNumberAt, number_at}
 use Rattle.reversal.specs.CommandReading.{HasFixedWords, AreNames}
 use Rattle.reversal.proofs.Decimal.{number_again}

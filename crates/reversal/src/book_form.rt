@@ -33,3 +33,42 @@ pub fn plain_slots(bytes: &[u8]) -> Option<u32>
 {
     slots_in(bytes)
 }
+
+#[cfg(test)]
+mod tests {
+    use super::*;
+
+    #[test]
+    fn only_the_plain_book_is_read(rt: HostRuntime) {
+        let table: [(&[u8], Option<u32>); 7] = [
+            (
+                b"{\"forward\":1,\"reverse\":1,\"levels\":[{\"name\":\"RAM\",\"slots\":0,\"write\":0,\"read\":0}]}",
+                Some(0),
+            ),
+            (
+                b"{\"forward\":1,\"reverse\":1,\"levels\":[{\"name\":\"RAM\",\"slots\":1000000,\"write\":0,\"read\":0}]}",
+                Some(1_000_000),
+            ),
+            (
+                b"{\"forward\":1,\"reverse\":1,\"levels\":[{\"name\":\"RAM\",\"slots\":1000001,\"write\":0,\"read\":0}]}",
+                None,
+            ),
+            (
+                b"{\"forward\":1,\"reverse\":1,\"levels\":[{\"name\":\"RAM\",\"slots\":012,\"write\":0,\"read\":0}]}",
+                None,
+            ),
+            (
+                b"{\"forward\":1,\"reverse\":1,\"levels\":[{\"name\":\"RAM\",\"slots\":12,\"write\":1,\"read\":0}]}",
+                None,
+            ),
+            (
+                b"{\"forward\":1,\"reverse\":1,\"levels\":[{\"name\":\"RAM\",\"slots\":12,\"write\":0,\"read\":0}]}\n",
+                None,
+            ),
+            (b"", None),
+        ];
+        for (text, slots) in table {
+            assert_eq!(rt; plain_slots(text), slots);
+        }
+    }
+}

@@ -34,3 +34,33 @@ pub fn is_program(bytes: &[u8]) -> bool
 {
     4 <= bytes.len() && bytes.len() <= 4096 && bytes.len() % 4 == 0 && are_instructions(bytes)
 }
+
+#[cfg(test)]
+mod tests {
+    use super::*;
+    use std::test::Fail;
+
+    // ADDI a0, zero, 7
+    const WORD: [u8; 4] = [0x13, 0x05, 0x70, 0x00];
+
+    #[test]
+    fn a_program_is_whole_instructions(rt: HostRuntime) {
+        assert!(rt; is_program(&WORD));
+        assert!(rt; !is_program(&[]));
+        assert!(rt; !is_program(&WORD[..3]));
+        assert!(rt; !is_program(&[0x13, 0x05, 0x70, 0x00, 0x13]));
+        assert!(rt; !is_program(&[0x13, 0x05, 0x70, 0x00, 0, 0, 0, 0]));
+    }
+
+    #[test]
+    fn a_program_is_at_most_a_page(rt: HostRuntime) -> Result<(), Fail> {
+        let mut bytes = Vec::new(rt.alloc());
+        for _ in 0..1024 {
+            bytes.extend_from_slice(&WORD)?;
+        }
+        assert!(rt; is_program(&bytes));
+        bytes.extend_from_slice(&WORD)?;
+        assert!(rt; !is_program(&bytes));
+        Ok(())
+    }
+}

@@ -60,6 +60,7 @@ fn pair_at(bytes: &[u8]) -> Option<(u32, u32, &[u8])>
     Some((first, second, rest))
 }
 
+// What a Forward keeps, at the end of its line.
 #[tactic(auto, unfolding(crate::specs::LineReading::keep_of))]
 fn keep_at(bytes: &[u8]) -> Option<(Keep, &[u8])>
     ensures { Gives (λ x. (x.0, x.1.now)) result (keep_of bytes.now) }
@@ -75,6 +76,7 @@ fn keep_at(bytes: &[u8]) -> Option<(Keep, &[u8])>
     }
 }
 
+// Where a Copy or a Move goes, at the end of its line.
 #[tactic(auto, unfolding(crate::specs::LineReading::dest_of))]
 fn dest_at(bytes: &[u8]) -> Option<(Dest, &[u8])>
     ensures { Gives (λ x. (x.0, x.1.now)) result (dest_of bytes.now) }
@@ -88,6 +90,7 @@ fn dest_at(bytes: &[u8]) -> Option<(Dest, &[u8])>
     }
 }
 
+// The rest of a Forward's line.
 #[tactic(auto, unfolding(crate::specs::LineReading::forward_of))]
 fn forward_at(bytes: &[u8]) -> Option<(Action, &[u8])>
     ensures { Gives (λ x. (x.0, x.1.now)) result (forward_of bytes.now) }
@@ -100,6 +103,7 @@ fn forward_at(bytes: &[u8]) -> Option<(Action, &[u8])>
     Some((Action::Forward { from, to, keep }, rest))
 }
 
+// The rest of a Reverse's line.
 #[tactic(auto, unfolding(crate::specs::LineReading::reverse_of))]
 fn reverse_at(bytes: &[u8]) -> Option<(Action, &[u8])>
     ensures { Gives (λ x. (x.0, x.1.now)) result (reverse_of bytes.now) }
@@ -112,6 +116,7 @@ fn reverse_at(bytes: &[u8]) -> Option<(Action, &[u8])>
     Some((Action::Reverse { from, to }, rest))
 }
 
+// The rest of a Copy's line.
 #[tactic(auto, unfolding(crate::specs::LineReading::copy_of))]
 fn copy_at(bytes: &[u8]) -> Option<(Action, &[u8])>
     ensures { Gives (λ x. (x.0, x.1.now)) result (copy_of bytes.now) }
@@ -121,6 +126,7 @@ fn copy_at(bytes: &[u8]) -> Option<(Action, &[u8])>
     Some((Action::Copy { n, from: 0, dest }, rest))
 }
 
+// The rest of a Move's line.
 #[tactic(auto, unfolding(crate::specs::LineReading::move_of))]
 fn move_at(bytes: &[u8]) -> Option<(Action, &[u8])>
     ensures { Gives (λ x. (x.0, x.1.now)) result (move_of bytes.now) }
@@ -170,4 +176,99 @@ pub fn read_schedule(alloc: Global, bytes: &[u8]) -> Result<Vec<Action>, Schedul
         rest = behind;
     }
     Ok(list)
+}
+
+#[cfg(test)]
+mod tests {
+    use super::*;
+    use std::test::Fail;
+
+    #[test]
+    fn each_shape_of_a_line_is_read(rt: HostRuntime) -> Result<(), Fail> {
+        let text: [&[u8]; 10] = [
+            b"Forward(0, 1000000, False, False, NONE)\n",
+            b"Forward(3, 40, True, False, RAM)\n",
+            b"Forward(7, 8, False, True, WORK)\n",
+            b"Reverse(8, 7, True)\n",
+            b"Copy(3, RAM, WORK)\n",
+            b"Copy(3, RAM, RAM)\n",
+            b"Move(0, RAM, WORK)\n",
+            b"Move(0, RAM, RAM)\n",
+            b"EndForward()\n",
+            b"EndReverse()\n",
+        ];
+        let list = read_schedule(rt.alloc(), text.concat(rt.alloc())?.as_slice())?;
+        let expected = [
+            Action::Forward {
+                from: 0,
+                to: 1_000_000,
+                keep: Keep::Nothing,
+            },
+            Action::Forward {
+                from: 3,
+                to: 40,
+                keep: Keep::Store(0),
+            },
+            Action::Forward {
+                from: 7,
+                to: 8,
+                keep: Keep::Tape,
+            },
+            Action::Reverse { from: 8, to: 7 },
+            Action::Copy {
+                n: 3,
+                from: 0,
+                dest: Dest::Work,
+            },
+            Action::Copy {
+                n: 3,
+                from: 0,
+                dest: Dest::Level(0),
+            },
+            Action::Move {
+                n: 0,
+                from: 0,
+                dest: Dest::Work,
+            },
+            Action::Move {
+                n: 0,
+                from: 0,
+                dest: Dest::Level(0),
+            },
+            Action::EndForward,
+            Action::EndReverse,
+        ];
+        assert_eq!(rt; list.as_slice(), expected.as_slice());
+        Ok(())
+    }
+
+    #[test]
+    fn no_text_is_an_empty_schedule(rt: HostRuntime) -> Result<(), Fail> {
+        assert!(rt; read_schedule(rt.alloc(), b"")?.is_empty());
+        Ok(())
+    }
+
+    #[test]
+    fn other_spellings_are_refused(rt: HostRuntime) {
+        let table: [&[u8]; 14] = [
+            b"EndForward()",
+            b"EndForward()\nEndReverse()",
+            b"\n",
+            b"EndForward() \n",
+            b"EndForward()\r\n",
+            b"EndForward()\n\nEndReverse()\n",
+            b"# the end\nEndForward()\n",
+            b"Forward(0,1, False, False, NONE)\n",
+            b"Forward(2, 4, False, True, WORK)\n",
+            b"Reverse(4, 2, True)\n",
+            b"Copy(01, RAM, WORK)\n",
+            b"Copy(1000001, RAM, WORK)\n",
+            b"Copy(1, DISK, WORK)\n",
+            b"Move(1, RAM, WORK)x\n",
+        ];
+        for text in table {
+            let read = read_schedule(rt.alloc(), text);
+            assert!(rt; matches!(read, Err(ScheduleFault::NotBuilt)), "at {text:?}");
+        }
+    }
 }

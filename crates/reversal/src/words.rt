@@ -90,3 +90,73 @@ pub fn run_words(list: &[Vec<u8>]) -> Option<RunWords<'_>>
         steps,
     })
 }
+
+#[cfg(test)]
+mod tests {
+    use super::*;
+    use std::alloc::{AllocError, Global};
+    use std::test::Fail;
+
+    fn words_of(alloc: Global, texts: &[&[u8]]) -> Result<Vec<Vec<u8>>, AllocError> {
+        let mut list = Vec::new(alloc);
+        for text in texts {
+            list.push(Vec::from_slice(alloc, text)?)?;
+        }
+        Ok(list)
+    }
+
+    #[test]
+    fn seven_words_are_a_command(rt: HostRuntime) -> Result<(), Fail> {
+        let list = words_of(
+            rt.alloc(),
+            &[
+                b"--raw",
+                b"run",
+                b"p",
+                b"-",
+                b"book",
+                b"a list",
+                b"18446744073709551615",
+            ],
+        )?;
+        let words = run_words(&list).ok_or("the words are a command")?;
+        assert_eq!(rt; words.program, b"p".as_slice());
+        assert_eq!(rt; words.book, b"book".as_slice());
+        assert_eq!(rt; words.schedule, b"a list".as_slice());
+        assert_eq!(rt; words.steps, u64::MAX);
+        Ok(())
+    }
+
+    #[test]
+    fn other_words_are_refused(rt: HostRuntime) -> Result<(), Fail> {
+        let table: [&[&[u8]]; 14] = [
+            &[],
+            &[b"--raw", b"run", b"p", b"-", b"book", b"list"],
+            &[b"--raw", b"run", b"p", b"-", b"book", b"list", b"4", b"5"],
+            &[b"--Raw", b"run", b"p", b"-", b"book", b"list", b"4"],
+            &[b"--raw", b"check", b"p", b"-", b"book", b"list", b"4"],
+            &[b"--raw", b"run", b"", b"-", b"book", b"list", b"4"],
+            &[b"--raw", b"run", b"p", b"inputs", b"book", b"list", b"4"],
+            &[b"--raw", b"run", b"p", b"-", b"", b"list", b"4"],
+            &[b"--raw", b"run", b"p", b"-", b"book", b"", b"4"],
+            &[b"--raw", b"run", b"p", b"-", b"book", b"@revolve", b"4"],
+            &[b"--raw", b"run", b"p", b"-", b"book", b"list", b"04"],
+            &[b"--raw", b"run", b"p", b"-", b"book", b"list", b"+4"],
+            &[b"--raw", b"run", b"p", b"-", b"book", b"list", b"4 "],
+            &[
+                b"--raw",
+                b"run",
+                b"p",
+                b"-",
+                b"book",
+                b"list",
+                b"18446744073709551616",
+            ],
+        ];
+        for texts in table {
+            let list = words_of(rt.alloc(), texts)?;
+            assert!(rt; run_words(&list).is_none(), "at {texts:?}");
+        }
+        Ok(())
+    }
+}
