@@ -11,7 +11,7 @@ use crate::text::after;
 use plan_types::{Action, Dest, Keep, MOST_ACTIONS, MOST_STEPS};
 use std::alloc::{AllocError, AllocFailed, Global};
 
-// About how many bytes a line takes. Room is made for so many actions first, which may be too few.
+// About how many bytes a line takes. By it room is made first, which may be too little.
 const LINE_LENGTH: usize = 32;
 
 /// Why a schedule isn't read.
@@ -163,7 +163,8 @@ pub fn read_schedule(alloc: Global, bytes: &[u8]) -> Result<Vec<Action>, Schedul
     ensures found { IfOk result (λ list. IsSchedule bytes.now list.items) }
     ensures refused { IsErrOf result NotBuilt → (list : List Action) → IsSchedule bytes.now list → ⊥ }
 {
-    let mut list = Vec::with_capacity(alloc, bytes.len() / LINE_LENGTH)?;
+    let room = (bytes.len() / LINE_LENGTH).min(MOST_ACTIONS);
+    let mut list = Vec::with_capacity(alloc, room)?;
     let mut rest = bytes;
     while !rest.is_empty() {
         if list.len() == MOST_ACTIONS {
