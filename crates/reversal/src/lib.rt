@@ -3,3 +3,10 @@
 //! are a command), `BookForm`, `ProgramForm` and `ScheduleForm` (what is read so far). Readers know nothing of runs, and
 //! the run nothing of text.
 #![tactic(auto)]
+
+mod book_form;
+mod number;
+mod program_form;
+mod schedule_form;
+mod text;
+mod words;

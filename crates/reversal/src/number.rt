@@ -1,0 +1,78 @@
+// A number in decimal digits.
+ghost use Rattle.std.specs.Prelude.{ℕ, List, IfSome, IfNone};
+ghost use Rattle.reversal.specs.Reading.{Gives, IsNumberAt, digits_at, number_at};
+
+// The number that the digits at the front of the bytes make, and the bytes after them.
+#[tactic(auto, unfolding(crate::specs::Reading::digits_at))]
+fn digits(bytes: &[u8], limit: u64) -> Option<(u64, &[u8])>
+    ensures { Gives (λ x. (x.0, x.1.now)) result (digits_at limit 0 bytes.now) }
+{
+    let mut n = 0;
+    let mut rest = bytes;
+    while let [byte @ b'0'..=b'9', after @ ..] = rest {
+        let digit = u64::from(*byte - b'0');
+        if n > limit / 10 || digit > limit - n * 10 {
+            return None;
+        }
+        n = n * 10 + digit;
+        rest = after;
+    }
+    Some((n, rest))
+}
+
+// The same, without a leading zero.
+#[tactic(auto, unfolding(crate::specs::Reading::number_at))]
+fn number(bytes: &[u8], limit: u64) -> Option<(u64, &[u8])>
+    ensures { Gives (λ x. (x.0, x.1.now)) result (number_at limit bytes.now) }
+{
+    match bytes {
+        [b'0', b'0'..=b'9', ..] => None,
+        [b'0', rest @ ..] => Some((0, rest)),
+        [b'1'..=b'9', ..] => digits(bytes, limit),
+        _ => None,
+    }
+}
+
+/// The number in decimal digits, without a sign or a leading zero, at the front of the bytes, and the bytes after it.
+/// It takes the longest run of digits, and is none if that says more than the limit.
+pub fn decimal_at(bytes: &[u8], limit: u64) -> Option<(u64, &[u8])>
+    ensures found { IfSome result (λ x. IsNumberAt limit bytes.now x.0 x.1.now) }
+    ensures none { IfNone result ((n : ℕ) (rest : List ℕ) → IsNumberAt limit bytes.now n rest → ⊥) }
+
+    // Which number and rest it is, as a function on lists.
+    ensures gives { Gives (λ x. (x.0, x.1.now)) result (number_at limit bytes.now) }
+{
+    number(bytes, limit)
+}
+
+#[cfg(test)]
+mod tests {
+    use super::*;
+
+    #[test]
+    fn a_number_has_no_leading_zero_and_is_at_most_the_limit(rt: HostRuntime) {
+        let table: [(&[u8], Option<u64>); 10] = [
+            (b"0", Some(0)),
+            (b"7,", Some(7)),
+            (b"1000000", Some(1_000_000)),
+            (b"1000001", None),
+            (b"10000000", None),
+            (b"007", None),
+            (b"00", None),
+            (b"+7", None),
+            (b"x", None),
+            (b"", None),
+        ];
+        for (text, number) in table {
+            assert_eq!(rt; decimal_at(text, 1_000_000).map(|found| found.0), number);
+        }
+    }
+
+    #[test]
+    fn the_greatest_number_of_64_bits_is_read_and_the_next_is_not(rt: HostRuntime) {
+        let greatest = decimal_at(b"18446744073709551615 steps", u64::MAX);
+        assert!(rt; matches!(greatest, Some((u64::MAX, b" steps"))));
+        assert!(rt; decimal_at(b"18446744073709551616", u64::MAX).is_none());
+        assert!(rt; decimal_at(b"99999999999999999999", u64::MAX).is_none());
+    }
+}
