@@ -1,2 +1,4 @@
 pub mod StoredLemmas
 pub mod ActingLemmas
+pub mod Copies
+pub mod Following
