@@ -1,4 +1,4 @@
-use Rattle.std.proofs.Common.{◌≡◌, ◌++◌, List, ℕ, take, filter, length, get_or, ap, sym, subst, ◌∙◌, not, true, false, Bool, ◌<◌, ◌+◌, ◌==◌, arith}
+use Rattle.std.proofs.Common.{◌≡◌, ◌++◌, take, filter, length, get_or, ap, sym, subst, ◌∙◌, not, true, false, ◌<◌, ◌+◌, ◌==◌, arith}
 use Rattle.std.proofs.lemmas.Option.{get_or_from_slice_get}
 use Rattle.std.specs.List.{flat_map, list_all}
 use Rattle.std.specs.Int.{to_le_bytes, w32}
@@ -24,16 +24,16 @@ loop-index-preserved c =
           let field : w.to_le_bytes.result ≡ to_le_bytes w32 (get_or ns i 0) = w.to_le_bytes.ensures ∙ ap (to_le_bytes w32) number in
           let bytes : c.page-page.result.now ≡ page_bytes m (get_or ns i 0) = c.page-page.ensures.value in
           λ held h.
-            let before = held ++ flat_map (page_field m) (filter (is_stored m) (take i ns)) in
-            let fed : Holds256 w.update-then-not-is_zero.new.self (before ++ w.to_le_bytes.result ++ c.page-page.result.now) = w.update-then-not-is_zero.ensures _ (w.update.ensures _ (c.loop-index.invariant held h)) in
-            let is : before ++ w.to_le_bytes.result ++ c.page-page.result.now ≡ held ++ flat_map (page_field m) (filter (is_stored m) (take (i + 1) ns)) =
-                (λ k. before ++ field k ++ bytes k) ∙ one_more (to_le_bytes w32) (page_bytes m) (is_stored m) ns i held below stored in
-            subst (λ (s : Sha256). Holds256 s (held ++ flat_map (page_field m) (filter (is_stored m) (take (i + 1) ns)))) (sym w.hasher-is)
-              (subst (Holds256 w.update-then-not-is_zero.new.self) is fed)
+          let before = held ++ flat_map (page_field m) (filter (is_stored m) (take i ns)) in
+          let fed : Holds256 w.update-then-not-is_zero.new.self (before ++ w.to_le_bytes.result ++ c.page-page.result.now) = w.update-then-not-is_zero.ensures _ (w.update.ensures _ (c.loop-index.invariant held h)) in
+          let is : before ++ w.to_le_bytes.result ++ c.page-page.result.now ≡ held ++ flat_map (page_field m) (filter (is_stored m) (take (i + 1) ns)) =
+          (λ k. before ++ field k ++ bytes k) ∙ one_more (to_le_bytes w32) (page_bytes m) (is_stored m) ns i held below stored in
+          subst (λ (s : Sha256). Holds256 s (held ++ flat_map (page_field m) (filter (is_stored m) (take (i + 1) ns)))) (sym w.hasher-is)
+          (subst (Holds256 w.update-then-not-is_zero.new.self) is fed)
       | else-not-is_zero w ↦
           let skipped : is_stored m (get_or ns i 0) ≡ false = answer ∙ ap not w.if-not-is_zero.false in
           λ held h.
-            let same = ap (λ xs. held ++ flat_map (page_field m) xs) (left_out (is_stored m) ns i below skipped) in
-            subst (λ (s : Sha256). Holds256 s (held ++ flat_map (page_field m) (filter (is_stored m) (take (i + 1) ns)))) (sym w.hasher-is)
-              (subst (Holds256 c.loop-index.hasher) same (c.loop-index.invariant held h))
+          let same = ap (λ xs. held ++ flat_map (page_field m) xs) (left_out (is_stored m) ns i below skipped) in
+          subst (λ (s : Sha256). Holds256 s (held ++ flat_map (page_field m) (filter (is_stored m) (take (i + 1) ns)))) (sym w.hasher-is)
+          (subst (Holds256 c.loop-index.hasher) same (c.loop-index.invariant held h))
     ]
