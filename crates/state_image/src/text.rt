@@ -85,3 +85,70 @@ fn push_digest(text: &mut Line, digest: &[u8; 32])
     text.push(b" ");
     text.push(&digits);
 }
+
+#[cfg(test)]
+mod tests {
+    use super::*;
+    use rv_machine::load_raw;
+    use std::test::Fail;
+
+    // addi a0, x0, 7; addi t0, x0, 1; addi t1, t0, 2; addi a7, x0, 93
+    const PROGRAM: [u8; 16] = [
+        0x13, 0x05, 0x70, 0x00, 0x93, 0x02, 0x10, 0x00, 0x13, 0x83, 0x22, 0x00, 0x93, 0x08, 0xd0,
+        0x05,
+    ];
+
+    // The digests of the tests were computed from the form by another program.
+
+    #[test]
+    fn the_line_of_a_start_state(rt: HostRuntime) -> Result<(), Fail> {
+        let state = load_raw(rt.alloc(), &PROGRAM)?;
+        let mut text = Line::new();
+        state_line(0, &state, &mut text);
+        assert!(rt;
+            text.bytes()
+                == b"0 00010000 00000000 bffffff0 00000000 00000000 00000000 00000000 00000000 00000000 00000000 00000000 00000000 00000000 00000000 00000000 00000000 00000000 00000000 00000000 00000000 00000000 00000000 00000000 00000000 00000000 00000000 00000000 00000000 00000000 00000000 00000000 00000000 run 0:0 0 52ad48795f89075500da15e9ee3309cba8cdf667a363886e74c355c9869f512c".as_slice()
+        );
+        Ok(())
+    }
+
+    #[test]
+    fn the_line_of_a_state_that_exited(rt: HostRuntime) -> Result<(), Fail> {
+        let mut state = load_raw(rt.alloc(), &PROGRAM)?;
+        let mut page = [0; 4096];
+        page[4095] = 0x80;
+        assert_eq!(rt; state.pages.count(), 17);
+        state.pages.set_page(16, &page);
+        state.pc = 0xfffffffc;
+        state.x[1] = 0x80000001;
+        state.x[31] = 0xfedcba98;
+        state.status = Status::Exited(7);
+        state.item = 3;
+        state.offset = 4000000000;
+        state.written = 18446744073709551615;
+        let mut text = Line::new();
+        text.push(b"before");
+        state_line(1000000, &state, &mut text);
+        assert!(rt;
+            text.bytes()
+                == b"1000000 fffffffc 80000001 bffffff0 00000000 00000000 00000000 00000000 00000000 00000000 00000000 00000000 00000000 00000000 00000000 00000000 00000000 00000000 00000000 00000000 00000000 00000000 00000000 00000000 00000000 00000000 00000000 00000000 00000000 00000000 00000000 00000000 fedcba98 exit:7 3:4000000000 18446744073709551615 a9b0cc40281b19205a5139c4ba0620f2c0981ab048241bd1af4e9a4ee0fdd51c".as_slice()
+        );
+        Ok(())
+    }
+
+    #[test]
+    fn the_line_of_a_state_that_trapped(rt: HostRuntime) -> Result<(), Fail> {
+        let mut state = load_raw(rt.alloc(), &PROGRAM)?;
+        state.pc = 0x10008;
+        state.status = Status::Trapped(0);
+        state.item = 5;
+        state.written = 17;
+        let mut text = Line::new();
+        state_line(42, &state, &mut text);
+        assert!(rt;
+            text.bytes()
+                == b"42 00010008 00000000 bffffff0 00000000 00000000 00000000 00000000 00000000 00000000 00000000 00000000 00000000 00000000 00000000 00000000 00000000 00000000 00000000 00000000 00000000 00000000 00000000 00000000 00000000 00000000 00000000 00000000 00000000 00000000 00000000 00000000 00000000 trap:0 5:0 17 6658697555c70dc04ab0f644e818187a04c77fe0eb4ea6b7f6951d1f3f6efddf".as_slice()
+        );
+        Ok(())
+    }
+}
