@@ -1,9 +1,9 @@
 // Mapped pages.
-ghost use Rattle.std.specs.Prelude.{◌≡◌, ℕ, ◌+◌, ◌*◌, ◌/◌, ◌%◌, ◌^◌, ◌<◌, ◌≤◌, ◌==◌, length, slice_index, slice_get, Some, IfOk, if◌then◌else◌};
+ghost use Rattle.std.specs.Prelude.{◌≡◌, ℕ, ◌/◌, ◌%◌, ◌^◌, ◌<◌, ◌≤◌, ◌==◌, length, slice_index, slice_get, IfOk, if◌then◌else◌};
 ghost use Rattle.std.specs.List.{All};
 ghost use Rattle.std.specs.List.Sorted.{IsStrictlyIncreasing};
 ghost use Rattle.std.specs.FinMap as finmap;
-ghost use Rattle.rv_pages.specs.Memory.{Memory, word_at, page_numbers, page_bytes, zeroed};
+ghost use Rattle.rv_pages.specs.Memory.{word_at, page_numbers, page_bytes, zeroed};
 
 use crate::places::word_of;
 use std::alloc::{AllocError, Global};

@@ -1,6 +1,6 @@
 -- The image of a state: the bytes that are stored of it. The form is our own: numbers are little-endian, and of the
 -- mapped pages those that are all zero are left out.
-use Rattle.std.specs.Prelude.{ℕ, Bool, not, ◌==◌, ◌++◌, List, [], ◌∷◌, length, filter, drop, codes}
+use Rattle.std.specs.Prelude.{ℕ, Bool, not, ◌==◌, ◌++◌, List, length, filter, drop, codes}
 use Rattle.std.specs.List.{flat_map, list_all}
 use Rattle.std.specs.Int.{to_le_bytes, w32, w64}
 use Rattle.rv_pages.specs.Memory.{Memory, page_numbers, page_bytes}
@@ -19,9 +19,13 @@ status_value Running = 0
 status_value (Exited code) = code
 status_value (Trapped cause) = cause
 
--- the numbers of the mapped pages that have a byte other than 0, in ascending order
+-- whether a page has a byte other than 0
+abbrev pub is_stored : Memory → ℕ → Bool
+is_stored m page = not (list_all (λ b. b == 0) (page_bytes m page))
+
+-- the numbers of the mapped pages that have one, in ascending order
 abbrev pub pages_stored : Memory → List ℕ
-pages_stored m = filter (λ page. not (list_all (λ b. b == 0) (page_bytes m page))) (page_numbers m)
+pages_stored m = filter (is_stored m) (page_numbers m)
 
 -- all of the image before its pages
 abbrev pub header : MachineState → List ℕ

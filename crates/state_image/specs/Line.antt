@@ -1,6 +1,6 @@
 -- The line of a state: words that are separated by one space, without a line end. The form is our own; the digest is
 -- SHA-256 (FIPS 180-4).
-use Rattle.std.specs.Prelude.{ℕ, ◌++◌, List, [], ◌∷◌, drop, codes, decimal}
+use Rattle.std.specs.Prelude.{ℕ, ◌++◌, List, drop, codes, decimal}
 use Rattle.std.specs.List.{flat_map}
 use Rattle.std.specs.Int.{to_be_bytes, w32}
 use Rattle.hex.specs.Hex.{encode_lower}

@@ -1,0 +1,9 @@
+use Rattle.std.proofs.Common.{take, filter}
+use Rattle.std.specs.List.{flat_map}
+use Rattle.rv_pages.specs.Memory.{page_numbers}
+use Rattle.state_image.specs.Feed.{Feeds}
+use Rattle.state_image.specs.Image.{is_stored, page_field}
+use Rattle.state_image.proofs.image.feed_pages.Given as goal
+
+abbrev pub invariant-loop-index : goal.invariant-loop-index
+invariant-loop-index l = Feeds l.initial.hasher l.hasher (flat_map (page_field l.pages) (filter (is_stored l.pages) (take l.index (page_numbers l.pages))))

@@ -1,0 +1,101 @@
+// The digest of a state's image. The image itself is nowhere in memory: it goes into the hash piece by piece.
+ghost use Rattle.std.specs.Prelude.{◌≡◌, ◌==◌, length, drop};
+ghost use Rattle.std.specs.List.{flat_map, list_all};
+ghost use Rattle.std.specs.Int.{to_le_bytes, w32};
+ghost use Rattle.sha2.specs.Hashers.{Holds256};
+ghost use Rattle.sha2.specs.Sha256.{sha256};
+ghost use Rattle.state_image.specs.Feed.{Feeds};
+ghost use Rattle.state_image.specs.Image.{image, header, status_kind, status_value, pages_stored, page_field};
+
+use rv_machine::{State, Status};
+use rv_pages::Pages;
+use sha2::{Digest, Sha256};
+
+// The version of the form.
+const VERSION: u32 = 1;
+
+/// The SHA-256 of a state's image.
+pub(crate) fn image_digest(state: &State) -> [u8; 32]
+    ensures { result ≡ sha256 (image state.now) }
+{
+    let mut hasher = hash_header(state);
+    feed_pages(&mut hasher, &state.pages);
+    hasher.finalize()
+}
+
+// The hash of all of the image before its pages.
+fn hash_header(state: &State) -> Sha256
+    ensures { Holds256 result (header state.now) }
+{
+    let mut hasher = Sha256::new();
+    hasher.update(b"RVST");
+    hasher.update(VERSION.to_le_bytes());
+    hasher.update(state.pc.to_le_bytes());
+    feed_registers(&mut hasher, &state.x);
+    let (kind, value) = status_numbers(state.status);
+    hasher.update(kind.to_le_bytes());
+    hasher.update(value.to_le_bytes());
+    hasher.update(state.item.to_le_bytes());
+    hasher.update(state.offset.to_le_bytes());
+    hasher.update(state.written.to_le_bytes());
+    hasher.update(count_stored(&state.pages).to_le_bytes());
+    hasher
+}
+
+// Feeds x1 to x31.
+fn feed_registers(hasher: &mut Sha256, x: &[u32; 32])
+    ensures { Feeds hasher.old hasher.new (flat_map (to_le_bytes w32) (drop 1 x.now)) }
+{
+    for word in &x[1..] {
+        hasher.update(word.to_le_bytes());
+    }
+}
+
+// The kind of a status, and the number that goes with it.
+fn status_numbers(status: Status) -> (u32, u32)
+    ensures kind { result.0 ≡ status_kind status }
+    ensures value { result.1 ≡ status_value status }
+{
+    match status {
+        Status::Running => (0, 0),
+        Status::Exited(code) => (1, code as u32),
+        Status::Trapped(cause) => (2, cause as u32),
+    }
+}
+
+// How many pages are stored.
+fn count_stored(pages: &Pages) -> u32
+    ensures { result ≡ length (pages_stored pages.now) }
+{
+    let mut stored = 0;
+    for index in 0..pages.count() {
+        if !is_zero(pages.page(index)) {
+            stored += 1;
+        }
+    }
+    stored
+}
+
+// Feeds the pages that are stored.
+fn feed_pages(hasher: &mut Sha256, pages: &Pages)
+    ensures { Feeds hasher.old hasher.new (flat_map (page_field pages.now) (pages_stored pages.now)) }
+{
+    for index in 0..pages.count() {
+        let page = pages.page(index);
+        if !is_zero(page) {
+            hasher.update(pages.number(index).to_le_bytes());
+            hasher.update(page);
+        }
+    }
+}
+
+// Whether all bytes are 0. It reads them all, many at a time, which is faster than to stop at the first other one.
+fn is_zero(bytes: &[u8]) -> bool
+    ensures { result ≡ list_all (λ b. b == 0) bytes.now }
+{
+    let mut seen = 0;
+    for byte in bytes {
+        seen |= *byte;
+    }
+    seen == 0
+}
