@@ -5,9 +5,11 @@
 #![tactic(auto)]
 
 mod acting;
+mod line_writer;
 mod session;
 mod stored;
 mod visitor;
 
+pub use crate::line_writer::LineWriter;
 pub use crate::session::{RunFault, Session};
 pub use crate::visitor::{VisitFault, Visitor};

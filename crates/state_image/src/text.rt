@@ -10,7 +10,8 @@ use rv_machine::{State, Status};
 
 /// Writes the line of the state with the number `n`, in place of what was in `text`. It takes no memory.
 pub fn state_line(n: u32, state: &State, text: &mut Line)
-    ensures { text.new ≡ line n state.now }
+    ensures text { text.new ≡ line n state.now }
+    ensures short { length text.new ≤ 420 }
 {
     text.clear();
     text.push_decimal(n as u64);
@@ -78,7 +79,8 @@ fn push_place(text: &mut Line, item: u32, offset: u32, written: u64)
 
 fn push_digest(text: &mut Line, digest: &[u8; 32])
     requires { length text.old ≤ 447 }
-    ensures { text.new ≡ text.old ++ codes " " ++ encode_lower digest.now }
+    ensures text { text.new ≡ text.old ++ codes " " ++ encode_lower digest.now }
+    ensures room { length text.new ≡ length text.old + 65 }
 {
     let mut digits = [0; 64];
     hex::encode_to_slice(digest, &mut digits).unwrap();

@@ -28,8 +28,8 @@ push_place-requires c = omega (arith, length-append {A = ℕ}, ap length c.clear
 pub push_digest-requires : goal.push_digest-requires
 push_digest-requires c = omega (arith, length-append {A = ℕ}, ap length c.clear.ensures, ap length c.push_decimal.ensures, short_32 c.args.n c.ranges.n.fits)
 
-pub returns : goal.returns
-returns c =
+pub returns-clause-text : goal.returns-clause-text
+returns-clause-text c =
     let s = machine_state c.state.inside in
     let number = c.push_decimal.ensures ∙ ap (λ xs. xs ++ decimal c.args.n) c.clear.ensures in
     let pc = c.push_word.ensures.text ∙ ap (λ xs. xs ++ codes " " ++ hex_word s.pc) number in
@@ -37,4 +37,8 @@ returns c =
     let status = c.push_status.ensures.text ∙ ap (λ xs. xs ++ codes " " ++ status_word s.status) registers in
     let place = c.push_place.ensures.text ∙ ap (λ xs. xs ++ codes " " ++ decimal s.item ++ codes ":" ++ decimal s.offset ++ codes " " ++ decimal s.written) status in
     let digest : c.image_digest.result ≡ sha256 (image s) = c.image_digest.ensures ∙ ap (λ t. sha256 (image t)) (sym c.state.view_is) in
-    c.push_digest.ensures ∙ (λ i. place i ++ codes " " ++ encode_lower (digest i)) ∙ ap (line c.args.n) c.state.view_is
+    c.push_digest.ensures.text ∙ (λ i. place i ++ codes " " ++ encode_lower (digest i)) ∙ ap (line c.args.n) c.state.view_is
+
+pub returns-clause-short : goal.returns-clause-short
+returns-clause-short c =
+    omega (arith, length-append {A = ℕ}, ap length c.clear.ensures, ap length c.push_decimal.ensures, short_32 c.args.n c.ranges.n.fits, c.push_word.ensures.room, c.push_registers.ensures.room, c.push_status.ensures.room, c.push_place.ensures.room, c.push_digest.ensures.room)
