@@ -5,3 +5,6 @@ pub mod Lines
 pub mod Schedules
 pub mod Books
 pub mod Commands
+pub mod Asking
+pub mod OnTheWay
+pub mod Writing

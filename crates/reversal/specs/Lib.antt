@@ -6,3 +6,7 @@ pub mod Reading
 pub mod LineReading
 pub mod BookReading
 pub mod CommandReading
+pub mod Ending
+pub mod Forms
+pub mod Taking
+pub mod Given

@@ -5,8 +5,16 @@
 #![tactic(auto)]
 
 mod book_form;
+mod ended;
 mod number;
 mod program_form;
+mod reading;
+mod running;
 mod schedule_form;
 mod text;
+
 mod words;
+
+pub use crate::ended::{Ended, ended_text};
+
+pub use crate::words::Words;

@@ -5,6 +5,12 @@ ghost use Rattle.reversal.specs.CommandReading.{HasFixedWords, AreNames};
 
 use crate::number::decimal_at;
 
+/// The words of a command line, without the name of the program. A word is any bytes.
+#[derive(Drop)]
+pub struct Words {
+    pub list: Vec<Vec<u8>>,
+}
+
 /// What the words of the command say: the names of its three inputs, and the number of steps.
 #[derive(Clone, Copy, Debug)]
 pub struct RunWords<'a> {

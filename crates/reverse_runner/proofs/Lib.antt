@@ -2,3 +2,4 @@ pub mod StoredLemmas
 pub mod ActingLemmas
 pub mod Copies
 pub mod Following
+pub mod Getting
