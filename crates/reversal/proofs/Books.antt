@@ -36,7 +36,7 @@ book_taken bytes n e =
     let ended = passed_then (eqb (length c.0) 0) (Some b.0.0) n c.2 in
     subst (λ (m : ℕ). IsPlainBook bytes m) (same_Some b.0.0 n ended.1) (book_made bytes b.0.0 a.0 b.0.1 c.0 a.1 b.1 c.1 (eqb-true _ _ ended.0))
 
-book_again : (n : ℕ) → n ≤ 1000000 → slots_of (plain_text n) ≡ Some n
+pub book_again : (n : ℕ) → n ≤ 1000000 → slots_of (plain_text n) ≡ Some n
 unfolding slots_of after_of
 book_again n small = ap slots_of (append_assoc head (decimal n) tail) ∙ rw (number_again 1000000 n tail wide small refl) refl
 

@@ -8,3 +8,5 @@ pub mod Commands
 pub mod Asking
 pub mod OnTheWay
 pub mod Writing
+pub mod OneReading
+pub mod Answering

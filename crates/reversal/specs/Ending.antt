@@ -18,4 +18,4 @@ abbrev pub text_of_ended : Ended → List ℕ
 text_of_ended e =
     if e.status == 0 then []
     else codes "reversal:" ++ codes " " ++ decimal e.status ++ codes " " ++ status_name e.status
-        ++ codes " " ++ decimal e.place ++ codes " " ++ decimal e.more ++ codes " " ++ decimal e.rule
+    ++ codes " " ++ decimal e.place ++ codes " " ++ decimal e.more ++ codes " " ++ decimal e.rule

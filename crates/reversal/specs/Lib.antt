@@ -10,3 +10,4 @@ pub mod Ending
 pub mod Forms
 pub mod Taking
 pub mod Given
+pub mod Answers

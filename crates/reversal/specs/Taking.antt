@@ -1,12 +1,8 @@
 -- What is known where the inputs were read, or were refused.
 use Rattle.std.specs.Prelude.{◌≡◌, ◌⊎◌, ℕ, List, [], ◌∷◌, ◌++◌, take}
-use Rattle.plan_types.specs.declared.action.Action.{Action}
-use Rattle.keepers.specs.Told.{Files}
 use Rattle.reversal.specs.Command.{RunCommand}
-use Rattle.reversal.specs.BookForm.{IsPlainBook}
 use Rattle.reversal.specs.ProgramForm.{IsProgram}
-use Rattle.reversal.specs.ScheduleForm.{IsSchedule}
-use Rattle.reversal.specs.Forms.{bytes_of, ProgramFits, BookFits, ScheduleFits, BookMet, ScheduleMet, Unless}
+use Rattle.reversal.specs.Forms.{ProgramFits, BookFits, ScheduleFits, BookMet, ScheduleMet, Unless}
 use Rattle.reversal.specs.declared.words.RunWords.{RunWords}
 use Rattle.reversal.specs.declared.reading.Refusal.{Refusal}
 use Rattle.reversal.specs.declared.reading.Refusal.TheVariants.{Input, NotBuilt, Memory}

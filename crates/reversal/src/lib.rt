@@ -12,9 +12,9 @@ mod reading;
 mod running;
 mod schedule_form;
 mod text;
-
+mod top;
 mod words;
 
 pub use crate::ended::{Ended, ended_text};
-
+pub use crate::top::reversal;
 pub use crate::words::Words;

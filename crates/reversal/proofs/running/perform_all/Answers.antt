@@ -1,4 +1,4 @@
-use Rattle.std.proofs.Common.{◌≡◌, ◌+◌, ◌≤◌, ℕ, sym, ◌∙◌, ap, refl, arith}
+use Rattle.std.proofs.Common.{◌∙◌, arith}
 use Rattle.reversal.proofs.OnTheWay.{allowed, led_on, action_at}
 use Rattle.reversal.proofs.Writing.{same_sink}
 use Rattle.reversal.proofs.running.perform_all.Goals as goal

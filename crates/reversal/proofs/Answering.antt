@@ -1,0 +1,101 @@
+-- From what the parts of the top call answer to what it promises.
+use Rattle.std.proofs.Common.{◌≡◌, ◌≢◌, ℕ, List, sym, ap, subst, inl, inr, ◌⊎◌, arith, Option, Some, None}
+use Rattle.plan_types.specs.declared.action.Action.{Action}
+use Rattle.keepers.specs.Told.{Files, WhereTold}
+use Rattle.reversal.specs.declared.ended.Ended.{Ended}
+use Rattle.reversal.specs.declared.reading.Refusal.{Refusal}
+use Rattle.reversal.specs.declared.reading.Refusal.TheVariants.{Input, NotBuilt, Memory}
+use Rattle.reversal.specs.Command.{RunCommand, Says}
+use Rattle.reversal.specs.BookForm.{IsPlainBook}
+use Rattle.reversal.specs.ProgramForm.{IsProgram}
+use Rattle.reversal.specs.ScheduleForm.{IsSchedule}
+use Rattle.reversal.specs.Forms.{bytes_of, StepsMet, ProgramFits, BookFits, ScheduleFits, IsFirstUnmet}
+use Rattle.reversal.specs.Taking.{IsFirstUnformed, OnNotBuilt}
+use Rattle.reversal.specs.Answers.{FirstUnmetIn, FormsMetIn, RunsOn, AnswersList, EndsSo}
+use Rattle.reversal.specs.Given.{Given, Accepted, program_of, book_of, schedule_of}
+use Rattle.reversal.proofs.OneReading.{one_command, one_book, one_list}
+
+-- what follows from what is told
+pub where_told : {A : Type 0} (told : Option A) (P Q : A → Type 0) → ((x : A) → P x → Q x) → WhereTold told P → WhereTold told Q
+where_told None P Q f h = tt
+where_told (Some x) P Q f h = f x h
+
+pub told_so : {A : Type 0} (told : Option A) (P : A → Type 0) (x : A) → told ≡ Some x → WhereTold told P → P x
+told_so {A} told P x e h = let Q : Option A → Type 0 = λ t. WhereTold t P in subst Q e h
+
+-- the bytes that were read are those of the names
+abbrev pub ReadIn : Files → RunCommand → List ℕ → List ℕ → List ℕ → Type 0
+ReadIn files r program book schedule = (bytes_of files r.program ≡ program) × (bytes_of files r.book ≡ book) × (bytes_of files r.schedule ≡ schedule)
+
+abbrev pub Fit : List ℕ → List ℕ → List ℕ → Type 0
+Fit program book schedule = ProgramFits program × BookFits book × ScheduleFits schedule
+
+pub forms_met : (r : RunCommand) (program book schedule : List ℕ) (slots : ℕ) (list : List Action) → StepsMet r → Fit program book schedule →
+    IsPlainBook book slots → IsProgram program → IsSchedule schedule list → (files : Files) → ReadIn files r program book schedule → FormsMetIn files r slots list
+forms_met r program book schedule slots list steps fit is_book is_program is_schedule files read = record {
+  steps = steps;
+  program_fits = subst ProgramFits (sym read.0) fit.0;
+  book_fits = subst BookFits (sym read.1) fit.1;
+  schedule_fits = subst ScheduleFits (sym read.2) fit.2;
+  book_form = let P : List ℕ → Type 0 = λ b. IsPlainBook b slots in subst P (sym read.1) is_book;
+  program_form = subst IsProgram (sym read.0) is_program;
+  schedule_form = let P : List ℕ → Type 0 = λ b. IsSchedule b list in subst P (sym read.2) is_schedule;
+}
+
+-- the first form that isn't met, where the inputs were read and one of them hasn't its form
+pub unmet_late : (r : RunCommand) (program book schedule : List ℕ) (place : ℕ) → StepsMet r → Fit program book schedule → IsFirstUnformed program book schedule place →
+    (files : Files) → ReadIn files r program book schedule → FirstUnmetIn files r place
+unmet_late r program book schedule place steps fit unformed files read =
+    let whole : IsFirstUnmet r program book schedule place = inr (steps, inr (fit.0, inr (fit.1, inr (fit.2, unformed)))) in
+    let P : List ℕ → Type 0 = λ p. IsFirstUnmet r p book schedule place in
+    let Q : List ℕ → Type 0 = λ b. IsFirstUnmet r (bytes_of files r.program) b schedule place in
+    let R : List ℕ → Type 0 = λ s. IsFirstUnmet r (bytes_of files r.program) (bytes_of files r.book) s place in
+    subst R (sym read.2) (subst Q (sym read.1) (subst P (sym read.0) whole))
+
+-- an ending with status 18 is of a form that isn't met
+pub ends_unformed : (e : Refusal) (result : Ended) (P : ℕ → Type 0) → EndsSo e result → OnNotBuilt e P → result.status ≡ 18 → P result.place
+ends_unformed (Input place) result P ends on status = absurd (omega (arith, ap (λ (x : Ended). x.status) ends, status))
+ends_unformed (NotBuilt place) result P ends on status = subst P (sym (ap (λ (x : Ended). x.place) ends)) on
+ends_unformed Memory result P ends on status = absurd (omega (arith, ap (λ (x : Ended). x.status) ends, status))
+
+-- a status that is none of three others is that of a call that came to judge its list
+pub runs_on : (status : ℕ) → RunsOn status ⊎ ((status ≡ 3) ⊎ ((status ≡ 17) ⊎ (status ≡ 18))) → status ≢ 18 → status ≢ 3 → status ≢ 17 → RunsOn status
+runs_on status h n18 n3 n17 = elim h [
+  | inl runs ↦ runs
+  | inr other ↦ elim other [
+    | inl e ↦ absurd (n3 e)
+    | inr more ↦ elim more [ inl e ↦ absurd (n17 e) | inr e ↦ absurd (n18 e) ]
+  ]
+]
+
+-- the same along an equation of commands
+unmet_of : (files : Files) (r s : RunCommand) (place : ℕ) → r ≡ s → FirstUnmetIn files r place → FirstUnmetIn files s place
+unmet_of files r s place e h = let P : RunCommand → Type 0 = λ c. FirstUnmetIn files c place in subst P e h
+
+pub given_unmet : {words : List (List ℕ)} {told : Option Files} (g : Given words told) (r : RunCommand) (place : ℕ) → Says words r →
+    WhereTold told (λ files. FirstUnmetIn files r place) → IsFirstUnmet g.command (program_of g) (book_of g) (schedule_of g) place
+given_unmet {words} {told} g r place says h =
+    unmet_of g.files r g.command place (one_command words r g.command says g.says) (told_so told (λ files. FirstUnmetIn files r place) g.files g.tell h)
+
+abbrev pub accepted : {words : List (List ℕ)} {told : Option Files} (g : Given words told) (r : RunCommand) (slots : ℕ) (list : List Action) → Says words r →
+    WhereTold told (λ files. FormsMetIn files r slots list) → Accepted words told
+accepted {words} {told} g r slots list says h =
+    let P : RunCommand → Type 0 = λ c. FormsMetIn g.files c slots list in
+    record {
+      given = g;
+      slots = slots;
+      list = list;
+      forms = subst P (one_command words r g.command says g.says) (told_so told (λ files. FormsMetIn files r slots list) g.files g.tell h);
+    }
+
+-- what is answered of the list that was read is answered of the list that is accepted
+pub answers : {words : List (List ℕ)} {told : Option Files} (a : Accepted words told) (r : RunCommand) (slots : ℕ) (list : List Action) (e : Ended) → Says words r →
+    WhereTold told (λ files. FormsMetIn files r slots list) → AnswersList e r slots list → AnswersList e a.given.command a.slots a.list
+answers {words} {told} a r slots list e says h answer =
+    let b = accepted a.given r slots list says h in
+    let same_slots = one_book (book_of a.given) slots a.slots b.forms.book_form a.forms.book_form in
+    let same_list = one_list (schedule_of a.given) list a.list b.forms.schedule_form a.forms.schedule_form in
+    let P : RunCommand → Type 0 = λ c. AnswersList e c slots list in
+    let Q : ℕ → Type 0 = λ n. AnswersList e a.given.command n list in
+    let R : List Action → Type 0 = λ l. AnswersList e a.given.command a.slots l in
+    subst R same_list (subst Q same_slots (subst P (one_command words r a.given.command says a.given.says) answer))

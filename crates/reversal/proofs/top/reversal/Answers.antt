@@ -1,0 +1,69 @@
+use Rattle.std.proofs.Common.{◌≡◌, ◌⊎◌, inl, inr, ℕ, List, ap, subst, map, arith}
+use Rattle.reversal.specs.Command.{RunCommand, Says}
+use Rattle.reversal.specs.Given.{words_of}
+use Rattle.reversal.specs.Taking.{command_of}
+use Rattle.reversal.specs.Answers.{RunsOn}
+use Rattle.reversal.proofs.OneReading.{one_command}
+use Rattle.reversal.proofs.Answering.{runs_on, given_unmet, accepted, answers}
+use Rattle.reversal.proofs.top.reversal.Given.{Over}
+use Rattle.reversal.proofs.top.reversal.Goals as goal
+
+-- the number of steps of the words is that of the command that they say
+steps_of : {words : List (List ℕ)} (r s : RunCommand) → Says words r → Says words s → r.steps ≡ s.steps
+steps_of {words} r s h g = ap (λ (x : RunCommand). x.steps) (one_command words r s h g)
+
+none_is_two : (status : ℕ) → RunsOn status ⊎ ((status ≡ 3) ⊎ ((status ≡ 17) ⊎ (status ≡ 18))) → status ≡ 2 → ⊥
+none_is_two status h two = elim h [
+  | inl runs ↦ elim runs [
+    | inl e ↦ absurd (omega (arith, e, two))
+    | inr other ↦ elim other [ inl e ↦ absurd (omega (arith, e, two)) | inr e ↦ absurd (omega (arith, e, two)) ]
+  ]
+  | inr other ↦ elim other [
+    | inl e ↦ absurd (omega (arith, e, two))
+    | inr more ↦ elim more [ inl e ↦ absurd (omega (arith, e, two)) | inr e ↦ absurd (omega (arith, e, two)) ]
+  ]
+]
+
+said_at_once : (g : Over) (c : goal.After-at-then-command g) → Says (words_of c.args.words.now) (command_of c.in-Some.command)
+said_at_once g c = let P : _ → Type 0 = λ l. Says (map (λ w. w.items) l) (command_of c.in-Some.command) in subst P c.deref.ensures.value c.in-Some.ensures.found
+
+said : (g : Over) (c : goal.After-run_command g) → Says (words_of c.args.words.now) (command_of c.in-Some.command)
+said g c = let P : _ → Type 0 = λ l. Says (map (λ w. w.items) l) (command_of c.in-Some.command) in subst P c.deref.ensures.value c.in-Some.ensures.found
+
+pub returns-then-command-clause-words : goal.returns-then-command-clause-words
+returns-then-command-clause-words g c =
+    (λ two. absurd (omega (arith, ap (λ x. x.status) c.at-then-command.ensures, two)), λ none. absurd (none (command_of c.in-Some.command) (said_at_once g c)))
+
+pub returns-then-command-clause-not_built : goal.returns-then-command-clause-not_built
+returns-then-command-clause-not_built g c given status =
+    let steps = steps_of (command_of c.in-Some.command) given.command (said_at_once g c) given.says in
+    inl (λ met. absurd (omega (arith, met, steps, c.if-command.true)), ap (λ x. x.place) c.at-then-command.ensures)
+
+pub returns-clause-words : goal.returns-clause-words
+returns-clause-words g c =
+    (λ two. absurd (none_is_two c.run_command.result.status c.run_command.ensures.statuses two), λ none. absurd (none (command_of c.in-Some.command) (said g c)))
+
+pub returns-clause-too_many : goal.returns-clause-too_many
+returns-clause-too_many g c r says above =
+    let steps = steps_of (command_of c.in-Some.command) r (said g c) says in
+    absurd (omega (arith, steps, above, c.if-command.false))
+
+pub returns-clause-not_built : goal.returns-clause-not_built
+returns-clause-not_built g c given status =
+    given_unmet given (command_of c.in-Some.command) c.run_command.result.place (said g c) (c.run_command.ensures.not_built status)
+
+pub returns-clause-built : goal.returns-clause-built
+returns-clause-built g c given n18 n3 n17 =
+    let ran = c.run_command.ensures.ran (runs_on c.run_command.result.status c.run_command.ensures.statuses n18 n3 n17) in
+    accepted given (command_of c.in-Some.command) ran.0 ran.1 (said g c) ran.2
+
+pub returns-clause-invalid : goal.returns-clause-invalid
+returns-clause-invalid g c a status =
+    let ran = c.run_command.ensures.ran (inr (inl status)) in
+    (answers a (command_of c.in-Some.command) ran.0 ran.1 c.run_command.result (said g c) ran.2 ran.3).broken status
+
+pub returns-clause-valid : goal.returns-clause-valid
+returns-clause-valid g c a status =
+    let runs : RunsOn c.run_command.result.status = elim status [ inl e ↦ inl e | inr e ↦ inr (inr e) ] in
+    let ran = c.run_command.ensures.ran runs in
+    (answers a (command_of c.in-Some.command) ran.0 ran.1 c.run_command.result (said g c) ran.2 ran.3).valid status

@@ -1,0 +1,116 @@
+// The top call.
+ghost use Rattle.std.specs.Prelude.{◌≡◌, ◌≢◌, ◌⊎◌, ◌↔◌, ℕ, ◌<◌, ◌≤◌, List, ◌++◌, take};
+ghost use Rattle.plan_types.specs.declared.action.Action.{Action as AnAction};
+ghost use Rattle.keepers.specs.Told.{WhereTold};
+ghost use Rattle.keepers.specs.Counts.{Rose};
+ghost use Rattle.level_book.specs.Valid.{Valid, BrokenAt};
+ghost use Rattle.reversal.specs.Command.{RunCommand, Says};
+ghost use Rattle.reversal.specs.Forms.{IsFirstUnmet};
+ghost use Rattle.reversal.specs.Given.{Given, Accepted, words_of, program_of, book_of, schedule_of, slots_given};
+ghost use Rattle.reversal.specs.Taking.{command_of, names_of};
+ghost use Rattle.reversal.specs.Answers.{FirstUnmetIn, FormsMetIn, RunsOn, AnswersList, EndsSo};
+
+use crate::ended::Ended;
+use crate::reading::{Refusal, plan_of, read_inputs};
+use crate::running::run_list;
+use crate::words::{RunWords, Words, run_words};
+use keepers::{Inputs, Keeper, Sink};
+use plan_types::MOST_STEPS;
+use rv_machine::Steps;
+use std::alloc::Global;
+use std::sync::ledger::Ledger;
+
+/// Does what the words say, and tells how it ended. So far the one command is `--raw run PROGRAM - BOOK SCHEDULE N`,
+/// which writes the lines of the states N to 0 to `out`, and no keeper is called.
+pub fn reversal<I: Inputs, K: Keeper, O: Sink, L: Ledger>(
+    alloc: Global,
+    words: &Words,
+    inputs: &mut I,
+    keepers: &mut Vec<K>,
+    out: &mut O,
+    steps: &mut Steps<L>,
+) -> Ended
+    // Status 2 comes exactly where the words are not those of the command, and nothing is asked for then.
+    ensures words { (result.status ≡ 2) ↔ ((r : RunCommand) → Says (words_of words.now) r → ⊥) }
+    ensures silent { result.status ≡ 2 → inputs.new ≡ inputs.old }
+
+    // Status 18 comes exactly where a form isn't met, unless an input can't be read or memory isn't found.
+    ensures too_many { (r : RunCommand) → Says (words_of words.now) r → 1000000 < r.steps → (result.status ≡ 18) × (result.place ≡ 0) }
+    ensures not_built { (g : Given (words_of words.now) (I.told inputs.old)) → result.status ≡ 18 → IsFirstUnmet g.command (program_of g) (book_of g) (schedule_of g) result.place }
+    ensures built { (g : Given (words_of words.now) (I.told inputs.old)) → result.status ≢ 18 → result.status ≢ 3 → result.status ≢ 17 → Accepted (words_of words.now) (I.told inputs.old) }
+
+    // Status 3 comes only where the inputs' count of faults rose. The names asked for are the words', in their order.
+    ensures input_cause { result.status ≡ 3 → Rose (I.fault_count inputs.old) (I.fault_count inputs.new) }
+    ensures input_place { result.status ≡ 3 → (r : RunCommand) → Says (words_of words.now) r → I.asked inputs.new ≡ I.asked inputs.old ++ take result.place (names_of r) }
+    ensures asked { (r : RunCommand) → Says (words_of words.now) r → (k : ℕ) × (I.asked inputs.new ≡ I.asked inputs.old ++ take k (names_of r)) }
+
+    // Status 8 comes exactly where the forms are met and the list isn't valid, with its first broken action and rule.
+    ensures invalid { (a : Accepted (words_of words.now) (I.told inputs.old)) → result.status ≡ 8 → BrokenAt a.given.command.steps (slots_given a) a.list result.place result.rule result.more }
+    ensures valid { (a : Accepted (words_of words.now) (I.told inputs.old)) → (result.status ≡ 0) ⊎ (result.status ≡ 14) → Valid a.given.command.steps (slots_given a) a.list }
+
+    // Status 14 comes only where the sink's count of faults rose.
+    ensures sink_cause { result.status ≡ 14 → Rose (O.fault_count out.old) (O.fault_count out.new) }
+
+    // A refusal leaves the sink and the counter as they were, and no keeper is ever called.
+    ensures untouched { (result.status ≡ 2) ⊎ (result.status ≡ 3) ⊎ (result.status ≡ 8) ⊎ (result.status ≡ 18) → (out.new ≡ out.old) × (steps.new ≡ steps.old) }
+    ensures keepers { keepers.new ≡ keepers.old }
+{
+    let Some(command) = run_words(&words.list) else {
+        return Ended::at(2, 0);
+    };
+    if command.steps > MOST_STEPS as u64 {
+        return Ended::at(18, 0);
+    }
+    run_command(alloc, &command, inputs, keepers, out, steps)
+}
+
+// The same for the words of the command, whose number of steps is not above its limit.
+fn run_command<I: Inputs, K: Keeper, O: Sink, L: Ledger>(
+    alloc: Global,
+    command: &RunWords,
+    inputs: &mut I,
+    keepers: &mut Vec<K>,
+    out: &mut O,
+    steps: &mut Steps<L>,
+) -> Ended
+    requires { command.now.steps ≤ 1000000 }
+    ensures statuses { RunsOn result.status ⊎ ((result.status ≡ 3) ⊎ ((result.status ≡ 17) ⊎ (result.status ≡ 18))) }
+    ensures not_built { result.status ≡ 18 → WhereTold (I.told inputs.old) (λ files. FirstUnmetIn files (command_of command.now) result.place) }
+    ensures ran { RunsOn result.status → (slots : ℕ) × (list : List AnAction) × WhereTold (I.told inputs.old) (λ files. FormsMetIn files (command_of command.now) slots list)
+        × AnswersList result (command_of command.now) slots list }
+    ensures input_cause { result.status ≡ 3 → Rose (I.fault_count inputs.old) (I.fault_count inputs.new) }
+    ensures input_place { result.status ≡ 3 → I.asked inputs.new ≡ I.asked inputs.old ++ take result.place (names_of (command_of command.now)) }
+    ensures asked { (k : ℕ) × (I.asked inputs.new ≡ I.asked inputs.old ++ take k (names_of (command_of command.now))) }
+    ensures sink_cause { result.status ≡ 14 → Rose (O.fault_count out.old) (O.fault_count out.new) }
+    ensures untouched { (result.status ≡ 2) ⊎ (result.status ≡ 3) ⊎ (result.status ≡ 8) ⊎ (result.status ≡ 18) → (out.new ≡ out.old) × (steps.new ≡ steps.old) }
+    ensures keepers { keepers.new ≡ keepers.old }
+{
+    let bytes = match read_inputs(alloc, command, inputs) {
+        Ok(bytes) => bytes,
+        Err(refusal) => return refused(refusal),
+    };
+    match plan_of(alloc, &bytes) {
+        Ok(plan) => run_list(
+            alloc,
+            &bytes.program,
+            command.steps as u32,
+            plan.slots,
+            &plan.list,
+            keepers,
+            out,
+            steps,
+        ),
+        Err(refusal) => refused(refusal),
+    }
+}
+
+// The ending of a call whose inputs can't be taken.
+fn refused(refusal: Refusal) -> Ended
+    ensures { EndsSo refusal result }
+{
+    match refusal {
+        Refusal::Input(place) => Ended::at(3, place as u64),
+        Refusal::NotBuilt(place) => Ended::at(18, place as u64),
+        Refusal::Memory => Ended::at(17, 0),
+    }
+}
