@@ -1,6 +1,6 @@
 -- What a schedule has done so far. Our own form of the state that the manual of checkpoint_schedules speaks of: the
 -- working state, the stored states of each level, the adjoint data of one step, and how far the reversal has come.
-use Rattle.std.specs.Prelude.{◌≡◌, ℕ, ◌<◌, Bool, true, false, List, map, length, slice_index_or, slice_set}
+use Rattle.std.specs.Prelude.{ℕ, Bool, false, List, map, slice_index_or, slice_set}
 use Rattle.std.specs.Prelude.{Option, None}
 use Rattle.std.specs.Ordering.{nat_cmp}
 use Rattle.std.specs.FinSet as set

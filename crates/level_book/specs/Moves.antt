@@ -1,6 +1,6 @@
 -- Which action may be done at a configuration, and where it leads. The actions are those of the checkpoint_schedules
 -- manual, narrowed to a tape of one step that no action loads; each condition is written out, a line for each kind.
-use Rattle.std.specs.Prelude.{◌≡◌, ◌≢◌, ℕ, ◌+◌, ◌<◌, ◌≤◌, true, false, List, length, slice_index_or, IsSome, Option, Some, None}
+use Rattle.std.specs.Prelude.{◌≡◌, ◌≢◌, ℕ, ◌+◌, ◌<◌, ◌≤◌, true, false, List, length, slice_index_or, IsSome, Some, None}
 use Rattle.std.specs.FinSet as set
 use Rattle.std.specs.Ordering.{nat_cmp}
 use Rattle.plan_types.specs.declared.action.Keep.TheVariants.{Nothing, Store, Tape}

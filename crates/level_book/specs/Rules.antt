@@ -1,10 +1,10 @@
 -- Which rule an action breaks at a configuration: one test for each of the seventeen rules, in the order of their
 -- numbers. They are written from the table of rules, and not from `Moves`.
-use Rattle.std.specs.Prelude.{ℕ, ◌+◌, ◌==◌, Bool, true, false, not, ◌&&◌, ◌||◌, cond, nat_lt, nat_le, List, [], ◌∷◌, length, slice_index_or, is_some, is_none}
+use Rattle.std.specs.Prelude.{ℕ, ◌+◌, ◌==◌, Bool, false, not, ◌&&◌, ◌||◌, cond, nat_lt, nat_le, List, [], ◌∷◌, length, slice_index_or, is_some, is_none}
 use Rattle.std.specs.FinSet as set
 use Rattle.std.specs.Ordering.{nat_cmp}
 use Rattle.std.specs.List.{list_any}
-use Rattle.plan_types.specs.declared.action.Keep.TheVariants.{Nothing, Store, Tape}
+use Rattle.plan_types.specs.declared.action.Keep.TheVariants.{Store, Tape}
 use Rattle.plan_types.specs.declared.action.Dest.TheVariants.{Work, Level}
 use Rattle.plan_types.specs.declared.action.Action.{Action}
 use Rattle.plan_types.specs.declared.action.Action.TheVariants.{Forward, Reverse, Copy, Move, EndForward, EndReverse}

@@ -1,5 +1,5 @@
 -- Why a list is broken where the first action breaks a rule, and where it ends unfinished.
-use Rattle.std.proofs.Common.{◌≡◌, ℕ, zero, suc, ◌+◌, ◌-◌, ◌<◌, ◌≤◌, true, false, List, [], ◌∷◌, ◌++◌, length, take, drop, refl, sym, ◌∙◌, ap, subst, arith, Option, Some, None, true≢false, add-one}
+use Rattle.std.proofs.Common.{◌≡◌, ℕ, zero, suc, ◌+◌, ◌-◌, ◌<◌, false, List, [], ◌∷◌, ◌++◌, length, take, refl, sym, ◌∙◌, ap, subst, arith, Option, Some, true≢false, add-one}
 use Rattle.std.specs.List.{slice_get}
 use Rattle.std.proofs.lemmas.List.{take_all}
 use Rattle.std.proofs.lemmas.Option.{slice_get_past}
@@ -8,7 +8,7 @@ use Rattle.level_book.specs.declared.book.Slots.{Slots}
 use Rattle.level_book.specs.Configuration.{Configuration, start}
 use Rattle.level_book.specs.Moves.{Goes}
 use Rattle.level_book.specs.Rules.{rule, level_refused}
-use Rattle.level_book.specs.Valid.{Leads, Valid, BreaksRule, BrokenAt}
+use Rattle.level_book.specs.Valid.{Leads, BreaksRule}
 use Rattle.schedule_rules.specs.declared.whole_list.Verdict.{Verdict}
 use Rattle.schedule_rules.specs.declared.whole_list.Verdict.TheVariants.{Broken}
 use Rattle.schedule_rules.specs.declared.config.Broken.{Broken as Refusal}

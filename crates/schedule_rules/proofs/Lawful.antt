@@ -1,5 +1,5 @@
 -- The laws over moves, rules and valid lists.
-use Rattle.std.proofs.Common.{◌≡◌, ◌≢◌, ℕ, zero, suc, ◌+◌, ◌-◌, ◌<◌, ◌≤◌, true, false, List, [], ◌∷◌, length, take, refl, sym, ◌∙◌, ap, subst, inl, inr, arith, Option, Some, None, true≢false}
+use Rattle.std.proofs.Common.{◌≡◌, ℕ, zero, suc, ◌-◌, ◌<◌, ◌≤◌, true, false, List, [], ◌∷◌, length, take, refl, sym, ◌∙◌, ap, subst, inl, inr, arith, Option, Some, None, true≢false}
 use Rattle.std.specs.List.{slice_get}
 use Rattle.std.proofs.lemmas.Bool.{cases_order}
 use Rattle.plan_types.specs.declared.action.Keep.TheVariants.{Nothing, Store, Tape}
@@ -12,7 +12,6 @@ use Rattle.level_book.specs.Moves.{Goes}
 use Rattle.level_book.specs.Rules.{level_refused}
 use Rattle.level_book.specs.Valid.{Leads, Valid, BreaksRule, BrokenAt}
 use Rattle.schedule_rules.specs.After.{after}
-use Rattle.schedule_rules.specs.Reached.{IsReached}
 use Rattle.schedule_rules.specs.Laws.{RulesAreMoves, EndReverseIsLast, FirstBrokenIsUnique}
 use Rattle.schedule_rules.proofs.Moving.{goes, goes_after, unbroken}
 use Rattle.schedule_rules.proofs.Reaching.{leads_unique, sound_on, sound_start}
@@ -62,8 +61,7 @@ last_ends steps slots c (a ∷ []) d h open_ end zero within =
 last_ends steps slots c (a ∷ []) d h open_ end (suc k) within = absurd (omega arith)
 last_ends steps slots c (a ∷ b ∷ rest) d h open_ end zero within =
     let still = not_ended steps slots h.0 b h.2.0 h.2.1 in
-    let P : Action → Type 0 = λ x. (after c x).ended ≡ false in
-    (
+    let P : Action → Type 0 = λ x. (after c x).ended ≡ false in (
       λ e. absurd (true≢false (subst P (some_is a EndReverse e) (ap (λ (m : Configuration). m.ended) (sym (goes_after steps slots c a h.0 h.1)) ∙ still))),
       λ e. absurd (omega arith),
     )
@@ -103,7 +101,7 @@ not_passed steps slots list place later number number' level level' b b' before 
     let breaks = subst Q a.1 b.breaks in
     let P : List Action → Type 0 = λ xs. Leads steps slots (start steps slots) xs b.before in
     let kept = kept_on_the_way steps slots (take j list) i b.before a.0 b'.before (get_of_take list i j (omega arith) ∙ a.1)
-        (subst P (sym (take_of_take list i j (omega arith))) b.leads) b'.leads in
+    (subst P (sym (take_of_take list i j (omega arith))) b.leads) b'.leads in
     omega (arith, breaks.0, breaks.1, kept)
 
 same_break : (steps : ℕ) (slots : List Slots) (c : Configuration) (o : Option Action) (number number' level level' : ℕ) → BreaksRule steps slots c o number level → BreaksRule steps slots c o number' level' → (number ≡ number') × (level ≡ level')

@@ -1,5 +1,5 @@
 -- What is seen of the levels that are kept, and what becomes of it where one level changes.
-use Rattle.std.proofs.Common.{◌≡◌, ℕ, ◌+◌, ◌*◌, ◌/◌, ◌≤◌, ◌<◌, true, map, length, List, [], ◌∷◌, zero, suc, get_or, set as put, sym, ◌∙◌, ap, refl, subst, inl, inr, arith, true≢false}
+use Rattle.std.proofs.Common.{◌≡◌, ℕ, ◌/◌, ◌≤◌, ◌<◌, true, map, length, List, [], ◌∷◌, zero, suc, get_or, set as put, sym, ◌∙◌, ap, inl, inr, arith, true≢false}
 use Rattle.std.specs.FinSet as set
 use Rattle.std.specs.Ordering.{nat_cmp}
 use Rattle.std.specs.Vec.{with_item}

@@ -11,7 +11,7 @@ use Rattle.plan_types.specs.declared.action.Action.TheVariants.{Forward, Reverse
 use Rattle.level_book.specs.declared.book.Slots.{Slots}
 use Rattle.level_book.specs.declared.book.Slots.TheVariants.{Count, Unlimited}
 use Rattle.level_book.specs.Configuration.{Configuration, held_on}
-use Rattle.level_book.specs.Moves.{Goes, MayAdvance, IsFree, IsHeld, HasRoom}
+use Rattle.level_book.specs.Moves.{Goes, MayAdvance, HasRoom}
 use Rattle.level_book.specs.Rules.{rule, tests, first_number, is_full}
 use Rattle.schedule_rules.specs.After.{after}
 

@@ -1,5 +1,5 @@
 -- The table of changes: what a configuration becomes where an action is done. Whether it may be done isn't asked here.
-use Rattle.std.specs.Prelude.{ℕ, true, None, Some}
+use Rattle.std.specs.Prelude.{true, None, Some}
 use Rattle.plan_types.specs.declared.action.Keep.TheVariants.{Nothing, Store, Tape}
 use Rattle.plan_types.specs.declared.action.Dest.TheVariants.{Work, Level}
 use Rattle.plan_types.specs.declared.action.Action.{Action}

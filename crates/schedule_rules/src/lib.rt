@@ -7,6 +7,8 @@
 mod config;
 pub mod laws;
 mod positions;
+#[cfg(test)]
+mod tests;
 mod whole_list;
 
 pub use crate::config::{Broken, Config};

@@ -1,4 +1,4 @@
-use Rattle.std.proofs.Common.{◌≡◌, ◌+◌, ◌++◌, map, take, sym, ◌∙◌, ap, refl, subst, List}
+use Rattle.std.proofs.Common.{◌+◌, map, sym, ◌∙◌, ap, refl, subst, List}
 use Rattle.std.specs.FinSet as set
 use Rattle.std.specs.Ordering.{nat_cmp}
 use Rattle.std.specs.List.{AllByRecursion, take-map}

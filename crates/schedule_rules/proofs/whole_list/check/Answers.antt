@@ -1,4 +1,4 @@
-use Rattle.std.proofs.Common.{sym, ◌∙◌, ap, subst, List, arith}
+use Rattle.std.proofs.Common.{sym, ◌∙◌, subst, List}
 use Rattle.std.proofs.lemmas.List.{take_all}
 use Rattle.std.proofs.lemmas.Option.{slice_get-get_or}
 use Rattle.plan_types.specs.declared.action.Action.{Action}

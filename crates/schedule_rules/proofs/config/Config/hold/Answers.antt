@@ -1,4 +1,4 @@
-use Rattle.std.proofs.Common.{sym, ◌∙◌, ap, arith}
+use Rattle.std.proofs.Common.{sym, ◌∙◌, ap}
 use Rattle.std.specs.FinSet as set
 use Rattle.schedule_rules.proofs.LevelLemmas.{level_changed, held_on_level, level_kept}
 use Rattle.schedule_rules.proofs.config.Config.hold.Goals as goal

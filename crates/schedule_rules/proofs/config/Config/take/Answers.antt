@@ -1,4 +1,4 @@
-use Rattle.std.proofs.Common.{ℕ, ◌/◌, ◌≤◌, sym, ◌∙◌, ap, subst}
+use Rattle.std.proofs.Common.{◌/◌, ◌≤◌, sym, ◌∙◌, ap, subst}
 use Rattle.plan_types.specs.declared.action.Action.TheVariants.{Copy, Move}
 use Rattle.schedule_rules.specs.Situation.{Situation}
 use Rattle.schedule_rules.proofs.LevelLemmas.{member_has_bit}

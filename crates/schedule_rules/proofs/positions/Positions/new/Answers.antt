@@ -1,4 +1,4 @@
-use Rattle.std.proofs.Common.{get_or, sym, ◌∙◌, ap, refl}
+use Rattle.std.proofs.Common.{get_or, sym, ◌∙◌, ap}
 use Rattle.std.specs.FinSet as set
 use Rattle.std.specs.Ordering.{nat_cmp}
 use Rattle.schedule_rules.proofs.BitsLemmas.{set_of-zeros, zeros_read}
