@@ -1,8 +1,8 @@
 -- What an action does, put together from what its parts do.
-use Rattle.std.proofs.Common.{◌≡◌, ℕ, List, sym, ◌∙◌, ap, subst, refl, Option, Some, Result, Ok, Err, OnOk, is_ok, true≢false}
+use Rattle.std.proofs.Common.{◌≡◌, ℕ, List, sym, ◌∙◌, ap, subst, refl, Some, Result, Ok, Err, OnOk, is_ok, true≢false}
 use Rattle.std.specs.FinMap as finmap
 use Rattle.plan_types.specs.declared.action.Dest.{Dest}
-use Rattle.plan_types.specs.declared.action.Dest.TheVariants.{Work, Level}
+use Rattle.plan_types.specs.declared.action.Dest.TheVariants.{Level}
 use Rattle.plan_types.specs.declared.action.Action.TheVariants.{Move}
 use Rattle.rv_machine.specs.MachineState.{MachineState}
 use Rattle.reverse_runner.specs.StoredStates.{StoredStates, level_of}

@@ -1,5 +1,5 @@
 -- Copies of what is held: they follow the configuration where an image is kept, copied or taken away.
-use Rattle.std.proofs.Common.{◌≡◌, ◌≢◌, ℕ, zero, suc, ◌<◌, ◌≤◌, Bool, true, false, not, cond, ◌||◌, ◌&&◌, length, List, [], ◌∷◌, get_or, set as put, sym, ◌∙◌, ap, refl, subst, inl, inr, arith, Option, Some, None, true≢false, eq-eqb}
+use Rattle.std.proofs.Common.{◌≡◌, ◌≢◌, ℕ, ◌<◌, true, false, not, cond, ◌||◌, ◌&&◌, length, List, get_or, set as put, sym, ◌∙◌, ap, subst, inl, inr, Option, Some, None, true≢false, eq-eqb}
 use Rattle.std.specs.FinSet as set
 use Rattle.std.specs.FinMap as finmap
 use Rattle.std.specs.Ordering.{nat_cmp, eq_by_cmp}

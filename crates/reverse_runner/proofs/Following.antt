@@ -1,5 +1,5 @@
 -- The copies follow the configuration through every action.
-use Rattle.std.proofs.Common.{◌≡◌, ◌≢◌, ℕ, ◌<◌, true, length, List, get_or, set as put, sym, ◌∙◌, ap, refl, subst, arith, Option, Some, None, length-set, map, inl, inr, true≢false}
+use Rattle.std.proofs.Common.{◌≡◌, ℕ, true, length, List, get_or, sym, ◌∙◌, ap, refl, subst, arith, Option, Some, None, length-set, map, inl, inr, true≢false}
 use Rattle.std.specs.FinSet as set
 use Rattle.std.specs.FinMap as finmap
 use Rattle.plan_types.specs.declared.action.Keep.TheVariants.{Nothing, Store, Tape}
@@ -11,7 +11,7 @@ use Rattle.std.proofs.lemmas.Bool.{cases_lt}
 use Rattle.std.proofs.lemmas.List.{get_or-map, get_or_past, length-map}
 use Rattle.level_book.specs.declared.book.Slots.{Slots}
 use Rattle.level_book.specs.declared.book.Slots.TheVariants.{Count}
-use Rattle.level_book.specs.Configuration.{Configuration, start, held_on, with_held, without_held}
+use Rattle.level_book.specs.Configuration.{Configuration, start, with_held, without_held}
 use Rattle.level_book.specs.Moves.{Goes}
 use Rattle.rv_machine.specs.MachineState.{MachineState}
 use Rattle.reverse_runner.specs.StoredStates.{StoredStates, Level as Copied, level_of}

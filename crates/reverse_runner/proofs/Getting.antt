@@ -1,7 +1,5 @@
 -- What a visitor that gets what an action hands out keeps.
-use Rattle.std.proofs.Common.{◌≡◌, ℕ, List, sym, subst}
-use Rattle.plan_types.specs.declared.action.Keep.{Keep}
-use Rattle.plan_types.specs.declared.action.Dest.{Dest}
+use Rattle.std.proofs.Common.{ℕ, List, sym, subst}
 use Rattle.plan_types.specs.declared.action.Action.{Action}
 use Rattle.plan_types.specs.declared.action.Action.TheVariants.{Forward, Reverse, Copy, Move, EndForward, EndReverse}
 use Rattle.rv_machine.specs.MachineState.{MachineState}

@@ -1,11 +1,11 @@
 -- What the maps of copied states are seen as, and what becomes of it where one level changes.
-use Rattle.std.proofs.Common.{◌≡◌, ℕ, ◌<◌, ◌≤◌, Bool, true, false, cond, map, length, List, [], ◌∷◌, get_or, set as put, replicate, sym, ◌∙◌, ap, refl, subst, inl, inr, ◌⊎◌, arith, Option, Some, None, Bor, Result, Ok, Err, OnOk}
+use Rattle.std.proofs.Common.{◌≡◌, ℕ, ◌<◌, Bool, true, false, cond, map, length, List, [], ◌∷◌, get_or, set as put, replicate, sym, ◌∙◌, ap, refl, subst, inl, inr, ◌⊎◌, arith, Option, Some, None, Bor, Result, Ok, Err, OnOk}
 use Rattle.std.specs.FinMap as finmap
 use Rattle.std.specs.Option.{option_copied, IfSome}
 use Rattle.std.specs.Ordering.{nat_cmp, eq_by_cmp}
 use Rattle.std.specs.Cmp.{nat_cmp_total, eq_by_cmp_equiv}
 use Rattle.std.specs.Map.{lookup}
-use Rattle.std.specs.BTreeMap.{BTreeMap, get, Updates, IsUnchanged, is_at}
+use Rattle.std.specs.BTreeMap.{BTreeMap, get, Updates, is_at}
 use Rattle.std.specs.Vec.{with_item}
 use Rattle.std.specs.List.{AllByRecursion}
 use Rattle.std.proofs.lemmas.List.{map-set, get_or-map, get_or_past, set-get_or, get_or-set_same, get_or-set_other, get_or-replicate, length-replicate, length-map}

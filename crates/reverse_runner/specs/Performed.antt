@@ -1,6 +1,6 @@
 -- What performing an action does to the states of a session, and what the visitor gets. The steps are those of the
 -- machine; whether the action may be done is said elsewhere.
-use Rattle.std.specs.Prelude.{◌≡◌, ℕ, ◌-◌, List, slice_set, Option, Some}
+use Rattle.std.specs.Prelude.{◌≡◌, ℕ, ◌-◌, List, slice_set, Some}
 use Rattle.std.specs.FinMap as finmap
 use Rattle.plan_types.specs.declared.action.Keep.{Keep}
 use Rattle.plan_types.specs.declared.action.Keep.TheVariants.{Nothing, Store, Tape}

@@ -1,5 +1,5 @@
 -- How a session is kept.
-use Rattle.std.specs.Prelude.{◌≡◌, ℕ, ◌^◌, ◌<◌, length}
+use Rattle.std.specs.Prelude.{◌≡◌, length}
 use Rattle.reverse_runner.specs.declared.session.Session.TheInside.{Inside}
 use Rattle.reverse_runner.specs.StoredStates.{SamePages}
 use Rattle.reverse_runner.specs.SessionState.{SessionState, HeldIsStored}

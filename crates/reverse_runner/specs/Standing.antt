@@ -4,7 +4,7 @@ use Rattle.std.specs.FinSet as set
 use Rattle.std.specs.FinMap as finmap
 use Rattle.plan_types.specs.declared.action.Action.{Action}
 use Rattle.level_book.specs.declared.book.Slots.{Slots}
-use Rattle.level_book.specs.Configuration.{Configuration, start, held_on}
+use Rattle.level_book.specs.Configuration.{start, held_on}
 use Rattle.level_book.specs.Moves.{Goes}
 use Rattle.rv_machine.specs.MachineState.{MachineState}
 use Rattle.rv_machine.specs.States.{state_number}

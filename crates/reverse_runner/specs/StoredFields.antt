@@ -1,5 +1,5 @@
 -- How the copied states are kept: the fields of `Stored` as what they stand for, and what holds of them.
-use Rattle.std.specs.Prelude.{◌≡◌, ℕ, List, map, Some}
+use Rattle.std.specs.Prelude.{◌≡◌, ℕ, map, Some}
 use Rattle.std.specs.List.{AllByRecursion}
 use Rattle.std.specs.FinMap as finmap
 use Rattle.rv_machine.specs.MachineState.{MachineState}

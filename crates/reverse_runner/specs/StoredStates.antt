@@ -1,5 +1,5 @@
 -- The states that a session has beside the one in work.
-use Rattle.std.specs.Prelude.{◌≡◌, ℕ, List, Option, Some, slice_index_or, refl}
+use Rattle.std.specs.Prelude.{◌≡◌, ℕ, List, slice_index_or, refl}
 use Rattle.std.specs.Ordering.{nat_cmp}
 use Rattle.std.specs.FinMap as finmap
 use Rattle.std.specs.Coded.{Coded, code_by, coded×, coded_ℕ, coded_list}

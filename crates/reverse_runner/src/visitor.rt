@@ -21,6 +21,7 @@ pub trait Visitor {
     ghost got: { Self → ℕ → MachineState → List (List ℕ) → Self → Type 0 };
     /// The same after Failed.
     ghost missed: { Self → ℕ → MachineState → List (List ℕ) → Self → Type 0 };
+
     ghost fault_count: { Self → ℕ };
 
     /// Gets state number `n`.

@@ -1,7 +1,4 @@
-use Rattle.std.proofs.Common.{sym, ◌∙◌, ap, refl}
-use Rattle.plan_types.specs.declared.action.Dest.{Dest}
-use Rattle.plan_types.specs.declared.action.Dest.TheVariants.{Level}
-use Rattle.reverse_runner.specs.Performed.{Does, without_copy}
+use Rattle.std.proofs.Common.{◌∙◌}
 use Rattle.reverse_runner.proofs.ActingLemmas.{moved_to_level}
 use Rattle.reverse_runner.proofs.acting.move_.Goals as goal
 

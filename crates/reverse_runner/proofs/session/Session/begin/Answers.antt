@@ -1,4 +1,4 @@
-use Rattle.std.proofs.Common.{◌≡◌, sym, ◌∙◌, ap, subst, length, IsSome}
+use Rattle.std.proofs.Common.{sym, ◌∙◌, ap, subst, length, IsSome}
 use Rattle.std.specs.FinMap as finmap
 use Rattle.std.proofs.lemmas.List.{length-replicate, length-map}
 use Rattle.level_book.specs.declared.book.Level.{Level}

@@ -1,4 +1,4 @@
-use Rattle.std.proofs.Common.{◌≡◌, sym, ◌∙◌, ap, refl, length, IsSome}
+use Rattle.std.proofs.Common.{sym, ◌∙◌, ap, refl, length, IsSome}
 use Rattle.reverse_runner.proofs.Following.{copies_after}
 use Rattle.reverse_runner.proofs.session.Session.perform.Goals as goal
 

@@ -1,10 +1,6 @@
-use Rattle.std.proofs.Common.{◌≡◌, ℕ, length, sym, ◌∙◌, ap, subst, arith, Option, Some, None}
+use Rattle.std.proofs.Common.{sym, ap, subst}
 use Rattle.std.specs.FinMap as finmap
-use Rattle.std.specs.Ordering.{nat_cmp}
-use Rattle.std.specs.Vec.{with_item}
-use Rattle.reverse_runner.specs.declared.stored.Stored.TheInside.{Inside}
-use Rattle.reverse_runner.specs.StoredStates.{StoredStates, Level, SamePages, level_of}
-use Rattle.reverse_runner.specs.StoredFields.{stored_states, HeldAlike, AreAlike}
+use Rattle.reverse_runner.specs.StoredFields.{HeldAlike}
 use Rattle.reverse_runner.proofs.StoredLemmas.{inserted, level_changed, level_same, level_kept, alike_with}
 use Rattle.reverse_runner.proofs.stored.Stored.put.Goals as goal
 
@@ -23,7 +19,7 @@ pub invariant_of-self : goal.invariant_of-self
 invariant_of-self c =
     let within = level_kept c.self.inside c.args.self.now c.args.level c.self.view_is c.requires.level in
     let seen = level_changed c.self.inside c.args.self.now c.args.level c.index_mut.result.now c.insert.new.self (λ l. finmap.insert l c.args.n c.args.state) c.self.view_is within c.index_mut.ensures.value
-        (inserted c.index_mut.result.now c.insert.new.self c.args.n c.args.state c.in-Ok.ensures.updates) in
+    (inserted c.index_mut.result.now c.insert.new.self c.args.n c.args.state c.in-Ok.ensures.updates) in
     record {
       held = subst HeldAlike (sym seen) (alike_with c.args.self.now c.args.level c.args.n c.args.state c.requires.level (subst HeldAlike c.self.view_is c.self.invariant.held) c.requires.pages);
       spare = c.self.invariant.spare;

@@ -1,11 +1,7 @@
-use Rattle.std.proofs.Common.{◌≡◌, ℕ, length, sym, ◌∙◌, ap, subst, arith, Option, Some, None, IsSome}
+use Rattle.std.proofs.Common.{sym, ◌∙◌, ap, subst, Option, IsSome}
 use Rattle.std.specs.FinMap as finmap
-use Rattle.std.specs.Ordering.{nat_cmp}
-use Rattle.std.specs.Vec.{with_item}
 use Rattle.rv_machine.specs.MachineState.{MachineState}
-use Rattle.reverse_runner.specs.declared.stored.Stored.TheInside.{Inside}
-use Rattle.reverse_runner.specs.StoredStates.{StoredStates, Level, SamePages, level_of}
-use Rattle.reverse_runner.specs.StoredFields.{stored_states, HeldAlike, AreAlike}
+use Rattle.reverse_runner.specs.StoredFields.{HeldAlike}
 use Rattle.reverse_runner.proofs.StoredLemmas.{removed, level_is, level_changed, level_kept, get_of, alike_without}
 use Rattle.reverse_runner.proofs.stored.Stored.take.Goals as goal
 
@@ -21,7 +17,7 @@ pub invariant_of-self : goal.invariant_of-self
 invariant_of-self c =
     let within = level_kept c.self.inside c.args.self.now c.args.level c.self.view_is c.requires.level in
     let seen = level_changed c.self.inside c.args.self.now c.args.level c.index_mut.result.now c.remove.new.self (λ l. finmap.remove l c.args.n) c.self.view_is within c.index_mut.ensures.value
-        (removed c.index_mut.result.now c.remove.new.self c.args.n c.remove.ensures.updates) in
+    (removed c.index_mut.result.now c.remove.new.self c.args.n c.remove.ensures.updates) in
     record {
       held = subst HeldAlike (sym seen) (alike_without c.args.self.now c.args.level c.args.n c.requires.level (subst HeldAlike c.self.view_is c.self.invariant.held));
       spare = c.self.invariant.spare;
