@@ -11,6 +11,8 @@ mod program_form;
 mod reading;
 mod running;
 mod schedule_form;
+#[cfg(test)]
+mod tests;
 mod text;
 mod top;
 mod words;

@@ -30,6 +30,9 @@ pub fn reversal<I: Inputs, K: Keeper, O: Sink, L: Ledger>(
     out: &mut O,
     steps: &mut Steps<L>,
 ) -> Ended
+    // These are the statuses that come.
+    ensures statuses { (RunsOn result.status) ⊎ ((result.status ≡ 2) ⊎ (result.status ≡ 3) ⊎ (result.status ≡ 17) ⊎ (result.status ≡ 18)) }
+
     // Status 2 comes exactly where the words are not those of the command, and nothing is asked for then.
     ensures words { (result.status ≡ 2) ↔ ((r : RunCommand) → Says (words_of words.now) r → ⊥) }
     ensures silent { result.status ≡ 2 → inputs.new ≡ inputs.old }

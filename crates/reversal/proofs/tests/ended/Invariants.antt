@@ -1,0 +1,4 @@
+use Rattle.reversal.proofs.tests.ended.Given as goal
+
+abbrev pub ghosts-called : goal.ghosts-called
+ghosts-called a = record { name = a.blank.name; parts = a.blank.parts }
