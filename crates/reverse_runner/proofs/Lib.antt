@@ -3,3 +3,5 @@ pub mod ActingLemmas
 pub mod Copies
 pub mod Following
 pub mod Getting
+pub mod Handing
+pub mod StandingAfter

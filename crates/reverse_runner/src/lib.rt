@@ -5,6 +5,7 @@
 #![tactic(auto)]
 
 mod acting;
+pub mod laws;
 mod line_writer;
 mod session;
 mod stored;

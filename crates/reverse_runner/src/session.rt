@@ -5,6 +5,7 @@ ghost use Rattle.level_book.specs.Configuration.{start};
 ghost use Rattle.level_book.specs.Rules.{rule};
 ghost use Rattle.level_book.specs.CostFold.{steps_of};
 ghost use Rattle.keepers.specs.Counts.{Rose};
+ghost use Rattle.rv_machine.specs.MachineState.{MachineState};
 ghost use Rattle.reverse_runner.specs.Performed.{Gets, Misses};
 ghost use Rattle.reverse_runner.specs.Standing.{begun, Performs, StandsAt};
 
@@ -71,7 +72,8 @@ impl Session {
         book: Book,
     ) -> Result<Session, AllocError>
         requires { steps ≤ 1000000 }
-        ensures { IfOk result (λ session. session ≡ begun start journal steps (slots_of book)) }
+        ensures begun { IfOk result (λ session. session ≡ begun start journal steps (slots_of book)) }
+        ensures stands { IfOk result (λ session. StandsAt start session) }
     {
         let config = Config::new(alloc, steps, &book)?;
         let stored = Stored::new(alloc, book.levels(), start.clone()?)?;
@@ -111,6 +113,7 @@ impl Session {
         ensures ended { IsErrOf result RunFault.Ended ↔ (self.old.ended ≡ true) }
         ensures inert { result ≡ Err RunFault.Ended → (self.new ≡ self.old) × (visitor.new ≡ visitor.old) × (steps.new ≡ steps.old) }
         ensures performs { OnOk result (Performs self.old action.now self.new) }
+        ensures stands { OnOk result ((first : MachineState) → StandsAt first self.old → StandsAt first self.new) }
         ensures counted { OnOk result (steps.new ≡ steps.old + steps_of action.now) }
         ensures gets { OnOk result (Gets V.got self.old.journal action.now self.old.situation.at.work self.old.work self.old.stored visitor.old visitor.new) }
         ensures refused { OnErr result ((self.new.ended ≡ true) × (self.new.done ≡ self.old.done) × (steps.new ≡ steps.old)) }
