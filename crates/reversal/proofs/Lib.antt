@@ -8,5 +8,6 @@ pub mod Commands
 pub mod Asking
 pub mod OnTheWay
 pub mod Writing
+pub mod Performing
 pub mod OneReading
 pub mod Answering

@@ -11,3 +11,4 @@ pub mod Forms
 pub mod Taking
 pub mod Given
 pub mod Answers
+pub mod Output

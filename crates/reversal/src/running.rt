@@ -1,10 +1,13 @@
 // A list, judged and performed.
 ghost use Rattle.std.specs.Prelude.{◌≡◌, ◌≢◌, ◌⊎◌, ◌↔◌, ℕ, ◌+◌, ◌<◌, ◌≤◌, ◌%◌, List, [], length};
 ghost use Rattle.keepers.specs.Counts.{Rose};
+ghost use Rattle.keepers.specs.Told.{Tells, AddsPrefix};
+ghost use Rattle.level_book.specs.CostFold.{forward};
 ghost use Rattle.level_book.specs.BookCosts.{slots_of, plain};
 ghost use Rattle.level_book.specs.Valid.{Valid, BrokenAt};
 ghost use Rattle.rv_machine.specs.States.{raw_start};
 ghost use Rattle.reverse_runner.specs.Standing.{begun};
+ghost use Rattle.reversal.specs.Output.{lines_down, Adds, AddsUntil};
 
 use crate::ended::Ended;
 use input_journal::Journal;
@@ -37,6 +40,9 @@ pub(crate) fn run_list<K: Keeper, O: Sink, L: Ledger>(
     ensures invalid { result.status ≡ 8 → BrokenAt steps (slots_of (plain slots)) list.now result.place result.rule result.more × (Valid steps (slots_of (plain slots)) list.now → ⊥) }
     ensures untouched { result.status ≡ 8 → (out.new ≡ out.old) × (counter.new ≡ counter.old) }
     ensures valid { (result.status ≡ 0) ⊎ (result.status ≡ 14) → Valid steps (slots_of (plain slots)) list.now }
+    ensures done { result.status ≡ 0 → Tells (O.told out.old) (O.told out.new) (Adds (lines_down (raw_start program.now) [] steps)) × (counter.new ≡ counter.old + forward list.now) }
+    ensures sink { result.status ≡ 14 → Tells (O.told out.old) (O.told out.new) (AddsUntil (raw_start program.now) [] steps list.now result.place) }
+    ensures memory { result.status ≡ 17 → Tells (O.told out.old) (O.told out.new) (AddsPrefix (lines_down (raw_start program.now) [] steps)) }
     ensures cause { result.status ≡ 14 → Rose (O.fault_count out.old) (O.fault_count out.new) }
     ensures kept { keepers.new ≡ keepers.old }
 {
@@ -70,6 +76,9 @@ fn run_valid<K: Keeper, O: Sink, L: Ledger>(
     requires steps { steps ≤ 1000000 }
     requires valid { Valid steps (slots_of book) list.now }
     ensures statuses { (result.status ≡ 0) ⊎ (result.status ≡ 14) ⊎ (result.status ≡ 17) }
+    ensures done { result.status ≡ 0 → Tells (O.told out.old) (O.told out.new) (Adds (lines_down start [] steps)) × (counter.new ≡ counter.old + forward list.now) }
+    ensures sink { result.status ≡ 14 → Tells (O.told out.old) (O.told out.new) (AddsUntil start [] steps list.now result.place) }
+    ensures memory { result.status ≡ 17 → Tells (O.told out.old) (O.told out.new) (AddsPrefix (lines_down start [] steps)) }
     ensures cause { result.status ≡ 14 → Rose (O.fault_count out.old) (O.fault_count out.new) }
     ensures kept { keepers.new ≡ keepers.old }
 {
@@ -90,6 +99,9 @@ fn perform_all<K: Keeper, O: Sink, L: Ledger>(
     requires begun { session.old ≡ begun session.old.work session.old.journal session.old.situation.steps session.old.situation.slots }
     requires valid { Valid session.old.situation.steps session.old.situation.slots list.now }
     ensures statuses { (result.status ≡ 0) ⊎ (result.status ≡ 14) ⊎ (result.status ≡ 17) }
+    ensures done { result.status ≡ 0 → Tells (O.told out.old) (O.told out.new) (Adds (lines_down session.old.work session.old.journal session.old.situation.steps)) × (counter.new ≡ counter.old + forward list.now) }
+    ensures sink { result.status ≡ 14 → Tells (O.told out.old) (O.told out.new) (AddsUntil session.old.work session.old.journal session.old.situation.steps list.now result.place) }
+    ensures memory { result.status ≡ 17 → Tells (O.told out.old) (O.told out.new) (AddsPrefix (lines_down session.old.work session.old.journal session.old.situation.steps)) }
     ensures cause { result.status ≡ 14 → Rose (O.fault_count out.old) (O.fault_count out.new) }
     ensures kept { keepers.new ≡ keepers.old }
 {
@@ -98,7 +110,8 @@ fn perform_all<K: Keeper, O: Sink, L: Ledger>(
         match session.perform(action, keepers, &mut writer, counter) {
             Ok(()) => {}
             Err(RunFault::Visitor) => return Ended::at(14, i as u64 + 1),
-            Err(_) => return Ended::at(17, 0),
+            Err(RunFault::Memory) => return Ended::at(17, 0),
+            Err(RunFault::Ended) => unreachable!(),
         }
     }
     Ended::at(0, 0)
