@@ -1,7 +1,8 @@
 -- From what the parts of the top call answer to what it promises.
-use Rattle.std.proofs.Common.{◌≡◌, ◌≢◌, ℕ, List, sym, ap, subst, inl, inr, ◌⊎◌, arith, Option, Some, None}
+use Rattle.std.proofs.Common.{[], ◌≡◌, ◌≢◌, ℕ, List, sym, ap, subst, inl, inr, ◌⊎◌, arith, Option, Some, None}
 use Rattle.plan_types.specs.declared.action.Action.{Action}
-use Rattle.keepers.specs.Told.{Files, WhereTold}
+use Rattle.keepers.specs.Told.{Files, WhereTold, Tells, AddsPrefix}
+use Rattle.rv_machine.specs.States.{raw_start}
 use Rattle.reversal.specs.declared.ended.Ended.{Ended}
 use Rattle.reversal.specs.declared.reading.Refusal.{Refusal}
 use Rattle.reversal.specs.declared.reading.Refusal.TheVariants.{Input, NotBuilt, Memory}
@@ -11,8 +12,10 @@ use Rattle.reversal.specs.ProgramForm.{IsProgram}
 use Rattle.reversal.specs.ScheduleForm.{IsSchedule}
 use Rattle.reversal.specs.Forms.{bytes_of, StepsMet, ProgramFits, BookFits, ScheduleFits, IsFirstUnmet}
 use Rattle.reversal.specs.Taking.{IsFirstUnformed, OnNotBuilt}
-use Rattle.reversal.specs.Answers.{FirstUnmetIn, FormsMetIn, RunsOn, AnswersList, EndsSo}
-use Rattle.reversal.specs.Given.{Given, Accepted, program_of, book_of, schedule_of}
+use Rattle.reversal.specs.Answers.{FirstUnmetIn, FormsMetIn, RunsOn, AnswersList, Writes, WritesIn, EndsSo}
+use Rattle.reversal.specs.Output.{lines_down, Adds}
+use Rattle.reversal.specs.Given.{Given, Accepted, first_state, program_of, book_of, schedule_of}
+use Rattle.reversal.proofs.Writing.{tells_so, tells_nothing}
 use Rattle.reversal.proofs.OneReading.{one_command, one_book, one_list}
 
 -- what follows from what is told
@@ -99,3 +102,31 @@ answers {words} {told} a r slots list e says h answer =
     let Q : ℕ → Type 0 = λ n. AnswersList e a.given.command n list in
     let R : List Action → Type 0 = λ l. AnswersList e a.given.command a.slots l in
     subst R same_list (subst Q same_slots (subst P (one_command words r a.given.command says a.given.says) answer))
+
+-- the forms alone
+pub forms_only : (told : Option Files) (r : RunCommand) (slots : ℕ) (list : List Action) (W : Files → Type 0) → WhereTold told (λ files. FormsMetIn files r slots list × W files) → WhereTold told (λ files. FormsMetIn files r slots list)
+forms_only told r slots list W h = where_told told (λ files. FormsMetIn files r slots list × W files) (λ files. FormsMetIn files r slots list) (λ files x. x.0) h
+
+-- what was written for the list that was read was written for the list that is accepted
+pub written : {words : List (List ℕ)} {told : Option Files} (a : Accepted words told) (r : RunCommand) (slots : ℕ) (list : List Action) (e : Ended) (old new : Option (List ℕ)) (before after : ℕ) → Says words r →
+    WhereTold told (λ files. FormsMetIn files r slots list × WritesIn files e r list old new before after) →
+    Writes e (first_state a.given) a.given.command.steps a.list old new before after
+written {words} {told} a r slots list e old new before after says h =
+    let P : RunCommand → Type 0 = λ c. FormsMetIn a.given.files c slots list × WritesIn a.given.files e c list old new before after in
+    let here = told_so told (λ files. FormsMetIn files r slots list × WritesIn files e r list old new before after) a.given.files a.given.tell h in
+    let moved = subst P (one_command words r a.given.command says a.given.says) here in
+    let R : List Action → Type 0 = λ l. Writes e (first_state a.given) a.given.command.steps l old new before after in
+    subst R (one_list (schedule_of a.given) list a.list moved.0.schedule_form a.forms.schedule_form) moved.1
+
+-- a part of the lines of the program among the files is one of the lines of the program that is given
+pub part_written : {words : List (List ℕ)} {told : Option Files} (g : Given words told) (r : RunCommand) (old new : Option (List ℕ)) → Says words r →
+    WhereTold told (λ files. Tells old new (AddsPrefix (lines_down (raw_start (bytes_of files r.program)) [] r.steps))) →
+    Tells old new (AddsPrefix (lines_down (first_state g) [] g.command.steps))
+part_written {words} {told} g r old new says h =
+    let P : RunCommand → Type 0 = λ c. Tells old new (AddsPrefix (lines_down (raw_start (bytes_of g.files c.program)) [] c.steps)) in
+    subst P (one_command words r g.command says g.says) (told_so told (λ files. Tells old new (AddsPrefix (lines_down (raw_start (bytes_of files r.program)) [] r.steps))) g.files g.tell h)
+
+-- where nothing was written, a part of any lines was added
+pub nothing_written : (told : Option Files) (old new : Option (List ℕ)) (lines : Files → List ℕ) → new ≡ old → WhereTold told (λ files. Tells old new (AddsPrefix (lines files)))
+nothing_written None old new lines e = tt
+nothing_written (Some files) old new lines e = tells_so old new (Adds []) (AddsPrefix (lines files)) (λ a b h. (0, h)) (tells_nothing old new e)

@@ -1,14 +1,18 @@
 -- What an ending says of the inputs and the list that it is of.
-use Rattle.std.specs.Prelude.{◌≡◌, ◌⊎◌, ℕ, List}
+use Rattle.std.specs.Prelude.{◌≡◌, ◌⊎◌, ℕ, ◌+◌, List, [], Option}
 use Rattle.plan_types.specs.declared.action.Action.{Action}
 use Rattle.level_book.specs.BookCosts.{slots_of, plain}
 use Rattle.level_book.specs.Valid.{Valid, BrokenAt}
-use Rattle.keepers.specs.Told.{Files}
+use Rattle.level_book.specs.CostFold.{forward}
+use Rattle.keepers.specs.Told.{Files, Tells}
+use Rattle.rv_machine.specs.MachineState.{MachineState}
+use Rattle.rv_machine.specs.States.{raw_start}
 use Rattle.reversal.specs.declared.ended.Ended.{Ended}
 use Rattle.reversal.specs.declared.reading.Refusal.{Refusal}
 use Rattle.reversal.specs.declared.reading.Refusal.TheVariants.{Input, NotBuilt, Memory}
 use Rattle.reversal.specs.Command.{RunCommand}
 use Rattle.reversal.specs.Forms.{bytes_of, IsFirstUnmet, FormsMet}
+use Rattle.reversal.specs.Output.{lines_down, Adds, AddsUntil}
 
 -- the first form that isn't met among the files, and that every form is met there
 abbrev pub FirstUnmetIn : Files → RunCommand → ℕ → Type 0
@@ -25,6 +29,16 @@ RunsOn status = (status ≡ 0) ⊎ (status ≡ 8) ⊎ (status ≡ 14)
 pub record AnswersList (e : Ended) (r : RunCommand) (slots : ℕ) (list : List Action) : Type 0 where
   pub broken : e.status ≡ 8 → BrokenAt r.steps (slots_of (plain slots)) list e.place e.rule e.more
   pub valid : (e.status ≡ 0) ⊎ (e.status ≡ 14) → Valid r.steps (slots_of (plain slots)) list
+
+-- what a performed list added to the sink and to the count of steps: all its lines at status 0, and those up to a write
+-- that failed at status 14
+pub record Writes (e : Ended) (first : MachineState) (steps : ℕ) (list : List Action) (old new : Option (List ℕ)) (before after : ℕ) : Type 0 where
+  pub done : e.status ≡ 0 → Tells old new (Adds (lines_down first [] steps)) × (after ≡ before + forward list)
+  pub sink : e.status ≡ 14 → Tells old new (AddsUntil first [] steps list e.place)
+
+-- the same for the start of the program among the files
+abbrev pub WritesIn : Files → Ended → RunCommand → List Action → Option (List ℕ) → Option (List ℕ) → ℕ → ℕ → Type 0
+WritesIn files e r list = Writes e (raw_start (bytes_of files r.program)) r.steps list
 
 -- the ending of a call whose inputs can't be taken
 abbrev pub EndsSo : Refusal → Ended → Type 0

@@ -5,6 +5,8 @@ use Rattle.plan_types.specs.declared.action.Action.{Action}
 use Rattle.level_book.specs.declared.book.Slots.{Slots}
 use Rattle.level_book.specs.BookCosts.{slots_of, plain}
 use Rattle.keepers.specs.Told.{Files}
+use Rattle.rv_machine.specs.MachineState.{MachineState}
+use Rattle.rv_machine.specs.States.{raw_start}
 use Rattle.reversal.specs.declared.words.Words.{Words}
 use Rattle.reversal.specs.Command.{RunCommand, Says}
 use Rattle.reversal.specs.Forms.{bytes_of, FormsMet}
@@ -28,6 +30,10 @@ book_of g = bytes_of g.files g.command.book
 
 abbrev pub schedule_of : {words : List (List ℕ)} {told : Option Files} → Given words told → List ℕ
 schedule_of g = bytes_of g.files g.command.schedule
+
+-- the start state of its program
+abbrev pub first_state : {words : List (List ℕ)} {told : Option Files} → Given words told → MachineState
+first_state g = raw_start (program_of g)
 
 -- and every form is met, by the plain book with so many slots and by this list
 pub record Accepted (words : List (List ℕ)) (told : Option Files) : Type 0 where

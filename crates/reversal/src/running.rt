@@ -40,6 +40,7 @@ pub(crate) fn run_list<K: Keeper, O: Sink, L: Ledger>(
     ensures invalid { result.status ≡ 8 → BrokenAt steps (slots_of (plain slots)) list.now result.place result.rule result.more × (Valid steps (slots_of (plain slots)) list.now → ⊥) }
     ensures untouched { result.status ≡ 8 → (out.new ≡ out.old) × (counter.new ≡ counter.old) }
     ensures valid { (result.status ≡ 0) ⊎ (result.status ≡ 14) → Valid steps (slots_of (plain slots)) list.now }
+    ensures plain { (result.status ≢ 8 → (result.more ≡ 0) × (result.rule ≡ 0)) × ((result.status ≡ 17) ⊎ (result.status ≡ 0) → result.place ≡ 0) }
     ensures done { result.status ≡ 0 → Tells (O.told out.old) (O.told out.new) (Adds (lines_down (raw_start program.now) [] steps)) × (counter.new ≡ counter.old + forward list.now) }
     ensures sink { result.status ≡ 14 → Tells (O.told out.old) (O.told out.new) (AddsUntil (raw_start program.now) [] steps list.now result.place) }
     ensures memory { result.status ≡ 17 → Tells (O.told out.old) (O.told out.new) (AddsPrefix (lines_down (raw_start program.now) [] steps)) }
@@ -76,6 +77,7 @@ fn run_valid<K: Keeper, O: Sink, L: Ledger>(
     requires steps { steps ≤ 1000000 }
     requires valid { Valid steps (slots_of book) list.now }
     ensures statuses { (result.status ≡ 0) ⊎ (result.status ≡ 14) ⊎ (result.status ≡ 17) }
+    ensures plain { (result.status ≢ 8 → (result.more ≡ 0) × (result.rule ≡ 0)) × ((result.status ≡ 17) ⊎ (result.status ≡ 0) → result.place ≡ 0) }
     ensures done { result.status ≡ 0 → Tells (O.told out.old) (O.told out.new) (Adds (lines_down start [] steps)) × (counter.new ≡ counter.old + forward list.now) }
     ensures sink { result.status ≡ 14 → Tells (O.told out.old) (O.told out.new) (AddsUntil start [] steps list.now result.place) }
     ensures memory { result.status ≡ 17 → Tells (O.told out.old) (O.told out.new) (AddsPrefix (lines_down start [] steps)) }
@@ -99,6 +101,7 @@ fn perform_all<K: Keeper, O: Sink, L: Ledger>(
     requires begun { session.old ≡ begun session.old.work session.old.journal session.old.situation.steps session.old.situation.slots }
     requires valid { Valid session.old.situation.steps session.old.situation.slots list.now }
     ensures statuses { (result.status ≡ 0) ⊎ (result.status ≡ 14) ⊎ (result.status ≡ 17) }
+    ensures plain { (result.status ≢ 8 → (result.more ≡ 0) × (result.rule ≡ 0)) × ((result.status ≡ 17) ⊎ (result.status ≡ 0) → result.place ≡ 0) }
     ensures done { result.status ≡ 0 → Tells (O.told out.old) (O.told out.new) (Adds (lines_down session.old.work session.old.journal session.old.situation.steps)) × (counter.new ≡ counter.old + forward list.now) }
     ensures sink { result.status ≡ 14 → Tells (O.told out.old) (O.told out.new) (AddsUntil session.old.work session.old.journal session.old.situation.steps list.now result.place) }
     ensures memory { result.status ≡ 17 → Tells (O.told out.old) (O.told out.new) (AddsPrefix (lines_down session.old.work session.old.journal session.old.situation.steps)) }

@@ -1,14 +1,17 @@
 // The top call.
-ghost use Rattle.std.specs.Prelude.{◌≡◌, ◌≢◌, ◌⊎◌, ◌↔◌, ℕ, ◌<◌, ◌≤◌, List, ◌++◌, take};
+ghost use Rattle.std.specs.Prelude.{◌≡◌, ◌≢◌, ◌⊎◌, ◌↔◌, ℕ, ◌+◌, ◌<◌, ◌≤◌, List, [], ◌++◌, take};
 ghost use Rattle.plan_types.specs.declared.action.Action.{Action as AnAction};
-ghost use Rattle.keepers.specs.Told.{WhereTold};
+ghost use Rattle.keepers.specs.Told.{WhereTold, Tells, AddsPrefix};
 ghost use Rattle.keepers.specs.Counts.{Rose};
 ghost use Rattle.level_book.specs.Valid.{Valid, BrokenAt};
+ghost use Rattle.level_book.specs.CostFold.{forward};
+ghost use Rattle.rv_machine.specs.States.{raw_start};
 ghost use Rattle.reversal.specs.Command.{RunCommand, Says};
-ghost use Rattle.reversal.specs.Forms.{IsFirstUnmet};
-ghost use Rattle.reversal.specs.Given.{Given, Accepted, words_of, program_of, book_of, schedule_of, slots_given};
+ghost use Rattle.reversal.specs.Forms.{bytes_of, IsFirstUnmet};
+ghost use Rattle.reversal.specs.Output.{lines_down, Adds, AddsUntil};
+ghost use Rattle.reversal.specs.Given.{Given, Accepted, first_state, words_of, program_of, book_of, schedule_of, slots_given};
 ghost use Rattle.reversal.specs.Taking.{command_of, names_of};
-ghost use Rattle.reversal.specs.Answers.{FirstUnmetIn, FormsMetIn, RunsOn, AnswersList, EndsSo};
+ghost use Rattle.reversal.specs.Answers.{FirstUnmetIn, FormsMetIn, RunsOn, AnswersList, WritesIn, EndsSo};
 
 use crate::ended::Ended;
 use crate::reading::{Refusal, plan_of, read_inputs};
@@ -51,8 +54,20 @@ pub fn reversal<I: Inputs, K: Keeper, O: Sink, L: Ledger>(
     ensures invalid { (a : Accepted (words_of words.now) (I.told inputs.old)) → result.status ≡ 8 → BrokenAt a.given.command.steps (slots_given a) a.list result.place result.rule result.more }
     ensures valid { (a : Accepted (words_of words.now) (I.told inputs.old)) → (result.status ≡ 0) ⊎ (result.status ≡ 14) → Valid a.given.command.steps (slots_given a) a.list }
 
+    // At status 0 the lines of the states from the last to the first were added, and the machine took the list's steps.
+    ensures done { (a : Accepted (words_of words.now) (I.told inputs.old)) → result.status ≡ 0 → Tells (O.told out.old) (O.told out.new) (Adds (lines_down (first_state a.given) [] a.given.command.steps)) × (steps.new ≡ steps.old + forward a.list) }
+
+    // At status 14 the lines of the actions before the place were added, and a part of the line of that action.
+    ensures sink { (a : Accepted (words_of words.now) (I.told inputs.old)) → result.status ≡ 14 → Tells (O.told out.old) (O.told out.new) (AddsUntil (first_state a.given) [] a.given.command.steps a.list result.place) }
+
+    // At status 17 a part of the lines was added.
+    ensures memory { (g : Given (words_of words.now) (I.told inputs.old)) → result.status ≡ 17 → Tells (O.told out.old) (O.told out.new) (AddsPrefix (lines_down (first_state g) [] g.command.steps)) }
+
     // Status 14 comes only where the sink's count of faults rose.
     ensures sink_cause { result.status ≡ 14 → Rose (O.fault_count out.old) (O.fault_count out.new) }
+
+    // Numbers that a status has no use for are 0.
+    ensures plain { (result.status ≢ 8 → (result.more ≡ 0) × (result.rule ≡ 0)) × ((result.status ≡ 0) ⊎ (result.status ≡ 2) ⊎ (result.status ≡ 17) → result.place ≡ 0) }
 
     // A refusal leaves the sink and the counter as they were, and no keeper is ever called.
     ensures untouched { (result.status ≡ 2) ⊎ (result.status ≡ 3) ⊎ (result.status ≡ 8) ⊎ (result.status ≡ 18) → (out.new ≡ out.old) × (steps.new ≡ steps.old) }
@@ -79,8 +94,11 @@ fn run_command<I: Inputs, K: Keeper, O: Sink, L: Ledger>(
     requires { command.now.steps ≤ 1000000 }
     ensures statuses { RunsOn result.status ⊎ ((result.status ≡ 3) ⊎ ((result.status ≡ 17) ⊎ (result.status ≡ 18))) }
     ensures not_built { result.status ≡ 18 → WhereTold (I.told inputs.old) (λ files. FirstUnmetIn files (command_of command.now) result.place) }
-    ensures ran { RunsOn result.status → (slots : ℕ) × (list : List AnAction) × WhereTold (I.told inputs.old) (λ files. FormsMetIn files (command_of command.now) slots list)
+    ensures ran { RunsOn result.status → (slots : ℕ) × (list : List AnAction) × WhereTold (I.told inputs.old) (λ files. FormsMetIn files (command_of command.now) slots list
+        × WritesIn files result (command_of command.now) list (O.told out.old) (O.told out.new) steps.old steps.new)
         × AnswersList result (command_of command.now) slots list }
+    ensures memory { result.status ≡ 17 → WhereTold (I.told inputs.old) (λ files. Tells (O.told out.old) (O.told out.new) (AddsPrefix (lines_down (raw_start (bytes_of files command.now.program.now)) [] command.now.steps))) }
+    ensures plain { (result.status ≢ 8 → (result.more ≡ 0) × (result.rule ≡ 0)) × ((result.status ≡ 17) ⊎ (result.status ≡ 0) → result.place ≡ 0) }
     ensures input_cause { result.status ≡ 3 → Rose (I.fault_count inputs.old) (I.fault_count inputs.new) }
     ensures input_place { result.status ≡ 3 → I.asked inputs.new ≡ I.asked inputs.old ++ take result.place (names_of (command_of command.now)) }
     ensures asked { (k : ℕ) × (I.asked inputs.new ≡ I.asked inputs.old ++ take k (names_of (command_of command.now))) }

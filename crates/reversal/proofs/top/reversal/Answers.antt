@@ -4,7 +4,7 @@ use Rattle.reversal.specs.Given.{words_of}
 use Rattle.reversal.specs.Taking.{command_of}
 use Rattle.reversal.specs.Answers.{RunsOn}
 use Rattle.reversal.proofs.OneReading.{one_command}
-use Rattle.reversal.proofs.Answering.{runs_on, given_unmet, accepted, answers}
+use Rattle.reversal.proofs.Answering.{runs_on, given_unmet, accepted, answers, forms_only, written, part_written}
 use Rattle.reversal.proofs.top.reversal.Given.{Over}
 use Rattle.reversal.proofs.top.reversal.Goals as goal
 
@@ -55,15 +55,28 @@ returns-clause-not_built g c given status =
 pub returns-clause-built : goal.returns-clause-built
 returns-clause-built g c given n18 n3 n17 =
     let ran = c.run_command.ensures.ran (runs_on c.run_command.result.status c.run_command.ensures.statuses n18 n3 n17) in
-    accepted given (command_of c.in-Some.command) ran.0 ran.1 (said g c) ran.2
+    accepted given (command_of c.in-Some.command) ran.0 ran.1 (said g c) (forms_only _ _ ran.0 ran.1 _ ran.2)
 
 pub returns-clause-invalid : goal.returns-clause-invalid
 returns-clause-invalid g c a status =
     let ran = c.run_command.ensures.ran (inr (inl status)) in
-    (answers a (command_of c.in-Some.command) ran.0 ran.1 c.run_command.result (said g c) ran.2 ran.3).broken status
+    (answers a (command_of c.in-Some.command) ran.0 ran.1 c.run_command.result (said g c) (forms_only _ _ ran.0 ran.1 _ ran.2) ran.3).broken status
 
 pub returns-clause-valid : goal.returns-clause-valid
 returns-clause-valid g c a status =
     let runs : RunsOn c.run_command.result.status = elim status [ inl e ↦ inl e | inr e ↦ inr (inr e) ] in
     let ran = c.run_command.ensures.ran runs in
-    (answers a (command_of c.in-Some.command) ran.0 ran.1 c.run_command.result (said g c) ran.2 ran.3).valid status
+    (answers a (command_of c.in-Some.command) ran.0 ran.1 c.run_command.result (said g c) (forms_only _ _ ran.0 ran.1 _ ran.2) ran.3).valid status
+
+pub returns-clause-done : goal.returns-clause-done
+returns-clause-done g c a status =
+    let ran = c.run_command.ensures.ran (inl status) in
+    (written a (command_of c.in-Some.command) ran.0 ran.1 c.run_command.result _ _ _ _ (said g c) ran.2).done status
+
+pub returns-clause-sink : goal.returns-clause-sink
+returns-clause-sink g c a status =
+    let ran = c.run_command.ensures.ran (inr (inr status)) in
+    (written a (command_of c.in-Some.command) ran.0 ran.1 c.run_command.result _ _ _ _ (said g c) ran.2).sink status
+
+pub returns-clause-memory : goal.returns-clause-memory
+returns-clause-memory g c given status = part_written given (command_of c.in-Some.command) _ _ (said g c) (c.run_command.ensures.memory status)

@@ -1,8 +1,9 @@
-use Rattle.std.proofs.Common.{List, sym, subst}
+use Rattle.std.proofs.Common.{ℕ, List, sym, subst}
 use Rattle.plan_types.specs.declared.action.Action.{Action}
 use Rattle.reversal.specs.ScheduleForm.{IsSchedule}
 use Rattle.reversal.specs.Taking.{command_of, IsFirstUnformed}
-use Rattle.reversal.specs.Answers.{FirstUnmetIn, FormsMetIn}
+use Rattle.rv_machine.specs.States.{raw_start}
+use Rattle.reversal.specs.Answers.{FirstUnmetIn, FormsMetIn, Writes, WritesIn}
 use Rattle.reversal.proofs.Answering.{where_told, forms_met, unmet_late, ends_unformed, ReadIn}
 use Rattle.reversal.proofs.top.run_command.Goals as goal
 
@@ -10,14 +11,22 @@ pub returns-in-Ok-plan_of-clause-ran : goal.returns-in-Ok-plan_of-clause-ran
 returns-in-Ok-plan_of-clause-ran g c runs =
     let bytes = c.in-Ok.bytes in
     let forms = c.in-Ok-plan_of.ensures.forms in
+    let slots = c.in-Ok-plan_of.plan.slots in
     let list = c.deref-in-Ok-plan_of.result.now in
     let r = command_of c.args.command.now in
-    let P : List Action → Type 0 = λ l. IsSchedule bytes.schedule.items l in (
-      c.in-Ok-plan_of.plan.slots,
+    let e = c.run_list.result in
+    let old = g.O.Sink.told c.args.out.now in
+    let new = g.O.Sink.told c.run_list.new.out in
+    let P : List Action → Type 0 = λ l. IsSchedule bytes.schedule.items l in
+    let W : List ℕ → Type 0 = λ p. Writes e (raw_start p) r.steps list old new c.args.steps.now c.run_list.new.counter in
+    (
+      slots,
       list,
-      where_told _ (λ files. ReadIn files r bytes.program.items bytes.book.items bytes.schedule.items) (λ files. FormsMetIn files r c.in-Ok-plan_of.plan.slots list)
-          (forms_met r bytes.program.items bytes.book.items bytes.schedule.items c.in-Ok-plan_of.plan.slots list c.requires c.in-Ok.ensures.fit forms.0 forms.1
-          (subst P (sym c.deref-in-Ok-plan_of.ensures.value) forms.2))
+      where_told _ (λ files. ReadIn files r bytes.program.items bytes.book.items bytes.schedule.items) (λ files. FormsMetIn files r slots list × WritesIn files e r list old new c.args.steps.now c.run_list.new.counter)
+          (λ files read. (
+            forms_met r bytes.program.items bytes.book.items bytes.schedule.items slots list c.requires c.in-Ok.ensures.fit forms.0 forms.1 (subst P (sym c.deref-in-Ok-plan_of.ensures.value) forms.2) files read,
+            subst W (sym read.0) (subst W c.deref.ensures.value (record { done = c.run_list.ensures.done; sink = c.run_list.ensures.sink })),
+          ))
           c.in-Ok.ensures.bytes,
       record { broken = λ e. (c.run_list.ensures.invalid e).0; valid = c.run_list.ensures.valid },
     )
