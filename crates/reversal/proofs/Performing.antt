@@ -1,5 +1,5 @@
 -- A session on its way through a valid list: what it writes for the next action.
-use Rattle.std.proofs.Common.{◌≡◌, ℕ, ◌+◌, ◌<◌, List, [], take, Option, MatchOption, refl, sym, ◌∙◌, ap, subst, append-nil}
+use Rattle.std.proofs.Common.{◌≡◌, ℕ, ◌+◌, List, take, Option, MatchOption, sym, ◌∙◌, subst}
 use Rattle.plan_types.specs.declared.action.Action.{Action}
 use Rattle.level_book.specs.declared.book.Slots.{Slots}
 use Rattle.level_book.specs.Configuration.{Configuration, start}
@@ -16,7 +16,7 @@ use Rattle.reverse_runner.specs.SessionState.{SessionState}
 use Rattle.reverse_runner.specs.Performed.{Gets, Misses}
 use Rattle.reverse_runner.specs.Standing.{StandsAt}
 use Rattle.reversal.specs.Output.{lines_of, Adds}
-use Rattle.reversal.proofs.Writing.{Wrote, Missed, wrote, missed, AddsPart, tells_so}
+use Rattle.reversal.proofs.Writing.{Wrote, Missed, wrote, missed, AddsPart}
 
 -- the actions before i led to where the session stands
 pub record IsOn (first : MachineState) (journal : List (List ℕ)) (steps : ℕ) (slots : List Slots) (list : List Action) (i : ℕ) (s : SessionState) : Type 0 where
@@ -38,7 +38,7 @@ wrote_on {X} told first journal steps slots list i s a d x y on goes gets =
     let P : List (List ℕ) → Type 0 = λ j. Tells (told x.out.now) (told y.out.now) (Adds (lines_of first j (handed_by s.situation.steps a))) in
     let Q : ℕ → Type 0 = λ n. Tells (told x.out.now) (told y.out.now) (Adds (lines_of first journal (handed_by n a))) in
     subst Q on.steps_are (subst P on.journal_is
-        (wrote told first s.journal s.situation.steps s.situation.slots s.situation.at a d s.work s.stored x y goes on.stands.work on.stands.tape (next_on first journal steps slots list i s on) gets))
+    (wrote told first s.journal s.situation.steps s.situation.slots s.situation.at a d s.work s.stored x y goes on.stands.work on.stands.tape (next_on first journal steps slots list i s on) gets))
 
 pub missed_on : {X : Type 0} (told : X → Option (List ℕ)) (first : MachineState) (journal : List (List ℕ)) (steps : ℕ) (slots : List Slots) (list : List Action) (i : ℕ) (s : SessionState) (a : Action) (x y : LineWriter X) →
     IsOn first journal steps slots list i s → rule s.situation.steps s.situation.slots s.situation.at a ≡ 0 → Misses (Missed told) s.journal a s.situation.at.work s.work s.stored x y →
@@ -48,4 +48,4 @@ missed_on {X} told first journal steps slots list i s a x y on allowed misses =
     let goes = (rules_moves steps slots s.situation.at a (take i list, on.leads)).0 rule_is in
     let P : List (List ℕ) → Type 0 = λ j. Tells (told x.out.now) (told y.out.now) (AddsPart first j steps a) in
     subst P on.journal_is
-        (missed told first s.journal steps slots s.situation.at a goes.0 s.work s.stored x y goes.1 on.stands.work on.stands.tape (next_on first journal steps slots list i s on) misses)
+    (missed told first s.journal steps slots s.situation.at a goes.0 s.work s.stored x y goes.1 on.stands.work on.stands.tape (next_on first journal steps slots list i s on) misses)

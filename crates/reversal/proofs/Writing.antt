@@ -1,11 +1,8 @@
 -- What a writer of lines writes for the actions of a list.
-use Rattle.std.proofs.Common.{◌≡◌, ℕ, ◌+◌, ◌-◌, List, [], ◌∷◌, ◌++◌, length, take, drop, take-append-drop, append-nil, append_assoc, Option, None, Some, IsSome, MatchOption, refl, sym, ◌∙◌, ap, subst, arith, slice_get, sum_by}
-use Rattle.std.specs.List.{flat_map}
+use Rattle.std.proofs.Common.{◌≡◌, ℕ, ◌+◌, ◌-◌, List, [], ◌∷◌, ◌++◌, length, take, drop, take-append-drop, append-nil, append_assoc, Option, None, Some, IsSome, MatchOption, refl, sym, ◌∙◌, ap, subst, arith, slice_get}
 use Rattle.std.proofs.lemmas.Bool.{false≢true}
 use Rattle.std.proofs.lemmas.Grind.{flat_map-append}
 use Rattle.std.proofs.lemmas.List.Sums.{sum_by-append}
-use Rattle.plan_types.specs.declared.action.Keep.TheVariants.{Nothing, Store, Tape}
-use Rattle.plan_types.specs.declared.action.Dest.TheVariants.{Work, Level}
 use Rattle.plan_types.specs.declared.action.Action.{Action}
 use Rattle.plan_types.specs.declared.action.Action.TheVariants.{Forward, Reverse, Copy, Move, EndForward, EndReverse}
 use Rattle.level_book.specs.declared.book.Slots.{Slots}
@@ -67,9 +64,9 @@ tells_so (Some a) (Some b) P Q f h = f a b h
 pub tells_nothing : (x y : Option (List ℕ)) → y ≡ x → Tells x y (Adds [])
 tells_nothing x y e = let P : Option (List ℕ) → Type 0 = λ z. Tells x z (Adds []) in subst P (sym e) (same x)
   where
-  same : (x : Option (List ℕ)) → Tells x x (Adds [])
-  same None = tt
-  same (Some bytes) = sym (append-nil bytes)
+    same : (x : Option (List ℕ)) → Tells x x (Adds [])
+    same None = tt
+    same (Some bytes) = sym (append-nil bytes)
 
 -- the state on the tape is the one that a Reverse leads back to
 on_tape : (first : MachineState) (journal : List (List ℕ)) (tape : Option ℕ) (state : MachineState) (reverse to : ℕ) → IsSome tape → MatchOption tape (Unit {0}) (λ t. t + 1 ≡ reverse) → to + 1 ≡ reverse →
@@ -174,11 +171,13 @@ pub writes_prefix : (first : MachineState) (journal : List (List ℕ)) (steps : 
     Tells x y (Adds (lines_of first journal (handed steps (take i list)))) → Tells x y (AddsPrefix (lines_of first journal whole))
 writes_prefix first journal steps list i whole x y all = tells_so x y _ _ (λ old new e.
     let front = lines_of first journal (handed steps (take i list)) in
-    let back = lines_of first journal (handed steps (drop i list)) in
-    (length front, e ∙ ap (λ l. old ++ l) (sym (take_front front back) ∙ ap (take (length front)) (
-        sym (flat_map-append (line_of first journal) (handed steps (take i list)) (handed steps (drop i list)))
-        ∙ ap (lines_of first journal) (sym (flat_map-append (handed_by steps) (take i list) (drop i list)) ∙ ap (handed steps) (take-append-drop i list) ∙ all)))))
+    let back = lines_of first journal (handed steps (drop i list)) in (
+      length front,
+      e ∙ ap (λ l. old ++ l) (sym (take_front front back) ∙ ap (take (length front)) (
+          sym (flat_map-append (line_of first journal) (handed steps (take i list)) (handed steps (drop i list)))
+          ∙ ap (lines_of first journal) (sym (flat_map-append (handed_by steps) (take i list) (drop i list)) ∙ ap (handed steps) (take-append-drop i list) ∙ all))),
+    ))
   where
-  take_front : (xs ys : List ℕ) → take (length xs) (xs ++ ys) ≡ xs
-  take_front [] ys = refl
-  take_front (z ∷ zs) ys = ap (λ l. z ∷ l) (take_front zs ys)
+    take_front : (xs ys : List ℕ) → take (length xs) (xs ++ ys) ≡ xs
+    take_front [] ys = refl
+    take_front (z ∷ zs) ys = ap (λ l. z ∷ l) (take_front zs ys)

@@ -63,6 +63,7 @@ pub(crate) fn read_inputs<I: Inputs>(
     ensures asked { MatchResult result
         (λ _. I.asked inputs.new ≡ I.asked inputs.old ++ names_of (command_of command.now))
         (λ e. AskedUntil e (names_of (command_of command.now)) (I.asked inputs.old) (I.asked inputs.new)) }
+    ensures number { IfErr result (λ e. OnInput e (λ place. (0 < place) × (place ≤ 3))) }
     ensures later { I.fault_count inputs.old ≤ I.fault_count inputs.new }
     ensures cause { IfErr result (λ e. OnInput e (λ _. Rose (I.fault_count inputs.old) (I.fault_count inputs.new))) }
 {

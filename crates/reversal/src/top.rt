@@ -47,6 +47,7 @@ pub fn reversal<I: Inputs, K: Keeper, O: Sink, L: Ledger>(
 
     // Status 3 comes only where the inputs' count of faults rose. The names asked for are the words', in their order.
     ensures input_cause { result.status ≡ 3 → Rose (I.fault_count inputs.old) (I.fault_count inputs.new) }
+    ensures input_number { result.status ≡ 3 → (0 < result.place) × (result.place ≤ 3) }
     ensures input_place { result.status ≡ 3 → (r : RunCommand) → Says (words_of words.now) r → I.asked inputs.new ≡ I.asked inputs.old ++ take result.place (names_of r) }
     ensures asked { (r : RunCommand) → Says (words_of words.now) r → (k : ℕ) × (I.asked inputs.new ≡ I.asked inputs.old ++ take k (names_of r)) }
 
@@ -100,6 +101,7 @@ fn run_command<I: Inputs, K: Keeper, O: Sink, L: Ledger>(
     ensures memory { result.status ≡ 17 → WhereTold (I.told inputs.old) (λ files. Tells (O.told out.old) (O.told out.new) (AddsPrefix (lines_down (raw_start (bytes_of files command.now.program.now)) [] command.now.steps))) }
     ensures plain { (result.status ≢ 8 → (result.more ≡ 0) × (result.rule ≡ 0)) × ((result.status ≡ 17) ⊎ (result.status ≡ 0) → result.place ≡ 0) }
     ensures input_cause { result.status ≡ 3 → Rose (I.fault_count inputs.old) (I.fault_count inputs.new) }
+    ensures input_number { result.status ≡ 3 → (0 < result.place) × (result.place ≤ 3) }
     ensures input_place { result.status ≡ 3 → I.asked inputs.new ≡ I.asked inputs.old ++ take result.place (names_of (command_of command.now)) }
     ensures asked { (k : ℕ) × (I.asked inputs.new ≡ I.asked inputs.old ++ take k (names_of (command_of command.now))) }
     ensures sink_cause { result.status ≡ 14 → Rose (O.fault_count out.old) (O.fault_count out.new) }

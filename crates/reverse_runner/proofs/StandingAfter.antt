@@ -1,9 +1,8 @@
 -- A session that stands at its configuration stands there after every action.
-use Rattle.std.proofs.Common.{◌≡◌, ℕ, ◌+◌, ◌-◌, ◌<◌, length, replicate, List, refl, sym, ◌∙◌, ap, subst, arith, Option, Some, None, MatchOption, IsSome, length-set}
+use Rattle.std.proofs.Common.{◌≡◌, ℕ, ◌+◌, ◌-◌, ◌<◌, length, replicate, List, refl, sym, ◌∙◌, ap, subst, arith, Option, Some, MatchOption, length-set}
 use Rattle.std.proofs.lemmas.List.{length-replicate}
 use Rattle.std.specs.FinMap as finmap
 use Rattle.std.proofs.lemmas.Option.{same_Some}
-use Rattle.plan_types.specs.declared.action.Keep.{Keep}
 use Rattle.plan_types.specs.declared.action.Keep.TheVariants.{Nothing, Store, Tape}
 use Rattle.plan_types.specs.declared.action.Dest.TheVariants.{Work, Level}
 use Rattle.plan_types.specs.declared.action.Action.{Action}
@@ -16,7 +15,7 @@ use Rattle.rv_machine.specs.States.{state_number}
 use Rattle.rv_machine.proofs.Laws.{state_number-add}
 use Rattle.reverse_runner.specs.StoredStates.{StoredStates, level_of}
 use Rattle.reverse_runner.specs.SessionState.{SessionState}
-use Rattle.reverse_runner.specs.Performed.{Does, kept, with_copy}
+use Rattle.reverse_runner.specs.Performed.{Does, with_copy}
 use Rattle.reverse_runner.specs.Standing.{begun, Performs, StandsAt}
 use Rattle.reverse_runner.proofs.Copies.{CopiesAre}
 use Rattle.reverse_runner.proofs.Following.{copies_after, copies_at_start}
@@ -127,7 +126,7 @@ stands_after first s a t counted stands p =
       tape = subst P (sym p.journal) (tape_after first s.journal steps slots c a d s.work t.work s.stored t.stored p.goes p.does stands.work stands.tape);
       copies = λ k n there.
           copies_after (CopyIs first s.journal) s.journal steps slots c a d s.work t.work s.stored t.stored p.goes p.does counted stands.copies
-              (stored_is first s.journal steps slots c a d s.work p.goes stands.work) k n there
+          (stored_is first s.journal steps slots c a d s.work p.goes stands.work) k n there
           ∙ ap (λ j. Some (state_number first j n)) (sym p.journal);
     }
 

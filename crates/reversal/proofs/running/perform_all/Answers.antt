@@ -75,7 +75,7 @@ returns-in-Err-Visitor-clause-sink g c status =
     let i = c.loop-i.i in
     let at = slice_get-get_or list i (Forward 0 0 Nothing) c.loop-i-test.true in
     let on : IsOn session.work session.journal session.situation.steps session.situation.slots list i before =
-        record { steps_are = so_far.steps; slots_are = so_far.slots; journal_is = so_far.journal; leads = so_far.leads; stands = so_far.stands } in
+    record { steps_are = so_far.steps; slots_are = so_far.slots; journal_is = so_far.journal; leads = so_far.leads; stands = so_far.stands } in
     let rule_is = allowed _ _ list i before.situation so_far.steps so_far.slots c.loop-i-test.true so_far.leads c.requires.valid in
     let misses = c.perform.ensures.misses (c.in-Err-Visitor.is ∙ ap (λ e. Err e) c.in-Err-Visitor.field-0-is) in
     let same = same_sink_missed g.O.Sink.told before.journal (action_at list i) before.situation.at.work before.work before.stored c.loop-i.writer c.perform.new.visitor misses in
@@ -83,7 +83,7 @@ returns-in-Err-Visitor-clause-sink g c status =
     let P : g.row.O.Denot → Type 0 = λ o. Tells (g.O.Sink.told c.args.out.now) (g.O.Sink.told o) (AddsUntil session.work session.journal session.situation.steps list c.at.result.place) in
     subst P (sym last)
     (writes_part session.work session.journal session.situation.steps list i c.at.result.place (action_at list i) _ _ _ at (ap (λ x. x.place) c.at.ensures) so_far.written
-        (missed_on g.O.Sink.told session.work session.journal session.situation.steps session.situation.slots list i before (action_at list i) c.loop-i.writer c.perform.new.visitor on rule_is misses))
+    (missed_on g.O.Sink.told session.work session.journal session.situation.steps session.situation.slots list i before (action_at list i) c.loop-i.writer c.perform.new.visitor on rule_is misses))
 
 pub returns-in-Err-Memory-clause-memory : goal.returns-in-Err-Memory-clause-memory
 returns-in-Err-Memory-clause-memory g c status =
@@ -95,7 +95,7 @@ returns-in-Err-Memory-clause-memory g c status =
     let P : g.row.O.Denot → Type 0 = λ o. Tells (g.O.Sink.told c.args.out.now) (g.O.Sink.told o) (AddsPrefix (lines_down session.work session.journal session.situation.steps)) in
     subst P (sym last)
     (writes_prefix session.work session.journal session.situation.steps list c.loop-i.i (countdown session.situation.steps) _ _
-        (valid_hands session.situation.steps session.situation.slots list c.requires.valid) so_far.written)
+    (valid_hands session.situation.steps session.situation.slots list c.requires.valid) so_far.written)
 
 pub returns-clause-done : goal.returns-clause-done
 returns-clause-done g c status =

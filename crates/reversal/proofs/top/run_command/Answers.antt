@@ -18,8 +18,7 @@ returns-in-Ok-plan_of-clause-ran g c runs =
     let old = g.O.Sink.told c.args.out.now in
     let new = g.O.Sink.told c.run_list.new.out in
     let P : List Action → Type 0 = λ l. IsSchedule bytes.schedule.items l in
-    let W : List ℕ → Type 0 = λ p. Writes e (raw_start p) r.steps list old new c.args.steps.now c.run_list.new.counter in
-    (
+    let W : List ℕ → Type 0 = λ p. Writes e (raw_start p) r.steps list old new c.args.steps.now c.run_list.new.counter in (
       slots,
       list,
       where_told _ (λ files. ReadIn files r bytes.program.items bytes.book.items bytes.schedule.items) (λ files. FormsMetIn files r slots list × WritesIn files e r list old new c.args.steps.now c.run_list.new.counter)
