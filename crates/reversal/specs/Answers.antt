@@ -25,9 +25,9 @@ FormsMetIn files r slots list = FormsMet r (bytes_of files r.program) (bytes_of 
 abbrev pub RunsOn : ℕ → Type 0
 RunsOn status = (status ≡ 0) ⊎ (status ≡ 8) ⊎ (status ≡ 14)
 
--- status 8 says where the list is first broken, and status 0 and 14 that it is valid
+-- status 8 says where the list is first broken, and that it isn't valid; status 0 and 14 say that it is valid
 pub record AnswersList (e : Ended) (r : RunCommand) (slots : ℕ) (list : List Action) : Type 0 where
-  pub broken : e.status ≡ 8 → BrokenAt r.steps (slots_of (plain slots)) list e.place e.rule e.more
+  pub broken : e.status ≡ 8 → BrokenAt r.steps (slots_of (plain slots)) list e.place e.rule e.more × (Valid r.steps (slots_of (plain slots)) list → ⊥)
   pub valid : (e.status ≡ 0) ⊎ (e.status ≡ 14) → Valid r.steps (slots_of (plain slots)) list
 
 -- what a performed list added to the sink and to the count of steps: all its lines at status 0, and those up to a write

@@ -51,8 +51,9 @@ pub fn reversal<I: Inputs, K: Keeper, O: Sink, L: Ledger>(
     ensures input_place { result.status ≡ 3 → (r : RunCommand) → Says (words_of words.now) r → I.asked inputs.new ≡ I.asked inputs.old ++ take result.place (names_of r) }
     ensures asked { (r : RunCommand) → Says (words_of words.now) r → (k : ℕ) × (I.asked inputs.new ≡ I.asked inputs.old ++ take k (names_of r)) }
 
-    // Status 8 comes exactly where the forms are met and the list isn't valid, with its first broken action and rule.
-    ensures invalid { (a : Accepted (words_of words.now) (I.told inputs.old)) → result.status ≡ 8 → BrokenAt a.given.command.steps (slots_given a) a.list result.place result.rule result.more }
+    // Status 8 comes exactly where the forms are met and the list isn't valid, with the place of its first broken action
+    // and the lowest rule that it breaks.
+    ensures invalid { (a : Accepted (words_of words.now) (I.told inputs.old)) → result.status ≡ 8 → BrokenAt a.given.command.steps (slots_given a) a.list result.place result.rule result.more × (Valid a.given.command.steps (slots_given a) a.list → ⊥) }
     ensures valid { (a : Accepted (words_of words.now) (I.told inputs.old)) → (result.status ≡ 0) ⊎ (result.status ≡ 14) → Valid a.given.command.steps (slots_given a) a.list }
 
     // At status 0 the lines of the states from the last to the first were added, and the machine took the list's steps.

@@ -27,7 +27,7 @@ returns-in-Ok-plan_of-clause-ran g c runs =
             subst W (sym read.0) (subst W c.deref.ensures.value (record { done = c.run_list.ensures.done; sink = c.run_list.ensures.sink })),
           ))
           c.in-Ok.ensures.bytes,
-      record { broken = λ e. (c.run_list.ensures.invalid e).0; valid = c.run_list.ensures.valid },
+      record { broken = c.run_list.ensures.invalid; valid = c.run_list.ensures.valid },
     )
 
 pub returns-clause-not_built : goal.returns-clause-not_built
