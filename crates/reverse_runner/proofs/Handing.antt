@@ -40,11 +40,10 @@ record Hands (steps : ℕ) (c : Configuration) (a : Action) (m : Configuration) 
 -- an action that ends and reverses nothing hands nothing out
 passes : (steps : ℕ) (c m e : Configuration) → m ≡ e → e.forward_ended ≡ c.forward_ended → e.reverse ≡ c.reverse → Whole steps c →
     Whole steps m × (remaining steps c ≡ remaining steps m)
-passes steps c m e is ended reverse whole =
-    (
-      λ h. ap (λ (x : Configuration). x.reverse) is ∙ reverse ∙ whole (sym ended ∙ sym (ap (λ (x : Configuration). x.forward_ended) is) ∙ h),
-      (λ i. cond (sym ended i) (below (sym reverse i)) (countdown steps)) ∙ ap (remaining steps) (sym is),
-    )
+passes steps c m e is ended reverse whole = (
+  λ h. ap (λ (x : Configuration). x.reverse) is ∙ reverse ∙ whole (sym ended ∙ sym (ap (λ (x : Configuration). x.forward_ended) is) ∙ h),
+  (λ i. cond (sym ended i) (below (sym reverse i)) (countdown steps)) ∙ ap (remaining steps) (sym is),
+)
 
 as_passes : (steps : ℕ) (c : Configuration) (a : Action) (m : Configuration) → handed_by steps a ≡ [] → Whole steps m × (remaining steps c ≡ remaining steps m) → Hands steps c a m
 as_passes steps c a m none p = record { whole = p.0; hands = p.1 ∙ ap (λ l. l ++ remaining steps m) (sym none) }
@@ -79,17 +78,17 @@ nothing_left : (steps : ℕ) (slots : List Slots) (c : Configuration) (list : Li
 nothing_left steps slots c [] d leads ended = refl
 nothing_left steps slots c (a ∷ rest) d leads ended = absurd (true≢false (sym ended ∙ open_before a leads.0 leads.1))
   where
-  open_before : (a : Action) (m : Configuration) → Goes steps slots c a m → c.ended ≡ false
-  open_before (Forward from to Nothing) m g = g.0
-  open_before (Forward from to (Store k)) m g = g.0
-  open_before (Forward from to Tape) m g = g.0
-  open_before (Reverse from to) m g = g.0
-  open_before (Copy n k Work) m g = g.0
-  open_before (Copy n k (Level j)) m g = g.0
-  open_before (Move n k Work) m g = g.0
-  open_before (Move n k (Level j)) m g = g.0
-  open_before EndForward m g = g.0
-  open_before EndReverse m g = g.0
+    open_before : (a : Action) (m : Configuration) → Goes steps slots c a m → c.ended ≡ false
+    open_before (Forward from to Nothing) m g = g.0
+    open_before (Forward from to (Store k)) m g = g.0
+    open_before (Forward from to Tape) m g = g.0
+    open_before (Reverse from to) m g = g.0
+    open_before (Copy n k Work) m g = g.0
+    open_before (Copy n k (Level j)) m g = g.0
+    open_before (Move n k Work) m g = g.0
+    open_before (Move n k (Level j)) m g = g.0
+    open_before EndForward m g = g.0
+    open_before EndReverse m g = g.0
 
 still_open : (m e : Configuration) → m ≡ e → e.ended ≡ false → m.ended ≡ true → ⊥
 still_open m e is open_ ended = true≢false (sym ended ∙ ap (λ (x : Configuration). x.ended) is ∙ open_)

@@ -127,7 +127,7 @@ stands_after first s a t counted stands p =
       tape = subst P (sym p.journal) (tape_after first s.journal steps slots c a d s.work t.work s.stored t.stored p.goes p.does stands.work stands.tape);
       copies = λ k n there.
           copies_after (CopyIs first s.journal) s.journal steps slots c a d s.work t.work s.stored t.stored p.goes p.does counted stands.copies
-              (stored_is first s.journal steps slots c a d s.work p.goes stands.work) k n there
+          (stored_is first s.journal steps slots c a d s.work p.goes stands.work) k n there
           ∙ ap (λ j. Some (state_number first j n)) (sym p.journal);
     }
 

@@ -24,16 +24,16 @@ returns-clause-stands g c =
     elim c.match-act.branch [
       | in-Ok w ↦
           subst P (sym w.result-is) (λ first stands.
-              let Q : SessionState → Type 0 = λ s. StandsAt first s in
-              let old = session_state c.self.inside in
-              subst Q (sym w.self-is) (stands_after first old c.args.action.now _ c.self.invariant.levels (subst Q (sym c.self.view_is) stands) (record {
-                goes = w.take.ensures.goes;
-                does = w.in-Ok.ensures.does;
-                steps = w.take.ensures.steps;
-                slots = w.take.ensures.slots;
-                journal = refl;
-                done = w.saturating_add-self-inside.ensures;
-                lasts = c.if-self.false;
-              })))
+          let Q : SessionState → Type 0 = λ s. StandsAt first s in
+          let old = session_state c.self.inside in
+          subst Q (sym w.self-is) (stands_after first old c.args.action.now _ c.self.invariant.levels (subst Q (sym c.self.view_is) stands) (record {
+            goes = w.take.ensures.goes;
+            does = w.in-Ok.ensures.does;
+            steps = w.take.ensures.steps;
+            slots = w.take.ensures.slots;
+            journal = refl;
+            done = w.saturating_add-self-inside.ensures;
+            lasts = c.if-self.false;
+          })))
       | in-Err w ↦ subst P (sym w.result-is) tt
     ]
