@@ -9,6 +9,8 @@ pub mod laws;
 mod line_writer;
 mod session;
 mod stored;
+#[cfg(test)]
+mod tests;
 mod visitor;
 
 pub use crate::line_writer::LineWriter;
