@@ -9,6 +9,7 @@ use keepers::{MemoryInputs, MemoryKeeper, MemorySink};
 use plan_types::Line;
 use rv_machine::Steps;
 use std::alloc::{AllocError, Global};
+use std::fmt::Write;
 use std::marker::Brand;
 use std::sync::ledger::{Blank, Ledger};
 use std::test::Fail;
@@ -96,6 +97,12 @@ const SIX_STEPS: [&[u8]; 7] = [
     b"2 00010008 00000000 bffffff0 00000000 00000000 ffffffff fffffffe 00000000 00000000 00000000 00000000 00000000 00000000 00000000 00000000 00000000 00000000 00000000 00000000 00000000 00000000 00000000 00000000 00000000 00000000 00000000 00000000 00000000 00000000 00000000 00000000 00000000 run 0:0 0 7f727204e50de60b86246728891b15f50cc9a38b384f453b32e723ff0089d612\n",
     b"1 00010004 00000000 bffffff0 00000000 00000000 ffffffff 00000000 00000000 00000000 00000000 00000000 00000000 00000000 00000000 00000000 00000000 00000000 00000000 00000000 00000000 00000000 00000000 00000000 00000000 00000000 00000000 00000000 00000000 00000000 00000000 00000000 00000000 run 0:0 0 2ce1d9de07e81963d13c7a66e349577bfc053985e2c3a9b7d10dc84ccaf44cee\n",
     b"0 00010000 00000000 bffffff0 00000000 00000000 00000000 00000000 00000000 00000000 00000000 00000000 00000000 00000000 00000000 00000000 00000000 00000000 00000000 00000000 00000000 00000000 00000000 00000000 00000000 00000000 00000000 00000000 00000000 00000000 00000000 00000000 00000000 run 0:0 0 79ca85cb83cb7b5d3a3ff3791ee5183f652e8f55acde16d65bfa630f365d06cd\n",
+];
+
+// The first lines of 1,024 additions, which run past their page: states 1026 and 1025.
+const PAST_THE_PAGE: [&[u8]; 2] = [
+    b"1026 00011000 00000000 bffffff0 00000000 00000000 00000400 00000000 00000000 00000000 00000000 00000000 00000000 00000000 00000000 00000000 00000000 00000000 00000000 00000000 00000000 00000000 00000000 00000000 00000000 00000000 00000000 00000000 00000000 00000000 00000000 00000000 00000000 trap:1 0:0 0 31ab188173d65186c07f55a1d7df4c9e81dd022f6cfb56e9de26d78cd9da72f1\n",
+    b"1025 00011000 00000000 bffffff0 00000000 00000000 00000400 00000000 00000000 00000000 00000000 00000000 00000000 00000000 00000000 00000000 00000000 00000000 00000000 00000000 00000000 00000000 00000000 00000000 00000000 00000000 00000000 00000000 00000000 00000000 00000000 00000000 00000000 trap:1 0:0 0 31ab188173d65186c07f55a1d7df4c9e81dd022f6cfb56e9de26d78cd9da72f1\n",
 ];
 
 // One run: the bytes of its three inputs, and the word for the number of steps.
@@ -201,6 +208,58 @@ fn a_state_kept_once_and_loaded_often_gives_every_line(rt: HostRuntime) -> Resul
     let mut out = MemorySink::new(rt.alloc(), 4096)?;
     assert_eq!(rt; run(rt.alloc(), &given, &mut out)?.status, 0);
     assert_eq!(rt; out.bytes(), joined(rt.alloc(), &SIX_STEPS, 7)?.as_slice());
+    Ok(())
+}
+
+// A list for 1,026 steps that keeps the start alone.
+fn start_kept_list(alloc: Global) -> Result<String, AllocError> {
+    let mut text = String::new(alloc);
+    text.push_str("Forward(0, 1025, True, False, RAM)\n")?;
+    text.push_str(
+        "Forward(1025, 1026, False, True, WORK)\nEndForward()\nReverse(1026, 1025, True)\n",
+    )?;
+    for from in 0..1024u32 {
+        let at = 1024 - from;
+        write!(
+            text,
+            "Copy(0, RAM, WORK)\nForward(0, {}, False, False, NONE)\n",
+            at
+        )?;
+        write!(
+            text,
+            "Forward({}, {}, False, True, WORK)\nReverse({}, {}, True)\n",
+            at,
+            at + 1,
+            at + 1,
+            at
+        )?;
+    }
+    text.push_str(
+        "Copy(0, RAM, WORK)\nForward(0, 1, False, True, WORK)\nReverse(1, 0, True)\nEndReverse()\n",
+    )?;
+    Ok(text)
+}
+
+#[test]
+fn a_program_that_runs_past_its_page_is_trapped(rt: HostRuntime) -> Result<(), Fail> {
+    let mut program = Vec::new(rt.alloc());
+    for _ in 0..1024u32 {
+        program.extend_from_slice(b"\x93\x82\x12\x00")?;
+    }
+    let schedule = start_kept_list(rt.alloc())?;
+    let given = Given {
+        program: &program,
+        book: ONE_SLOT,
+        schedule: schedule.as_bytes(),
+        steps: b"1026",
+    };
+    let mut out = MemorySink::new(rt.alloc(), 400_000)?;
+    assert_eq!(rt; run(rt.alloc(), &given, &mut out)?.status, 0);
+    assert!(rt;
+        out.bytes()
+            .starts_with(joined(rt.alloc(), &PAST_THE_PAGE, 2)?.as_slice()),
+        "the last two states"
+    );
     Ok(())
 }
 
