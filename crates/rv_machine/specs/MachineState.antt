@@ -1,6 +1,7 @@
 -- A state of the machine: what the next step depends on, and nothing of how the code keeps it.
-use Rattle.std.specs.Prelude.{ℕ, ◌<◌, List}
-use Rattle.rv_pages.specs.Memory.{Memory}
+use Rattle.std.specs.Prelude.{◌≡◌, ℕ, ◌%◌, ◌^◌, ◌<◌, List, length, slice_index}
+use Rattle.std.specs.List.{All}
+use Rattle.rv_pages.specs.Memory.{Memory, IsMemory}
 use Rattle.rv_machine.specs.declared.status.Status.{Status}
 use Rattle.rv_machine.specs.declared.status.Status.TheVariants.{Running, Exited, Trapped}
 
@@ -23,3 +24,16 @@ abbrev pub IsStatus : Status → Type 0
 IsStatus Running = Unit {0}
 IsStatus (Exited code) = code < 256
 IsStatus (Trapped cause) = cause < 8
+
+-- A state that a machine can be in: registers and pc are words of 32 bits, x0 is 0, and pc is aligned to words.
+pub record IsMachineState (s : MachineState) : Type 0 where
+  pub pc : s.pc < 2 ^ 32
+  pub aligned : s.pc % 4 ≡ 0
+  pub registers : length s.registers ≡ 32
+  pub words : All (λ x. x < 2 ^ 32) s.registers
+  pub zero : slice_index s.registers 0 ≡ 0
+  pub status : IsStatus s.status
+  pub item : s.item < 2 ^ 32
+  pub offset : s.offset < 2 ^ 32
+  pub written : s.written < 2 ^ 64
+  pub memory : IsMemory s.memory

@@ -1,6 +1,8 @@
 // A state of the machine.
-ghost use Rattle.std.specs.Prelude.{◌≡◌, ◌<◌};
+ghost use Rattle.std.specs.Prelude.{◌≡◌, ◌<◌, ◌^◌};
+ghost use Rattle.std.specs.List.{All};
 ghost use Rattle.rv_pages.specs.Memory.{page_numbers};
+ghost use Rattle.rv_machine.specs.MachineState.{IsMachineState};
 ghost use Rattle.rv_machine.specs.StepTable.{with_register};
 
 use crate::status::Status;
@@ -59,6 +61,15 @@ impl Clone for State {
 }
 
 impl State {
+    /// Does nothing. Its contract is a law: a state is one that a machine can be in.
+    pub fn is_machine_state(&self)
+        ensures { IsMachineState self.now }
+    {
+        self.pages.are_memory();
+        are_words(&self.x);
+        are_below(self.pc, self.item, self.offset, self.written);
+    }
+
     /// Makes this state the other one. It takes no memory: the pages are those that are mapped already.
     pub fn copy_from(&mut self, other: &State)
         requires { page_numbers self.old.memory ≡ page_numbers other.now.memory }
@@ -82,4 +93,15 @@ impl State {
             self.x[register as usize] = value;
         }
     }
+}
+
+// Do nothing: words of 32 bits are below 2 ^ 32, and a number of 64 bits is below 2 ^ 64.
+fn are_words(words: &[u32])
+    ensures { All (λ x. x < 2 ^ 32) words.now }
+{
+}
+
+fn are_below(pc: u32, item: u32, offset: u32, written: u64)
+    ensures { (pc < 2 ^ 32) × (item < 2 ^ 32) × (offset < 2 ^ 32) × (written < 2 ^ 64) }
+{
 }

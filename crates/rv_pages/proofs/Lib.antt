@@ -5,3 +5,4 @@ pub mod Bytes
 pub mod Zeroed
 pub mod Words
 pub mod Written
+pub mod Whole

@@ -1,7 +1,8 @@
 -- Memory as a finite map from mapped addresses to bytes. Addresses are below 2 ^ 32 and are mapped by whole pages of
 -- 4,096 bytes. How the pages are kept is not said here.
-use Rattle.std.specs.Prelude.{ℕ, zero, suc, ◌+◌, ◌*◌, ◌/◌, ◌%◌, ◌^◌, ◌==◌, cond, List, [], ◌∷◌, map, filter, Option, None, Some}
-use Rattle.std.specs.List.{filter_map, flat_map}
+use Rattle.std.specs.Prelude.{◌≡◌, ℕ, zero, suc, ◌+◌, ◌*◌, ◌/◌, ◌%◌, ◌^◌, ◌==◌, ◌<◌, cond, List, [], ◌∷◌, map, filter, length, Option, None, Some}
+use Rattle.std.specs.List.{All, enumerate_from, filter_map, flat_map}
+use Rattle.std.specs.List.Sorted.{IsStrictlyIncreasing}
 use Rattle.std.specs.Ordering.{nat_cmp}
 use Rattle.std.specs.FinMap as finmap
 
@@ -41,3 +42,19 @@ zeros_from at (suc n) = (at, 0) ∷ zeros_from (at + 1) n
 -- the memory that maps these pages, and holds the byte 0 everywhere
 unfoldable pub zeroed : List ℕ → Memory
 zeroed pages = finmap.from_entries (flat_map (λ page. zeros_from (page * 4096) 4096) pages)
+
+-- the memory that maps these pages, each with the bytes that belong to its number
+unfoldable pub of_pages : (ℕ → List ℕ) → List ℕ → Memory
+of_pages bytes pages = finmap.from_entries (flat_map (λ page. enumerate_from (page * 4096) (bytes page)) pages)
+
+-- a page as it may stand in the memory of a machine
+pub record IsPage (m : Memory) (page : ℕ) : Type 0 where
+  pub below : page < 2 ^ 20
+  pub full : length (page_bytes m page) ≡ 4096
+  pub bytes : All (λ b. b < 256) (page_bytes m page)
+
+-- Memory as a machine has it: it is made of its pages and of nothing else, and these are whole pages of bytes.
+pub record IsMemory (m : Memory) : Type 0 where
+  pub made : m ≡ of_pages (page_bytes m) (page_numbers m)
+  pub ascending : IsStrictlyIncreasing (page_numbers m)
+  pub pages : All (IsPage m) (page_numbers m)

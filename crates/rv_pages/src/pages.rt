@@ -3,7 +3,7 @@ ghost use Rattle.std.specs.Prelude.{◌≡◌, ℕ, ◌/◌, ◌%◌, ◌^◌, �
 ghost use Rattle.std.specs.List.{All};
 ghost use Rattle.std.specs.List.Sorted.{IsStrictlyIncreasing};
 ghost use Rattle.std.specs.FinMap as finmap;
-ghost use Rattle.rv_pages.specs.Memory.{word_at, page_numbers, page_bytes, zeroed};
+ghost use Rattle.rv_pages.specs.Memory.{word_at, page_numbers, page_bytes, zeroed, IsMemory};
 
 use crate::places::word_of;
 use std::alloc::{AllocError, Global};
@@ -76,6 +76,13 @@ impl Pages {
         self.bytes.copy_from_slice(&other.bytes);
     }
 
+    /// Does nothing. Its contract is a law: mapped pages are memory as a machine has it.
+    pub fn are_memory(&self)
+        ensures { IsMemory self.now }
+    {
+        are_bytes(&self.bytes);
+    }
+
     /// How many pages are mapped.
     pub fn count(&self) -> u32
         ensures value { result ≡ length (page_numbers self.now) }
@@ -112,6 +119,12 @@ impl Pages {
         let start = index as usize * PAGE;
         self.bytes[start..start + PAGE].copy_from_slice(bytes);
     }
+}
+
+// Does nothing. Bytes are below 256.
+fn are_bytes(bytes: &[u8])
+    ensures { All (λ b. b < 256) bytes.now }
+{
 }
 
 #[cfg(test)]

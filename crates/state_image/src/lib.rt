@@ -3,6 +3,7 @@
 #![tactic(auto)]
 
 mod image;
+pub mod laws;
 mod text;
 
 pub use crate::text::state_line;

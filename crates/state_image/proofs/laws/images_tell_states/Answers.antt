@@ -1,0 +1,5 @@
+use Rattle.state_image.proofs.Telling.{image_tells}
+use Rattle.state_image.proofs.laws.images_tell_states.Goals as goal
+
+pub returns : goal.returns
+returns c = image_tells
