@@ -12,7 +12,7 @@ use Rattle.level_book.specs.Configuration.{Configuration}
 use Rattle.level_book.specs.Moves.{Goes, MayAdvance}
 use Rattle.rv_machine.specs.MachineState.{MachineState}
 use Rattle.rv_machine.specs.States.{state_number}
-use Rattle.rv_machine.proofs.Laws.{state_number-add}
+use Rattle.rv_machine.proofs.Runs.{state_number-add}
 use Rattle.reverse_runner.specs.StoredStates.{StoredStates, level_of}
 use Rattle.reverse_runner.specs.SessionState.{SessionState}
 use Rattle.reverse_runner.specs.Performed.{Does, with_copy}

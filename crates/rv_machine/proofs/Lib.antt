@@ -1,2 +1,4 @@
 pub mod RawMemory
-pub mod Laws
+pub mod Runs
+pub mod Staying
+pub mod Starting

@@ -98,10 +98,8 @@ impl State {
 // Do nothing: words of 32 bits are below 2 ^ 32, and a number of 64 bits is below 2 ^ 64.
 fn are_words(words: &[u32])
     ensures { All (λ x. x < 2 ^ 32) words.now }
-{
-}
+{}
 
 fn are_below(pc: u32, item: u32, offset: u32, written: u64)
     ensures { (pc < 2 ^ 32) × (item < 2 ^ 32) × (offset < 2 ^ 32) × (written < 2 ^ 64) }
-{
-}
+{}

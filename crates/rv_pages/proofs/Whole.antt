@@ -1,14 +1,13 @@
--- That kept pages are memory as a machine has it.
-use Rattle.std.proofs.Common.{◌≡◌, ℕ, suc, zero, ◌+◌, ◌*◌, ◌<◌, ◌≤◌, ◌^◌, T, List, [], ◌∷◌, ◌++◌, length, get_or, take, drop, refl, sym, ap, subst, ◌∙◌, arith}
+-- That kept pages are memory as a machine has it, and what such memory has.
+use Rattle.std.proofs.Common.{◌≡◌, ℕ, suc, zero, ◌+◌, ◌*◌, ◌<◌, ◌≤◌, ◌^◌, T, true, false, cond, Option, Some, None, IfSome, List, [], ◌∷◌, ◌++◌, length, get_or, take, drop, refl, sym, ap, subst, ◌∙◌, arith}
 use Rattle.std.proofs.lemmas.List.{get_or-take, get_or-drop, length-take, length-drop, drop-drop}
 use Rattle.std.proofs.lemmas.List.Elements.{All-from_get_or}
-use Rattle.std.proofs.lemmas.Nat.{row_fits}
 use Rattle.std.specs.Cmp.{nat_cmp_total}
 use Rattle.std.specs.List.{All, AllByRecursion, enumerate_from, flat_map}
 use Rattle.std.specs.List.Sorted.{IsStrictlyIncreasing}
-use Rattle.std.specs.Ordering.{nat_cmp}
-use Rattle.std.specs.FinMap.{find, is_sorted, from_sorted, from_entries, get-from_sorted, get-from_entries, same_map, nat_cmp-IsAntisymmetric}
-use Rattle.rv_pages.specs.Memory.{Memory, page_numbers, page_bytes, of_pages, IsPage, IsMemory}
+use Rattle.std.specs.Ordering.{nat_cmp, eq_by_cmp}
+use Rattle.std.specs.FinMap.{find, get, is_sorted, from_sorted, from_entries, get-from_sorted, get-from_entries, same_map, nat_cmp-IsAntisymmetric}
+use Rattle.rv_pages.specs.Memory.{Memory, wrapped, byte_at, four_bytes, word_at, page_numbers, page_bytes, of_pages, IsPage, IsMemory}
 use Rattle.rv_pages.specs.Kept.{entries_kept, memory_kept, AreKept}
 use Rattle.rv_pages.proofs.Ordered.{kept_order}
 use Rattle.rv_pages.proofs.Numbers.{kept_numbers}
@@ -80,3 +79,42 @@ entries_same f g (n ∷ ns) size h = joined (ap (enumerate_from (n * size)) h.0)
 pub same_pages : (f g : ℕ → List ℕ) (pages : List ℕ) → AllByRecursion (λ page. f page ≡ g page) pages → of_pages f pages ≡ of_pages g pages
 unfolding of_pages
 same_pages f g pages h = ap (λ es. from_entries {R = nat_cmp} es) (entries_same f g pages 4096 h)
+
+-- what memory has is a byte, and a word of it is below 2 ^ 32
+abbrev Small : List (ℕ × ℕ) → Type 0
+Small es = AllByRecursion (λ e. e.1 < 256) es
+
+found_small : (q : ℕ) (es : List (ℕ × ℕ)) → Small es → IfSome (find nat_cmp q es) (λ b. b < 256)
+found_small q [] h = tt
+found_small q (e ∷ es) h =
+    elim (eq_by_cmp nat_cmp q e.0) as (λ b. IfSome (cond b (Some e.1) (find nat_cmp q es)) (λ b. b < 256)) [
+      | true ↦ h.0
+      | false ↦ found_small q es h.1
+    ]
+
+small_page : (at : ℕ) (xs : List ℕ) (fs : List (ℕ × ℕ)) → All (λ b. b < 256) xs → Small fs → Small (enumerate_from at xs ++ fs)
+small_page at [] fs h g = g
+small_page at (x ∷ xs) fs h g = (h 0 0 (omega arith), small_page (at + 1) xs fs (λ k d l. h (suc k) d (omega arith)) g)
+
+small_pages : (f : ℕ → List ℕ) (size : ℕ) (pages : List ℕ) → ((i d : ℕ) → i < length pages → All (λ b. b < 256) (f (get_or pages i d))) → Small (entries_of size f pages)
+small_pages f size [] h = tt
+small_pages f size (n ∷ ns) h = small_page (n * size) (f n) _ (h 0 0 (omega arith)) (small_pages f size ns (λ i d l. h (suc i) d (omega arith)))
+
+made_small : (f : ℕ → List ℕ) (pages : List ℕ) → ((i d : ℕ) → i < length pages → All (λ b. b < 256) (f (get_or pages i d))) → (q : ℕ) → IfSome (get (of_pages f pages) q) (λ b. b < 256)
+unfolding of_pages
+made_small f pages h q =
+    subst (λ (o : Option ℕ). IfSome o (λ b. b < 256)) (sym (get-from_entries nat_cmp_total (entries_of 4096 f pages) q)) (found_small q (entries_of 4096 f pages) (small_pages f 4096 pages h))
+
+small_byte : (m : Memory) → IsMemory m → (at : ℕ) → IfSome (byte_at m at) (λ b. b < 256)
+small_byte m h at =
+    subst (λ (k : Memory). IfSome (get k (wrapped at)) (λ b. b < 256)) (sym h.made) (made_small (page_bytes m) (page_numbers m) (λ i d l. (h.pages i d l).bytes) (wrapped at))
+
+small_word : (a b c d : Option ℕ) → IfSome a (λ x. x < 256) → IfSome b (λ x. x < 256) → IfSome c (λ x. x < 256) → IfSome d (λ x. x < 256) → IfSome (four_bytes a b c d) (λ w. w < 2 ^ 32)
+small_word (Some a) (Some b) (Some c) (Some d) p q r s = omega (arith, p, q, r, s)
+small_word None b c d p q r s = tt
+small_word (Some a) None c d p q r s = tt
+small_word (Some a) (Some b) None d p q r s = tt
+small_word (Some a) (Some b) (Some c) None p q r s = tt
+
+pub word_below : (m : Memory) → IsMemory m → (at : ℕ) → IfSome (word_at m at) (λ w. w < 2 ^ 32)
+word_below m h at = small_word _ _ _ _ (small_byte m h at) (small_byte m h (at + 1)) (small_byte m h (at + 2)) (small_byte m h (at + 3))

@@ -1,7 +1,9 @@
 -- Kept pages after all bytes of one page are written.
-use Rattle.std.proofs.Common.{◌≡◌, ℕ, suc, zero, ◌+◌, ◌*◌, ◌/◌, ◌%◌, ◌<◌, ◌≤◌, ◌⊎◌, ◌==◌, inl, inr, cond, List, [], ◌∷◌, length, get_or, sym, ap, ◌∙◌, arith, rules, Some}
+use Rattle.std.proofs.Common.{◌≡◌, ℕ, suc, zero, ◌+◌, ◌-◌, ◌*◌, ◌/◌, ◌%◌, ◌<◌, ◌≤◌, ◌⊎◌, ◌==◌, inl, inr, cond, List, [], ◌∷◌, length, get_or, sym, ap, subst, ◌∙◌, arith, rules, Some}
 use Rattle.std.proofs.lemmas.List.{places}
-use Rattle.std.proofs.lemmas.Bool.{cases_order, cases_eq, eq-eqb, ne_eqb}
+use Rattle.std.proofs.lemmas.Bool.{cases_lt, cases_order, cases_eq, eq-eqb, ne_eqb}
+use Rattle.std.proofs.lemmas.List.Elements.{All-from_get_or}
+use Rattle.std.specs.List.{All}
 use Rattle.std.specs.FinMap.{get}
 use borrow.Rule.Slice.PartMut.{put_mid}
 use Rattle.rv_pages.specs.Kept.{memory_kept, AreKept}
@@ -48,6 +50,22 @@ byte_written bs page i k r h whole inside apart =
 
 pub length_written : (bs page : List ℕ) (a k : ℕ) → a + k ≤ length bs → length page ≡ k → length (put_mid a k bs page) ≡ length bs
 length_written bs page a k h e = search (rules, places)
+
+-- bytes over bytes are bytes
+pub small_written : (bs page : List ℕ) (i : ℕ) → i * 4096 + 4096 ≤ length bs → length page ≡ 4096 → All (λ b. b < 256) bs → All (λ b. b < 256) page → All (λ b. b < 256) (put_mid (i * 4096) 4096 bs page)
+small_written bs page i h whole old new =
+    let all = put_mid (i * 4096) 4096 bs page in
+    let long : length all ≡ length bs = length_written bs page (i * 4096) 4096 h whole in
+    All-from_get_or (λ b. b < 256) all 0 (λ j l. elim (cases_lt j (i * 4096)) [
+      | inl below ↦ subst (λ (b : ℕ). b < 256) (sym (mid_below bs page (i * 4096) 4096 j (omega arith) below)) (old j 0 (omega (arith, long)))
+      | inr not_below ↦ elim (cases_lt j (i * 4096 + 4096)) [
+        | inl inside ↦
+            let place : i * 4096 + (j - i * 4096) ≡ j = omega arith in
+            let is : get_or all j 0 ≡ get_or page (j - i * 4096) 0 = ap (λ k. get_or all k 0) (sym place) ∙ mid_inside bs page (i * 4096) 4096 (j - i * 4096) (omega arith) (omega arith) in
+            subst (λ (b : ℕ). b < 256) (sym is) (new (j - i * 4096) 0 (omega arith))
+        | inr above ↦ subst (λ (b : ℕ). b < 256) (sym (mid_above bs page (i * 4096) 4096 j h whole above)) (old j 0 (omega (arith, long)))
+      ]
+    ])
 
 pub kept_written : (numbers bs page : List ℕ) → AreKept numbers bs → (i : ℕ) → i < length numbers → length page ≡ 4096 → AreKept numbers (put_mid (i * 4096) 4096 bs page)
 kept_written numbers bs page h i l whole =

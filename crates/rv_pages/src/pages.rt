@@ -124,8 +124,7 @@ impl Pages {
 // Does nothing. Bytes are below 256.
 fn are_bytes(bytes: &[u8])
     ensures { All (λ b. b < 256) bytes.now }
-{
-}
+{}
 
 #[cfg(test)]
 mod tests {
