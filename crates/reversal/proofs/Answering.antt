@@ -1,7 +1,8 @@
 -- From what the parts of the top call answer to what it promises.
-use Rattle.std.proofs.Common.{[], ◌≡◌, ◌≢◌, ℕ, List, sym, ap, subst, inl, inr, ◌⊎◌, arith, Option, Some, None}
+use Rattle.std.proofs.Common.{[], ◌≡◌, ◌≢◌, ◌≤◌, ◌+◌, ℕ, List, sym, ap, subst, inl, inr, ◌⊎◌, arith, Option, Some, None}
 use Rattle.plan_types.specs.declared.action.Action.{Action}
 use Rattle.keepers.specs.Told.{Files, WhereTold, Tells, AddsPrefix}
+use Rattle.level_book.specs.CostFold.{forward}
 use Rattle.rv_machine.specs.States.{raw_start}
 use Rattle.reversal.specs.declared.ended.Ended.{Ended}
 use Rattle.reversal.specs.declared.reading.Refusal.{Refusal}
@@ -10,9 +11,9 @@ use Rattle.reversal.specs.Command.{RunCommand, Says}
 use Rattle.reversal.specs.BookForm.{IsPlainBook}
 use Rattle.reversal.specs.ProgramForm.{IsProgram}
 use Rattle.reversal.specs.ScheduleForm.{IsSchedule}
-use Rattle.reversal.specs.Forms.{bytes_of, StepsMet, ProgramFits, BookFits, ScheduleFits, IsFirstUnmet}
+use Rattle.reversal.specs.Forms.{bytes_of, StepsMet, ProgramFits, BookFits, ScheduleFits, BookMet, ScheduleMet, Unless, IsFirstUnmet, FormsMet}
 use Rattle.reversal.specs.Taking.{IsFirstUnformed, OnNotBuilt}
-use Rattle.reversal.specs.Answers.{FirstUnmetIn, FormsMetIn, RunsOn, AnswersList, Writes, WritesIn, EndsSo}
+use Rattle.reversal.specs.Answers.{FirstUnmetIn, FormsMetIn, RunsOn, AnswersList, Writes, WritesIn, CountsIn, EndsSo}
 use Rattle.reversal.specs.Output.{lines_down, Adds}
 use Rattle.reversal.specs.Given.{Given, Accepted, first_state, program_of, book_of, schedule_of}
 use Rattle.reversal.proofs.Writing.{tells_so, tells_nothing}
@@ -106,6 +107,35 @@ answers {words} {told} a r slots list e says h answer =
 -- the forms alone
 pub forms_only : (told : Option Files) (r : RunCommand) (slots : ℕ) (list : List Action) (W : Files → Type 0) → WhereTold told (λ files. FormsMetIn files r slots list × W files) → WhereTold told (λ files. FormsMetIn files r slots list)
 forms_only told r slots list W h = where_told told (λ files. FormsMetIn files r slots list × W files) (λ files. FormsMetIn files r slots list) (λ files x. x.0) h
+
+-- what was counted for the list that was read was counted for the list among the files
+pub counts_in : (r : RunCommand) (program book schedule : List ℕ) (list : List Action) (before after : ℕ) → IsSchedule schedule list → (before ≤ after) × (after ≤ before + forward list) →
+    (files : Files) → ReadIn files r program book schedule → CountsIn files r before after
+counts_in r program book schedule list before after is_schedule counted files read slots other forms =
+    let P : List ℕ → Type 0 = λ b. IsSchedule b other in
+    let Q : List Action → Type 0 = λ l. (before ≤ after) × (after ≤ before + forward l) in
+    subst Q (one_list schedule list other is_schedule (subst P read.2 forms.schedule_form)) counted
+
+pub counts_given : {words : List (List ℕ)} {told : Option Files} (a : Accepted words told) (r : RunCommand) (before after : ℕ) → Says words r →
+    WhereTold told (λ files. CountsIn files r before after) → (before ≤ after) × (after ≤ before + forward a.list)
+counts_given {words} {told} a r before after says h =
+    let P : RunCommand → Type 0 = λ c. CountsIn a.given.files c before after in
+    let here = told_so told (λ files. CountsIn files r before after) a.given.files a.given.tell h in
+    subst P (one_command words r a.given.command says a.given.says) here a.slots a.list a.forms
+
+-- where every form is met, none is the first that isn't
+met_so : (Form later : Type 0) (p place : ℕ) → Form → Unless Form p place later → later
+met_so Form later p place f h = elim h [ inl n ↦ absurd (n.0 f) | inr y ↦ y.1 ]
+
+pub all_met : (r : RunCommand) (program book schedule : List ℕ) (slots : ℕ) (list : List Action) (place : ℕ) → FormsMet r program book schedule slots list → IsFirstUnmet r program book schedule place → ⊥
+all_met r program book schedule slots list place m h =
+    met_so (ScheduleMet schedule) ⊥ 3 place (list, m.schedule_form)
+    (met_so (IsProgram program) _ 1 place m.program_form
+    (met_so (BookMet book) _ 2 place (slots, m.book_form)
+    (met_so (ScheduleFits schedule) _ 3 place m.schedule_fits
+    (met_so (BookFits book) _ 2 place m.book_fits
+    (met_so (ProgramFits program) _ 1 place m.program_fits
+    (met_so (StepsMet r) _ 0 place m.steps h))))))
 
 -- what was written for the list that was read was written for the list that is accepted
 pub written : {words : List (List ℕ)} {told : Option Files} (a : Accepted words told) (r : RunCommand) (slots : ℕ) (list : List Action) (e : Ended) (old new : Option (List ℕ)) (before after : ℕ) → Says words r →

@@ -1,5 +1,5 @@
 -- What an ending says of the inputs and the list that it is of.
-use Rattle.std.specs.Prelude.{◌≡◌, ◌⊎◌, ℕ, ◌+◌, List, [], Option}
+use Rattle.std.specs.Prelude.{◌≡◌, ◌⊎◌, ℕ, ◌+◌, ◌-◌, ◌≤◌, List, [], take, Option}
 use Rattle.plan_types.specs.declared.action.Action.{Action}
 use Rattle.level_book.specs.BookCosts.{slots_of, plain}
 use Rattle.level_book.specs.Valid.{Valid, BrokenAt}
@@ -30,15 +30,19 @@ pub record AnswersList (e : Ended) (r : RunCommand) (slots : ℕ) (list : List A
   pub broken : e.status ≡ 8 → BrokenAt r.steps (slots_of (plain slots)) list e.place e.rule e.more × (Valid r.steps (slots_of (plain slots)) list → ⊥)
   pub valid : (e.status ≡ 0) ⊎ (e.status ≡ 14) → Valid r.steps (slots_of (plain slots)) list
 
--- what a performed list added to the sink and to the count of steps: all its lines at status 0, and those up to a write
--- that failed at status 14
+-- what a performed list added to the sink and to the count of steps: all its lines and steps at status 0, and those of
+-- the actions up to a write that failed at status 14
 pub record Writes (e : Ended) (first : MachineState) (steps : ℕ) (list : List Action) (old new : Option (List ℕ)) (before after : ℕ) : Type 0 where
   pub done : e.status ≡ 0 → Tells old new (Adds (lines_down first [] steps)) × (after ≡ before + forward list)
-  pub sink : e.status ≡ 14 → Tells old new (AddsUntil first [] steps list e.place)
+  pub sink : e.status ≡ 14 → Tells old new (AddsUntil first [] steps list e.place) × (after ≡ before + forward (take (e.place - 1) list))
 
 -- the same for the start of the program among the files
 abbrev pub WritesIn : Files → Ended → RunCommand → List Action → Option (List ℕ) → Option (List ℕ) → ℕ → ℕ → Type 0
 WritesIn files e r list = Writes e (raw_start (bytes_of files r.program)) r.steps list
+
+-- the count of steps doesn't fall, and rises by the steps of the list among the files at most
+abbrev pub CountsIn : Files → RunCommand → ℕ → ℕ → Type 0
+CountsIn files r before after = (slots : ℕ) (list : List Action) → FormsMetIn files r slots list → (before ≤ after) × (after ≤ before + forward list)
 
 -- the ending of a call whose inputs can't be taken
 abbrev pub EndsSo : Refusal → Ended → Type 0

@@ -1,5 +1,5 @@
 // A list, judged and performed.
-ghost use Rattle.std.specs.Prelude.{◌≡◌, ◌≢◌, ◌⊎◌, ◌↔◌, ℕ, ◌+◌, ◌<◌, ◌≤◌, ◌%◌, List, [], length};
+ghost use Rattle.std.specs.Prelude.{◌≡◌, ◌≢◌, ◌⊎◌, ◌↔◌, ℕ, ◌+◌, ◌-◌, ◌<◌, ◌≤◌, ◌%◌, List, [], length, take};
 ghost use Rattle.keepers.specs.Counts.{Rose};
 ghost use Rattle.keepers.specs.Told.{Tells, AddsPrefix};
 ghost use Rattle.level_book.specs.CostFold.{forward};
@@ -42,8 +42,9 @@ pub(crate) fn run_list<K: Keeper, O: Sink, L: Ledger>(
     ensures valid { (result.status ≡ 0) ⊎ (result.status ≡ 14) → Valid steps (slots_of (plain slots)) list.now }
     ensures plain { (result.status ≢ 8 → (result.more ≡ 0) × (result.rule ≡ 0)) × ((result.status ≡ 17) ⊎ (result.status ≡ 0) → result.place ≡ 0) }
     ensures done { result.status ≡ 0 → Tells (O.told out.old) (O.told out.new) (Adds (lines_down (raw_start program.now) [] steps)) × (counter.new ≡ counter.old + forward list.now) }
-    ensures sink { result.status ≡ 14 → Tells (O.told out.old) (O.told out.new) (AddsUntil (raw_start program.now) [] steps list.now result.place) }
+    ensures sink { result.status ≡ 14 → Tells (O.told out.old) (O.told out.new) (AddsUntil (raw_start program.now) [] steps list.now result.place) × (counter.new ≡ counter.old + forward (take (result.place - 1) list.now)) }
     ensures memory { result.status ≡ 17 → Tells (O.told out.old) (O.told out.new) (AddsPrefix (lines_down (raw_start program.now) [] steps)) }
+    ensures counted { (counter.old ≤ counter.new) × (counter.new ≤ counter.old + forward list.now) }
     ensures cause { result.status ≡ 14 → Rose (O.fault_count out.old) (O.fault_count out.new) }
     ensures kept { keepers.new ≡ keepers.old }
 {
@@ -79,8 +80,9 @@ fn run_valid<K: Keeper, O: Sink, L: Ledger>(
     ensures statuses { (result.status ≡ 0) ⊎ (result.status ≡ 14) ⊎ (result.status ≡ 17) }
     ensures plain { (result.status ≢ 8 → (result.more ≡ 0) × (result.rule ≡ 0)) × ((result.status ≡ 17) ⊎ (result.status ≡ 0) → result.place ≡ 0) }
     ensures done { result.status ≡ 0 → Tells (O.told out.old) (O.told out.new) (Adds (lines_down start [] steps)) × (counter.new ≡ counter.old + forward list.now) }
-    ensures sink { result.status ≡ 14 → Tells (O.told out.old) (O.told out.new) (AddsUntil start [] steps list.now result.place) }
+    ensures sink { result.status ≡ 14 → Tells (O.told out.old) (O.told out.new) (AddsUntil start [] steps list.now result.place) × (counter.new ≡ counter.old + forward (take (result.place - 1) list.now)) }
     ensures memory { result.status ≡ 17 → Tells (O.told out.old) (O.told out.new) (AddsPrefix (lines_down start [] steps)) }
+    ensures counted { (counter.old ≤ counter.new) × (counter.new ≤ counter.old + forward list.now) }
     ensures cause { result.status ≡ 14 → Rose (O.fault_count out.old) (O.fault_count out.new) }
     ensures kept { keepers.new ≡ keepers.old }
 {
@@ -103,8 +105,9 @@ fn perform_all<K: Keeper, O: Sink, L: Ledger>(
     ensures statuses { (result.status ≡ 0) ⊎ (result.status ≡ 14) ⊎ (result.status ≡ 17) }
     ensures plain { (result.status ≢ 8 → (result.more ≡ 0) × (result.rule ≡ 0)) × ((result.status ≡ 17) ⊎ (result.status ≡ 0) → result.place ≡ 0) }
     ensures done { result.status ≡ 0 → Tells (O.told out.old) (O.told out.new) (Adds (lines_down session.old.work session.old.journal session.old.situation.steps)) × (counter.new ≡ counter.old + forward list.now) }
-    ensures sink { result.status ≡ 14 → Tells (O.told out.old) (O.told out.new) (AddsUntil session.old.work session.old.journal session.old.situation.steps list.now result.place) }
+    ensures sink { result.status ≡ 14 → Tells (O.told out.old) (O.told out.new) (AddsUntil session.old.work session.old.journal session.old.situation.steps list.now result.place) × (counter.new ≡ counter.old + forward (take (result.place - 1) list.now)) }
     ensures memory { result.status ≡ 17 → Tells (O.told out.old) (O.told out.new) (AddsPrefix (lines_down session.old.work session.old.journal session.old.situation.steps)) }
+    ensures counted { (counter.old ≤ counter.new) × (counter.new ≤ counter.old + forward list.now) }
     ensures cause { result.status ≡ 14 → Rose (O.fault_count out.old) (O.fault_count out.new) }
     ensures kept { keepers.new ≡ keepers.old }
 {

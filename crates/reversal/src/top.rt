@@ -1,5 +1,5 @@
 // The top call.
-ghost use Rattle.std.specs.Prelude.{◌≡◌, ◌≢◌, ◌⊎◌, ◌↔◌, ℕ, ◌+◌, ◌<◌, ◌≤◌, List, [], ◌++◌, take};
+ghost use Rattle.std.specs.Prelude.{◌≡◌, ◌≢◌, ◌⊎◌, ◌↔◌, ℕ, ◌+◌, ◌-◌, ◌<◌, ◌≤◌, List, [], ◌++◌, take};
 ghost use Rattle.plan_types.specs.declared.action.Action.{Action as AnAction};
 ghost use Rattle.keepers.specs.Told.{WhereTold, Tells, AddsPrefix};
 ghost use Rattle.keepers.specs.Counts.{Rose};
@@ -11,7 +11,7 @@ ghost use Rattle.reversal.specs.Forms.{bytes_of, IsFirstUnmet};
 ghost use Rattle.reversal.specs.Output.{lines_down, Adds, AddsUntil};
 ghost use Rattle.reversal.specs.Given.{Given, Accepted, first_state, words_of, program_of, book_of, schedule_of, slots_given};
 ghost use Rattle.reversal.specs.Taking.{command_of, names_of};
-ghost use Rattle.reversal.specs.Answers.{FirstUnmetIn, FormsMetIn, RunsOn, AnswersList, WritesIn, EndsSo};
+ghost use Rattle.reversal.specs.Answers.{FirstUnmetIn, FormsMetIn, RunsOn, AnswersList, WritesIn, CountsIn, EndsSo};
 
 use crate::ended::Ended;
 use crate::reading::{Refusal, plan_of, read_inputs};
@@ -50,6 +50,7 @@ pub fn reversal<I: Inputs, K: Keeper, O: Sink, L: Ledger>(
     ensures input_number { result.status ≡ 3 → (0 < result.place) × (result.place ≤ 3) }
     ensures input_place { result.status ≡ 3 → (r : RunCommand) → Says (words_of words.now) r → I.asked inputs.new ≡ I.asked inputs.old ++ take result.place (names_of r) }
     ensures asked { (r : RunCommand) → Says (words_of words.now) r → (k : ℕ) × (I.asked inputs.new ≡ I.asked inputs.old ++ take k (names_of r)) }
+    ensures all_asked { RunsOn result.status → (r : RunCommand) → Says (words_of words.now) r → I.asked inputs.new ≡ I.asked inputs.old ++ names_of r }
 
     // Status 8 comes exactly where the forms are met and the list isn't valid, with the place of its first broken action
     // and the lowest rule that it breaks.
@@ -59,14 +60,21 @@ pub fn reversal<I: Inputs, K: Keeper, O: Sink, L: Ledger>(
     // At status 0 the lines of the states from the last to the first were added, and the machine took the list's steps.
     ensures done { (a : Accepted (words_of words.now) (I.told inputs.old)) → result.status ≡ 0 → Tells (O.told out.old) (O.told out.new) (Adds (lines_down (first_state a.given) [] a.given.command.steps)) × (steps.new ≡ steps.old + forward a.list) }
 
-    // At status 14 the lines of the actions before the place were added, and a part of the line of that action.
-    ensures sink { (a : Accepted (words_of words.now) (I.told inputs.old)) → result.status ≡ 14 → Tells (O.told out.old) (O.told out.new) (AddsUntil (first_state a.given) [] a.given.command.steps a.list result.place) }
+    // At status 14 the lines of the actions before the place were added, and a part of the line of that action. The steps
+    // are those of the actions before.
+    ensures sink { (a : Accepted (words_of words.now) (I.told inputs.old)) → result.status ≡ 14 → Tells (O.told out.old) (O.told out.new) (AddsUntil (first_state a.given) [] a.given.command.steps a.list result.place) × (steps.new ≡ steps.old + forward (take (result.place - 1) a.list)) }
 
     // At status 17 a part of the lines was added.
     ensures memory { (g : Given (words_of words.now) (I.told inputs.old)) → result.status ≡ 17 → Tells (O.told out.old) (O.told out.new) (AddsPrefix (lines_down (first_state g) [] g.command.steps)) }
 
+    // Never does the machine take more steps than those of the list.
+    ensures counted { (a : Accepted (words_of words.now) (I.told inputs.old)) → (steps.old ≤ steps.new) × (steps.new ≤ steps.old + forward a.list) }
+
     // Status 14 comes only where the sink's count of faults rose.
     ensures sink_cause { result.status ≡ 14 → Rose (O.fault_count out.old) (O.fault_count out.new) }
+
+    // Where the forms are met and the list is valid, and no count of faults rises, the run is done, or memory isn't found.
+    ensures completes { (a : Accepted (words_of words.now) (I.told inputs.old)) → Valid a.given.command.steps (slots_given a) a.list → (Rose (I.fault_count inputs.old) (I.fault_count inputs.new) → ⊥) → (Rose (O.fault_count out.old) (O.fault_count out.new) → ⊥) → (result.status ≡ 0) ⊎ (result.status ≡ 17) }
 
     // Numbers that a status has no use for are 0.
     ensures plain { (result.status ≢ 8 → (result.more ≡ 0) × (result.rule ≡ 0)) × ((result.status ≡ 0) ⊎ (result.status ≡ 2) ⊎ (result.status ≡ 17) → result.place ≡ 0) }
@@ -99,12 +107,14 @@ fn run_command<I: Inputs, K: Keeper, O: Sink, L: Ledger>(
     ensures ran { RunsOn result.status → (slots : ℕ) × (list : List AnAction) × WhereTold (I.told inputs.old) (λ files. FormsMetIn files (command_of command.now) slots list
         × WritesIn files result (command_of command.now) list (O.told out.old) (O.told out.new) steps.old steps.new)
         × AnswersList result (command_of command.now) slots list }
+    ensures counted { WhereTold (I.told inputs.old) (λ files. CountsIn files (command_of command.now) steps.old steps.new) }
     ensures memory { result.status ≡ 17 → WhereTold (I.told inputs.old) (λ files. Tells (O.told out.old) (O.told out.new) (AddsPrefix (lines_down (raw_start (bytes_of files command.now.program.now)) [] command.now.steps))) }
     ensures plain { (result.status ≢ 8 → (result.more ≡ 0) × (result.rule ≡ 0)) × ((result.status ≡ 17) ⊎ (result.status ≡ 0) → result.place ≡ 0) }
     ensures input_cause { result.status ≡ 3 → Rose (I.fault_count inputs.old) (I.fault_count inputs.new) }
     ensures input_number { result.status ≡ 3 → (0 < result.place) × (result.place ≤ 3) }
     ensures input_place { result.status ≡ 3 → I.asked inputs.new ≡ I.asked inputs.old ++ take result.place (names_of (command_of command.now)) }
     ensures asked { (k : ℕ) × (I.asked inputs.new ≡ I.asked inputs.old ++ take k (names_of (command_of command.now))) }
+    ensures all_asked { RunsOn result.status → I.asked inputs.new ≡ I.asked inputs.old ++ names_of (command_of command.now) }
     ensures sink_cause { result.status ≡ 14 → Rose (O.fault_count out.old) (O.fault_count out.new) }
     ensures untouched { (result.status ≡ 2) ⊎ (result.status ≡ 3) ⊎ (result.status ≡ 8) ⊎ (result.status ≡ 18) → (out.new ≡ out.old) × (steps.new ≡ steps.old) }
     ensures keepers { keepers.new ≡ keepers.old }

@@ -1,12 +1,13 @@
-use Rattle.std.proofs.Common.{◌∙◌, ◌+◌, ℕ, List, Err, arith, sym, ap, refl, subst}
+use Rattle.std.proofs.Common.{◌≡◌, ◌∙◌, ◌+◌, ◌-◌, ℕ, List, take, Err, arith, sym, ap, refl, subst}
 use Rattle.std.proofs.lemmas.Option.{slice_get-get_or}
 use Rattle.plan_types.specs.declared.action.Keep.TheVariants.{Nothing}
 use Rattle.plan_types.specs.declared.action.Action.TheVariants.{Forward}
 use Rattle.keepers.specs.Told.{Tells, AddsPrefix}
-use Rattle.level_book.specs.CostFold.{forward}
+use Rattle.level_book.specs.CostFold.{steps_of, forward}
 use Rattle.reverse_runner.specs.Handed.{handed, countdown}
 use Rattle.reverse_runner.proofs.Handing.{valid_hands}
 use Rattle.std.proofs.lemmas.List.{take_all}
+use Rattle.std.proofs.lemmas.List.Sums.{sum_by-take-le}
 use Rattle.reverse_runner.specs.SessionState.{SessionState}
 use Rattle.reverse_runner.specs.Standing.{StandsAt}
 use Rattle.reverse_runner.proofs.StandingAfter.{stands_at_start}
@@ -81,9 +82,30 @@ returns-in-Err-Visitor-clause-sink g c status =
     let same = same_sink_missed g.O.Sink.told before.journal (action_at list i) before.situation.at.work before.work before.stored c.loop-i.writer c.perform.new.visitor misses in
     let last = c.in-Err-Visitor.out-in-Err-1-own.given.1 (sym (same ∙ so_far.reference ∙ c.new-writer.ensures.same_reference)) in
     let P : g.row.O.Denot → Type 0 = λ o. Tells (g.O.Sink.told c.args.out.now) (g.O.Sink.told o) (AddsUntil session.work session.journal session.situation.steps list c.at.result.place) in
-    subst P (sym last)
-    (writes_part session.work session.journal session.situation.steps list i c.at.result.place (action_at list i) _ _ _ at (ap (λ x. x.place) c.at.ensures) so_far.written
-    (missed_on g.O.Sink.told session.work session.journal session.situation.steps session.situation.slots list i before (action_at list i) c.loop-i.writer c.perform.new.visitor on rule_is misses))
+    let place : c.at.result.place ≡ i + 1 = ap (λ x. x.place) c.at.ensures in
+    let before_it : i ≡ c.at.result.place - 1 = omega (arith, place) in (
+      subst P (sym last)
+      (writes_part session.work session.journal session.situation.steps list i c.at.result.place (action_at list i) _ _ _ at place so_far.written
+      (missed_on g.O.Sink.told session.work session.journal session.situation.steps session.situation.slots list i before (action_at list i) c.loop-i.writer c.perform.new.visitor on rule_is misses)),
+      c.in-Err-Visitor.ensures.refused.2 ∙ so_far.counted ∙ ap (λ k. c.args.counter.now + forward (take k list)) before_it,
+    )
+
+pub returns-in-Err-Visitor-clause-counted : goal.returns-in-Err-Visitor-clause-counted
+returns-in-Err-Visitor-clause-counted g c =
+    let same = c.in-Err-Visitor.ensures.refused.2 in
+    let most = sum_by-take-le steps_of c.args.list.now c.loop-i.i in
+    (omega (arith, same, c.loop-i.invariant.counted), omega (arith, same, c.loop-i.invariant.counted, most))
+
+pub returns-in-Err-Memory-clause-counted : goal.returns-in-Err-Memory-clause-counted
+returns-in-Err-Memory-clause-counted g c =
+    let same = c.in-Err-Memory.ensures.refused.2 in
+    let most = sum_by-take-le steps_of c.args.list.now c.loop-i.i in
+    (omega (arith, same, c.loop-i.invariant.counted), omega (arith, same, c.loop-i.invariant.counted, most))
+
+pub returns-clause-counted : goal.returns-clause-counted
+returns-clause-counted g c =
+    let most = sum_by-take-le steps_of c.args.list.now c.loop-i.i in
+    (omega (arith, c.loop-i.invariant.counted), omega (arith, c.loop-i.invariant.counted, most))
 
 pub returns-in-Err-Memory-clause-memory : goal.returns-in-Err-Memory-clause-memory
 returns-in-Err-Memory-clause-memory g c status =

@@ -1,10 +1,10 @@
-use Rattle.std.proofs.Common.{◌≡◌, ◌⊎◌, inl, inr, ℕ, List, ap, subst, map, arith}
+use Rattle.std.proofs.Common.{◌≡◌, ◌⊎◌, ◌≤◌, ◌++◌, inl, inr, ℕ, List, ap, subst, map, arith}
 use Rattle.reversal.specs.Command.{RunCommand, Says}
-use Rattle.reversal.specs.Given.{words_of}
-use Rattle.reversal.specs.Taking.{command_of}
+use Rattle.reversal.specs.Given.{words_of, program_of, book_of, schedule_of}
+use Rattle.reversal.specs.Taking.{command_of, names_of}
 use Rattle.reversal.specs.Answers.{RunsOn}
 use Rattle.reversal.proofs.OneReading.{one_command}
-use Rattle.reversal.proofs.Answering.{runs_on, given_unmet, accepted, answers, forms_only, written, part_written}
+use Rattle.reversal.proofs.Answering.{runs_on, given_unmet, accepted, answers, forms_only, written, part_written, counts_given, all_met}
 use Rattle.reversal.proofs.top.reversal.Given.{Over}
 use Rattle.reversal.proofs.top.reversal.Goals as goal
 
@@ -38,6 +38,12 @@ pub returns-then-command-clause-not_built : goal.returns-then-command-clause-not
 returns-then-command-clause-not_built g c given status =
     let steps = steps_of (command_of c.in-Some.command) given.command (said_at_once g c) given.says in
     inl (λ met. absurd (omega (arith, met, steps, c.if-command.true)), ap (λ x. x.place) c.at-then-command.ensures)
+
+pub returns-then-command-clause-completes : goal.returns-then-command-clause-completes
+returns-then-command-clause-completes g c a valid no_input no_sink =
+    let steps = steps_of (command_of c.in-Some.command) a.given.command (said_at_once g c) a.given.says in
+    let met : a.given.command.steps ≤ 1000000 = a.forms.steps in
+    absurd (omega (arith, met, steps, c.if-command.true))
 
 pub returns-clause-words : goal.returns-clause-words
 returns-clause-words g c =
@@ -80,3 +86,33 @@ returns-clause-sink g c a status =
 
 pub returns-clause-memory : goal.returns-clause-memory
 returns-clause-memory g c given status = part_written given (command_of c.in-Some.command) _ _ (said g c) (c.run_command.ensures.memory status)
+
+pub returns-clause-counted : goal.returns-clause-counted
+returns-clause-counted g c a = counts_given a (command_of c.in-Some.command) _ _ (said g c) c.run_command.ensures.counted
+
+pub returns-clause-all_asked : goal.returns-clause-all_asked
+returns-clause-all_asked g c runs r says =
+    let P : RunCommand → Type 0 = λ x. g.I.Inputs.asked c.run_command.new.inputs ≡ g.I.Inputs.asked c.args.inputs.now ++ names_of x in
+    subst P (one_command _ (command_of c.in-Some.command) r (said g c) says) (c.run_command.ensures.all_asked runs)
+
+pub returns-clause-completes : goal.returns-clause-completes
+returns-clause-completes g c a valid no_input no_sink =
+    let r = command_of c.in-Some.command in
+    let result = c.run_command.result in
+    let broken : (result.status ≡ 8) → ⊥ = λ (e : result.status ≡ 8).
+        let ran = c.run_command.ensures.ran (inr (inl e)) in
+        ((answers a r ran.0 ran.1 result (said g c) (forms_only _ _ ran.0 ran.1 _ ran.2) ran.3).broken e).1 valid
+    in
+    let unmet : (result.status ≡ 18) → ⊥ = λ (e : result.status ≡ 18).
+        all_met a.given.command (program_of a.given) (book_of a.given) (schedule_of a.given) a.slots a.list result.place a.forms (given_unmet a.given r result.place (said g c) (c.run_command.ensures.not_built e))
+    in
+    elim c.run_command.ensures.statuses [
+      | inl runs ↦ elim runs [
+        | inl e ↦ inl e
+        | inr other ↦ elim other [ inl e ↦ absurd (broken e) | inr e ↦ absurd (no_sink (c.run_command.ensures.sink_cause e)) ]
+      ]
+      | inr other ↦ elim other [
+        | inl e ↦ absurd (no_input (c.run_command.ensures.input_cause e))
+        | inr more ↦ elim more [ inl e ↦ inr e | inr e ↦ absurd (unmet e) ]
+      ]
+    ]

@@ -3,8 +3,8 @@ use Rattle.plan_types.specs.declared.action.Action.{Action}
 use Rattle.reversal.specs.ScheduleForm.{IsSchedule}
 use Rattle.reversal.specs.Taking.{command_of, IsFirstUnformed}
 use Rattle.rv_machine.specs.States.{raw_start}
-use Rattle.reversal.specs.Answers.{FirstUnmetIn, FormsMetIn, Writes, WritesIn}
-use Rattle.reversal.proofs.Answering.{where_told, forms_met, unmet_late, ends_unformed, ReadIn}
+use Rattle.reversal.specs.Answers.{FirstUnmetIn, FormsMetIn, Writes, WritesIn, CountsIn}
+use Rattle.reversal.proofs.Answering.{where_told, forms_met, unmet_late, ends_unformed, counts_in, ReadIn}
 use Rattle.reversal.proofs.top.run_command.Goals as goal
 
 pub returns-in-Ok-plan_of-clause-ran : goal.returns-in-Ok-plan_of-clause-ran
@@ -42,3 +42,13 @@ returns-clause-not_built g c status =
 
 pub returns-clause-asked : goal.returns-clause-asked
 returns-clause-asked g c = (3, c.in-Ok.ensures.asked)
+
+pub returns-in-Ok-plan_of-clause-counted : goal.returns-in-Ok-plan_of-clause-counted
+returns-in-Ok-plan_of-clause-counted g c =
+    let bytes = c.in-Ok.bytes in
+    let list = c.deref-in-Ok-plan_of.result.now in
+    let r = command_of c.args.command.now in
+    let P : List Action → Type 0 = λ l. IsSchedule bytes.schedule.items l in
+    where_told _ (λ files. ReadIn files r bytes.program.items bytes.book.items bytes.schedule.items) (λ files. CountsIn files r c.args.steps.now c.run_list.new.counter)
+    (counts_in r bytes.program.items bytes.book.items bytes.schedule.items list c.args.steps.now c.run_list.new.counter (subst P (sym c.deref-in-Ok-plan_of.ensures.value) c.in-Ok-plan_of.ensures.forms.2) c.run_list.ensures.counted)
+    c.in-Ok.ensures.bytes
