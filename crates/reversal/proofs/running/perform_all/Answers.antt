@@ -85,8 +85,8 @@ returns-in-Err-Visitor-clause-sink g c status =
     let place : c.at.result.place ≡ i + 1 = ap (λ x. x.place) c.at.ensures in
     let before_it : i ≡ c.at.result.place - 1 = omega (arith, place) in (
       subst P (sym last)
-      (writes_part session.work session.journal session.situation.steps list i c.at.result.place (action_at list i) _ _ _ at place so_far.written
-      (missed_on g.O.Sink.told session.work session.journal session.situation.steps session.situation.slots list i before (action_at list i) c.loop-i.writer c.perform.new.visitor on rule_is misses)),
+          (writes_part session.work session.journal session.situation.steps list i c.at.result.place (action_at list i) _ _ _ at place so_far.written
+          (missed_on g.O.Sink.told session.work session.journal session.situation.steps session.situation.slots list i before (action_at list i) c.loop-i.writer c.perform.new.visitor on rule_is misses)),
       c.in-Err-Visitor.ensures.refused.2 ∙ so_far.counted ∙ ap (λ k. c.args.counter.now + forward (take k list)) before_it,
     )
 

@@ -100,11 +100,11 @@ returns-clause-completes g c a valid no_input no_sink =
     let r = command_of c.in-Some.command in
     let result = c.run_command.result in
     let broken : (result.status ≡ 8) → ⊥ = λ (e : result.status ≡ 8).
-        let ran = c.run_command.ensures.ran (inr (inl e)) in
-        ((answers a r ran.0 ran.1 result (said g c) (forms_only _ _ ran.0 ran.1 _ ran.2) ran.3).broken e).1 valid
+    let ran = c.run_command.ensures.ran (inr (inl e)) in
+    ((answers a r ran.0 ran.1 result (said g c) (forms_only _ _ ran.0 ran.1 _ ran.2) ran.3).broken e).1 valid
     in
     let unmet : (result.status ≡ 18) → ⊥ = λ (e : result.status ≡ 18).
-        all_met a.given.command (program_of a.given) (book_of a.given) (schedule_of a.given) a.slots a.list result.place a.forms (given_unmet a.given r result.place (said g c) (c.run_command.ensures.not_built e))
+    all_met a.given.command (program_of a.given) (book_of a.given) (schedule_of a.given) a.slots a.list result.place a.forms (given_unmet a.given r result.place (said g c) (c.run_command.ensures.not_built e))
     in
     elim c.run_command.ensures.statuses [
       | inl runs ↦ elim runs [
