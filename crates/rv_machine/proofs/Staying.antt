@@ -13,6 +13,7 @@ use Rattle.rv_machine.specs.Words.{rd, rs1, rs2, imm_i, imm_u, is_u, is_i, is_r}
 use Rattle.rv_machine.specs.StepTable.{value_of, with_register, trapped, put, executed, is_running, next}
 use Rattle.rv_machine.specs.States.{state_number}
 
+-- the register with a number is a word; past the end there is a 0
 word : (xs : List ℕ) (k : ℕ) → All (λ x. x < 2 ^ 32) xs → slice_index xs k < 2 ^ 32
 word [] k h = omega arith
 word (x ∷ xs) zero h = h 0 0 (omega arith)

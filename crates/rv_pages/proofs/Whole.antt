@@ -12,9 +12,7 @@ use Rattle.rv_pages.specs.Kept.{entries_kept, memory_kept, AreKept}
 use Rattle.rv_pages.proofs.Ordered.{kept_order}
 use Rattle.rv_pages.proofs.Numbers.{kept_numbers}
 use Rattle.rv_pages.proofs.Bytes.{kept_bytes}
-
-joined : {es fs gs hs : List (ℕ × ℕ)} → es ≡ fs → gs ≡ hs → es ++ gs ≡ fs ++ hs
-joined p q = λ i. p i ++ q i
+use Rattle.rv_pages.proofs.Zeroed.{joined}
 
 abbrev entries_of : ℕ → (ℕ → List ℕ) → List ℕ → List (ℕ × ℕ)
 entries_of size f numbers = flat_map (λ n. enumerate_from (n * size) (f n)) numbers

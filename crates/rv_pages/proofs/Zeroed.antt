@@ -14,7 +14,7 @@ zeros_numbered : (a n : ℕ) → zeros_from a n ≡ enumerate_from a (replicate 
 zeros_numbered a zero = refl
 zeros_numbered a (suc n) = ap (λ es. (a, 0) ∷ es) (zeros_numbered (a + 1) n)
 
-joined : {es fs gs hs : List (ℕ × ℕ)} → es ≡ fs → gs ≡ hs → es ++ gs ≡ fs ++ hs
+pub joined : {es fs gs hs : List (ℕ × ℕ)} → es ≡ fs → gs ≡ hs → es ++ gs ≡ fs ++ hs
 joined p q = λ i. p i ++ q i
 
 -- of so many zeros in a row, the first page and the pages after it

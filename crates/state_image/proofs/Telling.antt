@@ -6,11 +6,10 @@ use Rattle.std.proofs.lemmas.Map.Keys.{sorted_from_strictly_increasing, sorted_h
 use Rattle.std.proofs.lemmas.Nat.{from_le_bytes-to_le_bytes_4, from_le_bytes-to_le_bytes_8}
 use Rattle.std.specs.Cmp.{ranked}
 use Rattle.std.specs.Int.{to_le_bytes, from_le_bytes, w32, w64}
-use Rattle.std.specs.List.{All, AllByRecursion, flat_map, list_all}
+use Rattle.std.specs.List.{All, AllByRecursion, flat_map, list_all, slice_index}
 use Rattle.std.specs.List.Sorted.{IsStrictlySortedBy}
 use Rattle.std.specs.Ordering.{nat_cmp}
 use Rattle.std.specs.declared.cmp.Ordering.TheVariants.{Less}
-use Rattle.std.specs.List.{slice_index}
 use Rattle.rv_pages.specs.Memory.{Memory, page_numbers, page_bytes, of_pages, IsPage, IsMemory}
 use Rattle.rv_pages.proofs.Whole.{same_pages}
 use Rattle.rv_machine.specs.declared.status.Status.{Status}
