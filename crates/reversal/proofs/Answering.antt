@@ -1,8 +1,7 @@
 -- From what the parts of the top call answer to what it promises.
-use Rattle.std.proofs.Common.{[], ◌≡◌, ◌≢◌, ◌≤◌, ◌+◌, ℕ, List, sym, ap, subst, inl, inr, ◌⊎◌, arith, Option, Some, None}
+use Rattle.std.proofs.Common.{[], ◌≡◌, ◌≢◌, ◌++◌, ℕ, List, take, sym, ap, subst, inl, inr, ◌⊎◌, arith, Option, Some, None}
 use Rattle.plan_types.specs.declared.action.Action.{Action}
 use Rattle.keepers.specs.Told.{Files, WhereTold, Tells, AddsPrefix}
-use Rattle.level_book.specs.CostFold.{forward}
 use Rattle.rv_machine.specs.States.{raw_start}
 use Rattle.reversal.specs.declared.ended.Ended.{Ended}
 use Rattle.reversal.specs.declared.reading.Refusal.{Refusal}
@@ -12,11 +11,11 @@ use Rattle.reversal.specs.BookForm.{IsPlainBook}
 use Rattle.reversal.specs.ProgramForm.{IsProgram}
 use Rattle.reversal.specs.ScheduleForm.{IsSchedule}
 use Rattle.reversal.specs.Forms.{bytes_of, StepsMet, ProgramFits, BookFits, ScheduleFits, BookMet, ScheduleMet, Unless, IsFirstUnmet, FormsMet}
-use Rattle.reversal.specs.Taking.{IsFirstUnformed, OnNotBuilt}
-use Rattle.reversal.specs.Answers.{FirstUnmetIn, FormsMetIn, RunsOn, AnswersList, Writes, WritesIn, CountsIn, EndsSo}
-use Rattle.reversal.specs.Output.{lines_down, Adds}
+use Rattle.reversal.specs.Taking.{names_of, IsFirstTooLong, IsFirstUnformed, OnNotBuilt}
+use Rattle.reversal.specs.Answers.{FirstUnmetIn, FormsMetIn, RunsOn, AnswersList, Writes, WritesIn, HaltsIn, TooLongIn, EndsSo}
+use Rattle.reversal.specs.Output.{lines_down, Adds, RanPart}
 use Rattle.reversal.specs.Given.{Given, Accepted, first_state, program_of, book_of, schedule_of}
-use Rattle.reversal.proofs.Writing.{tells_so, tells_nothing}
+use Rattle.reversal.proofs.Writing.{tells_so, tells_nothing, ran_none}
 use Rattle.reversal.proofs.OneReading.{one_command, one_book, one_list}
 
 -- what follows from what is told
@@ -108,24 +107,39 @@ answers {words} {told} a r slots list e says h answer =
 pub forms_only : (told : Option Files) (r : RunCommand) (slots : ℕ) (list : List Action) (W : Files → Type 0) → WhereTold told (λ files. FormsMetIn files r slots list × W files) → WhereTold told (λ files. FormsMetIn files r slots list)
 forms_only told r slots list W h = where_told told (λ files. FormsMetIn files r slots list × W files) (λ files. FormsMetIn files r slots list) (λ files x. x.0) h
 
--- what was counted for the list that was read was counted for the list among the files
-pub counts_in : (r : RunCommand) (program book schedule : List ℕ) (list : List Action) (before after : ℕ) → IsSchedule schedule list → (before ≤ after) × (after ≤ before + forward list) →
-    (files : Files) → ReadIn files r program book schedule → CountsIn files r before after
-counts_in r program book schedule list before after is_schedule counted files read slots other forms =
+-- what was performed of the list that was read was performed of the list among the files
+pub halts_in : (r : RunCommand) (program book schedule : List ℕ) (list : List Action) (e : Ended) (old new : Option (List ℕ)) (before after : ℕ) → IsSchedule schedule list →
+    (e.status ≡ 17 → RanPart (raw_start program) [] r.steps list old new before after) →
+    (files : Files) → ReadIn files r program book schedule → HaltsIn files e r old new before after
+halts_in r program book schedule list e old new before after is_schedule halted files read slots other forms status =
     let P : List ℕ → Type 0 = λ b. IsSchedule b other in
-    let Q : List Action → Type 0 = λ l. (before ≤ after) × (after ≤ before + forward l) in
-    subst Q (one_list schedule list other is_schedule (subst P read.2 forms.schedule_form)) counted
+    let Q : List Action → Type 0 = λ l. RanPart (raw_start (bytes_of files r.program)) [] r.steps l old new before after in
+    let R : List ℕ → Type 0 = λ p. RanPart (raw_start p) [] r.steps list old new before after in
+    subst Q (one_list schedule list other is_schedule (subst P read.2 forms.schedule_form)) (subst R (sym read.0) (halted status))
 
-pub counts_given : {words : List (List ℕ)} {told : Option Files} (a : Accepted words told) (r : RunCommand) (before after : ℕ) → Says words r →
-    WhereTold told (λ files. CountsIn files r before after) → (before ≤ after) × (after ≤ before + forward a.list)
-counts_given {words} {told} a r before after says h =
-    let P : RunCommand → Type 0 = λ c. CountsIn a.given.files c before after in
-    let here = told_so told (λ files. CountsIn files r before after) a.given.files a.given.tell h in
+-- and nothing of it, where nothing was written and no step was taken
+pub halts_early : (told : Option Files) (r : RunCommand) (e : Ended) (old new : Option (List ℕ)) (before after : ℕ) → new ≡ old → after ≡ before → WhereTold told (λ files. HaltsIn files e r old new before after)
+halts_early None r e old new before after same still = tt
+halts_early (Some files) r e old new before after same still = λ slots list forms status. ran_none (raw_start (bytes_of files r.program)) [] r.steps list old new before after same still
+
+pub halts_given : {words : List (List ℕ)} {told : Option Files} (a : Accepted words told) (r : RunCommand) (e : Ended) (old new : Option (List ℕ)) (before after : ℕ) → Says words r →
+    WhereTold told (λ files. HaltsIn files e r old new before after) → e.status ≡ 17 → RanPart (first_state a.given) [] a.given.command.steps a.list old new before after
+halts_given {words} {told} a r e old new before after says h =
+    let P : RunCommand → Type 0 = λ c. HaltsIn a.given.files e c old new before after in
+    let here = told_so told (λ files. HaltsIn files e r old new before after) a.given.files a.given.tell h in
     subst P (one_command words r a.given.command says a.given.says) here a.slots a.list a.forms
 
 -- where every form is met, none is the first that isn't
 met_so : (Form later : Type 0) (p place : ℕ) → Form → Unless Form p place later → later
 met_so Form later p place f h = elim h [ inl n ↦ absurd (n.0 f) | inr y ↦ y.1 ]
+
+-- which names were asked for where an input is too long
+pub too_long_given : {words : List (List ℕ)} {told : Option Files} (g : Given words told) (r : RunCommand) (place : ℕ) (old new : List (List ℕ)) → Says words r →
+    WhereTold told (λ files. TooLongIn files r place → new ≡ old ++ take place (names_of r)) →
+    IsFirstTooLong (program_of g) (book_of g) (schedule_of g) place → new ≡ old ++ take place (names_of g.command)
+too_long_given {words} {told} g r place old new says h =
+    let P : RunCommand → Type 0 = λ c. TooLongIn g.files c place → new ≡ old ++ take place (names_of c) in
+    subst P (one_command words r g.command says g.says) (told_so told (λ files. TooLongIn files r place → new ≡ old ++ take place (names_of r)) g.files g.tell h)
 
 pub all_met : (r : RunCommand) (program book schedule : List ℕ) (slots : ℕ) (list : List Action) (place : ℕ) → FormsMet r program book schedule slots list → IsFirstUnmet r program book schedule place → ⊥
 all_met r program book schedule slots list place m h =

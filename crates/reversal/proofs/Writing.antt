@@ -20,7 +20,7 @@ use Rattle.reverse_runner.specs.Performed.{Gets, Misses}
 use Rattle.reverse_runner.specs.Handed.{handed_by, handed}
 use Rattle.reverse_runner.proofs.Getting.{gets_keeps}
 use Rattle.reverse_runner.proofs.StandingAfter.{TapeIs}
-use Rattle.reversal.specs.Output.{line_of, lines_of, Adds, AddsUntil}
+use Rattle.reversal.specs.Output.{line_of, lines_of, Adds, AddsUntil, RanPart}
 
 -- the writer's relation for a state that it gets: it writes to the same sink, and the line was added
 abbrev pub Wrote : {X : Type 0} → (X → Option (List ℕ)) → LineWriter X → ℕ → MachineState → List (List ℕ) → LineWriter X → Type 0
@@ -181,3 +181,7 @@ writes_prefix first journal steps list i whole x y all = tells_so x y _ _ (λ ol
     take_front : (xs ys : List ℕ) → take (length xs) (xs ++ ys) ≡ xs
     take_front [] ys = refl
     take_front (z ∷ zs) ys = ap (λ l. z ∷ l) (take_front zs ys)
+
+-- where nothing was written and no step was taken, none of the actions was performed
+pub ran_none : (first : MachineState) (journal : List (List ℕ)) (steps : ℕ) (list : List Action) (old new : Option (List ℕ)) (before after : ℕ) → new ≡ old → after ≡ before → RanPart first journal steps list old new before after
+ran_none first journal steps list old new before after e f = record { performed = 0; added = tells_nothing old new e; counted = omega (arith, f) }

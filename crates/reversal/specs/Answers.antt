@@ -1,5 +1,5 @@
 -- What an ending says of the inputs and the list that it is of.
-use Rattle.std.specs.Prelude.{◌≡◌, ◌⊎◌, ℕ, ◌+◌, ◌-◌, ◌≤◌, List, [], take, Option}
+use Rattle.std.specs.Prelude.{◌≡◌, ◌⊎◌, ℕ, ◌+◌, ◌-◌, List, [], take, Option}
 use Rattle.plan_types.specs.declared.action.Action.{Action}
 use Rattle.level_book.specs.BookCosts.{slots_of, plain}
 use Rattle.level_book.specs.Valid.{Valid, BrokenAt}
@@ -11,8 +11,9 @@ use Rattle.reversal.specs.declared.ended.Ended.{Ended}
 use Rattle.reversal.specs.declared.reading.Refusal.{Refusal}
 use Rattle.reversal.specs.declared.reading.Refusal.TheVariants.{Input, NotBuilt, Memory}
 use Rattle.reversal.specs.Command.{RunCommand}
+use Rattle.reversal.specs.Taking.{IsFirstTooLong}
 use Rattle.reversal.specs.Forms.{bytes_of, IsFirstUnmet, FormsMet}
-use Rattle.reversal.specs.Output.{lines_down, Adds, AddsUntil}
+use Rattle.reversal.specs.Output.{lines_down, Adds, AddsUntil, RanPart}
 
 -- the first form that isn't met among the files, and that every form is met there
 abbrev pub FirstUnmetIn : Files → RunCommand → ℕ → Type 0
@@ -20,6 +21,10 @@ FirstUnmetIn files r place = IsFirstUnmet r (bytes_of files r.program) (bytes_of
 
 abbrev pub FormsMetIn : Files → RunCommand → ℕ → List Action → Type 0
 FormsMetIn files r slots list = FormsMet r (bytes_of files r.program) (bytes_of files r.book) (bytes_of files r.schedule) slots list
+
+-- the first input among the files that is longer than its limit
+abbrev pub TooLongIn : Files → RunCommand → ℕ → Type 0
+TooLongIn files r place = IsFirstTooLong (bytes_of files r.program) (bytes_of files r.book) (bytes_of files r.schedule) place
 
 -- the statuses of a call that came to judge its list
 abbrev pub RunsOn : ℕ → Type 0
@@ -40,9 +45,10 @@ pub record Writes (e : Ended) (first : MachineState) (steps : ℕ) (list : List 
 abbrev pub WritesIn : Files → Ended → RunCommand → List Action → Option (List ℕ) → Option (List ℕ) → ℕ → ℕ → Type 0
 WritesIn files e r list = Writes e (raw_start (bytes_of files r.program)) r.steps list
 
--- the count of steps doesn't fall, and rises by the steps of the list among the files at most
-abbrev pub CountsIn : Files → RunCommand → ℕ → ℕ → Type 0
-CountsIn files r before after = (slots : ℕ) (list : List Action) → FormsMetIn files r slots list → (before ≤ after) × (after ≤ before + forward list)
+-- at status 17 some of the actions of the list among the files were performed, from the first on
+abbrev pub HaltsIn : Files → Ended → RunCommand → Option (List ℕ) → Option (List ℕ) → ℕ → ℕ → Type 0
+HaltsIn files e r old new before after =
+    (slots : ℕ) (list : List Action) → FormsMetIn files r slots list → e.status ≡ 17 → RanPart (raw_start (bytes_of files r.program)) [] r.steps list old new before after
 
 -- the ending of a call whose inputs can't be taken
 abbrev pub EndsSo : Refusal → Ended → Type 0

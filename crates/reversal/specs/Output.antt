@@ -1,8 +1,10 @@
 -- What the top call writes: lines of the states of a run, from the one with the greatest number down. The states are
 -- those that the machine's step leads to from the first one.
-use Rattle.std.specs.Prelude.{◌≡◌, ℕ, ◌-◌, List, [], ◌∷◌, ◌++◌, take, slice_get, Some}
+use Rattle.std.specs.Prelude.{◌≡◌, ℕ, ◌+◌, ◌-◌, List, [], ◌∷◌, ◌++◌, take, slice_get, Option, Some}
 use Rattle.std.specs.List.{flat_map}
 use Rattle.plan_types.specs.declared.action.Action.{Action}
+use Rattle.keepers.specs.Told.{Tells}
+use Rattle.level_book.specs.CostFold.{forward}
 use Rattle.rv_machine.specs.MachineState.{MachineState}
 use Rattle.rv_machine.specs.States.{state_number}
 use Rattle.state_image.specs.Line.{line}
@@ -33,3 +35,10 @@ pub record AddsUntil (first : MachineState) (journal : List (List ℕ)) (steps :
   pub hands : handed_by steps action ≡ next ∷ []
   pub part : ℕ
   pub added : new ≡ old ++ lines_of first journal (handed steps (take (place - 1) list)) ++ take part (line_of first journal next)
+
+-- So many of the actions were performed, from the first on: their lines were added to a sink that tells, and the count of
+-- steps rose by their forward steps.
+pub record RanPart (first : MachineState) (journal : List (List ℕ)) (steps : ℕ) (list : List Action) (old new : Option (List ℕ)) (before after : ℕ) : Type 0 where
+  pub performed : ℕ
+  pub added : Tells old new (Adds (lines_of first journal (handed steps (take performed list))))
+  pub counted : after ≡ before + forward (take performed list)

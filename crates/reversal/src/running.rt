@@ -7,7 +7,7 @@ ghost use Rattle.level_book.specs.BookCosts.{slots_of, plain};
 ghost use Rattle.level_book.specs.Valid.{Valid, BrokenAt};
 ghost use Rattle.rv_machine.specs.States.{raw_start};
 ghost use Rattle.reverse_runner.specs.Standing.{begun};
-ghost use Rattle.reversal.specs.Output.{lines_down, Adds, AddsUntil};
+ghost use Rattle.reversal.specs.Output.{lines_down, Adds, AddsUntil, RanPart};
 
 use crate::ended::Ended;
 use input_journal::Journal;
@@ -44,7 +44,7 @@ pub(crate) fn run_list<K: Keeper, O: Sink, L: Ledger>(
     ensures done { result.status ≡ 0 → Tells (O.told out.old) (O.told out.new) (Adds (lines_down (raw_start program.now) [] steps)) × (counter.new ≡ counter.old + forward list.now) }
     ensures sink { result.status ≡ 14 → Tells (O.told out.old) (O.told out.new) (AddsUntil (raw_start program.now) [] steps list.now result.place) × (counter.new ≡ counter.old + forward (take (result.place - 1) list.now)) }
     ensures memory { result.status ≡ 17 → Tells (O.told out.old) (O.told out.new) (AddsPrefix (lines_down (raw_start program.now) [] steps)) }
-    ensures counted { (counter.old ≤ counter.new) × (counter.new ≤ counter.old + forward list.now) }
+    ensures halted { result.status ≡ 17 → RanPart (raw_start program.now) [] steps list.now (O.told out.old) (O.told out.new) counter.old counter.new }
     ensures cause { result.status ≡ 14 → Rose (O.fault_count out.old) (O.fault_count out.new) }
     ensures kept { keepers.new ≡ keepers.old }
 {
@@ -82,7 +82,7 @@ fn run_valid<K: Keeper, O: Sink, L: Ledger>(
     ensures done { result.status ≡ 0 → Tells (O.told out.old) (O.told out.new) (Adds (lines_down start [] steps)) × (counter.new ≡ counter.old + forward list.now) }
     ensures sink { result.status ≡ 14 → Tells (O.told out.old) (O.told out.new) (AddsUntil start [] steps list.now result.place) × (counter.new ≡ counter.old + forward (take (result.place - 1) list.now)) }
     ensures memory { result.status ≡ 17 → Tells (O.told out.old) (O.told out.new) (AddsPrefix (lines_down start [] steps)) }
-    ensures counted { (counter.old ≤ counter.new) × (counter.new ≤ counter.old + forward list.now) }
+    ensures halted { result.status ≡ 17 → RanPart start [] steps list.now (O.told out.old) (O.told out.new) counter.old counter.new }
     ensures cause { result.status ≡ 14 → Rose (O.fault_count out.old) (O.fault_count out.new) }
     ensures kept { keepers.new ≡ keepers.old }
 {
@@ -107,7 +107,7 @@ fn perform_all<K: Keeper, O: Sink, L: Ledger>(
     ensures done { result.status ≡ 0 → Tells (O.told out.old) (O.told out.new) (Adds (lines_down session.old.work session.old.journal session.old.situation.steps)) × (counter.new ≡ counter.old + forward list.now) }
     ensures sink { result.status ≡ 14 → Tells (O.told out.old) (O.told out.new) (AddsUntil session.old.work session.old.journal session.old.situation.steps list.now result.place) × (counter.new ≡ counter.old + forward (take (result.place - 1) list.now)) }
     ensures memory { result.status ≡ 17 → Tells (O.told out.old) (O.told out.new) (AddsPrefix (lines_down session.old.work session.old.journal session.old.situation.steps)) }
-    ensures counted { (counter.old ≤ counter.new) × (counter.new ≤ counter.old + forward list.now) }
+    ensures halted { result.status ≡ 17 → RanPart session.old.work session.old.journal session.old.situation.steps list.now (O.told out.old) (O.told out.new) counter.old counter.new }
     ensures cause { result.status ≡ 14 → Rose (O.fault_count out.old) (O.fault_count out.new) }
     ensures kept { keepers.new ≡ keepers.old }
 {

@@ -8,10 +8,10 @@ ghost use Rattle.level_book.specs.CostFold.{forward};
 ghost use Rattle.rv_machine.specs.States.{raw_start};
 ghost use Rattle.reversal.specs.Command.{RunCommand, Says};
 ghost use Rattle.reversal.specs.Forms.{bytes_of, IsFirstUnmet};
-ghost use Rattle.reversal.specs.Output.{lines_down, Adds, AddsUntil};
+ghost use Rattle.reversal.specs.Output.{lines_down, Adds, AddsUntil, RanPart};
 ghost use Rattle.reversal.specs.Given.{Given, Accepted, first_state, words_of, program_of, book_of, schedule_of, slots_given};
-ghost use Rattle.reversal.specs.Taking.{command_of, names_of};
-ghost use Rattle.reversal.specs.Answers.{FirstUnmetIn, FormsMetIn, RunsOn, AnswersList, WritesIn, CountsIn, EndsSo};
+ghost use Rattle.reversal.specs.Taking.{command_of, names_of, IsFirstTooLong};
+ghost use Rattle.reversal.specs.Answers.{FirstUnmetIn, TooLongIn, FormsMetIn, RunsOn, AnswersList, WritesIn, HaltsIn, EndsSo};
 
 use crate::ended::Ended;
 use crate::reading::{Refusal, plan_of, read_inputs};
@@ -41,7 +41,7 @@ pub fn reversal<I: Inputs, K: Keeper, O: Sink, L: Ledger>(
     ensures silent { result.status ≡ 2 → inputs.new ≡ inputs.old }
 
     // Status 18 comes exactly where a form isn't met, unless an input can't be read or memory isn't found.
-    ensures too_many { (r : RunCommand) → Says (words_of words.now) r → 1000000 < r.steps → (result.status ≡ 18) × (result.place ≡ 0) }
+    ensures too_many { (r : RunCommand) → Says (words_of words.now) r → 1000000 < r.steps → (result.status ≡ 18) × (result.place ≡ 0) × (inputs.new ≡ inputs.old) }
     ensures not_built { (g : Given (words_of words.now) (I.told inputs.old)) → result.status ≡ 18 → IsFirstUnmet g.command (program_of g) (book_of g) (schedule_of g) result.place }
     ensures built { (g : Given (words_of words.now) (I.told inputs.old)) → result.status ≢ 18 → result.status ≢ 3 → result.status ≢ 17 → Accepted (words_of words.now) (I.told inputs.old) }
 
@@ -50,6 +50,7 @@ pub fn reversal<I: Inputs, K: Keeper, O: Sink, L: Ledger>(
     ensures input_number { result.status ≡ 3 → (0 < result.place) × (result.place ≤ 3) }
     ensures input_place { result.status ≡ 3 → (r : RunCommand) → Says (words_of words.now) r → I.asked inputs.new ≡ I.asked inputs.old ++ take result.place (names_of r) }
     ensures asked { (r : RunCommand) → Says (words_of words.now) r → (k : ℕ) × (I.asked inputs.new ≡ I.asked inputs.old ++ take k (names_of r)) }
+    ensures too_long { (g : Given (words_of words.now) (I.told inputs.old)) → result.status ≡ 18 → IsFirstTooLong (program_of g) (book_of g) (schedule_of g) result.place → I.asked inputs.new ≡ I.asked inputs.old ++ take result.place (names_of g.command) }
     ensures all_asked { RunsOn result.status → (r : RunCommand) → Says (words_of words.now) r → I.asked inputs.new ≡ I.asked inputs.old ++ names_of r }
 
     // Status 8 comes exactly where the forms are met and the list isn't valid, with the place of its first broken action
@@ -64,11 +65,10 @@ pub fn reversal<I: Inputs, K: Keeper, O: Sink, L: Ledger>(
     // are those of the actions before.
     ensures sink { (a : Accepted (words_of words.now) (I.told inputs.old)) → result.status ≡ 14 → Tells (O.told out.old) (O.told out.new) (AddsUntil (first_state a.given) [] a.given.command.steps a.list result.place) × (steps.new ≡ steps.old + forward (take (result.place - 1) a.list)) }
 
-    // At status 17 a part of the lines was added.
+    // At status 17 a part of the lines was added. Where the forms are met, it is the lines of the actions that were
+    // performed, and the steps are those of these actions.
     ensures memory { (g : Given (words_of words.now) (I.told inputs.old)) → result.status ≡ 17 → Tells (O.told out.old) (O.told out.new) (AddsPrefix (lines_down (first_state g) [] g.command.steps)) }
-
-    // Never does the machine take more steps than those of the list.
-    ensures counted { (a : Accepted (words_of words.now) (I.told inputs.old)) → (steps.old ≤ steps.new) × (steps.new ≤ steps.old + forward a.list) }
+    ensures halted { (a : Accepted (words_of words.now) (I.told inputs.old)) → result.status ≡ 17 → RanPart (first_state a.given) [] a.given.command.steps a.list (O.told out.old) (O.told out.new) steps.old steps.new }
 
     // Status 14 comes only where the sink's count of faults rose.
     ensures sink_cause { result.status ≡ 14 → Rose (O.fault_count out.old) (O.fault_count out.new) }
@@ -107,13 +107,14 @@ fn run_command<I: Inputs, K: Keeper, O: Sink, L: Ledger>(
     ensures ran { RunsOn result.status → (slots : ℕ) × (list : List AnAction) × WhereTold (I.told inputs.old) (λ files. FormsMetIn files (command_of command.now) slots list
         × WritesIn files result (command_of command.now) list (O.told out.old) (O.told out.new) steps.old steps.new)
         × AnswersList result (command_of command.now) slots list }
-    ensures counted { WhereTold (I.told inputs.old) (λ files. CountsIn files (command_of command.now) steps.old steps.new) }
+    ensures halted { WhereTold (I.told inputs.old) (λ files. HaltsIn files result (command_of command.now) (O.told out.old) (O.told out.new) steps.old steps.new) }
     ensures memory { result.status ≡ 17 → WhereTold (I.told inputs.old) (λ files. Tells (O.told out.old) (O.told out.new) (AddsPrefix (lines_down (raw_start (bytes_of files command.now.program.now)) [] command.now.steps))) }
     ensures plain { (result.status ≢ 8 → (result.more ≡ 0) × (result.rule ≡ 0)) × ((result.status ≡ 17) ⊎ (result.status ≡ 0) → result.place ≡ 0) }
     ensures input_cause { result.status ≡ 3 → Rose (I.fault_count inputs.old) (I.fault_count inputs.new) }
     ensures input_number { result.status ≡ 3 → (0 < result.place) × (result.place ≤ 3) }
     ensures input_place { result.status ≡ 3 → I.asked inputs.new ≡ I.asked inputs.old ++ take result.place (names_of (command_of command.now)) }
     ensures asked { (k : ℕ) × (I.asked inputs.new ≡ I.asked inputs.old ++ take k (names_of (command_of command.now))) }
+    ensures too_long { result.status ≡ 18 → WhereTold (I.told inputs.old) (λ files. TooLongIn files (command_of command.now) result.place → I.asked inputs.new ≡ I.asked inputs.old ++ take result.place (names_of (command_of command.now))) }
     ensures all_asked { RunsOn result.status → I.asked inputs.new ≡ I.asked inputs.old ++ names_of (command_of command.now) }
     ensures sink_cause { result.status ≡ 14 → Rose (O.fault_count out.old) (O.fault_count out.new) }
     ensures untouched { (result.status ≡ 2) ⊎ (result.status ≡ 3) ⊎ (result.status ≡ 8) ⊎ (result.status ≡ 18) → (out.new ≡ out.old) × (steps.new ≡ steps.old) }

@@ -116,7 +116,7 @@ impl Session {
         ensures stands { OnOk result ((first : MachineState) → StandsAt first self.old → StandsAt first self.new) }
         ensures counted { OnOk result (steps.new ≡ steps.old + steps_of action.now) }
         ensures gets { OnOk result (Gets V.got self.old.journal action.now self.old.situation.at.work self.old.work self.old.stored visitor.old visitor.new) }
-        ensures refused { OnErr result ((self.new.ended ≡ true) × (self.new.done ≡ self.old.done) × (steps.new ≡ steps.old)) }
+        ensures refused { OnErr result ((self.new ≡ record self.old { ended = true }) × (steps.new ≡ steps.old)) }
         ensures misses { result ≡ Err RunFault.Visitor → Misses V.missed self.old.journal action.now self.old.situation.at.work self.old.work self.old.stored visitor.old visitor.new }
         ensures memory { result ≡ Err RunFault.Memory → visitor.new ≡ visitor.old }
         ensures kept { keepers.new ≡ keepers.old }

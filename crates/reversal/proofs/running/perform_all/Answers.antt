@@ -3,11 +3,10 @@ use Rattle.std.proofs.lemmas.Option.{slice_get-get_or}
 use Rattle.plan_types.specs.declared.action.Keep.TheVariants.{Nothing}
 use Rattle.plan_types.specs.declared.action.Action.TheVariants.{Forward}
 use Rattle.keepers.specs.Told.{Tells, AddsPrefix}
-use Rattle.level_book.specs.CostFold.{steps_of, forward}
+use Rattle.level_book.specs.CostFold.{forward}
 use Rattle.reverse_runner.specs.Handed.{handed, countdown}
 use Rattle.reverse_runner.proofs.Handing.{valid_hands}
 use Rattle.std.proofs.lemmas.List.{take_all}
-use Rattle.std.proofs.lemmas.List.Sums.{sum_by-take-le}
 use Rattle.reverse_runner.specs.SessionState.{SessionState}
 use Rattle.reverse_runner.specs.Standing.{StandsAt}
 use Rattle.reverse_runner.proofs.StandingAfter.{stands_at_start}
@@ -87,25 +86,8 @@ returns-in-Err-Visitor-clause-sink g c status =
       subst P (sym last)
           (writes_part session.work session.journal session.situation.steps list i c.at.result.place (action_at list i) _ _ _ at place so_far.written
           (missed_on g.O.Sink.told session.work session.journal session.situation.steps session.situation.slots list i before (action_at list i) c.loop-i.writer c.perform.new.visitor on rule_is misses)),
-      c.in-Err-Visitor.ensures.refused.2 ∙ so_far.counted ∙ ap (λ k. c.args.counter.now + forward (take k list)) before_it,
+      c.in-Err-Visitor.ensures.refused.1 ∙ so_far.counted ∙ ap (λ k. c.args.counter.now + forward (take k list)) before_it,
     )
-
-pub returns-in-Err-Visitor-clause-counted : goal.returns-in-Err-Visitor-clause-counted
-returns-in-Err-Visitor-clause-counted g c =
-    let same = c.in-Err-Visitor.ensures.refused.2 in
-    let most = sum_by-take-le steps_of c.args.list.now c.loop-i.i in
-    (omega (arith, same, c.loop-i.invariant.counted), omega (arith, same, c.loop-i.invariant.counted, most))
-
-pub returns-in-Err-Memory-clause-counted : goal.returns-in-Err-Memory-clause-counted
-returns-in-Err-Memory-clause-counted g c =
-    let same = c.in-Err-Memory.ensures.refused.2 in
-    let most = sum_by-take-le steps_of c.args.list.now c.loop-i.i in
-    (omega (arith, same, c.loop-i.invariant.counted), omega (arith, same, c.loop-i.invariant.counted, most))
-
-pub returns-clause-counted : goal.returns-clause-counted
-returns-clause-counted g c =
-    let most = sum_by-take-le steps_of c.args.list.now c.loop-i.i in
-    (omega (arith, c.loop-i.invariant.counted), omega (arith, c.loop-i.invariant.counted, most))
 
 pub returns-in-Err-Memory-clause-memory : goal.returns-in-Err-Memory-clause-memory
 returns-in-Err-Memory-clause-memory g c status =
@@ -118,6 +100,17 @@ returns-in-Err-Memory-clause-memory g c status =
     subst P (sym last)
     (writes_prefix session.work session.journal session.situation.steps list c.loop-i.i (countdown session.situation.steps) _ _
     (valid_hands session.situation.steps session.situation.slots list c.requires.valid) so_far.written)
+
+pub returns-in-Err-Memory-clause-halted : goal.returns-in-Err-Memory-clause-halted
+returns-in-Err-Memory-clause-halted g c status =
+    let so_far = c.loop-i.invariant in
+    let session = c.args.session.now in
+    let list = c.args.list.now in
+    let i = c.loop-i.i in
+    let same = c.perform.ensures.memory (c.in-Err-Memory.is ∙ ap (λ e. Err e) c.in-Err-Memory.field-0-is) in
+    let last = c.in-Err-Memory.out-in-Err-1-own.given.1 (sym (ap (λ v. v.out.ghost_name) same ∙ so_far.reference ∙ c.new-writer.ensures.same_reference)) ∙ ap (λ v. v.out.now) same in
+    let P : g.row.O.Denot → Type 0 = λ o. Tells (g.O.Sink.told c.args.out.now) (g.O.Sink.told o) (Adds (lines_of session.work session.journal (handed session.situation.steps (take i list)))) in
+    record { performed = i; added = subst P (sym last) so_far.written; counted = c.in-Err-Memory.ensures.refused.1 ∙ so_far.counted }
 
 pub returns-clause-done : goal.returns-clause-done
 returns-clause-done g c status =

@@ -4,7 +4,7 @@ use Rattle.reversal.specs.Given.{words_of, program_of, book_of, schedule_of}
 use Rattle.reversal.specs.Taking.{command_of, names_of}
 use Rattle.reversal.specs.Answers.{RunsOn}
 use Rattle.reversal.proofs.OneReading.{one_command}
-use Rattle.reversal.proofs.Answering.{runs_on, given_unmet, accepted, answers, forms_only, written, part_written, counts_given, all_met}
+use Rattle.reversal.proofs.Answering.{runs_on, given_unmet, accepted, answers, forms_only, written, part_written, halts_given, too_long_given, all_met}
 use Rattle.reversal.proofs.top.reversal.Given.{Over}
 use Rattle.reversal.proofs.top.reversal.Goals as goal
 
@@ -87,8 +87,11 @@ returns-clause-sink g c a status =
 pub returns-clause-memory : goal.returns-clause-memory
 returns-clause-memory g c given status = part_written given (command_of c.in-Some.command) _ _ (said g c) (c.run_command.ensures.memory status)
 
-pub returns-clause-counted : goal.returns-clause-counted
-returns-clause-counted g c a = counts_given a (command_of c.in-Some.command) _ _ (said g c) c.run_command.ensures.counted
+pub returns-clause-halted : goal.returns-clause-halted
+returns-clause-halted g c a = halts_given a (command_of c.in-Some.command) c.run_command.result _ _ _ _ (said g c) c.run_command.ensures.halted
+
+pub returns-clause-too_long : goal.returns-clause-too_long
+returns-clause-too_long g c given status = too_long_given given (command_of c.in-Some.command) c.run_command.result.place _ _ (said g c) (c.run_command.ensures.too_long status)
 
 pub returns-clause-all_asked : goal.returns-clause-all_asked
 returns-clause-all_asked g c runs r says =

@@ -1,10 +1,11 @@
-use Rattle.std.proofs.Common.{ℕ, List, sym, subst}
+use Rattle.std.proofs.Common.{◌≡◌, ℕ, List, [], refl, sym, subst}
+use Rattle.reversal.specs.Output.{RanPart}
 use Rattle.plan_types.specs.declared.action.Action.{Action}
 use Rattle.reversal.specs.ScheduleForm.{IsSchedule}
 use Rattle.reversal.specs.Taking.{command_of, IsFirstUnformed}
 use Rattle.rv_machine.specs.States.{raw_start}
-use Rattle.reversal.specs.Answers.{FirstUnmetIn, FormsMetIn, Writes, WritesIn, CountsIn}
-use Rattle.reversal.proofs.Answering.{where_told, forms_met, unmet_late, ends_unformed, counts_in, ReadIn}
+use Rattle.reversal.specs.Answers.{FirstUnmetIn, FormsMetIn, Writes, WritesIn, HaltsIn}
+use Rattle.reversal.proofs.Answering.{where_told, forms_met, unmet_late, ends_unformed, halts_in, halts_early, ReadIn}
 use Rattle.reversal.proofs.top.run_command.Goals as goal
 
 pub returns-in-Ok-plan_of-clause-ran : goal.returns-in-Ok-plan_of-clause-ran
@@ -43,12 +44,20 @@ returns-clause-not_built g c status =
 pub returns-clause-asked : goal.returns-clause-asked
 returns-clause-asked g c = (3, c.in-Ok.ensures.asked)
 
-pub returns-in-Ok-plan_of-clause-counted : goal.returns-in-Ok-plan_of-clause-counted
-returns-in-Ok-plan_of-clause-counted g c =
+pub returns-in-Ok-plan_of-clause-halted : goal.returns-in-Ok-plan_of-clause-halted
+returns-in-Ok-plan_of-clause-halted g c =
     let bytes = c.in-Ok.bytes in
     let list = c.deref-in-Ok-plan_of.result.now in
     let r = command_of c.args.command.now in
+    let e = c.run_list.result in
+    let old = g.O.Sink.told c.args.out.now in
+    let new = g.O.Sink.told c.run_list.new.out in
     let P : List Action → Type 0 = λ l. IsSchedule bytes.schedule.items l in
-    where_told _ (λ files. ReadIn files r bytes.program.items bytes.book.items bytes.schedule.items) (λ files. CountsIn files r c.args.steps.now c.run_list.new.counter)
-    (counts_in r bytes.program.items bytes.book.items bytes.schedule.items list c.args.steps.now c.run_list.new.counter (subst P (sym c.deref-in-Ok-plan_of.ensures.value) c.in-Ok-plan_of.ensures.forms.2) c.run_list.ensures.counted)
+    let Q : List ℕ → Type 0 = λ p. e.status ≡ 17 → RanPart (raw_start p) [] r.steps list old new c.args.steps.now c.run_list.new.counter in
+    where_told _ (λ files. ReadIn files r bytes.program.items bytes.book.items bytes.schedule.items) (λ files. HaltsIn files e r old new c.args.steps.now c.run_list.new.counter)
+    (halts_in r bytes.program.items bytes.book.items bytes.schedule.items list e old new c.args.steps.now c.run_list.new.counter (subst P (sym c.deref-in-Ok-plan_of.ensures.value) c.in-Ok-plan_of.ensures.forms.2) (subst Q c.deref.ensures.value c.run_list.ensures.halted))
     c.in-Ok.ensures.bytes
+
+pub returns-clause-halted : goal.returns-clause-halted
+returns-clause-halted g c =
+    halts_early _ (command_of c.args.command.now) c.refused-in-Err-plan_of.result (g.O.Sink.told c.args.out.now) (g.O.Sink.told c.args.out.now) c.args.steps.now c.args.steps.now refl refl
