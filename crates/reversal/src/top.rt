@@ -66,9 +66,10 @@ pub fn reversal<I: Inputs, K: Keeper, O: Sink, L: Ledger>(
     ensures sink { (a : Accepted (words_of words.now) (I.told inputs.old)) → result.status ≡ 14 → Tells (O.told out.old) (O.told out.new) (AddsUntil (first_state a.given) [] a.given.command.steps a.list result.place) × (steps.new ≡ steps.old + forward (take (result.place - 1) a.list)) }
 
     // At status 17 a part of the lines was added. Where the forms are met, it is the lines of the actions that were
-    // performed, and the steps are those of these actions.
+    // performed, and the steps are those of these actions. Where they aren't, nothing was done.
     ensures memory { (g : Given (words_of words.now) (I.told inputs.old)) → result.status ≡ 17 → Tells (O.told out.old) (O.told out.new) (AddsPrefix (lines_down (first_state g) [] g.command.steps)) }
     ensures halted { (a : Accepted (words_of words.now) (I.told inputs.old)) → result.status ≡ 17 → RanPart (first_state a.given) [] a.given.command.steps a.list (O.told out.old) (O.told out.new) steps.old steps.new }
+    ensures early { Given (words_of words.now) (I.told inputs.old) → result.status ≡ 17 → (Accepted (words_of words.now) (I.told inputs.old) → ⊥) → (out.new ≡ out.old) × (steps.new ≡ steps.old) }
 
     // Status 14 comes only where the sink's count of faults rose.
     ensures sink_cause { result.status ≡ 14 → Rose (O.fault_count out.old) (O.fault_count out.new) }
@@ -108,6 +109,7 @@ fn run_command<I: Inputs, K: Keeper, O: Sink, L: Ledger>(
         × WritesIn files result (command_of command.now) list (O.told out.old) (O.told out.new) steps.old steps.new)
         × AnswersList result (command_of command.now) slots list }
     ensures halted { WhereTold (I.told inputs.old) (λ files. HaltsIn files result (command_of command.now) (O.told out.old) (O.told out.new) steps.old steps.new) }
+    ensures early { result.status ≡ 17 → ((out.new ≡ out.old) × (steps.new ≡ steps.old)) ⊎ ((slots : ℕ) × (list : List AnAction) × WhereTold (I.told inputs.old) (λ files. FormsMetIn files (command_of command.now) slots list)) }
     ensures memory { result.status ≡ 17 → WhereTold (I.told inputs.old) (λ files. Tells (O.told out.old) (O.told out.new) (AddsPrefix (lines_down (raw_start (bytes_of files command.now.program.now)) [] command.now.steps))) }
     ensures plain { (result.status ≢ 8 → (result.more ≡ 0) × (result.rule ≡ 0)) × ((result.status ≡ 17) ⊎ (result.status ≡ 0) → result.place ≡ 0) }
     ensures input_cause { result.status ≡ 3 → Rose (I.fault_count inputs.old) (I.fault_count inputs.new) }

@@ -119,3 +119,9 @@ returns-clause-completes g c a valid no_input no_sink =
         | inr more ↦ elim more [ inl e ↦ inr e | inr e ↦ absurd (unmet e) ]
       ]
     ]
+
+pub returns-clause-early : goal.returns-clause-early
+returns-clause-early g c given status none = elim (c.run_command.ensures.early status) [
+  | inl same ↦ same
+  | inr met ↦ absurd (none (accepted given (command_of c.in-Some.command) met.0 met.1 (said g c) met.2))
+]

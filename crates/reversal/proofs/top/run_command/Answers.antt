@@ -1,4 +1,4 @@
-use Rattle.std.proofs.Common.{◌≡◌, ℕ, List, [], refl, sym, subst}
+use Rattle.std.proofs.Common.{◌≡◌, ℕ, List, [], inr, refl, sym, subst}
 use Rattle.reversal.specs.Output.{RanPart}
 use Rattle.plan_types.specs.declared.action.Action.{Action}
 use Rattle.reversal.specs.ScheduleForm.{IsSchedule}
@@ -61,3 +61,19 @@ returns-in-Ok-plan_of-clause-halted g c =
 pub returns-clause-halted : goal.returns-clause-halted
 returns-clause-halted g c =
     halts_early _ (command_of c.args.command.now) c.refused-in-Err-plan_of.result (g.O.Sink.told c.args.out.now) (g.O.Sink.told c.args.out.now) c.args.steps.now c.args.steps.now refl refl
+
+pub returns-in-Ok-plan_of-clause-early : goal.returns-in-Ok-plan_of-clause-early
+returns-in-Ok-plan_of-clause-early g c status =
+    let bytes = c.in-Ok.bytes in
+    let forms = c.in-Ok-plan_of.ensures.forms in
+    let slots = c.in-Ok-plan_of.plan.slots in
+    let list = c.deref-in-Ok-plan_of.result.now in
+    let r = command_of c.args.command.now in
+    let P : List Action → Type 0 = λ l. IsSchedule bytes.schedule.items l in
+    inr (
+      slots,
+      list,
+      where_told _ (λ files. ReadIn files r bytes.program.items bytes.book.items bytes.schedule.items) (λ files. FormsMetIn files r slots list)
+          (forms_met r bytes.program.items bytes.book.items bytes.schedule.items slots list c.requires c.in-Ok.ensures.fit forms.0 forms.1 (subst P (sym c.deref-in-Ok-plan_of.ensures.value) forms.2))
+          c.in-Ok.ensures.bytes,
+    )
