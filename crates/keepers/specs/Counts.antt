@@ -1,13 +1,13 @@
 -- Numbers of calls and of faults, which are u64: they only rise, and stand still at the end of their type.
-use Rattle.std.specs.Prelude.{ℕ, ◌+◌, ◌-◌, ◌^◌, ◌≤◌, min}
+use Rattle.std.specs.Prelude.{ℕ, ◌+◌, ◌-◌, ◌^◌, ◌≤◌, min, max}
 
 -- the greatest u64
 abbrev pub top : ℕ
 top = 2 ^ 64 - 1
 
--- a number of calls after k more of them
+-- a number of calls after k more of them; it never falls
 abbrev pub raised : ℕ → ℕ → ℕ
-raised before k = min (before + k) top
+raised before k = max before (min (before + k) top)
 
 -- a count of faults is greater than before the call, or stands at its end
 abbrev pub Rose : ℕ → ℕ → Type 0

@@ -46,6 +46,7 @@ pub trait Inputs {
         ensures same { told self.new ≡ told self.old }
         ensures asks { result ≢ Err InputFault.Memory → asked self.new ≡ asked self.old ++ name.now ∷ [] }
         ensures may_ask { result ≡ Err InputFault.Memory → (asked self.new ≡ asked self.old) ⊎ (asked self.new ≡ asked self.old ++ name.now ∷ []) }
+        ensures quiet { result ≢ Err InputFault.Failed → fault_count self.new ≡ fault_count self.old }
         ensures later { fault_count self.old ≤ fault_count self.new }
         ensures cause { result ≡ Err InputFault.Failed → Rose (fault_count self.old) (fault_count self.new) };
 }

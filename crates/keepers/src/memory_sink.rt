@@ -72,12 +72,15 @@ impl Sink for MemorySink {
 
     ghost told = { λ s. Some s.bytes };
 
+    ghost call_count = { λ s. s.calls };
+
     ghost fault_count = { λ s. s.faults };
 
     fn write(&mut self, piece: &[u8]) -> Result<(), SinkFault>
         ensures taken { IsOk result ↔ ((length self.old.bytes + length piece.now ≤ self.old.room) × (Contains self.old.failing (raised self.old.calls 1) → ⊥)) }
         ensures ok { OnOk result (self.new ≡ record self.old { bytes = self.old.bytes ++ piece.now; calls = raised self.old.calls 1 }) }
         ensures refused { OnErr result (self.new ≡ record self.old { calls = raised self.old.calls 1; faults = raised self.old.faults 1 }) }
+        ensures calls { self.new.calls ≡ raised self.old.calls 1 }
         ensures later { self.old.faults ≤ self.new.faults }
     {
         self.calls = self.calls.saturating_add(1);

@@ -1,6 +1,6 @@
 // Where output is written.
 ghost use Rattle.std.specs.Prelude.{◌≡◌, ℕ, ◌≤◌, List, ◌++◌, take, Option, OnOk, OnErr};
-ghost use Rattle.keepers.specs.Counts.{Rose};
+ghost use Rattle.keepers.specs.Counts.{Rose, raised};
 ghost use Rattle.keepers.specs.Told.{Tells, AddsPrefix};
 
 use thiserror::Error;
@@ -17,6 +17,8 @@ pub enum SinkFault {
 pub trait Sink {
     /// The bytes that it took, where it tells.
     ghost told: { Self → Option (List ℕ) };
+    /// How often `write` was called, refused calls among them.
+    ghost call_count: { Self → ℕ };
 
     ghost fault_count: { Self → ℕ };
 
@@ -24,6 +26,8 @@ pub trait Sink {
     fn write(&mut self, piece: &[u8]) -> Result<(), SinkFault>
         ensures ok { OnOk result (Tells (told self.old) (told self.new) (λ old new. new ≡ old ++ piece.now)) }
         ensures refused { OnErr result (Tells (told self.old) (told self.new) (AddsPrefix piece.now)) }
+        ensures calls { call_count self.new ≡ raised (call_count self.old) 1 }
+        ensures quiet { OnOk result (fault_count self.new ≡ fault_count self.old) }
         ensures later { fault_count self.old ≤ fault_count self.new }
         ensures cause { OnErr result (Rose (fault_count self.old) (fault_count self.new)) };
 }

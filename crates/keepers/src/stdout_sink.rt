@@ -10,15 +10,21 @@ use std::io::{ErrorKind, Write};
 #[derive(Drop)]
 pub struct StdoutSink<R> {
     rt: R,
+    calls: u64,
     faults: u64,
 }
 
 impl<R: Print> StdoutSink<R> {
     /// Has written nothing.
     pub fn new(rt: R) -> Self
-        ensures { ⟦<StdoutSink<R> as Sink>⟧.fault_count result ≡ 0 }
+        ensures calls { ⟦<StdoutSink<R> as Sink>⟧.call_count result ≡ 0 }
+        ensures faults { ⟦<StdoutSink<R> as Sink>⟧.fault_count result ≡ 0 }
     {
-        Self { rt, faults: 0 }
+        Self {
+            rt,
+            calls: 0,
+            faults: 0,
+        }
     }
 
     /// How often `write` failed, up to `u64::MAX`.
@@ -34,9 +40,12 @@ impl<R: Print> Sink for StdoutSink<R> {
 
     ghost told = { λ _. None };
 
+    ghost call_count = { λ s. s.calls };
+
     ghost fault_count = { λ s. s.faults };
 
     fn write(&mut self, piece: &[u8]) -> Result<(), SinkFault> {
+        self.calls = self.calls.saturating_add(1);
         let outcome = write_whole(&mut io::writer(&self.rt), piece);
         if outcome.is_err() {
             self.faults = self.faults.saturating_add(1);

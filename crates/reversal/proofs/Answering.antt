@@ -1,176 +1,198 @@
--- From what the parts of the top call answer to what it promises.
-use Rattle.std.proofs.Common.{[], ◌≡◌, ◌≢◌, ◌++◌, ℕ, List, take, sym, ap, subst, inl, inr, ◌⊎◌, arith, Option, Some, None}
-use Rattle.plan_types.specs.declared.action.Action.{Action}
-use Rattle.keepers.specs.Told.{Files, WhereTold, Tells, AddsPrefix}
-use Rattle.rv_machine.specs.States.{raw_start}
+-- From what the steps of the top call answer to what it promises.
+use Rattle.std.proofs.Common.{◌≡◌, ◌≢◌, ◌⊎◌, inl, inr, ℕ, List, [], ◌∷◌, Option, Result, Ok, Err, IfOk, IfErr, refl, sym, ◌∙◌, ap, subst, arith}
+use Rattle.std.specs.List.{AllByRecursion}
+use Rattle.keepers.specs.Told.{Files}
 use Rattle.reversal.specs.declared.ended.Ended.{Ended}
-use Rattle.reversal.specs.declared.reading.Refusal.{Refusal}
-use Rattle.reversal.specs.declared.reading.Refusal.TheVariants.{Input, NotBuilt, Memory}
-use Rattle.reversal.specs.Command.{RunCommand, Says}
-use Rattle.reversal.specs.BookForm.{IsPlainBook}
-use Rattle.reversal.specs.ProgramForm.{IsProgram}
-use Rattle.reversal.specs.ScheduleForm.{IsSchedule}
-use Rattle.reversal.specs.Forms.{bytes_of, StepsMet, ProgramFits, BookFits, ScheduleFits, BookMet, ScheduleMet, Unless, IsFirstUnmet, FormsMet}
-use Rattle.reversal.specs.Taking.{names_of, IsFirstTooLong, IsFirstUnformed, OnNotBuilt}
-use Rattle.reversal.specs.Answers.{FirstUnmetIn, FormsMetIn, RunsOn, AnswersList, Writes, WritesIn, HaltsIn, TooLongIn, EndsSo}
-use Rattle.reversal.specs.Output.{lines_down, Adds, RanPart}
-use Rattle.reversal.specs.Given.{Given, Accepted, first_state, program_of, book_of, schedule_of}
-use Rattle.reversal.proofs.Writing.{tells_so, tells_nothing, ran_none}
-use Rattle.reversal.proofs.OneReading.{one_command, one_book, one_list}
+use Rattle.reversal.specs.declared.bounds.Bounded.{Bounded}
+use Rattle.reversal.specs.Ending.{no_request, no_memory, not_built, invalid}
+use Rattle.reversal.specs.Request.{Request, run, Says}
+use Rattle.reversal.specs.Bounds.{numbers, IsWithin, RefusesFirst, RefusesWords, Asks}
+use Rattle.reversal.specs.Inputs.{Input, inputs_of, FailsAtInput}
+use Rattle.reversal.specs.InputReading.{all, too_long, Reads, Stops}
+use Rattle.reversal.specs.Deeds.{Job, deeds, Moment, Halts}
+use Rattle.reversal.specs.JobReading.{Works}
+use Rattle.reversal.specs.Decision.{Decision, refuse, accept, DecidesBytes, Comes, EndsBy}
+use Rattle.reversal.proofs.OneReading.{one_request}
+use Rattle.reversal.proofs.Deciding.{read_decides, long_decides, refuse_by}
 
--- what follows from what is told
-pub where_told : {A : Type 0} (told : Option A) (P Q : A → Type 0) → ((x : A) → P x → Q x) → WhereTold told P → WhereTold told Q
-where_told None P Q f h = tt
-where_told (Some x) P Q f h = f x h
+-- ---- words and numbers
 
-pub told_so : {A : Type 0} (told : Option A) (P : A → Type 0) (x : A) → told ≡ Some x → WhereTold told P → P x
-told_so {A} told P x e h = let Q : Option A → Type 0 = λ t. WhereTold t P in subst Q e h
+one_within : (ns : List Bounded) (e : Ended) → AllByRecursion IsWithin ns → RefusesFirst ns e → ⊥
+one_within [] e within refuses = refuses
+one_within (n ∷ ns) e within refuses = elim refuses [ inl x ↦ x.0 within.0 | inr y ↦ one_within ns e within.1 y.1 ]
 
--- the bytes that were read are those of the names
-abbrev pub ReadIn : Files → RunCommand → List ℕ → List ℕ → List ℕ → Type 0
-ReadIn files r program book schedule = (bytes_of files r.program ≡ program) × (bytes_of files r.book ≡ book) × (bytes_of files r.schedule ≡ schedule)
+one_refusal : (ns : List Bounded) (e f : Ended) → RefusesFirst ns e → RefusesFirst ns f → e ≡ f
+one_refusal [] e f h g = absurd h
+one_refusal (n ∷ ns) e f h g = elim h [
+  | inl x ↦ elim g [ inl y ↦ x.1 ∙ sym y.1 | inr y ↦ absurd (x.0 y.0) ]
+  | inr x ↦ elim g [ inl y ↦ absurd (y.0 x.0) | inr y ↦ one_refusal ns e f x.1 y.1 ]
+]
 
-abbrev pub Fit : List ℕ → List ℕ → List ℕ → Type 0
-Fit program book schedule = ProgramFits program × BookFits book × ScheduleFits schedule
+-- the first number outside its bounds is a form that isn't built
+refuses_unbuilt : (ns : List Bounded) (e : Ended) → RefusesFirst ns e → e.status ≡ 18
+refuses_unbuilt [] e h = absurd h
+refuses_unbuilt (n ∷ ns) e h = elim h [ inl x ↦ ap (λ (y : Ended). y.status) x.1 | inr y ↦ refuses_unbuilt ns e y.1 ]
 
-pub forms_met : (r : RunCommand) (program book schedule : List ℕ) (slots : ℕ) (list : List Action) → StepsMet r → Fit program book schedule →
-    IsPlainBook book slots → IsProgram program → IsSchedule schedule list → (files : Files) → ReadIn files r program book schedule → FormsMetIn files r slots list
-forms_met r program book schedule slots list steps fit is_book is_program is_schedule files read = record {
-  steps = steps;
-  program_fits = subst ProgramFits (sym read.0) fit.0;
-  book_fits = subst BookFits (sym read.1) fit.1;
-  schedule_fits = subst ScheduleFits (sym read.2) fit.2;
-  book_form = let P : List ℕ → Type 0 = λ b. IsPlainBook b slots in subst P (sym read.1) is_book;
-  program_form = subst IsProgram (sym read.0) is_program;
-  schedule_form = let P : List ℕ → Type 0 = λ b. IsSchedule b list in subst P (sym read.2) is_schedule;
+-- a request that is refused by a number isn't asked for
+pub not_asked : (words : List (List ℕ)) (q r : Request) (e : Ended) → Says words q → RefusesFirst (numbers q) e → Asks words r → ⊥
+not_asked words q r e says refuses asks =
+    let P : Request → Type 0 = λ x. RefusesFirst (numbers x) e in
+    one_within (numbers r) e asks.within (subst P (one_request words q r says asks.says) refuses)
+
+-- words that say a request whose numbers are within their bounds aren't refused
+pub not_refused : (words : List (List ℕ)) (q : Request) (e : Ended) → Says words q → AllByRecursion IsWithin (numbers q) → RefusesWords words e → ⊥
+not_refused words q e says within refuses = elim refuses [
+  | inl none ↦ none.0 q says
+  | inr some ↦ not_asked words some.0 q e some.1 some.2 (record { says = says; within = within })
+]
+
+-- and those that are refused are refused in one way
+pub refused_so : (words : List (List ℕ)) (q : Request) (e f : Ended) → Says words q → RefusesFirst (numbers q) e → RefusesWords words f → e ≡ f
+refused_so words q e f says refuses other = elim other [
+  | inl none ↦ absurd (none.0 q says)
+  | inr some ↦ let P : Request → Type 0 = λ x. RefusesFirst (numbers x) f in one_refusal (numbers q) e f refuses (subst P (one_request words some.0 q some.1 says) some.2)
+]
+
+pub refused_not_two : (q : Request) (e : Ended) → RefusesFirst (numbers q) e → e.status ≡ 2 → ⊥
+refused_not_two q e h two = let unbuilt = refuses_unbuilt (numbers q) e h in absurd (omega (arith, unbuilt, two))
+
+pub refused_alone : (words : List (List ℕ)) (e f : Ended) → ((r : Request) → Says words r → ⊥) → e ≡ no_request → RefusesWords words f → e ≡ f
+refused_alone words e f none is other = elim other [ inl x ↦ is ∙ sym x.1 | inr some ↦ absurd (none some.0 some.1) ]
+
+-- ---- what a decision is come to by
+
+pub comes_by : (r : Request) (told : Option Files) (before after : List (List ℕ)) (bytes : List (List ℕ)) (slots : List ℕ) (d : Decision) → Reads (inputs_of r) told before after (all bytes) → DecidesBytes r bytes slots d →
+    Comes r told before after slots d
+comes_by r told before after bytes slots d reads decides = record {
+  given = reads.given;
+  as_told = reads.as_told;
+  decides = read_decides 1 (inputs_of r) reads.given bytes d (λ b. DecidesBytes r b slots d) reads.reads decides;
+  asked = reads.asked;
 }
 
--- the first form that isn't met, where the inputs were read and one of them hasn't its form
-pub unmet_late : (r : RunCommand) (program book schedule : List ℕ) (place : ℕ) → StepsMet r → Fit program book schedule → IsFirstUnformed program book schedule place →
-    (files : Files) → ReadIn files r program book schedule → FirstUnmetIn files r place
-unmet_late r program book schedule place steps fit unformed files read =
-    let whole : IsFirstUnmet r program book schedule place = inr (steps, inr (fit.0, inr (fit.1, inr (fit.2, unformed)))) in
-    let P : List ℕ → Type 0 = λ p. IsFirstUnmet r p book schedule place in
-    let Q : List ℕ → Type 0 = λ b. IsFirstUnmet r (bytes_of files r.program) b schedule place in
-    let R : List ℕ → Type 0 = λ s. IsFirstUnmet r (bytes_of files r.program) (bytes_of files r.book) s place in
-    subst R (sym read.2) (subst Q (sym read.1) (subst P (sym read.0) whole))
+comes_long : (r : Request) (told : Option Files) (before after : List (List ℕ)) (place : ℕ) (slots : List ℕ) (e : Ended) → Reads (inputs_of r) told before after (too_long place) → e ≡ not_built place →
+    Comes r told before after slots (refuse e)
+comes_long r told before after place slots e reads is =
+    let P : Decision → Type 0 = λ d. Comes r told before after slots d in
+    subst P (sym (refuse_by e (not_built place) is)) (record {
+      given = reads.given;
+      as_told = reads.as_told;
+      decides = long_decides 1 (inputs_of r) reads.given place (λ b. DecidesBytes r b slots (refuse (not_built place))) reads.reads;
+      asked = reads.asked;
+    })
 
--- an ending with status 18 is of a form that isn't met
-pub ends_unformed : (e : Refusal) (result : Ended) (P : ℕ → Type 0) → EndsSo e result → OnNotBuilt e P → result.status ≡ 18 → P result.place
-ends_unformed (Input place) result P ends on status = absurd (omega (arith, ap (λ (x : Ended). x.status) ends, status))
-ends_unformed (NotBuilt place) result P ends on status = subst P (sym (ap (λ (x : Ended). x.place) ends)) on
-ends_unformed Memory result P ends on status = absurd (omega (arith, ap (λ (x : Ended). x.status) ends, status))
+pub comes_of : (words : List (List ℕ)) (q r : Request) (told : Option Files) (before after : List (List ℕ)) (slots : List ℕ) (d : Decision) → Says words q → Says words r → Comes q told before after slots d → Comes r told before after slots d
+comes_of words q r told before after slots d says other h = let P : Request → Type 0 = λ x. Comes x told before after slots d in subst P (one_request words q r says other) h
 
--- a status that is none of three others is that of a call that came to judge its list
-pub runs_on : (status : ℕ) → RunsOn status ⊎ ((status ≡ 3) ⊎ ((status ≡ 17) ⊎ (status ≡ 18))) → status ≢ 18 → status ≢ 3 → status ≢ 17 → RunsOn status
-runs_on status h n18 n3 n17 = elim h [
-  | inl runs ↦ runs
-  | inr other ↦ elim other [
-    | inl e ↦ absurd (n3 e)
-    | inr more ↦ elim more [ inl e ↦ absurd (n17 e) | inr e ↦ absurd (n18 e) ]
+-- ---- why a call was refused before its job
+
+-- a decision to refuse has a status of its own
+pub record IsRefusal (e : Ended) : Type 0 where
+  pub not_words : e.status ≢ 2
+  pub not_input : e.status ≢ 3
+  pub not_sink : e.status ≢ 14
+  pub not_memory : e.status ≢ 17
+
+refusal_by : (e : Ended) (status : ℕ) → e.status ≡ status → (status ≡ 8) ⊎ (status ≡ 18) → IsRefusal e
+refusal_by e status is which = elim which [
+  | inl eight ↦ record { not_words = λ x. absurd (omega (arith, x, is, eight)); not_input = λ x. absurd (omega (arith, x, is, eight)); not_sink = λ x. absurd (omega (arith, x, is, eight)); not_memory = λ x. absurd (omega (arith, x, is, eight)) }
+  | inr unbuilt ↦ record { not_words = λ x. absurd (omega (arith, x, is, unbuilt)); not_input = λ x. absurd (omega (arith, x, is, unbuilt)); not_sink = λ x. absurd (omega (arith, x, is, unbuilt)); not_memory = λ x. absurd (omega (arith, x, is, unbuilt)) }
+]
+
+abbrev ended_or : Ended → Decision → Ended
+ended_or e (refuse f) = f
+ended_or e (accept j) = e
+
+is_refusal : (e f : Ended) (status : ℕ) → refuse e ≡ refuse f → f.status ≡ status → (status ≡ 8) ⊎ (status ≡ 18) → IsRefusal e
+is_refusal e f status same is which = refusal_by e status (ap (λ (x : Ended). x.status) (ap (ended_or e) same) ∙ is) which
+
+refuse_accept : (e : Ended) (j : Job) → refuse e ≡ accept j → ⊥
+refuse_accept e j h = let P : Decision → Type 0 = λ d. elim d as (λ _. Type 0) [ refuse x ↦ Unit {0} | accept x ↦ ⊥ ] in subst P h tt
+
+pub decided_refusal : (r : Request) (bytes : List (List ℕ)) (slots : List ℕ) (e : Ended) → DecidesBytes r bytes slots (refuse e) → IsRefusal e
+decided_refusal (run r) (program ∷ book ∷ schedule ∷ []) slots e h = elim h [
+  | inl n ↦ is_refusal e (not_built 2) 18 n.1 refl (inr refl)
+  | inr room ↦ elim room.2 [
+    | inl n ↦ is_refusal e (not_built 1) 18 n.1 refl (inr refl)
+    | inr built ↦ elim built.1 [
+      | inl n ↦ is_refusal e (not_built 3) 18 n.1 refl (inr refl)
+      | inr list ↦ elim list.2 [
+        | inl n ↦ is_refusal e (invalid n.0 n.2 n.1) 8 n.5 refl (inl refl)
+        | inr y ↦ absurd (refuse_accept e _ y.1)
+      ]
+    ]
+  ]
+]
+decided_refusal (run r) other slots e h = absurd h
+
+-- why no job was come to: an input can't be read, memory ran out, or the call is refused by a decision
+abbrev pub Refused : Request → Option Files → Ended → List (List ℕ) → List (List ℕ) → Type 0
+Refused r told e before after =
+    FailsAtInput (inputs_of r) told e before after
+    ⊎ (e ≡ no_memory)
+    ⊎ ((e.status ≢ 3) × (e.status ≢ 17) × (e.status ≢ 2) × (e.status ≢ 14) × ((slots : List ℕ) → Comes r told before after slots (refuse e)))
+
+pub stops_refused : (r : Request) (told : Option Files) (e : Ended) (before after : List (List ℕ)) → Stops (inputs_of r) told e before after → Refused r told e before after
+stops_refused r told e before after stops = elim stops [
+  | inl input ↦ inl input
+  | inr more ↦ elim more [
+    | inl memory ↦ inr (inl memory)
+    | inr long ↦
+        let is = refusal_by e 18 (ap (λ (x : Ended). x.status) long.1) (inr refl) in
+        inr (inr (is.not_input, is.not_memory, is.not_words, is.not_sink, λ slots. comes_long r told before after long.0 slots e long.2 long.1))
   ]
 ]
 
--- the same along an equation of commands
-unmet_of : (files : Files) (r s : RunCommand) (place : ℕ) → r ≡ s → FirstUnmetIn files r place → FirstUnmetIn files s place
-unmet_of files r s place e h = let P : RunCommand → Type 0 = λ c. FirstUnmetIn files c place in subst P e h
+pub decides_refused : (r : Request) (told : Option Files) (e : Ended) (before after : List (List ℕ)) (bytes : List (List ℕ)) → Reads (inputs_of r) told before after (all bytes) →
+    (e ≡ no_memory) ⊎ ((slots : List ℕ) → DecidesBytes r bytes slots (refuse e)) → Refused r told e before after
+decides_refused r told e before after bytes reads h = elim h [
+  | inl memory ↦ inr (inl memory)
+  | inr decides ↦
+      let is = decided_refusal r bytes [] e (decides []) in
+      inr (inr (is.not_input, is.not_memory, is.not_words, is.not_sink, λ slots. comes_by r told before after bytes slots (refuse e) reads (decides slots)))
+]
 
-pub given_unmet : {words : List (List ℕ)} {told : Option Files} (g : Given words told) (r : RunCommand) (place : ℕ) → Says words r →
-    WhereTold told (λ files. FirstUnmetIn files r place) → IsFirstUnmet g.command (program_of g) (book_of g) (schedule_of g) place
-given_unmet {words} {told} g r place says h =
-    unmet_of g.files r g.command place (one_command words r g.command says g.says) (told_so told (λ files. FirstUnmetIn files r place) g.files g.tell h)
+pub no_input_fault : (r : Request) (e : Ended) (bytes : List (List ℕ)) → (e ≡ no_memory) ⊎ ((slots : List ℕ) → DecidesBytes r bytes slots (refuse e)) → e.status ≢ 3
+no_input_fault r e bytes h three = elim h [
+  | inl memory ↦ let status = ap (λ (x : Ended). x.status) memory in absurd (omega (arith, status, three))
+  | inr decides ↦ (decided_refusal r bytes [] e (decides [])).not_input three
+]
 
-abbrev pub accepted : {words : List (List ℕ)} {told : Option Files} (g : Given words told) (r : RunCommand) (slots : ℕ) (list : List Action) → Says words r →
-    WhereTold told (λ files. FormsMetIn files r slots list) → Accepted words told
-accepted {words} {told} g r slots list says h =
-    let P : RunCommand → Type 0 = λ c. FormsMetIn g.files c slots list in
-    record {
-      given = g;
-      slots = slots;
-      list = list;
-      forms = subst P (one_command words r g.command says g.says) (told_so told (λ files. FormsMetIn files r slots list) g.files g.tell h);
-    }
+pub if_error : {A : Type 0} (r : Result A Ended) (P Q : Ended → Type 0) → ((e : Ended) → P e → Q e) → IfErr r P → IfErr r Q
+if_error (Ok x) P Q f h = tt
+if_error (Err e) P Q f h = f e h
 
--- what is answered of the list that was read is answered of the list that is accepted
-pub answers : {words : List (List ℕ)} {told : Option Files} (a : Accepted words told) (r : RunCommand) (slots : ℕ) (list : List Action) (e : Ended) → Says words r →
-    WhereTold told (λ files. FormsMetIn files r slots list) → AnswersList e r slots list → AnswersList e a.given.command a.slots a.list
-answers {words} {told} a r slots list e says h answer =
-    let b = accepted a.given r slots list says h in
-    let same_slots = one_book (book_of a.given) slots a.slots b.forms.book_form a.forms.book_form in
-    let same_list = one_list (schedule_of a.given) list a.list b.forms.schedule_form a.forms.schedule_form in
-    let P : RunCommand → Type 0 = λ c. AnswersList e c slots list in
-    let Q : ℕ → Type 0 = λ n. AnswersList e a.given.command n list in
-    let R : List Action → Type 0 = λ l. AnswersList e a.given.command a.slots l in
-    subst R same_list (subst Q same_slots (subst P (one_command words r a.given.command says a.given.says) answer))
+pub if_okay : {A : Type 0} (r : Result A Ended) (P Q : A → Type 0) → ((x : A) → P x → Q x) → IfOk r P → IfOk r Q
+if_okay (Ok x) P Q f h = f x h
+if_okay (Err e) P Q f h = tt
 
--- the forms alone
-pub forms_only : (told : Option Files) (r : RunCommand) (slots : ℕ) (list : List Action) (W : Files → Type 0) → WhereTold told (λ files. FormsMetIn files r slots list × W files) → WhereTold told (λ files. FormsMetIn files r slots list)
-forms_only told r slots list W h = where_told told (λ files. FormsMetIn files r slots list × W files) (λ files. FormsMetIn files r slots list) (λ files x. x.0) h
+-- ---- endings
 
--- what was performed of the list that was read was performed of the list among the files
-pub halts_in : (r : RunCommand) (program book schedule : List ℕ) (list : List Action) (e : Ended) (old new : Option (List ℕ)) (before after : ℕ) → IsSchedule schedule list →
-    (e.status ≡ 17 → RanPart (raw_start program) [] r.steps list old new before after) →
-    (files : Files) → ReadIn files r program book schedule → HaltsIn files e r old new before after
-halts_in r program book schedule list e old new before after is_schedule halted files read slots other forms status =
-    let P : List ℕ → Type 0 = λ b. IsSchedule b other in
-    let Q : List Action → Type 0 = λ l. RanPart (raw_start (bytes_of files r.program)) [] r.steps l old new before after in
-    let R : List ℕ → Type 0 = λ p. RanPart (raw_start p) [] r.steps list old new before after in
-    subst Q (one_list schedule list other is_schedule (subst P read.2 forms.schedule_form)) (subst R (sym read.0) (halted status))
+-- a job that was done, or stopped, doesn't end by want of memory
+pub ends_not : (job : Job) (e : Ended) (old new : Moment) → EndsBy (accept job) e old new → (e.status ≢ 17) × (e.status ≢ 2) × (e.status ≢ 3)
+ends_not job e old new h = elim h [
+  | inl x ↦ let status = ap (λ (y : Ended). y.status) x.0 in (λ s. absurd (omega (arith, status, s)), λ s. absurd (omega (arith, status, s)), λ s. absurd (omega (arith, status, s)))
+  | inr x ↦ let status = ap (λ (y : Ended). y.status) x.0 in (λ s. absurd (omega (arith, status, s)), λ s. absurd (omega (arith, status, s)), λ s. absurd (omega (arith, status, s)))
+]
 
--- and nothing of it, where nothing was written and no step was taken
-pub halts_early : (told : Option Files) (r : RunCommand) (e : Ended) (old new : Option (List ℕ)) (before after : ℕ) → new ≡ old → after ≡ before → WhereTold told (λ files. HaltsIn files e r old new before after)
-halts_early None r e old new before after same still = tt
-halts_early (Some files) r e old new before after same still = λ slots list forms status. ran_none (raw_start (bytes_of files r.program)) [] r.steps list old new before after same still
+pub works_ends : (job : Job) (e : Ended) (old new : Moment) → Works job e old new → e.status ≢ 17 → EndsBy (accept job) e old new
+works_ends job e old new h n17 = elim h [
+  | inl ends ↦ ends
+  | inr memory ↦ absurd (n17 (ap (λ (y : Ended). y.status) memory.0))
+]
 
-pub halts_given : {words : List (List ℕ)} {told : Option Files} (a : Accepted words told) (r : RunCommand) (e : Ended) (old new : Option (List ℕ)) (before after : ℕ) → Says words r →
-    WhereTold told (λ files. HaltsIn files e r old new before after) → e.status ≡ 17 → RanPart (first_state a.given) [] a.given.command.steps a.list old new before after
-halts_given {words} {told} a r e old new before after says h =
-    let P : RunCommand → Type 0 = λ c. HaltsIn a.given.files e c old new before after in
-    let here = told_so told (λ files. HaltsIn files e r old new before after) a.given.files a.given.tell h in
-    subst P (one_command words r a.given.command says a.given.says) here a.slots a.list a.forms
+pub works_halts : (job : Job) (e : Ended) (old new : Moment) → Works job e old new → e.status ≡ 17 → (e ≡ no_memory) × Halts (deeds job) old new
+works_halts job e old new h is = elim h [
+  | inl ends ↦ absurd ((ends_not job e old new ends).0 is)
+  | inr memory ↦ memory
+]
 
--- where every form is met, none is the first that isn't
-met_so : (Form later : Type 0) (p place : ℕ) → Form → Unless Form p place later → later
-met_so Form later p place f h = elim h [ inl n ↦ absurd (n.0 f) | inr y ↦ y.1 ]
+pub works_not : (job : Job) (e : Ended) (old new : Moment) → Works job e old new → (e.status ≢ 2) × (e.status ≢ 3)
+works_not job e old new h = elim h [
+  | inl ends ↦ let n = ends_not job e old new ends in (n.1, n.2)
+  | inr memory ↦ let status = ap (λ (y : Ended). y.status) memory.0 in (λ s. absurd (omega (arith, status, s)), λ s. absurd (omega (arith, status, s)))
+]
 
--- which names were asked for where an input is too long
-pub too_long_given : {words : List (List ℕ)} {told : Option Files} (g : Given words told) (r : RunCommand) (place : ℕ) (old new : List (List ℕ)) → Says words r →
-    WhereTold told (λ files. TooLongIn files r place → new ≡ old ++ take place (names_of r)) →
-    IsFirstTooLong (program_of g) (book_of g) (schedule_of g) place → new ≡ old ++ take place (names_of g.command)
-too_long_given {words} {told} g r place old new says h =
-    let P : RunCommand → Type 0 = λ c. TooLongIn g.files c place → new ≡ old ++ take place (names_of c) in
-    subst P (one_command words r g.command says g.says) (told_so told (λ files. TooLongIn files r place → new ≡ old ++ take place (names_of r)) g.files g.tell h)
-
-pub all_met : (r : RunCommand) (program book schedule : List ℕ) (slots : ℕ) (list : List Action) (place : ℕ) → FormsMet r program book schedule slots list → IsFirstUnmet r program book schedule place → ⊥
-all_met r program book schedule slots list place m h =
-    met_so (ScheduleMet schedule) ⊥ 3 place (list, m.schedule_form)
-    (met_so (IsProgram program) _ 1 place m.program_form
-    (met_so (BookMet book) _ 2 place (slots, m.book_form)
-    (met_so (ScheduleFits schedule) _ 3 place m.schedule_fits
-    (met_so (BookFits book) _ 2 place m.book_fits
-    (met_so (ProgramFits program) _ 1 place m.program_fits
-    (met_so (StepsMet r) _ 0 place m.steps h))))))
-
--- what was written for the list that was read was written for the list that is accepted
-pub written : {words : List (List ℕ)} {told : Option Files} (a : Accepted words told) (r : RunCommand) (slots : ℕ) (list : List Action) (e : Ended) (old new : Option (List ℕ)) (before after : ℕ) → Says words r →
-    WhereTold told (λ files. FormsMetIn files r slots list × WritesIn files e r list old new before after) →
-    Writes e (first_state a.given) a.given.command.steps a.list old new before after
-written {words} {told} a r slots list e old new before after says h =
-    let P : RunCommand → Type 0 = λ c. FormsMetIn a.given.files c slots list × WritesIn a.given.files e c list old new before after in
-    let here = told_so told (λ files. FormsMetIn files r slots list × WritesIn files e r list old new before after) a.given.files a.given.tell h in
-    let moved = subst P (one_command words r a.given.command says a.given.says) here in
-    let R : List Action → Type 0 = λ l. Writes e (first_state a.given) a.given.command.steps l old new before after in
-    subst R (one_list (schedule_of a.given) list a.list moved.0.schedule_form a.forms.schedule_form) moved.1
-
--- a part of the lines of the program among the files is one of the lines of the program that is given
-pub part_written : {words : List (List ℕ)} {told : Option Files} (g : Given words told) (r : RunCommand) (old new : Option (List ℕ)) → Says words r →
-    WhereTold told (λ files. Tells old new (AddsPrefix (lines_down (raw_start (bytes_of files r.program)) [] r.steps))) →
-    Tells old new (AddsPrefix (lines_down (first_state g) [] g.command.steps))
-part_written {words} {told} g r old new says h =
-    let P : RunCommand → Type 0 = λ c. Tells old new (AddsPrefix (lines_down (raw_start (bytes_of g.files c.program)) [] c.steps)) in
-    subst P (one_command words r g.command says g.says) (told_so told (λ files. Tells old new (AddsPrefix (lines_down (raw_start (bytes_of files r.program)) [] r.steps))) g.files g.tell h)
-
--- where nothing was written, a part of any lines was added
-pub nothing_written : (told : Option Files) (old new : Option (List ℕ)) (lines : Files → List ℕ) → new ≡ old → WhereTold told (λ files. Tells old new (AddsPrefix (lines files)))
-nothing_written None old new lines e = tt
-nothing_written (Some files) old new lines e = tells_so old new (Adds []) (AddsPrefix (lines files)) (λ a b h. (0, h)) (tells_nothing old new e)
+-- an ending that names an input has a status of its own
+pub not_at_input : (is : List Input) (told : Option Files) (e : Ended) (before after : List (List ℕ)) → FailsAtInput is told e before after → (e.status ≢ 17) × (e.status ≢ 2)
+not_at_input is told e before after h = let status = ap (λ (y : Ended). y.status) h.ends in (λ s. absurd (omega (arith, status, s)), λ s. absurd (omega (arith, status, s)))

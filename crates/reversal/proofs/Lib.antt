@@ -4,10 +4,12 @@ pub mod Texts
 pub mod Lines
 pub mod Schedules
 pub mod Books
-pub mod Commands
-pub mod Asking
+pub mod Requests
+pub mod Lists
+pub mod Taking
 pub mod OnTheWay
-pub mod Writing
+pub mod Doing
 pub mod Performing
 pub mod OneReading
+pub mod Deciding
 pub mod Answering

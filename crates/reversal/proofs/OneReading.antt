@@ -1,10 +1,10 @@
--- What is read can be read in one way: the words say one command, and the bytes are one book and one list.
+-- What is read can be read in one way: the words say one request, and the bytes are one book and one list.
 use Rattle.std.proofs.Common.{◌≡◌, ℕ, List, [], ◌∷◌, ◌++◌, length, refl, sym, ◌∙◌, ap, arith, Option, Some}
 use Rattle.std.specs.List.{AllByRecursion}
 use Rattle.std.proofs.lemmas.Fmt.{decimal_injective}
 use Rattle.std.proofs.lemmas.Option.{same_Some}
 use Rattle.plan_types.specs.declared.action.Action.{Action}
-use Rattle.reversal.specs.Command.{RunCommand, Says}
+use Rattle.reversal.specs.Request.{Request, run, Says}
 use Rattle.reversal.specs.BookForm.{IsPlainBook}
 use Rattle.reversal.specs.ScheduleForm.{IsSchedule, HasSpelling, text_of}
 use Rattle.reversal.specs.LineReading.{action_of}
@@ -17,12 +17,12 @@ seventh : (a b c d e f g a' b' c' d' e' f' g' : List ℕ) →
     a ∷ b ∷ c ∷ d ∷ e ∷ f ∷ g ∷ [] ≡ a' ∷ b' ∷ c' ∷ d' ∷ e' ∷ f' ∷ g' ∷ [] → (c ≡ c') × (e ≡ e') × (f ≡ f') × (g ≡ g')
 seventh a b c d e f g a' b' c' d' e' f' g' h = (cc, cc, cc, cc)
 
--- words say one command at most
-pub one_command : (words : List (List ℕ)) (r s : RunCommand) → Says words r → Says words s → r ≡ s
-one_command words r s h g =
+-- words say one request at most
+pub one_request : (words : List (List ℕ)) (r s : Request) → Says words r → Says words s → r ≡ s
+one_request words (run r) (run s) h g =
     let parts = seventh _ _ _ _ _ _ _ _ _ _ _ _ _ _ (sym h.spelled ∙ g.spelled) in
-    let steps = decimal_injective r.steps s.steps h.small g.small parts.3 in
-    λ i. record { program = parts.0 i; book = parts.1 i; schedule = parts.2 i; steps = steps i }
+    let steps = decimal_injective r.steps s.steps h.allowed.3 g.allowed.3 parts.3 in
+    λ i. run (record { program = parts.0 i; book = parts.1 i; schedule = parts.2 i; steps = steps i })
 
 -- bytes are the plain book with one number of slots at most
 pub one_book : (bytes : List ℕ) (m n : ℕ) → IsPlainBook bytes m → IsPlainBook bytes n → m ≡ n

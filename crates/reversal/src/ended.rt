@@ -1,8 +1,9 @@
 // How a call ended.
 ghost use Rattle.std.specs.Prelude.{◌≡◌, ◌+◌, ◌≤◌, ◌++◌, length, codes, decimal};
-ghost use Rattle.reversal.specs.Ending.{text_of_ended, status_name};
+ghost use Rattle.reversal.specs.Ending.{ended_at, done, no_request, unreadable, invalid, stopped, no_memory, not_built, text_of_ended, status_name};
 
 use plan_types::Line;
+use std::alloc::{AllocError, AllocFailed};
 
 /// How a call ended. Numbers that a status doesn't name are 0.
 #[derive(Clone, Copy, Debug, PartialEq, Eq)]
@@ -18,9 +19,9 @@ pub struct Ended {
 }
 
 impl Ended {
-    /// An ending with this status and place.
-    pub(crate) fn at(status: u8, place: u64) -> Ended
-        ensures { result ≡ record { status = status; place = place; more = 0; rule = 0 } }
+    // An ending that has a status and a place alone.
+    fn at(status: u8, place: u64) -> Ended
+        ensures { result ≡ ended_at status place }
     {
         Ended {
             status,
@@ -28,6 +29,80 @@ impl Ended {
             more: 0,
             rule: 0,
         }
+    }
+
+    /// The job was done.
+    pub(crate) fn done() -> Ended
+        ensures { result ≡ done }
+    {
+        Ended::at(0, 0)
+    }
+
+    /// The words say no request.
+    pub(crate) fn no_request() -> Ended
+        ensures { result ≡ no_request }
+    {
+        Ended::at(2, 0)
+    }
+
+    /// The input with this number can't be read.
+    pub(crate) fn unreadable(place: u64) -> Ended
+        ensures { result ≡ unreadable place }
+    {
+        Ended::at(3, place)
+    }
+
+    /// The list is first broken at this place, by this rule.
+    pub(crate) fn invalid(place: u64, level: u8, rule: u8) -> Ended
+        ensures { result ≡ invalid place level rule }
+    {
+        Ended {
+            status: 8,
+            place,
+            more: level as u64,
+            rule: rule as u16,
+        }
+    }
+
+    /// The sink failed in the deed at this place.
+    pub(crate) fn stopped(place: u64) -> Ended
+        ensures { result ≡ stopped place }
+    {
+        Ended::at(14, place)
+    }
+
+    /// Memory ran out.
+    pub(crate) fn no_memory() -> Ended
+        ensures { result ≡ no_memory }
+    {
+        Ended::at(17, 0)
+    }
+
+    /// A form isn't built.
+    pub(crate) fn not_built(place: u64) -> Ended
+        ensures { result ≡ not_built place }
+    {
+        Ended::at(18, place)
+    }
+}
+
+impl From<AllocError> for Ended {
+    ghost use Rattle.reversal.specs.Ending.{no_memory};
+
+    ghost from_gives = { λ _ e. e ≡ no_memory };
+
+    fn from(_e: AllocError) -> Ended {
+        Ended::no_memory()
+    }
+}
+
+impl<T: Drop> From<AllocFailed<T>> for Ended {
+    ghost use Rattle.reversal.specs.Ending.{no_memory};
+
+    ghost from_gives = { λ _ e. e ≡ no_memory };
+
+    fn from(_e: AllocFailed<T>) -> Ended {
+        Ended::no_memory()
     }
 }
 

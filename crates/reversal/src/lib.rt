@@ -1,15 +1,19 @@
 //! The top call: words and inputs in, lines out, and one ending that says what happened. It stands on all other crates,
-//! and the program is a thin shell around it. The words that its contract uses stand in `specs/`: `Command` (which words
-//! are a command), `BookForm`, `ProgramForm` and `ScheduleForm` (what is read so far). Readers know nothing of runs, and
-//! the run nothing of text.
+//! and the program is a thin shell around it. It has three steps, and a file of `specs/` for what each means, to be read in
+//! this order: `Request` and `Bounds` (what the words ask for), `Inputs` and `Decision` (what that comes to), `Deeds` (what
+//! is done). Readers know nothing of runs, and the run nothing of text.
 #![tactic(auto)]
 
 mod book_form;
+mod bounds;
+mod decision;
 mod ended;
+mod inputs;
+mod job;
+pub mod laws;
 mod number;
 mod program_form;
-mod reading;
-mod running;
+mod request;
 mod schedule_form;
 #[cfg(test)]
 mod tests;

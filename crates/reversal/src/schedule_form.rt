@@ -6,6 +6,7 @@ ghost use Rattle.reversal.specs.ScheduleForm.{IsSchedule};
 ghost use Rattle.reversal.specs.Reading.{Gives, number_at};
 ghost use Rattle.reversal.specs.LineReading.{keep_of, dest_of, pair_of, forward_of, reverse_of, copy_of, move_of, action_of};
 
+use crate::ended::Ended;
 use crate::number::decimal_at;
 use crate::text::after;
 use plan_types::{Action, Dest, Keep, MOST_ACTIONS, MOST_STEPS};
@@ -36,6 +37,19 @@ impl<T: Drop> From<AllocFailed<T>> for ScheduleFault {
 
     fn from(_e: AllocFailed<T>) -> ScheduleFault {
         ScheduleFault::Memory
+    }
+}
+
+impl From<ScheduleFault> for Ended {
+    ghost use Rattle.reversal.specs.Ending.{not_built, no_memory};
+
+    ghost from_gives = { λ fault e. (fault ≡ NotBuilt → e ≡ not_built 3) × (fault ≡ Memory → e ≡ no_memory) };
+
+    fn from(fault: ScheduleFault) -> Ended {
+        match fault {
+            ScheduleFault::NotBuilt => Ended::not_built(3),
+            ScheduleFault::Memory => Ended::no_memory(),
+        }
     }
 }
 

@@ -11,6 +11,7 @@ use rv_machine::Steps;
 use std::alloc::{AllocError, Global};
 use std::fmt::Write;
 use std::marker::Brand;
+use std::process::Abort;
 use std::sync::ledger::{Blank, Ledger};
 use std::test::Fail;
 
@@ -106,13 +107,39 @@ const PAST_THE_PAGE: [&[u8]; 2] = [
 ];
 
 // One run: the bytes of its three inputs, and the word for the number of steps.
-#[derive(Drop)]
+#[derive(Clone, Copy)]
 struct Given<'a> {
     program: &'a [u8],
     book: &'a [u8],
     schedule: &'a [u8],
     steps: &'a [u8],
 }
+
+impl<'a> Given<'a> {
+    fn program(self, program: &'a [u8]) -> Given<'a> {
+        Given { program, ..self }
+    }
+
+    fn book(self, book: &'a [u8]) -> Given<'a> {
+        Given { book, ..self }
+    }
+
+    fn schedule(self, schedule: &'a [u8]) -> Given<'a> {
+        Given { schedule, ..self }
+    }
+
+    fn steps(self, steps: &'a [u8]) -> Given<'a> {
+        Given { steps, ..self }
+    }
+}
+
+// The four words for four steps over two slots.
+const FOUR_STEPS_GIVEN: Given<'static> = Given {
+    program: FOUR_WORDS,
+    book: TWO_SLOTS,
+    schedule: FOUR_STEPS_TWO_SLOTS,
+    steps: b"4",
+};
 
 // The inputs of a run, under the names that `words_for` has.
 fn inputs_of(alloc: Global, given: &Given<'_>) -> Result<MemoryInputs, AllocError> {
@@ -185,12 +212,7 @@ fn joined(alloc: Global, lines: &[&[u8]], count: usize) -> Result<Vec<u8>, Alloc
 
 #[test]
 fn four_steps_with_two_slots_write_five_lines(rt: HostRuntime) -> Result<(), Fail> {
-    let given = Given {
-        program: FOUR_WORDS,
-        book: TWO_SLOTS,
-        schedule: FOUR_STEPS_TWO_SLOTS,
-        steps: b"4",
-    };
+    let given = FOUR_STEPS_GIVEN;
     let mut out = MemorySink::new(rt.alloc(), 4096)?;
     assert_eq!(rt; run(rt.alloc(), &given, &mut out)?.status, 0);
     assert_eq!(rt; out.bytes(), joined(rt.alloc(), &FOUR_STEPS, 5)?.as_slice());
@@ -291,12 +313,7 @@ fn no_steps_write_the_start_and_one_step_needs_no_slot(rt: HostRuntime) -> Resul
 
 #[test]
 fn a_sink_that_fails_keeps_the_lines_before(rt: HostRuntime) -> Result<(), Fail> {
-    let given = Given {
-        program: FOUR_WORDS,
-        book: TWO_SLOTS,
-        schedule: FOUR_STEPS_TWO_SLOTS,
-        steps: b"4",
-    };
+    let given = FOUR_STEPS_GIVEN;
     // The actions that hand out a state, in the order of the list.
     for (lines, place) in [4u64, 5, 9, 12, 15].iter().enumerate() {
         let failing = vec![in rt.alloc(); lines as u64 + 1]?;
@@ -312,83 +329,63 @@ fn a_sink_that_fails_keeps_the_lines_before(rt: HostRuntime) -> Result<(), Fail>
     Ok(())
 }
 
-#[test]
-fn what_is_refused_writes_nothing_and_says_why(rt: HostRuntime) -> Result<(), Fail> {
-    let table: [(&[u8], &[u8], &[u8], &[u8], &[u8]); 7] = [
-        (
-            b"\x13\x05\x70\x00\x93\x02\x10\x00\x13\x83\x22\x00\x73\x00\x00\x00",
-            TWO_SLOTS,
-            FOUR_STEPS_TWO_SLOTS,
-            b"4",
-            b"reversal: 18 NotBuilt 1 0 0",
-        ),
-        (
-            FOUR_WORDS,
-            b"{}",
-            FOUR_STEPS_TWO_SLOTS,
-            b"4",
-            b"reversal: 18 NotBuilt 2 0 0",
-        ),
-        (
-            FOUR_WORDS,
-            TWO_SLOTS,
-            b"Forward(0, 1)\n",
-            b"4",
-            b"reversal: 18 NotBuilt 3 0 0",
-        ),
-        (
-            FOUR_WORDS,
-            TWO_SLOTS,
-            FOUR_STEPS_TWO_SLOTS,
-            b"1000001",
-            b"reversal: 18 NotBuilt 0 0 0",
-        ),
-        (
-            FOUR_WORDS,
-            NO_SLOT,
-            b"Forward(0, 1, False, False, NONE)\nForward(1, 2, False, True, WORK)\nEndForward()\nReverse(2, 1, True)\nForward(0, 1, False, True, WORK)\n",
-            b"2",
-            b"reversal: 8 Invalid 5 0 1",
-        ),
-        (
-            FOUR_WORDS,
-            ONE_SLOT,
-            b"Forward(0, 1, True, False, RAM)\nForward(1, 2, True, False, RAM)\n",
-            b"3",
-            b"reversal: 8 Invalid 2 0 4",
-        ),
-        (
-            FOUR_WORDS,
-            ONE_SLOT,
-            b"Forward(0, 1, False, True, WORK)\nReverse(1, 0, True)\n",
-            b"1",
-            b"reversal: 8 Invalid 2 0 12",
-        ),
-    ];
-    for (program, book, schedule, steps, text) in table {
-        let given = Given {
-            program,
-            book,
-            schedule,
-            steps,
-        };
-        let mut out = MemorySink::new(rt.alloc(), 4096)?;
-        let mut line = Line::new();
-        ended_text(&run(rt.alloc(), &given, &mut out)?, &mut line);
-        assert_eq!(rt; line.bytes(), text);
-        assert!(rt; out.bytes().is_empty(), "a refusal writes nothing");
-    }
+// A list for two steps without a slot, which takes a step from a state that isn't in work.
+const ELSEWHERE: &[u8] = b"Forward(0, 1, False, False, NONE)
+Forward(1, 2, False, True, WORK)
+EndForward()
+Reverse(2, 1, True)
+Forward(0, 1, False, True, WORK)
+";
+
+// A list that stores two states where one fits.
+const FULL_LEVEL: &[u8] = b"Forward(0, 1, True, False, RAM)
+Forward(1, 2, True, False, RAM)
+";
+
+// A list that reverses a step before EndForward.
+const EARLY_REVERSE: &[u8] = b"Forward(0, 1, False, True, WORK)
+Reverse(1, 0, True)
+";
+
+const HALF_LINE: &[u8] = b"Forward(0, 1)\n";
+
+// The four words, the last of them ECALL.
+const UNKNOWN_WORD: &[u8] = b"\x13\x05\x70\x00\x93\x02\x10\x00\x13\x83\x22\x00\x73\x00\x00\x00";
+
+// A run ends with this text behind the name of the program, and nothing is written.
+fn ends(rt: &impl Abort, alloc: Global, given: Given<'_>, text: &[u8]) -> Result<(), Fail> {
+    let mut out = MemorySink::new(alloc, 4096)?;
+    let mut line = Line::new();
+    ended_text(&run(alloc, &given, &mut out)?, &mut line);
+    assert_eq!(rt; line.bytes().strip_prefix(b"reversal: "), Some(text));
+    assert!(rt; out.bytes().is_empty(), "a refusal writes nothing");
     Ok(())
 }
 
 #[test]
+fn a_form_that_is_not_built_is_named(rt: HostRuntime) -> Result<(), Fail> {
+    let good = FOUR_STEPS_GIVEN;
+    let alloc = rt.alloc();
+    ends(&rt, alloc, good.program(UNKNOWN_WORD), b"18 NotBuilt 1 0 0")?;
+    ends(&rt, alloc, good.book(b"{}"), b"18 NotBuilt 2 0 0")?;
+    ends(&rt, alloc, good.schedule(HALF_LINE), b"18 NotBuilt 3 0 0")?;
+    ends(&rt, alloc, good.steps(b"1000001"), b"18 NotBuilt 0 0 0")
+}
+
+#[test]
+fn a_list_that_breaks_a_rule_is_refused_at_its_place(rt: HostRuntime) -> Result<(), Fail> {
+    let given = FOUR_STEPS_GIVEN;
+    let full = given.book(ONE_SLOT).schedule(FULL_LEVEL).steps(b"3");
+    let early = given.book(ONE_SLOT).schedule(EARLY_REVERSE).steps(b"1");
+    let elsewhere = given.book(NO_SLOT).schedule(ELSEWHERE).steps(b"2");
+    ends(&rt, rt.alloc(), elsewhere, b"8 Invalid 5 0 1")?;
+    ends(&rt, rt.alloc(), full, b"8 Invalid 2 0 4")?;
+    ends(&rt, rt.alloc(), early, b"8 Invalid 2 0 12")
+}
+
+#[test]
 fn an_input_that_cannot_be_read_is_named_by_its_number(rt: HostRuntime) -> Result<(), Fail> {
-    let given = Given {
-        program: FOUR_WORDS,
-        book: TWO_SLOTS,
-        schedule: FOUR_STEPS_TWO_SLOTS,
-        steps: b"4",
-    };
+    let given = FOUR_STEPS_GIVEN;
     let mut out = MemorySink::new(rt.alloc(), 4096)?;
     let mut line = Line::new();
     let words = words_for(rt.alloc(), b"another", b"4")?;
@@ -410,16 +407,6 @@ fn an_input_that_cannot_be_read_is_named_by_its_number(rt: HostRuntime) -> Resul
 
 #[test]
 fn other_words_are_not_the_command(rt: HostRuntime) -> Result<(), Fail> {
-    let given = Given {
-        program: FOUR_WORDS,
-        book: TWO_SLOTS,
-        schedule: FOUR_STEPS_TWO_SLOTS,
-        steps: b"04",
-    };
-    let mut out = MemorySink::new(rt.alloc(), 4096)?;
-    let mut line = Line::new();
-    ended_text(&run(rt.alloc(), &given, &mut out)?, &mut line);
-    assert_eq!(rt; line.bytes(), b"reversal: 2 Words 0 0 0".as_slice());
-    assert!(rt; out.bytes().is_empty(), "a refusal writes nothing");
-    Ok(())
+    let given = FOUR_STEPS_GIVEN.steps(b"04");
+    ends(&rt, rt.alloc(), given, b"2 Words 0 0 0")
 }

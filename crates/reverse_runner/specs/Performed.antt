@@ -1,6 +1,6 @@
 -- What performing an action does to the states of a session, and what the visitor gets. The steps are those of the
 -- machine; whether the action may be done is said elsewhere.
-use Rattle.std.specs.Prelude.{◌≡◌, ℕ, ◌-◌, List, slice_set, Some}
+use Rattle.std.specs.Prelude.{◌≡◌, ℕ, ◌-◌, Bool, true, false, List, slice_set, Some}
 use Rattle.std.specs.FinMap as finmap
 use Rattle.plan_types.specs.declared.action.Keep.{Keep}
 use Rattle.plan_types.specs.declared.action.Keep.TheVariants.{Nothing, Store, Tape}
@@ -41,6 +41,13 @@ Does journal (Move n k (Level j)) work stored work' stored' =
     × ((state : MachineState) × (finmap.get (level_of stored k) n ≡ Some state) × (stored' ≡ without_copy (with_copy stored j n state) k n))
 Does journal EndForward work stored work' stored' = (work' ≡ work) × (stored' ≡ stored)
 Does journal EndReverse work stored work' stored' = (work' ≡ work) × (stored' ≡ stored)
+
+-- whether an action keeps a copy on a level; no other action takes memory
+abbrev pub keeps_copy : Action → Bool
+keeps_copy (Forward from to (Store k)) = true
+keeps_copy (Copy n k (Level j)) = true
+keeps_copy (Move n k (Level j)) = true
+keeps_copy _ = false
 
 -- What the visitor gets, by its relation between before and after: at EndForward the state in work with the number of
 -- the work position, at a Reverse the state on the tape with the number that is led back to, and else nothing.

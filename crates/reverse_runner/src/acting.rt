@@ -1,5 +1,5 @@
 // What an action does to the states of a session.
-ghost use Rattle.std.specs.Prelude.{◌≡◌, ◌≢◌, ◌+◌, ◌-◌, ◌<◌, ◌≤◌, ℕ, List, length, Err, OnOk, OnErr, IsSome};
+ghost use Rattle.std.specs.Prelude.{◌≡◌, ◌≢◌, ◌+◌, ◌-◌, ◌<◌, ◌≤◌, ℕ, List, length, Err, OnOk, OnErr, IsSome, IsTrue};
 ghost use Rattle.std.specs.FinMap as finmap;
 ghost use Rattle.level_book.specs.Rules.{rule};
 ghost use Rattle.level_book.specs.CostFold.{steps_of};
@@ -7,7 +7,7 @@ ghost use Rattle.rv_machine.specs.States.{state_number};
 ghost use Rattle.reverse_runner.specs.StoredStates.{SamePages, level_of};
 ghost use Rattle.reverse_runner.specs.SessionState.{HeldIsStored};
 ghost use Rattle.keepers.specs.Counts.{Rose};
-ghost use Rattle.reverse_runner.specs.Performed.{Does, Gets, Misses, kept};
+ghost use Rattle.reverse_runner.specs.Performed.{Does, Gets, Misses, keeps_copy, kept};
 
 use crate::stored::Stored;
 use crate::visitor::Visitor;
@@ -45,6 +45,8 @@ pub(crate) fn act<V: Visitor, L: Ledger>(
     ensures gets { OnOk result (Gets V.got journal.now action.now config.now.at.work work.old stored.old visitor.old visitor.new) }
     ensures misses { result ≡ Err ActFault.Visitor → Misses V.missed journal.now action.now config.now.at.work work.old stored.old visitor.old visitor.new }
     ensures memory { result ≡ Err ActFault.Memory → visitor.new ≡ visitor.old }
+    ensures quiet { OnOk result (V.fault_count visitor.new ≡ V.fault_count visitor.old) }
+    ensures wants { result ≡ Err ActFault.Memory → IsTrue (keeps_copy action.now) }
     ensures same { OnErr result ((work.new ≡ work.old) × (stored.new ≡ stored.old) × (steps.new ≡ steps.old)) }
     ensures pages { SamePages stored.new.tape work.new }
     ensures levels { length stored.new.levels ≡ length stored.old.levels }
@@ -77,6 +79,7 @@ fn hand_out<V: Visitor>(
     ensures got { OnOk result (V.got visitor.old n state.now journal.now visitor.new) }
     ensures missed { OnErr result (V.missed visitor.old n state.now journal.now visitor.new) }
     ensures fault { OnErr result (result ≡ Err ActFault.Visitor) }
+    ensures quiet { OnOk result (V.fault_count visitor.new ≡ V.fault_count visitor.old) }
     ensures later { V.fault_count visitor.old ≤ V.fault_count visitor.new }
     ensures cause { OnErr result (Rose (V.fault_count visitor.old) (V.fault_count visitor.new)) }
 {
@@ -113,6 +116,7 @@ fn forward<L: Ledger>(
     ensures work { OnOk result (work.new ≡ state_number work.old journal.now (to - from)) }
     ensures stored { OnOk result (stored.new ≡ kept keep from work.old stored.old) }
     ensures counted { OnOk result (steps.new ≡ steps.old + (to - from)) }
+    ensures wants { OnErr result (IsTrue (keeps_copy (Action.Forward from to keep))) }
     ensures same { OnErr result ((work.new ≡ work.old) × (stored.new ≡ stored.old) × (steps.new ≡ steps.old)) }
     ensures pages { SamePages stored.new.tape work.new }
     ensures levels { length stored.new.levels ≡ length stored.old.levels }
@@ -139,6 +143,7 @@ fn copy(
     requires there { IsSome (finmap.get (level_of stored.old from) n) }
     requires pages { SamePages stored.old.tape work.old }
     ensures does { (journal : List (List ℕ)) → OnOk result (Does journal (Action.Copy n from dest) work.old stored.old work.new stored.new) }
+    ensures wants { OnErr result (IsTrue (keeps_copy (Action.Copy n from dest))) }
     ensures same { OnErr result ((work.new ≡ work.old) × (stored.new ≡ stored.old)) }
     ensures pages { SamePages stored.new.tape work.new }
     ensures levels { length stored.new.levels ≡ length stored.old.levels }
@@ -165,6 +170,7 @@ fn move_(
     requires there { IsSome (finmap.get (level_of stored.old from) n) }
     requires pages { SamePages stored.old.tape work.old }
     ensures does { (journal : List (List ℕ)) → OnOk result (Does journal (Action.Move n from dest) work.old stored.old work.new stored.new) }
+    ensures wants { OnErr result (IsTrue (keeps_copy (Action.Move n from dest))) }
     ensures same { OnErr result ((work.new ≡ work.old) × (stored.new ≡ stored.old)) }
     ensures pages { SamePages stored.new.tape work.new }
     ensures levels { length stored.new.levels ≡ length stored.old.levels }

@@ -1,5 +1,6 @@
 // The visitor that writes lines.
 ghost use Rattle.std.specs.Prelude.{◌≡◌, [], ◌∷◌, ◌++◌};
+ghost use Rattle.keepers.specs.Counts.{raised};
 ghost use Rattle.keepers.specs.Told.{Tells, AddsPrefix};
 ghost use Rattle.state_image.specs.Line.{line};
 
@@ -27,9 +28,9 @@ impl<'a, O: Sink> LineWriter<'a, O> {
 }
 
 impl<'a, O: Sink> Visitor for LineWriter<'a, O> {
-    ghost got = { λ w n s journal v. (v.out.ghost_name ≡ w.out.ghost_name) × Tells (O.told w.out.now) (O.told v.out.now) (λ old new. new ≡ old ++ (line n s ++ 10 ∷ [])) };
+    ghost got = { λ w n s journal v. (v.out.ghost_name ≡ w.out.ghost_name) × Tells (O.told w.out.now) (O.told v.out.now) (λ old new. new ≡ old ++ (line n s ++ 10 ∷ [])) × (O.call_count v.out.now ≡ raised (O.call_count w.out.now) 1) };
 
-    ghost missed = { λ w n s journal v. (v.out.ghost_name ≡ w.out.ghost_name) × Tells (O.told w.out.now) (O.told v.out.now) (AddsPrefix (line n s ++ 10 ∷ [])) };
+    ghost missed = { λ w n s journal v. (v.out.ghost_name ≡ w.out.ghost_name) × Tells (O.told w.out.now) (O.told v.out.now) (AddsPrefix (line n s ++ 10 ∷ [])) × (O.call_count v.out.now ≡ raised (O.call_count w.out.now) 1) };
 
     ghost fault_count = { λ w. O.fault_count w.out.now };
 

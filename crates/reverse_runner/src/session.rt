@@ -1,12 +1,12 @@
 // A session: a run that is gone through by the actions of a schedule.
-ghost use Rattle.std.specs.Prelude.{◌≡◌, ◌+◌, ◌^◌, ◌<◌, ◌≤◌, ◌↔◌, true, false, Err, IfOk, OnOk, OnErr, IsErrOf};
+ghost use Rattle.std.specs.Prelude.{◌≡◌, ◌+◌, ◌^◌, ◌<◌, ◌≤◌, ◌↔◌, true, false, Err, IfOk, OnOk, OnErr, IsErrOf, IsTrue};
 ghost use Rattle.level_book.specs.BookCosts.{slots_of};
 ghost use Rattle.level_book.specs.Configuration.{start};
 ghost use Rattle.level_book.specs.Rules.{rule};
 ghost use Rattle.level_book.specs.CostFold.{steps_of};
 ghost use Rattle.keepers.specs.Counts.{Rose};
 ghost use Rattle.rv_machine.specs.MachineState.{MachineState};
-ghost use Rattle.reverse_runner.specs.Performed.{Gets, Misses};
+ghost use Rattle.reverse_runner.specs.Performed.{Gets, Misses, keeps_copy};
 ghost use Rattle.reverse_runner.specs.Standing.{begun, Performs, StandsAt};
 
 use crate::acting::{ActFault, act};
@@ -119,6 +119,8 @@ impl Session {
         ensures refused { OnErr result ((self.new ≡ record self.old { ended = true }) × (steps.new ≡ steps.old)) }
         ensures misses { result ≡ Err RunFault.Visitor → Misses V.missed self.old.journal action.now self.old.situation.at.work self.old.work self.old.stored visitor.old visitor.new }
         ensures memory { result ≡ Err RunFault.Memory → visitor.new ≡ visitor.old }
+        ensures quiet { OnOk result (V.fault_count visitor.new ≡ V.fault_count visitor.old) }
+        ensures wants { result ≡ Err RunFault.Memory → IsTrue (keeps_copy action.now) }
         ensures kept { keepers.new ≡ keepers.old }
         ensures later { V.fault_count visitor.old ≤ V.fault_count visitor.new }
         ensures cause { result ≡ Err RunFault.Visitor → Rose (V.fault_count visitor.old) (V.fault_count visitor.new) }

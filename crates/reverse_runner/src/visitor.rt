@@ -1,5 +1,5 @@
 // What gets the states that a session hands out.
-ghost use Rattle.std.specs.Prelude.{ℕ, ◌≤◌, List, OnOk, OnErr};
+ghost use Rattle.std.specs.Prelude.{◌≡◌, ℕ, ◌≤◌, List, OnOk, OnErr};
 ghost use Rattle.keepers.specs.Counts.{Rose};
 ghost use Rattle.rv_machine.specs.MachineState.{MachineState};
 
@@ -28,6 +28,7 @@ pub trait Visitor {
     fn state(&mut self, n: u32, state: &State, journal: &Journal) -> Result<(), VisitFault>
         ensures ok { OnOk result (got self.old n state.now journal.now self.new) }
         ensures refused { OnErr result (missed self.old n state.now journal.now self.new) }
+        ensures quiet { OnOk result (fault_count self.new ≡ fault_count self.old) }
         ensures later { fault_count self.old ≤ fault_count self.new }
         ensures cause { OnErr result (Rose (fault_count self.old) (fault_count self.new)) };
 }

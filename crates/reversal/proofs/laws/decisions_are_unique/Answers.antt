@@ -1,0 +1,5 @@
+use Rattle.reversal.proofs.Deciding.{one_decision}
+use Rattle.reversal.proofs.laws.decisions_are_unique.Goals as goal
+
+pub returns : goal.returns
+returns c = one_decision

@@ -1,0 +1,5 @@
+use Rattle.reversal.proofs.OneReading.{one_request}
+use Rattle.reversal.proofs.laws.requests_are_unique.Goals as goal
+
+pub returns : goal.returns
+returns c = one_request

@@ -1,0 +1,45 @@
+use Rattle.std.proofs.Common.{◌≡◌, ℕ, List, map, Vec, Global, sym, subst}
+use Rattle.reversal.specs.declared.ended.Ended.{Ended}
+use Rattle.reversal.specs.InputReading.{all, Reads, Stops}
+use Rattle.reversal.specs.Inputs.{inputs_of}
+use Rattle.reversal.specs.Decision.{accept}
+use Rattle.reversal.specs.JobReading.{job_of}
+use Rattle.reversal.specs.RequestReading.{request_of}
+use Rattle.reversal.proofs.Answering.{comes_by, stops_refused, decides_refused, no_input_fault, if_error, if_okay}
+use Rattle.reversal.proofs.Deciding.{on_error}
+use Rattle.reversal.proofs.top.prepared.Goals as goal
+
+pub returns-clause-comes : goal.returns-clause-comes
+returns-clause-comes g c =
+    let r = request_of c.args.request.now in
+    let told = g.I.Inputs.told c.args.inputs.now in
+    let before = g.I.Inputs.asked c.args.inputs.now in
+    let after = g.I.Inputs.asked c.read_inputs.new.inputs in
+    let R : List (Vec ℕ Global) → Type 0 = λ l. Reads (inputs_of r) told before after (all (map (λ b. b.items) l)) in
+    let reads = subst R (sym c.deref.ensures.value) c.in_ok-bytes.ensures.read in
+    if_okay c.decide.result _ _ (λ job decides slots. comes_by r told before after (map (λ b. b.items) c.deref.result.now) slots (accept (job_of job)) reads (decides slots)) c.decide.ensures.accepted
+
+pub returns-clause-refused : goal.returns-clause-refused
+returns-clause-refused g c =
+    let r = request_of c.args.request.now in
+    let told = g.I.Inputs.told c.args.inputs.now in
+    let before = g.I.Inputs.asked c.args.inputs.now in
+    let after = g.I.Inputs.asked c.read_inputs.new.inputs in
+    let R : List (Vec ℕ Global) → Type 0 = λ l. Reads (inputs_of r) told before after (all (map (λ b. b.items) l)) in
+    let reads = subst R (sym c.deref.ensures.value) c.in_ok-bytes.ensures.read in
+    if_error c.decide.result _ _ (λ e h. decides_refused r told e before after (map (λ b. b.items) c.deref.result.now) reads h) c.decide.ensures.refused
+
+pub returns-clause-cause : goal.returns-clause-cause
+returns-clause-cause g c =
+    if_error c.decide.result _ _ (λ e h three. absurd (no_input_fault (request_of c.args.request.now) e (map (λ b. b.items) c.deref.result.now) h three)) c.decide.ensures.refused
+
+pub returns-in_err-bytes-clause-refused : goal.returns-in_err-bytes-clause-refused
+returns-in_err-bytes-clause-refused g c =
+    let r = request_of c.args.request.now in
+    let told = g.I.Inputs.told c.args.inputs.now in
+    let before = g.I.Inputs.asked c.args.inputs.now in
+    let after = g.I.Inputs.asked c.read_inputs.new.inputs in
+    on_error c.from_residual.result _ _ c.from_residual.ensures.1 (λ e gives.
+    let same : c.in_err-bytes.field-0.0 ≡ e = cc in
+    let S : Ended → Type 0 = λ x. Stops (inputs_of r) told x before after in
+    stops_refused r told e before after (subst S same c.in_err-bytes.ensures.stops))

@@ -1,0 +1,48 @@
+-- The inputs of a request, and what is there under their names.
+use Rattle.std.specs.Prelude.{◌≡◌, ℕ, ◌+◌, ◌-◌, ◌<◌, ◌≤◌, ◌++◌, List, [], ◌∷◌, length, map, take, nat_le, if◌then◌else◌, Option, Some, IsSomeAnd}
+use Rattle.std.specs.List.{AllByRecursion}
+use Rattle.std.specs.FinMap as finmap
+use Rattle.keepers.specs.Told.{Files, WhereTold}
+use Rattle.reversal.specs.declared.ended.Ended.{Ended}
+use Rattle.reversal.specs.Request.{Request, run}
+use Rattle.reversal.specs.Ending.{unreadable}
+
+-- an input by its name, and how many bytes it may have
+pub record Input : Type 0 where
+  pub name : List ℕ
+  pub limit : ℕ
+
+-- the inputs of a request, in the order of the words
+abbrev pub inputs_of : Request → List Input
+inputs_of (run r) =
+    record { name = r.program; limit = 33554432 }
+    ∷ record { name = r.book; limit = 65536 }
+    ∷ record { name = r.schedule; limit = 536870912 }
+    ∷ []
+
+abbrev pub names : List Input → List (List ℕ)
+names is = map (λ i. i.name) is
+
+-- What is there under each name: its bytes, or nothing where there is no such input, which isn't the same as an empty one.
+abbrev pub contents : Files → List Input → List (Option (List ℕ))
+contents files is = map (λ i. finmap.get files i.name) is
+
+-- How many inputs are asked for: up to the first that isn't there or is longer than its limit. Each is read and measured
+-- before the next is asked for.
+abbrev pub asked_count : List Input → List (Option (List ℕ)) → ℕ
+asked_count [] given = 0
+asked_count (i ∷ is) (Some bytes ∷ given) = 1 + (if nat_le (length bytes) i.limit then asked_count is given else 0)
+asked_count (i ∷ is) given = 1
+
+-- these inputs are there, and none is longer than its limit
+abbrev pub AreThere : Files → List Input → Type 0
+AreThere files is = AllByRecursion (λ i. IsSomeAnd (finmap.get files i.name) (λ bytes. length bytes ≤ i.limit)) is
+
+-- An input can't be read: the ending has its number, counted from 1. It was asked for, and those before it, which are
+-- there and within their limits where the inputs tell.
+pub record FailsAtInput (is : List Input) (told : Option Files) (e : Ended) (before after : List (List ℕ)) : Type 0 where
+  pub ends : e ≡ unreadable e.place
+  pub from_one : 0 < e.place
+  pub within : e.place ≤ length is
+  pub asked : after ≡ before ++ take e.place (names is)
+  pub earlier : WhereTold told (λ files. AreThere files (take (e.place - 1) is))

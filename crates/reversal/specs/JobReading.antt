@@ -1,0 +1,26 @@
+-- No public clause cites this file. The job that one in memory is, and what holds of it.
+use Rattle.std.specs.Prelude.{◌≡◌, ◌⊎◌, ◌≤◌}
+use Rattle.level_book.specs.BookCosts.{slots_of}
+use Rattle.level_book.specs.Valid.{Valid}
+use Rattle.reversal.specs.declared.ended.Ended.{Ended}
+use Rattle.reversal.specs.declared.job.Job as in_memory
+use Rattle.reversal.specs.declared.job.Job.TheVariants.{Perform}
+use Rattle.reversal.specs.declared.job.Performance.{Performance}
+use Rattle.reversal.specs.Deeds.{Job, perform, deeds, Moment, Halts}
+use Rattle.reversal.specs.Decision.{accept, EndsBy}
+use Rattle.reversal.specs.Ending.{no_memory}
+
+abbrev pub job_of : in_memory.Job → Job
+job_of (Perform p) = perform p.start p.journal p.steps p.list.items
+
+-- a list that is performed is valid
+pub record IsPerformable (p : Performance) : Type 0 where
+  pub steps : p.steps ≤ 1000000
+  pub valid : Valid p.steps (slots_of p.book) p.list.items
+
+abbrev pub CanBeDone : in_memory.Job → Type 0
+CanBeDone (Perform p) = IsPerformable p
+
+-- a job that was begun was done, stopped at the sink, or wanted memory
+abbrev pub Works : Job → Ended → Moment → Moment → Type 0
+Works job e old new = EndsBy (accept job) e old new ⊎ ((e ≡ no_memory) × Halts (deeds job) old new)

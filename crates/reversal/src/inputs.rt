@@ -1,0 +1,118 @@
+// The inputs of a request, read in the order of the words.
+ghost use Rattle.std.specs.Prelude.{◌≡◌, ◌≢◌, ℕ, ◌+◌, ◌<◌, ◌≤◌, List, [], ◌∷◌, ◌++◌, length, map, take, Some, Err, IfOk, IfErr, IsErrOf, MatchResult};
+ghost use Rattle.std.specs.FinMap as finmap;
+ghost use Rattle.keepers.specs.Counts.{Rose};
+ghost use Rattle.keepers.specs.Told.{WhereTold};
+ghost use Rattle.reversal.specs.Inputs.{inputs_of, names};
+ghost use Rattle.reversal.specs.InputReading.{input_of, all, Reads, Stops};
+ghost use Rattle.reversal.specs.RequestReading.{request_of};
+
+use crate::ended::Ended;
+use crate::request::Request;
+use keepers::{InputFault, Inputs, Whole};
+use std::alloc::Global;
+
+// The limits of the inputs, in bytes.
+const PROGRAM_LIMIT: u32 = 33_554_432;
+
+const BOOK_LIMIT: u32 = 65_536;
+
+const SCHEDULE_LIMIT: u32 = 536_870_912;
+
+/// An input that is wanted: its name, and how many bytes it may have.
+#[derive(Clone, Copy, Debug)]
+pub struct Input<'a> {
+    pub name: &'a [u8],
+    pub limit: u32,
+}
+
+// Why an input wasn't read.
+enum Refusal {
+    Failed,
+    TooLong,
+    Memory,
+}
+
+/// Reads the inputs of a request in the order of the words. One that can't be read, or is longer than its limit, is
+/// refused before the next is asked for.
+pub fn read_inputs<I: Inputs>(
+    alloc: Global,
+    request: &Request<'_>,
+    inputs: &mut I,
+) -> Result<Vec<Vec<u8>>, Ended>
+    ensures read { IfOk result (λ v. Reads (inputs_of (request_of request.now)) (I.told inputs.old) (I.asked inputs.old) (I.asked inputs.new) (all (map (λ bytes. bytes.items) v.items))) }
+    ensures stops { IfErr result (λ e. Stops (inputs_of (request_of request.now)) (I.told inputs.old) e (I.asked inputs.old) (I.asked inputs.new)) }
+    ensures asked { (k : ℕ) × (I.asked inputs.new ≡ I.asked inputs.old ++ take k (names (inputs_of (request_of request.now)))) }
+    ensures quiet { IfOk result (λ _. I.fault_count inputs.new ≡ I.fault_count inputs.old) }
+    ensures cause { IfErr result (λ e. e.status ≡ 3 → Rose (I.fault_count inputs.old) (I.fault_count inputs.new)) }
+    ensures no_cause { IfErr result (λ e. e.status ≢ 3 → I.fault_count inputs.new ≡ I.fault_count inputs.old) }
+{
+    match request {
+        Request::Run(run) => read_all(
+            alloc,
+            &[
+                Input {
+                    name: run.program,
+                    limit: PROGRAM_LIMIT,
+                },
+                Input {
+                    name: run.book,
+                    limit: BOOK_LIMIT,
+                },
+                Input {
+                    name: run.schedule,
+                    limit: SCHEDULE_LIMIT,
+                },
+            ],
+            inputs,
+        ),
+    }
+}
+
+// Reads the wanted inputs, one after the other.
+fn read_all<I: Inputs>(
+    alloc: Global,
+    wanted: &[Input<'_>],
+    inputs: &mut I,
+) -> Result<Vec<Vec<u8>>, Ended>
+    ensures read { IfOk result (λ v. Reads (map input_of wanted.now) (I.told inputs.old) (I.asked inputs.old) (I.asked inputs.new) (all (map (λ bytes. bytes.items) v.items))) }
+    ensures stops { IfErr result (λ e. Stops (map input_of wanted.now) (I.told inputs.old) e (I.asked inputs.old) (I.asked inputs.new)) }
+    ensures asked { (k : ℕ) × (I.asked inputs.new ≡ I.asked inputs.old ++ take k (names (map input_of wanted.now))) }
+    ensures quiet { IfOk result (λ _. I.fault_count inputs.new ≡ I.fault_count inputs.old) }
+    ensures cause { IfErr result (λ e. e.status ≡ 3 → Rose (I.fault_count inputs.old) (I.fault_count inputs.new)) }
+    ensures no_cause { IfErr result (λ e. e.status ≢ 3 → I.fault_count inputs.new ≡ I.fault_count inputs.old) }
+{
+    let mut read = Vec::with_capacity(alloc, wanted.len())?;
+    for (i, input) in wanted.iter().enumerate() {
+        match read_input(alloc, input, inputs) {
+            Ok(bytes) => read.push(bytes)?,
+            Err(Refusal::Failed) => return Err(Ended::unreadable(i as u64 + 1)),
+            Err(Refusal::TooLong) => return Err(Ended::not_built(i as u64 + 1)),
+            Err(Refusal::Memory) => return Err(Ended::no_memory()),
+        }
+    }
+    Ok(read)
+}
+
+// Reads one input.
+fn read_input<I: Inputs>(
+    alloc: Global,
+    input: &Input<'_>,
+    inputs: &mut I,
+) -> Result<Vec<u8>, Refusal>
+    ensures there { IfOk result (λ bytes. (length bytes.items ≤ input.now.limit) × WhereTold (I.told inputs.old) (λ files. finmap.get files input.now.name.now ≡ Some bytes.items)) }
+    ensures longer { IsErrOf result Refusal.TooLong → (bytes : List ℕ) × (input.now.limit < length bytes) × WhereTold (I.told inputs.old) (λ files. finmap.get files input.now.name.now ≡ Some bytes) }
+    ensures same { I.told inputs.new ≡ I.told inputs.old }
+    ensures asks { result ≢ Err Refusal.Memory → I.asked inputs.new ≡ I.asked inputs.old ++ input.now.name.now ∷ [] }
+    ensures may_ask { (k : ℕ) × (I.asked inputs.new ≡ I.asked inputs.old ++ take k (input.now.name.now ∷ [])) }
+    ensures quiet { result ≢ Err Refusal.Failed → I.fault_count inputs.new ≡ I.fault_count inputs.old }
+    ensures cause { result ≡ Err Refusal.Failed → Rose (I.fault_count inputs.old) (I.fault_count inputs.new) }
+{
+    let mut bytes = Vec::new(alloc);
+    match inputs.read(input.name, input.limit, &mut bytes) {
+        Ok(Whole::All) => Ok(bytes),
+        Ok(Whole::Longer) => Err(Refusal::TooLong),
+        Err(InputFault::Failed) => Err(Refusal::Failed),
+        Err(InputFault::Memory) => Err(Refusal::Memory),
+    }
+}
