@@ -1,6 +1,7 @@
 // A keeper in memory.
-ghost use Rattle.std.specs.Prelude.{◌≡◌};
+ghost use Rattle.std.specs.Prelude.{◌≡◌, IsOk};
 ghost use Rattle.std.specs.FinMap as finmap;
+ghost use Rattle.keepers.specs.Counts.{raised};
 
 use crate::keeper::{KeepFault, Keeper};
 use std::alloc::Global;
@@ -134,7 +135,11 @@ impl Keeper for MemoryKeeper {
         Ok(())
     }
 
-    fn free(&mut self, slot: u32) -> Result<(), KeepFault> {
+    fn free(&mut self, slot: u32) -> Result<(), KeepFault>
+        // It takes no memory, so it never fails.
+        ensures frees_it { IsOk result }
+        ensures freed { self.new ≡ record self.old { images = finmap.remove self.old.images slot; frees = raised self.old.frees 1 } }
+    {
         self.frees = self.frees.saturating_add(1);
         let _ = self.images.remove(&slot);
         Ok(())
