@@ -5,10 +5,10 @@ ghost use Rattle.std.specs.Vec.{vec_len};
 use std::alloc::Global;
 use std::marker::Model;
 
-/// The items of recorded input, in the order in which they are read.
+/// The items of recorded input, in the order in which they are read: at most 65,536 of at most 1,048,576 bytes each.
 #[derive(Drop)]
 pub struct Journal {
-    items: Vec<Vec<u8>>,
+    pub(crate) items: Vec<Vec<u8>>,
 }
 
 impl Model for Journal {
@@ -19,7 +19,10 @@ impl Model for Journal {
 
     ghost view = { λ j. map (λ item. item.items) j.items.items };
 
-    ghost invariant = { λ j. vec_len j.items ≤ 65536 };
+    ghost use Rattle.std.specs.List.{AllByRecursion};
+    ghost use Rattle.input_journal.specs.Form.{IsShort};
+
+    ghost invariant = { λ j. (vec_len j.items ≤ 65536) × AllByRecursion (λ item. IsShort item.items) j.items.items };
 }
 
 impl Journal {

@@ -139,6 +139,7 @@ fn read_whole<F: Read>(
 #[cfg(test)]
 mod tests {
     use super::*;
+    use std::alloc::Global;
     use std::test::Fail;
 
     #[test]
@@ -162,6 +163,68 @@ mod tests {
         );
         assert_eq!(rt; inputs.faults(), 2);
         fs::remove_file(&rt, "word.txt")?;
+        Ok(())
+    }
+
+    // So many bytes, of which no two pieces are alike.
+    fn bytes(alloc: Global, count: u32) -> Result<Vec<u8>, AllocError> {
+        (0..count).map(|i| (i % 251) as u8).collect(alloc)
+    }
+
+    // The size of a file, a limit, and whether the whole file is read.
+    const SIZES: &[(u32, u32, Whole)] = &[
+        (0, 0, Whole::All),
+        (0, 8, Whole::All),
+        (1, 0, Whole::Longer),
+        (8, 8, Whole::All),
+        (9, 8, Whole::Longer),
+        (65_536, 65_536, Whole::All),
+        (65_537, 65_536, Whole::Longer),
+        (65_537, 65_537, Whole::All),
+        (200_000, 200_000, Whole::All),
+        (200_000, u32::MAX, Whole::All),
+        (200_001, 200_000, Whole::Longer),
+    ];
+
+    #[test]
+    fn reads_files_of_no_piece_and_of_several_up_to_their_limits(
+        rt: HostRuntime,
+    ) -> Result<(), Fail> {
+        let mut into = Vec::from_slice(rt.alloc(), b"what was there before")?;
+        let mut inputs = FileInputs::new(rt.clone()?);
+        for (size, limit, want) in SIZES {
+            let file = bytes(rt.alloc(), *size)?;
+            fs::write(&rt, "pieces.bin", &file)?;
+            let outcome = inputs.read(b"pieces.bin", *limit, &mut into);
+            assert_eq!(rt; outcome, Ok(*want), "{size} bytes, at most {limit}");
+            if *want == Whole::All {
+                assert!(rt; into.as_slice() == file.as_slice(), "{size} bytes");
+            }
+        }
+        assert_eq!(rt; inputs.faults(), 0);
+        fs::remove_file(&rt, "pieces.bin")?;
+        Ok(())
+    }
+
+    #[test]
+    fn names_that_are_no_file_are_faults(rt: HostRuntime) -> Result<(), Fail> {
+        let mut into = Vec::new(rt.alloc());
+        let mut inputs = FileInputs::new(rt.clone()?);
+        let names = [
+            b"\xff\xfe is no text, \xc3 neither".as_slice(),
+            b"name.txt\xc3".as_slice(),
+            b"no/such/folder/word.txt".as_slice(),
+            b".".as_slice(),
+            b"".as_slice(),
+        ];
+        for (i, name) in names.iter().enumerate() {
+            assert_eq!(rt;
+                inputs.read(name, 8, &mut into),
+                Err(InputFault::Failed),
+                "name {i}"
+            );
+            assert_eq!(rt; inputs.faults(), i as u64 + 1);
+        }
         Ok(())
     }
 }

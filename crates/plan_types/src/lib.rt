@@ -9,4 +9,4 @@ mod line;
 
 pub use crate::action::{Action, Dest, Keep};
 pub use crate::limits::{MOST_ACTIONS, MOST_SLOTS, MOST_STEPS};
-pub use crate::line::{LINE_ROOM, Line};
+pub use crate::line::Line;

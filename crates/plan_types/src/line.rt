@@ -4,9 +4,6 @@ ghost use Rattle.std.specs.Prelude.{◌≡◌, ◌+◌, ◌≤◌, List, ℕ, []
 use itoa::Buffer;
 use std::marker::Model;
 
-/// How many bytes a `Line` has room for.
-pub const LINE_ROOM: usize = 512;
-
 /// A text of at most 512 bytes that takes no memory.
 #[derive(Drop)]
 pub struct Line {

@@ -12,7 +12,7 @@ use Rattle.level_book.specs.Moves.{Goes}
 use Rattle.level_book.specs.Rules.{level_refused}
 use Rattle.level_book.specs.Valid.{Leads, Valid, BreaksRule, BrokenAt}
 use Rattle.schedule_rules.specs.After.{after}
-use Rattle.schedule_rules.specs.Laws.{RulesAreMoves, EndReverseIsLast, FirstBrokenIsUnique}
+use Rattle.schedule_rules.specs.Laws.{RulesAreMoves, EndReverseIsLast, FirstBrokenIsUnique, ValidIsUnbroken}
 use Rattle.schedule_rules.proofs.Moving.{goes, goes_after, unbroken}
 use Rattle.schedule_rules.proofs.Reaching.{leads_unique, sound_on, sound_start}
 use Rattle.schedule_rules.proofs.Judging.{kept_on_the_way}
@@ -127,3 +127,31 @@ one_break steps slots list place place' number number' level level' b b' = elim 
     | inr behind ↦ absurd (not_passed steps slots list place' place number' number level' level b' b behind)
   ]
 ]
+
+-- a list that leads to an ended configuration has an action
+pub valid_has_action : (steps : ℕ) (slots : List Slots) (list : List Action) → Valid steps slots list → 0 < length list
+valid_has_action steps slots [] valid = absurd (true≢false (sym valid.2 ∙ ap (λ (c : Configuration). c.ended) valid.1))
+valid_has_action steps slots (a ∷ rest) valid = omega arith
+
+-- a list that leads to an ended configuration isn't broken by one of its actions, nor by its end
+unbroken_by : (steps : ℕ) (slots : List Slots) (list : List Action) (i : ℕ) (before last : Configuration) (o : Option Action) (number level : ℕ) → slice_get list i ≡ o →
+    (o ≡ None → take i list ≡ list) → Leads steps slots (start steps slots) (take i list) before → Leads steps slots (start steps slots) list last → last.ended ≡ true →
+    BreaksRule steps slots before o number level → ⊥
+unbroken_by steps slots list i before last (Some a) number level at whole leads all end breaks =
+    omega (arith, breaks.0, breaks.1, kept_on_the_way steps slots list i before a last at leads all)
+unbroken_by steps slots list i before last None number level at whole leads all end breaks =
+    let P : List Action → Type 0 = λ xs. Leads steps slots (start steps slots) xs before in
+    let same = leads_unique steps slots (start steps slots) list before last (subst P (whole refl) leads) all in
+    true≢false (sym end ∙ ap (λ (c : Configuration). c.ended) (sym same) ∙ breaks.0)
+
+-- past its end nothing is cut off from a list
+nothing_there : {X : Type 0} (xs : List X) (i : ℕ) → slice_get xs i ≡ None → take i xs ≡ xs
+nothing_there [] zero e = refl
+nothing_there [] (suc i) e = refl
+nothing_there (x ∷ xs) zero e = absurd (cc)
+nothing_there (x ∷ xs) (suc i) e = ap (λ ys. x ∷ ys) (nothing_there xs i e)
+
+pub valid_unbroken : (steps : ℕ) (slots : List Slots) (list : List Action) → ValidIsUnbroken steps slots list
+valid_unbroken steps slots list valid place number level b =
+    unbroken_by steps slots list (place - 1) b.before valid.0 (slice_get list (place - 1)) number level refl
+    (nothing_there list (place - 1)) b.leads valid.1 valid.2 b.breaks

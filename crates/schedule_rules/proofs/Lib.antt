@@ -5,3 +5,4 @@ pub mod EmptyLevels
 pub mod Reaching
 pub mod Judging
 pub mod Lawful
+pub mod Standing

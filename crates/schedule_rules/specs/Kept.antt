@@ -1,18 +1,19 @@
 -- How a configuration is kept: the fields of `Config` as what they stand for, and what holds of them.
-use Rattle.std.specs.Prelude.{◌≤◌, map}
+use Rattle.std.specs.Prelude.{◌≤◌}
 use Rattle.std.specs.List.{AllByRecursion}
 use Rattle.schedule_rules.specs.declared.config.Config.TheInside.{Inside}
 use Rattle.schedule_rules.specs.HasBits.{HasBits}
-use Rattle.schedule_rules.specs.Bits.{set_of}
+use Rattle.schedule_rules.specs.Levels.{slots_kept, images_kept}
 use Rattle.schedule_rules.specs.Situation.{Situation}
+use Rattle.schedule_rules.specs.Reached.{IsReached}
 
 abbrev pub situation_of : Inside → Situation
 situation_of c = record {
   steps = c.steps;
-  slots = map (λ level. level.slots) c.levels.items;
+  slots = slots_kept c.levels.items;
   at = record {
     work = c.work;
-    held = map (λ level. set_of level.images.words.items) c.levels.items;
+    held = images_kept c.levels.items;
     tape = c.tape;
     reverse = c.reverse;
     forward_ended = c.forward_ended;
@@ -20,7 +21,10 @@ situation_of c = record {
   };
 }
 
+-- There are no more steps than a schedule may have, each level has a bit for each state, and some list of actions leads
+-- to the configuration.
 pub record IsKept (c : Inside) : Type 0 where
   pub most : c.steps ≤ 1000000
   pub within : c.reverse ≤ c.steps
   pub bits : AllByRecursion (HasBits c.steps) c.levels.items
+  pub reached : ∥ IsReached c.steps (situation_of c).slots (situation_of c).at ∥₁

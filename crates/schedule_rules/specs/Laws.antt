@@ -6,7 +6,7 @@ use Rattle.level_book.specs.declared.book.Slots.{Slots}
 use Rattle.level_book.specs.Configuration.{Configuration}
 use Rattle.level_book.specs.Moves.{Goes}
 use Rattle.level_book.specs.Rules.{rule}
-use Rattle.level_book.specs.Valid.{BrokenAt}
+use Rattle.level_book.specs.Valid.{Valid, BrokenAt}
 use Rattle.schedule_rules.specs.Reached.{IsReached, IsSound}
 
 -- at a configuration that is reached, no rule is broken exactly where the action leads somewhere
@@ -30,3 +30,7 @@ abbrev pub FirstBrokenIsUnique : ℕ → List Slots → List Action → Type 0
 FirstBrokenIsUnique steps slots list =
     (place place' number number' level level' : ℕ) → BrokenAt steps slots list place number level → BrokenAt steps slots list place' number' level' →
     (place ≡ place') × (number ≡ number') × (level ≡ level')
+
+-- no list is both valid and broken
+abbrev pub ValidIsUnbroken : ℕ → List Slots → List Action → Type 0
+ValidIsUnbroken steps slots list = Valid steps slots list → (place number level : ℕ) → BrokenAt steps slots list place number level → ⊥

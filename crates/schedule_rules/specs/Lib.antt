@@ -1,5 +1,6 @@
 pub mod Bits
 pub mod Situation
+pub mod Levels
 pub mod Kept
 pub mod Verdicts
 pub mod After

@@ -1,12 +1,13 @@
 // A configuration, which action may be done at it, and what the action does to it.
-ghost use Rattle.std.specs.Prelude.{◌≡◌, ◌<◌, ◌≤◌, ℕ, ◌+◌, ◌/◌, ◌==◌, ◌||◌, not, true, false, is_some, length, map, slice_index_or, nat_lt, MatchResult, IfOk, cond, Option};
+ghost use Rattle.std.specs.Prelude.{◌≡◌, ◌<◌, ◌≤◌, ℕ, ◌+◌, ◌==◌, ◌||◌, not, true, false, is_some, length, map, slice_index_or, slice_set, nat_lt, vec_len, MatchResult, IfOk, cond, Option};
 ghost use Rattle.std.specs.FinSet as set;
 ghost use Rattle.level_book.specs.BookCosts.{slots_of};
-ghost use Rattle.level_book.specs.Configuration.{start, held_on, with_held, without_held};
+ghost use Rattle.level_book.specs.Configuration.{start, held_on};
 ghost use Rattle.level_book.specs.Moves.{Goes};
 ghost use Rattle.level_book.specs.Rules.{rule, is_full, target};
 ghost use Rattle.std.specs.List.{AllByRecursion};
-ghost use Rattle.schedule_rules.specs.Bits.{set_of};
+ghost use Rattle.schedule_rules.specs.Levels.{slots_kept, images_kept, HasBit};
+ghost use Rattle.schedule_rules.specs.Reached.{IsReached, IsSound};
 ghost use Rattle.schedule_rules.specs.Verdicts.{refusal};
 ghost use Rattle.schedule_rules.specs.HasBits.{HasBits};
 
@@ -83,12 +84,12 @@ impl Config {
         let _levels = &self.levels;
         match *action {
             Action::Forward { from, to, keep } => {
+                self.work = to;
                 match keep {
                     Keep::Nothing => {}
-                    Keep::Store(level) => self.hold(from, level),
+                    Keep::Store(level) => hold(&mut self.levels, from, level),
                     Keep::Tape => self.tape = Some(from),
                 }
-                self.work = to;
             }
             Action::Reverse { to, .. } => {
                 self.reverse = to;
@@ -96,13 +97,13 @@ impl Config {
             }
             Action::Copy { n, dest, .. } => match dest {
                 Dest::Work => self.work = n,
-                Dest::Level(level) => self.hold(n, level),
+                Dest::Level(level) => hold(&mut self.levels, n, level),
             },
             Action::Move { n, from, dest } => {
-                self.release(n, from);
+                release(&mut self.levels, n, from);
                 match dest {
                     Dest::Work => self.work = n,
-                    Dest::Level(level) => self.hold(n, level),
+                    Dest::Level(level) => hold(&mut self.levels, n, level),
                 }
             }
             Action::EndForward => self.forward_ended = true,
@@ -110,23 +111,12 @@ impl Config {
         }
     }
 
-    // Holds the image of state `n` on a level that doesn't hold it.
-    fn hold(&mut self, n: u32, level: u8)
-        requires level { level < length self.old.slots }
-        requires position { n / 64 ≤ self.old.steps / 64 }
-        requires new { set.contains (held_on self.old.at level) n ≡ false }
-        ensures { self.new ≡ record self.old { at = with_held self.old.at n level } }
+    /// Does nothing. Its contract is a law: some list leads to the configuration at hand, and the configuration is sound.
+    pub fn is_sound(&self)
+        ensures reached { ∥ IsReached self.now.steps self.now.slots self.now.at ∥₁ }
+        ensures sound { IsSound self.now.steps self.now.slots self.now.at }
     {
-        self.levels[level as usize].images.insert(n);
-    }
-
-    // Holds the image of state `n` on a level no longer.
-    fn release(&mut self, n: u32, level: u8)
-        requires level { level < length self.old.slots }
-        requires there { set.contains (held_on self.old.at level) n ≡ true }
-        ensures { self.new ≡ record self.old { at = without_held self.old.at n level } }
-    {
-        self.levels[level as usize].images.remove(n);
+        let _levels = &self.levels;
     }
 
     /// The number of the state in work.
@@ -370,11 +360,34 @@ impl Config {
     }
 }
 
+// Holds the image of state `n` on a level that doesn't hold it.
+fn hold(levels: &mut Vec<LevelHeld>, n: u32, level: u8)
+    requires level { level < vec_len levels.old }
+    requires room { AllByRecursion (HasBit n) levels.old.items }
+    requires new { set.contains (slice_index_or (images_kept levels.old.items) level set.empty) n ≡ false }
+    ensures slots { slots_kept levels.new.items ≡ slots_kept levels.old.items }
+    ensures held { images_kept levels.new.items ≡ slice_set (images_kept levels.old.items) level (set.insert (slice_index_or (images_kept levels.old.items) level set.empty) n) }
+    ensures bits { (steps : ℕ) → AllByRecursion (HasBits steps) levels.old.items → AllByRecursion (HasBits steps) levels.new.items }
+{
+    levels[level as usize].images.insert(n);
+}
+
+// Holds the image of state `n` on a level no longer.
+fn release(levels: &mut Vec<LevelHeld>, n: u32, level: u8)
+    requires level { level < vec_len levels.old }
+    requires there { set.contains (slice_index_or (images_kept levels.old.items) level set.empty) n ≡ true }
+    ensures slots { slots_kept levels.new.items ≡ slots_kept levels.old.items }
+    ensures held { images_kept levels.new.items ≡ slice_set (images_kept levels.old.items) level (set.remove (slice_index_or (images_kept levels.old.items) level set.empty) n) }
+    ensures bits { (steps : ℕ) → AllByRecursion (HasBits steps) levels.old.items → AllByRecursion (HasBits steps) levels.new.items }
+{
+    levels[level as usize].images.remove(n);
+}
+
 // The levels of a book, each with room for the positions up to `steps`, and without images.
 fn empty_levels(alloc: Global, steps: u32, book: &Book) -> Result<Vec<LevelHeld>, AllocError>
     requires { steps ≤ 1000000 }
-    ensures slots { IfOk result (λ levels. map (λ level. level.slots) levels.items ≡ slots_of book.now) }
-    ensures held { IfOk result (λ levels. map (λ level. set_of level.images.words.items) levels.items ≡ map (λ _. set.empty) (slots_of book.now)) }
+    ensures slots { IfOk result (λ levels. slots_kept levels.items ≡ slots_of book.now) }
+    ensures held { IfOk result (λ levels. images_kept levels.items ≡ map (λ _. set.empty) (slots_of book.now)) }
     ensures bits { IfOk result (λ levels. AllByRecursion (HasBits steps) levels.items) }
 {
     let count = book.levels();

@@ -1,10 +1,10 @@
 // Laws over the definitions of moves, rules and valid lists. Each function does nothing; its contract is the law.
-ghost use Rattle.std.specs.Prelude.{ℕ, List};
+ghost use Rattle.std.specs.Prelude.{ℕ, ◌<◌, List, length};
 ghost use Rattle.plan_types.specs.declared.action.Action.{Action};
 ghost use Rattle.level_book.specs.declared.book.Slots.{Slots};
 ghost use Rattle.level_book.specs.Configuration.{Configuration};
 ghost use Rattle.level_book.specs.Valid.{Valid};
-ghost use Rattle.schedule_rules.specs.Laws.{RulesAreMoves, MovesAreUnique, ReachedIsSound, EndReverseIsLast, FirstBrokenIsUnique};
+ghost use Rattle.schedule_rules.specs.Laws.{RulesAreMoves, MovesAreUnique, ReachedIsSound, EndReverseIsLast, FirstBrokenIsUnique, ValidIsUnbroken};
 
 /// At a configuration that is reached, an action breaks no rule exactly where it leads somewhere.
 pub fn rules_are_moves()
@@ -16,17 +16,24 @@ pub fn moves_are_unique()
     ensures { (steps : ℕ) (slots : List Slots) (c : Configuration) (a : Action) → MovesAreUnique steps slots c a }
 {}
 
-/// Every configuration that is reached is sound: each level is within its slots, and the tape holds the next step.
+/// Every configuration that is reached is sound: no more is to be reversed than there are steps, each level of the book
+/// is within its slots, and the tape is empty or holds the state before the next step to be reversed.
 pub fn reached_is_sound()
     ensures { (steps : ℕ) (slots : List Slots) (c : Configuration) → ReachedIsSound steps slots c }
 {}
 
-/// EndReverse is the last action of a valid list, and stands nowhere else in it.
+/// A valid list has an action. The last is EndReverse, which stands nowhere else in it.
 pub fn end_reverse_is_last()
-    ensures { (steps : ℕ) (slots : List Slots) (list : List Action) → Valid steps slots list → EndReverseIsLast list }
+    ensures not_empty { (steps : ℕ) (slots : List Slots) (list : List Action) → Valid steps slots list → 0 < length list }
+    ensures last { (steps : ℕ) (slots : List Slots) (list : List Action) → Valid steps slots list → EndReverseIsLast list }
 {}
 
 /// A list is broken at one place at most, and there by one rule.
 pub fn first_broken_is_unique()
     ensures { (steps : ℕ) (slots : List Slots) (list : List Action) → FirstBrokenIsUnique steps slots list }
+{}
+
+/// No list is both valid and broken.
+pub fn valid_lists_are_unbroken()
+    ensures { (steps : ℕ) (slots : List Slots) (list : List Action) → ValidIsUnbroken steps slots list }
 {}

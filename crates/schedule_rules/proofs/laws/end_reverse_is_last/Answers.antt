@@ -1,5 +1,8 @@
-use Rattle.schedule_rules.proofs.Lawful.{end_is_last}
+use Rattle.schedule_rules.proofs.Lawful.{valid_has_action, end_is_last}
 use Rattle.schedule_rules.proofs.laws.end_reverse_is_last.Goals as goal
 
-pub returns : goal.returns
-returns c = end_is_last
+pub returns-clause-not_empty : goal.returns-clause-not_empty
+returns-clause-not_empty c = valid_has_action
+
+pub returns-clause-last : goal.returns-clause-last
+returns-clause-last c = end_is_last

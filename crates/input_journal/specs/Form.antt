@@ -1,0 +1,35 @@
+-- The bytes of a journal, in our own form: four letters, a version, the number of items, and the items, each behind its
+-- length. Numbers are of four bytes, the lowest first.
+use Rattle.std.specs.Prelude.{◌≡◌, ◌≤◌, ℕ, List, [], ◌∷◌, ◌++◌, length}
+use Rattle.std.specs.Int.{w32, to_le_bytes}
+use Rattle.std.specs.List.{flat_map, AllByRecursion}
+
+-- the letters RVJL
+abbrev pub letters : List ℕ
+letters = 82 ∷ 86 ∷ 74 ∷ 76 ∷ []
+
+-- a number
+abbrev pub number : ℕ → List ℕ
+number n = to_le_bytes w32 n
+
+-- an item behind its length
+abbrev pub item_bytes : List ℕ → List ℕ
+item_bytes item = number (length item) ++ item
+
+-- the letters, the version 1, a number of items, and these items
+abbrev pub beginning : ℕ → List (List ℕ) → List ℕ
+beginning count items = letters ++ (number 1 ++ (number count ++ flat_map item_bytes items))
+
+-- the one spelling of a list of items
+abbrev pub journal_bytes : List (List ℕ) → List ℕ
+journal_bytes items = beginning (length items) items
+
+-- an item is of at most 1,048,576 bytes
+abbrev pub IsShort : List ℕ → Type 0
+IsShort item = length item ≤ 1048576
+
+-- the bytes are those of a journal with these items, of which there are at most 65,536
+pub record IsJournal (bytes : List ℕ) (items : List (List ℕ)) : Type 0 where
+  pub few : length items ≤ 65536
+  pub short : AllByRecursion IsShort items
+  pub spelled : bytes ≡ journal_bytes items

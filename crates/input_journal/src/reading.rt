@@ -1,0 +1,104 @@
+// Bytes that are read as a journal.
+ghost use Rattle.std.specs.Prelude.{◌≡◌, ◌≢◌, ◌⊎◌, ◌+◌, ◌≤◌, ℕ, List, length, drop, MatchResult, IfOk, IfErr, OnOk};
+ghost use Rattle.input_journal.specs.Form.{IsJournal, IsShort};
+ghost use Rattle.input_journal.specs.Faults.{FirstFault};
+ghost use Rattle.input_journal.specs.Reading.{Gives, number_at, item_at, count_of, reading};
+
+use crate::fault::JournalFault;
+use crate::journal::Journal;
+use byteorder::{ByteOrder, LittleEndian};
+use std::alloc::Global;
+
+/// The most items of a journal.
+const MOST_ITEMS: u32 = 65_536;
+
+/// The most bytes of an item.
+const MOST_BYTES: u32 = 1_048_576;
+
+/// Reads the journal that the bytes are, all of the bytes.
+pub fn read_journal(alloc: Global, bytes: &[u8]) -> Result<Journal, JournalFault>
+    // What is read is spelled so, and what is spelled so is read, unless memory runs out.
+    ensures found { IfOk result (IsJournal bytes.now) }
+    ensures only { (items : List (List ℕ)) → IsJournal bytes.now items → MatchResult result (λ journal. journal ≡ items) (λ fault. fault ≡ JournalFault.Memory) }
+
+    // What is refused has that fault first, and what has a fault is refused for it, unless memory runs out.
+    ensures refused { IfErr result (λ fault. fault ≢ JournalFault.Memory → FirstFault bytes.now fault) }
+    ensures first { (fault : JournalFault) → FirstFault bytes.now fault → MatchResult result (λ _. ⊥) (λ answer. (answer ≡ fault) ⊎ (answer ≡ JournalFault.Memory)) }
+{
+    read_items(alloc, bytes)
+}
+
+#[tactic(auto, unfolding(crate::specs::Reading::reading))]
+fn read_items(alloc: Global, bytes: &[u8]) -> Result<Journal, JournalFault>
+    ensures { Gives (λ journal. journal) result (reading bytes.now) }
+{
+    let count = read_count(bytes)?;
+    let mut items = Vec::new(alloc);
+    let mut at = 12;
+    for _ in 0..count {
+        let item = read_item(bytes, at)?;
+        let Ok(copy) = Vec::from_slice(alloc, item) else {
+            return Err(JournalFault::Memory);
+        };
+        if items.push(copy).is_err() {
+            return Err(JournalFault::Memory);
+        }
+        at += 4 + item.len();
+    }
+    if at < bytes.len() {
+        return Err(JournalFault::Trailing(at as u64));
+    }
+    Ok(Journal { items })
+}
+
+// The number of items, behind the letters and the version.
+#[tactic(auto, unfolding(crate::specs::Reading::count_of))]
+fn read_count(bytes: &[u8]) -> Result<u32, JournalFault>
+    ensures value { Gives (λ n. n) result (count_of bytes.now) }
+    ensures few { IfOk result (λ n. n ≤ 65536) }
+    ensures within { OnOk result (12 ≤ length bytes.now) }
+{
+    if !bytes.starts_with(b"RVJL") {
+        return Err(JournalFault::Magic);
+    }
+    if read_number(bytes, 4)? != 1 {
+        return Err(JournalFault::Version);
+    }
+    let count = read_number(bytes, 8)?;
+    if count > MOST_ITEMS {
+        return Err(JournalFault::TooLong(8));
+    }
+    Ok(count)
+}
+
+// The bytes of the item whose length stands at a place.
+#[tactic(auto, unfolding(crate::specs::Reading::item_at))]
+fn read_item(bytes: &[u8], at: usize) -> Result<&[u8], JournalFault>
+    requires { at ≤ length bytes.now }
+    ensures value { Gives (λ item. item.now) result (item_at at (drop at bytes.now)) }
+    ensures short { IfOk result (λ item. IsShort item.now) }
+    ensures within { IfOk result (λ item. at + 4 + length item.now ≤ length bytes.now) }
+{
+    let len = read_number(bytes, at)?;
+    if len > MOST_BYTES {
+        return Err(JournalFault::TooLong(at as u64));
+    }
+    let rest = &bytes[at + 4..];
+    if rest.len() < len as usize {
+        return Err(JournalFault::Truncated(at as u64 + 4));
+    }
+    Ok(&rest[..len as usize])
+}
+
+// The number of four bytes at a place.
+fn read_number(bytes: &[u8], at: usize) -> Result<u32, JournalFault>
+    requires { at ≤ length bytes.now }
+    ensures value { Gives (λ n. n) result (number_at at (drop at bytes.now)) }
+    ensures within { OnOk result (at + 4 ≤ length bytes.now) }
+{
+    let rest = &bytes[at..];
+    if rest.len() < 4 {
+        return Err(JournalFault::Truncated(at as u64));
+    }
+    Ok(LittleEndian::read_u32(rest))
+}

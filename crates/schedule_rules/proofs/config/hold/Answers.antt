@@ -1,0 +1,13 @@
+use Rattle.std.proofs.Common.{arith}
+use Rattle.std.specs.FinSet as set
+use Rattle.std.specs.Ordering.{nat_cmp}
+use Rattle.schedule_rules.proofs.LevelLemmas.{slots_kept-set, images_kept-set}
+use Rattle.schedule_rules.proofs.config.hold.Goals as goal
+
+pub returns-clause-slots : goal.returns-clause-slots
+returns-clause-slots c = slots_kept-set c.args.levels.now.items c.args.level c.index_mut.result.now c.insert.new.self c.index_mut.ensures.value
+
+pub returns-clause-held : goal.returns-clause-held
+returns-clause-held c =
+    images_kept-set c.args.levels.now.items c.args.level c.index_mut.result.now c.insert.new.self (λ (s : set.FinSet nat_cmp). set.insert s c.args.n)
+    (omega (arith, c.requires.level, c.args.levels.now.ok)) c.index_mut.ensures.value c.insert.ensures.set
