@@ -30,7 +30,7 @@ Need Holds e d below = ((Holds → ⊥) × (d ≡ refuse e)) ⊎ (Holds × below
 abbrev pub Read : {A : Type 0} → (A → Type 0) → Ended → Decision → (A → Type 0) → Type 0
 Read {A} IsText e d below = (((x : A) → IsText x → ⊥) × (d ≡ refuse e)) ⊎ ((x : A) × IsText x × below x)
 
--- the list is valid and the lines below decide, or it is refused at its first broken action
+-- the list is valid and the lines below decide, or it is refused where it is first broken
 abbrev pub Judge : ℕ → List Slots → List Action → Decision → Type 0 → Type 0
 Judge steps slots list d below =
     ((place : ℕ) × (rule : ℕ) × (level : ℕ) × BrokenAt steps slots list place rule level × (Valid steps slots list → ⊥) × (d ≡ refuse (invalid place level rule)))
@@ -63,8 +63,8 @@ Decides r given slots d = Take 1 (inputs_of r) given d (λ bytes. DecidesBytes r
 
 -- ---- what a call comes to
 
--- This was decided by what the inputs had under their names: where they tell, by what they tell. They were asked for
--- these names, up to the first that isn't there or is too long.
+-- This was decided by what is there under the names of the inputs: where they tell, by what they tell, and else by
+-- something. The inputs were asked for these names, up to the first that isn't there or is too long.
 pub record Comes (r : Request) (told : Option Files) (before after : List (List ℕ)) (slots : List ℕ) (d : Decision) : Type 0 where
   pub given : List (Option (List ℕ))
   pub as_told : WhereTold told (λ files. given ≡ contents files (inputs_of r))
@@ -77,6 +77,6 @@ abbrev pub EndsBy : Decision → Ended → Moment → Moment → Type 0
 EndsBy (refuse refusal) e old new = e ≡ refusal
 EndsBy (accept job) e old new = ((e ≡ done) × Done job old new) ⊎ ((e ≡ stopped e.place) × DidUntil (deeds job) e.place old new)
 
--- the statuses of a call that came to its job; at any other it was refused
+-- the statuses of a call that may have come to its job; at any other it was refused
 abbrev pub IsOfJob : ℕ → Type 0
 IsOfJob status = (status ≡ 0) ⊎ (status ≡ 14) ⊎ (status ≡ 17)

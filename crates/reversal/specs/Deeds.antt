@@ -17,7 +17,7 @@ pub data Job : Type 0 where
   -- the actions of a list over the run from a state, with recorded input and a number of steps
   perform : MachineState → List (List ℕ) → ℕ → List Action → Job
 
--- a deed: what it writes, each piece in one write; its machine steps; and whether it keeps a state, which takes memory
+-- a deed: what it writes, in as many writes as there are pieces; its machine steps; and whether it keeps a state, which takes memory
 pub record Deed : Type 0 where
   pub pieces : List (List ℕ)
   pub steps : ℕ

@@ -25,7 +25,7 @@ IsName word = word ≢ []
 abbrev pub IsScheduleName : List ℕ → Type 0
 IsScheduleName word = IsName word × (word ≢ codes "@revolve")
 
--- A number is decimal digits without a sign or a leading zero, below 2 ^ 64.
+-- A number is below 2 ^ 64. Its spelling has neither a sign nor a leading zero.
 abbrev pub IsNumber : ℕ → Type 0
 IsNumber n = n < 2 ^ 64
 

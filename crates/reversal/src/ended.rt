@@ -5,7 +5,7 @@ ghost use Rattle.reversal.specs.Ending.{ended_at, done, no_request, unreadable, 
 use plan_types::Line;
 use std::alloc::{AllocError, AllocFailed};
 
-/// How a call ended. Numbers that a status doesn't name are 0.
+/// How a call ended. In the endings of the top call, numbers that a status doesn't name are 0.
 #[derive(Clone, Copy, Debug, PartialEq, Eq)]
 pub struct Ended {
     /// 0 Done, 2 Words, 3 Input, 8 Invalid, 14 Sink, 17 Memory, 18 NotBuilt.

@@ -38,10 +38,10 @@ pub fn reversal<I: Inputs, K: Keeper, O: Sink, L: Ledger>(
     // Words that say none, or a number of theirs that is outside its bounds, are refused before an input is asked for.
     ensures unread { (e : Ended) → RefusesWords (words_of words.now) e → (result ≡ e) × (inputs.new ≡ inputs.old) }
 
-    // The names asked for are those of the request's inputs, in the order of the words, up to one of them.
+    // The names asked for are the first few of the request's inputs, perhaps none, in the order of the words.
     ensures asked { (r : ARequest) → Asks (words_of words.now) r → (k : ℕ) × (I.asked inputs.new ≡ I.asked inputs.old ++ take k (names (inputs_of r))) }
 
-    // Status 3 names the input that can't be read. It comes exactly where the inputs' count of faults rose.
+    // Status 3 names the input that can't be read. Up to its end, the inputs' count of faults rises exactly there.
     ensures input { (r : ARequest) → Asks (words_of words.now) r → result.status ≡ 3 → FailsAtInput (inputs_of r) (I.told inputs.old) result (I.asked inputs.old) (I.asked inputs.new) }
     ensures input_cause { result.status ≡ 3 → Rose (I.fault_count inputs.old) (I.fault_count inputs.new) }
     ensures input_quiet { result.status ≢ 3 → I.fault_count inputs.new ≡ I.fault_count inputs.old }
@@ -61,11 +61,11 @@ pub fn reversal<I: Inputs, K: Keeper, O: Sink, L: Ledger>(
         (record { told = O.told out.old; calls = O.call_count out.old; steps = steps.old })
         (record { told = O.told out.new; calls = O.call_count out.new; steps = steps.new }))) }
 
-    // Status 14 comes exactly where the sink's count of faults rose.
+    // Up to its end, the sink's count of faults rises exactly at status 14.
     ensures sink_cause { result.status ≡ 14 → Rose (O.fault_count out.old) (O.fault_count out.new) }
     ensures sink_quiet { result.status ≢ 14 → O.fault_count out.new ≡ O.fault_count out.old }
 
-    // A refusal leaves the sink and the count of steps as they were, and no keeper is ever called.
+    // A refusal leaves the sink and the count of steps as they were. The keepers are always as they were.
     ensures untouched { (IsOfJob result.status → ⊥) → (out.new ≡ out.old) × (steps.new ≡ steps.old) }
     ensures keepers { keepers.new ≡ keepers.old }
 {

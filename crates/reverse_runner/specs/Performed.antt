@@ -42,7 +42,7 @@ Does journal (Move n k (Level j)) work stored work' stored' =
 Does journal EndForward work stored work' stored' = (work' ≡ work) × (stored' ≡ stored)
 Does journal EndReverse work stored work' stored' = (work' ≡ work) × (stored' ≡ stored)
 
--- whether an action keeps a copy on a level; no other action takes memory
+-- whether an action keeps a copy on a level; no other action is refused for want of memory
 abbrev pub keeps_copy : Action → Bool
 keeps_copy (Forward from to (Store k)) = true
 keeps_copy (Copy n k (Level j)) = true
