@@ -1,7 +1,7 @@
 -- The one form of a program that is run so far: at most a page of words, each an instruction that is built.
 use Rattle.std.specs.Prelude.{◌≡◌, ℕ, ◌*◌, ◌%◌, ◌<◌, ◌≤◌, true, List, length, take, drop}
 use Rattle.std.specs.Int.{from_le_bytes, w32}
-use Rattle.rv_machine.specs.StepTable.{is_built}
+use Rattle.rv_machine.specs.FirstRows.{is_built}
 
 -- the little-endian word with this index
 abbrev pub word_of : List ℕ → ℕ → ℕ

@@ -1,6 +1,6 @@
 // The bytes of a program.
 ghost use Rattle.std.specs.Prelude.{◌≡◌, ℕ, ◌+◌, ◌*◌, ◌%◌, ◌<◌, ◌≤◌, ◌↔◌, true, length, IsTrue};
-ghost use Rattle.rv_machine.specs.StepTable.{is_built};
+ghost use Rattle.rv_machine.specs.FirstRows.{is_built};
 ghost use Rattle.reversal.specs.ProgramForm.{word_of, IsProgram};
 
 use rv_machine::is_instruction;

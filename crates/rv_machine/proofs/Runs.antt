@@ -1,18 +1,49 @@
 -- What callers of a step use.
-use Rattle.std.proofs.Common.{◌≡◌, ◌+◌, ℕ, zero, suc, add-one, add-zero, add-suc, ap, Bool, true, false, cond, List, refl, ◌∙◌, Option, None, Some}
-use Rattle.rv_pages.specs.Memory.{page_numbers, word_at}
-use Rattle.rv_machine.specs.Words.{rd}
+use Rattle.std.proofs.Common.{◌≡◌, ◌==◌, ◌+◌, ◌%◌, ℕ, zero, suc, add-one, add-zero, add-suc, ap, Bool, true, false, cond, List, refl, ◌∙◌, Option, None, Some, is_some}
+use Rattle.rv_pages.specs.Memory.{page_numbers, wrapped, word_at, number_at, with_number}
+use Rattle.rv_decode.specs.declared.instruction.Inst.{Inst}
+use Rattle.rv_decode.specs.Rows.{decoded}
+use Rattle.rv_machine.specs.declared.effect.Effect.{Effect}
+use Rattle.rv_machine.specs.declared.effect.Effect.TheVariants.{Put, Jump, Branch, Load, Store, Nothing, Call, Break}
+use Rattle.rv_machine.specs.declared.effect.Width.{Width}
+use Rattle.rv_machine.specs.Effects.{bytes_of}
 use Rattle.rv_machine.specs.MachineState.{MachineState}
-use Rattle.rv_machine.specs.StepTable.{next, executed, put, is_running}
+use Rattle.rv_machine.specs.StepTable.{next, executed, said, effect_in, happened, jumped, loaded, gone_on, trapped, is_running}
 use Rattle.rv_machine.specs.States.{state_number}
+use Rattle.rv_machine.proofs.Stores.{with_number_numbers}
 
-put_pages : (s : MachineState) (n : ℕ) (value : Option ℕ) → page_numbers (put s n value).memory ≡ page_numbers s.memory
-put_pages s n None = refl
-put_pages s n (Some value) = refl
+cond_pages : (b : Bool) (s t u : MachineState) → page_numbers t.memory ≡ page_numbers s.memory → page_numbers u.memory ≡ page_numbers s.memory → page_numbers (cond b t u).memory ≡ page_numbers s.memory
+cond_pages true s t u e f = e
+cond_pages false s t u e f = f
+
+jumped_pages : (s : MachineState) (rd target : ℕ) → page_numbers (jumped s rd target).memory ≡ page_numbers s.memory
+jumped_pages s rd target = cond_pages (target % 4 == 0) s _ (trapped s 0) refl refl
+
+loaded_pages : (s : MachineState) (rd : ℕ) (width : Width) (with_sign : Bool) (o : Option ℕ) → page_numbers (loaded s rd width with_sign o).memory ≡ page_numbers s.memory
+loaded_pages s rd width with_sign None = refl
+loaded_pages s rd width with_sign (Some n) = refl
+
+stored_pages : (s : MachineState) (at : ℕ) (width : Width) (value : ℕ) (b : Bool) → is_some (number_at s.memory at (bytes_of width)) ≡ b → page_numbers (cond b (record s { pc = wrapped (s.pc + 4); memory = with_number s.memory at (bytes_of width) value }) (trapped s 7)).memory ≡ page_numbers s.memory
+stored_pages s at width value true e = with_number_numbers s.memory at (bytes_of width) value e
+stored_pages s at width value false e = refl
+
+pub happened_pages : (s : MachineState) (effect : Effect) → page_numbers (happened s effect).memory ≡ page_numbers s.memory
+happened_pages s (Put rd value) = refl
+happened_pages s (Jump rd target) = jumped_pages s rd target
+happened_pages s (Branch taken target) = cond_pages taken s (jumped s 0 target) (gone_on s) (jumped_pages s 0 target) refl
+happened_pages s (Load rd at width with_sign) = loaded_pages s rd width with_sign _
+happened_pages s (Store at width value) = stored_pages s at width value _ refl
+happened_pages s Nothing = refl
+happened_pages s Call = refl
+happened_pages s Break = refl
+
+said_pages : (s : MachineState) (o : Option Inst) → page_numbers (said s o).memory ≡ page_numbers s.memory
+said_pages s None = refl
+said_pages s (Some inst) = happened_pages s (effect_in s inst)
 
 executed_pages : (s : MachineState) (word : Option ℕ) → page_numbers (executed s word).memory ≡ page_numbers s.memory
 executed_pages s None = refl
-executed_pages s (Some word) = put_pages s (rd word) _
+executed_pages s (Some word) = said_pages s (decoded word)
 
 if_running : (s t : MachineState) (running : Bool) → page_numbers t.memory ≡ page_numbers s.memory → page_numbers (cond running t s).memory ≡ page_numbers s.memory
 if_running s t true e = e

@@ -1,17 +1,36 @@
 -- That a step leads from a state that a machine can be in to another one.
-use Rattle.std.proofs.Common.{◌≡◌, ◌≢◌, ℕ, suc, zero, ◌+◌, ◌-◌, ◌/◌, ◌^◌, ◌<◌, inl, inr, Bool, true, false, cond, if◌then◌else◌, List, [], ◌∷◌, length, sym, ap, subst, ◌∙◌, arith, Option, Some, None, IfSome}
-use Rattle.std.proofs.lemmas.Nat.{xor_lt, or_lt}
+use Rattle.std.proofs.Common.{◌≡◌, ◌≢◌, ℕ, suc, zero, ◌+◌, ◌-◌, ◌*◌, ◌%◌, ◌^◌, ◌<◌, ◌≤◌, ◌==◌, inl, inr, Bool, true, false, cond, List, [], ◌∷◌, length, refl, sym, ap, subst, ◌∙◌, arith, ℤ, pos, negsuc, pow_pos, Option, Some, None, IfSome, is_some}
+use Rattle.std.proofs.lemmas.Bool.{eqb-true}
+use Rattle.std.proofs.lemmas.Bool.Decides.{eqb_tells}
+use Rattle.std.proofs.lemmas.Int.{of_z-to_z}
 use Rattle.std.proofs.lemmas.List.{length-set, get_or-set_other}
 use Rattle.std.proofs.lemmas.List.Elements.{All-set}
-use Rattle.std.proofs.lemmas.Bool.Decides.{eqb_tells}
-use Rattle.std.specs.Int.Bits.{bit_and, bit_or, bit_xor, and_lt}
+use Rattle.std.proofs.lemmas.Nat.{xor_lt, or_lt}
+use Rattle.std.proofs.Math.Nat.{div-le_self}
+use Rattle.std.specs.Int.{w32, cast_unsigned}
+use lib.Signed.{shr_z}
+use Rattle.std.specs.Int.Bits.{and_lt}
 use Rattle.std.specs.List.{All, slice_index, slice_set}
-use Rattle.rv_pages.specs.Memory.{wrapped, word_at}
-use Rattle.rv_pages.proofs.Whole.{word_below}
-use Rattle.rv_machine.specs.MachineState.{MachineState, IsMachineState}
-use Rattle.rv_machine.specs.Words.{rd, rs1, rs2, imm_i, imm_u, is_u, is_i, is_r}
-use Rattle.rv_machine.specs.StepTable.{value_of, with_register, trapped, put, executed, is_running, next}
+use Rattle.rv_pages.specs.Memory.{wrapped, number_at, word_at, with_number}
+use Rattle.rv_pages.proofs.Whole.{word_below, number_below}
+use Rattle.rv_decode.specs.declared.instruction.Inst.{Inst}
+use Rattle.rv_decode.specs.declared.instruction.Inst.TheVariants.{Lui, Auipc, Jal, Jalr, Beq, Bne, Blt, Bge, Bltu, Bgeu, Lb, Lh, Lw, Lbu, Lhu, Sb, Sh, Sw, Addi, Slti, Sltiu, Xori, Ori, Andi, Slli, Srli, Srai, Add, Sub, Sll, Slt, Sltu, Xor, Srl, Sra, Or, And, Fence, Ecall, Ebreak}
+use Rattle.rv_decode.specs.Formats.{sign_extended}
+use Rattle.rv_decode.specs.Ranges.{HasRanges, IsSigned}
+use Rattle.rv_decode.specs.Rows.{decoded}
+use Rattle.rv_decode.proofs.Parts.{sign_cases}
+use Rattle.rv_decode.proofs.Ranging.{decoded_ranges}
+use Rattle.rv_machine.specs.declared.effect.Effect.{Effect}
+use Rattle.rv_machine.specs.declared.effect.Effect.TheVariants.{Put, Jump, Branch, Load, Store, Nothing, Call, Break}
+use Rattle.rv_machine.specs.declared.effect.Width.{Width}
+use Rattle.rv_machine.specs.declared.effect.Width.TheVariants.{Byte, Half, Word}
+use Rattle.rv_machine.specs.declared.status.Status.TheVariants.{Trapped}
+use Rattle.rv_machine.specs.Numbers.{signed, shifted_right_signed, one_if}
+use Rattle.rv_machine.specs.Effects.{effect_of, bytes_of}
+use Rattle.rv_machine.specs.MachineState.{MachineState, IsMachineState, IsStatus}
+use Rattle.rv_machine.specs.StepTable.{with_register, trapped, gone_on, put, jumped, loaded, happened, effect_in, said, executed, is_running, next}
 use Rattle.rv_machine.specs.States.{state_number}
+use Rattle.rv_machine.proofs.Stores.{with_number_memory}
 
 -- the register with a number is a word; past the end there is a 0
 word : (xs : List ℕ) (k : ℕ) → All (λ x. x < 2 ^ 32) xs → slice_index xs k < 2 ^ 32
@@ -19,35 +38,69 @@ word [] k h = omega arith
 word (x ∷ xs) zero h = h 0 0 (omega arith)
 word (x ∷ xs) (suc k) h = word xs k (λ i d l. h (suc i) d (omega arith))
 
--- a row of the table gives a word, and so do those after it
-record GivesWord (o : Option ℕ) : Type 0 where
-  word : IfSome o (λ v. v < 2 ^ 32)
+-- immediates and answers are words
+signed_word : (width n : ℕ) → 2 ^ (width - 1) < 2 ^ 32 → IsSigned width n → n < 2 ^ 32
+signed_word width n small h = elim h [ inl l ↦ omega (arith, l, small) | inr r ↦ r.1 ]
 
-row : (t : Bool) (x : ℕ) (rest : Option ℕ) → x < 2 ^ 32 → GivesWord rest → GivesWord (if t then Some x else rest)
-row true x rest h g = record { word = h }
-row false x rest h g = g
+one_word : (b : Bool) → one_if b < 2 ^ 32
+one_word true = omega arith
+one_word false = omega arith
 
-sign : (b : Bool) (n : ℕ) → n < 2 ^ 12 → cond b n (n + 2 ^ 32 - 2 ^ 12) < 2 ^ 32
-sign true n h = omega (arith, h)
-sign false n h = omega (arith, h)
+shifted_z : (z : ℤ) (p : ℕ) → 0 < p → cast_unsigned w32 z < 2 ^ 32 → cast_unsigned w32 (shr_z z p) < 2 ^ 32
+shifted_z (pos n) p some h = omega (arith, div-le_self n p, h)
+shifted_z (negsuc n) p some h = omega arith
 
-immediate : (w : ℕ) → w < 2 ^ 32 → imm_i w < 2 ^ 32
-immediate w h = sign _ (w / 2 ^ 20) (omega (arith, h))
+shifted_word : (a places : ℕ) → a < 2 ^ 32 → shifted_right_signed a places < 2 ^ 32
+shifted_word a places h = shifted_z (signed a) (2 ^ places) (pow_pos places) (subst (λ n. n < 2 ^ 32) (sym (of_z-to_z w32 a h)) h)
 
-value_is_word : (w a b : ℕ) → w < 2 ^ 32 → a < 2 ^ 32 → b < 2 ^ 32 → GivesWord (value_of w a b)
-value_is_word w a b h p q =
-    let i = immediate w h in
-    row (is_u 0b0110111 w) (imm_u w) _ (omega (arith, h))
-    (row (is_i 0b0010011 0b000 w) (wrapped (a + imm_i w)) _ (omega arith)
-    (row (is_i 0b0010011 0b100 w) (bit_xor a (imm_i w)) _ (xor_lt 32 a (imm_i w) p i)
-    (row (is_i 0b0010011 0b110 w) (bit_or a (imm_i w)) _ (or_lt 32 a (imm_i w) p i)
-    (row (is_i 0b0010011 0b111 w) (bit_and a (imm_i w)) _ (and_lt 32 a (imm_i w) p i)
-    (row (is_r 0b0110011 0b000 0b0000000 w) (wrapped (a + b)) _ (omega arith)
-    (row (is_r 0b0110011 0b000 0b0100000 w) (wrapped (a + 2 ^ 32 - b)) _ (omega arith)
-    (row (is_r 0b0110011 0b100 0b0000000 w) (bit_xor a b) _ (xor_lt 32 a b p q)
-    (row (is_r 0b0110011 0b110 0b0000000 w) (bit_or a b) _ (or_lt 32 a b p q)
-    (row (is_r 0b0110011 0b111 0b0000000 w) (bit_and a b) None (and_lt 32 a b p q)
-    (record { word = tt }))))))))))
+-- what an effect puts somewhere is a word
+abbrev HasWords : Effect → Type 0
+HasWords (Put rd value) = value < 2 ^ 32
+HasWords (Jump rd target) = target < 2 ^ 32
+HasWords (Branch taken target) = target < 2 ^ 32
+HasWords _ = Unit {0}
+
+words : (x : ℕ → ℕ) (pc : ℕ) → ((n : ℕ) → x n < 2 ^ 32) → (inst : Inst) → HasRanges inst → HasWords (effect_of x pc inst)
+words x pc small (Lui rd imm) h = h.1
+words x pc small (Auipc rd imm) h = omega arith
+words x pc small (Jal rd imm) h = omega arith
+words x pc small (Jalr rd rs1 imm) h = omega arith
+words x pc small (Beq rs1 rs2 imm) h = omega arith
+words x pc small (Bne rs1 rs2 imm) h = omega arith
+words x pc small (Blt rs1 rs2 imm) h = omega arith
+words x pc small (Bge rs1 rs2 imm) h = omega arith
+words x pc small (Bltu rs1 rs2 imm) h = omega arith
+words x pc small (Bgeu rs1 rs2 imm) h = omega arith
+words x pc small (Lb rd rs1 imm) h = tt
+words x pc small (Lh rd rs1 imm) h = tt
+words x pc small (Lw rd rs1 imm) h = tt
+words x pc small (Lbu rd rs1 imm) h = tt
+words x pc small (Lhu rd rs1 imm) h = tt
+words x pc small (Sb rs1 rs2 imm) h = tt
+words x pc small (Sh rs1 rs2 imm) h = tt
+words x pc small (Sw rs1 rs2 imm) h = tt
+words x pc small (Addi rd rs1 imm) h = omega arith
+words x pc small (Slti rd rs1 imm) h = one_word _
+words x pc small (Sltiu rd rs1 imm) h = one_word _
+words x pc small (Xori rd rs1 imm) h = xor_lt 32 (x rs1) imm (small rs1) (signed_word 12 imm (omega arith) h.2)
+words x pc small (Ori rd rs1 imm) h = or_lt 32 (x rs1) imm (small rs1) (signed_word 12 imm (omega arith) h.2)
+words x pc small (Andi rd rs1 imm) h = and_lt 32 (x rs1) imm (small rs1) (signed_word 12 imm (omega arith) h.2)
+words x pc small (Slli rd rs1 imm) h = omega arith
+words x pc small (Srli rd rs1 imm) h = omega (arith, div-le_self (x rs1) (2 ^ imm), small rs1)
+words x pc small (Srai rd rs1 imm) h = shifted_word (x rs1) imm (small rs1)
+words x pc small (Add rd rs1 rs2) h = omega arith
+words x pc small (Sub rd rs1 rs2) h = omega arith
+words x pc small (Sll rd rs1 rs2) h = omega arith
+words x pc small (Slt rd rs1 rs2) h = one_word _
+words x pc small (Sltu rd rs1 rs2) h = one_word _
+words x pc small (Xor rd rs1 rs2) h = xor_lt 32 (x rs1) (x rs2) (small rs1) (small rs2)
+words x pc small (Srl rd rs1 rs2) h = omega (arith, div-le_self (x rs1) (2 ^ (x rs2 % 32)), small rs1)
+words x pc small (Sra rd rs1 rs2) h = shifted_word (x rs1) (x rs2 % 32) (small rs1)
+words x pc small (Or rd rs1 rs2) h = or_lt 32 (x rs1) (x rs2) (small rs1) (small rs2)
+words x pc small (And rd rs1 rs2) h = and_lt 32 (x rs1) (x rs2) (small rs1) (small rs2)
+words x pc small (Fence word) h = tt
+words x pc small Ecall h = tt
+words x pc small Ebreak h = tt
 
 -- registers with a word in one of them
 record AreRegisters (xs : List ℕ) : Type 0 where
@@ -69,19 +122,75 @@ registers_stay xs n v h l =
       | inr other ↦ subst AreRegisters (sym (ap (λ b. cond b xs (slice_set xs n v)) other.0)) (written xs n v h l other.1)
     ]
 
-traps : (s : MachineState) (cause : ℕ) → cause < 8 → IsMachineState s → IsMachineState (trapped s cause)
+registers_after : (s : MachineState) (n v : ℕ) → IsMachineState s → v < 2 ^ 32 → AreRegisters (with_register s.registers n v)
+registers_after s n v h l = registers_stay s.registers n v (record { count = h.registers; words = h.words; zero = h.zero }) l
+
+-- what an effect makes of a state
+traps : (s : MachineState) (cause : ℕ) → IsStatus (Trapped cause) → IsMachineState s → IsMachineState (trapped s cause)
 traps s cause below h = record { pc = h.pc; aligned = h.aligned; registers = h.registers; words = h.words; zero = h.zero; status = below; item = h.item; offset = h.offset; written = h.written; memory = h.memory }
 
-puts : (s : MachineState) (n : ℕ) (value : Option ℕ) → IfSome value (λ v. v < 2 ^ 32) → IsMachineState s → IsMachineState (put s n value)
-puts s n None small h = traps s 2 (omega arith) h
-puts s n (Some value) small h =
-    let are : AreRegisters (with_register s.registers n value) = registers_stay s.registers n value (record { count = h.registers; words = h.words; zero = h.zero }) small in
+goes_on : (s : MachineState) → IsMachineState s → IsMachineState (gone_on s)
+goes_on s h = record { pc = omega arith; aligned = omega (arith, h.aligned); registers = h.registers; words = h.words; zero = h.zero; status = h.status; item = h.item; offset = h.offset; written = h.written; memory = h.memory }
+
+puts : (s : MachineState) (n value : ℕ) → value < 2 ^ 32 → IsMachineState s → IsMachineState (put s n value)
+puts s n value small h =
+    let are = registers_after s n value h small in
     record { pc = omega arith; aligned = omega (arith, h.aligned); registers = are.count; words = are.words; zero = are.zero; status = h.status; item = h.item; offset = h.offset; written = h.written; memory = h.memory }
 
+jumps_by : (s : MachineState) (rd target : ℕ) (b : Bool) → (target % 4 == 0) ≡ b → target < 2 ^ 32 → IsMachineState s → IsMachineState (cond b (record s { pc = target; registers = with_register s.registers rd (wrapped (s.pc + 4)) }) (trapped s 0))
+jumps_by s rd target true e small h =
+    let are = registers_after s rd (wrapped (s.pc + 4)) h (omega arith) in
+    record { pc = small; aligned = eqb-true (target % 4) 0 e; registers = are.count; words = are.words; zero = are.zero; status = h.status; item = h.item; offset = h.offset; written = h.written; memory = h.memory }
+jumps_by s rd target false e small h = traps s 0 refl h
+
+jumps : (s : MachineState) (rd target : ℕ) → target < 2 ^ 32 → IsMachineState s → IsMachineState (jumped s rd target)
+jumps s rd target small h = jumps_by s rd target (target % 4 == 0) refl small h
+
+branches : (s : MachineState) (taken : Bool) (target : ℕ) → target < 2 ^ 32 → IsMachineState s → IsMachineState (cond taken (jumped s 0 target) (gone_on s))
+branches s true target small h = jumps s 0 target small h
+branches s false target small h = goes_on s h
+
+-- a number from memory with its sign or without it is a word
+extended_word : (bits n : ℕ) → 0 < bits → 2 ^ bits ≤ 2 ^ 32 → n < 2 ^ bits → sign_extended bits n < 2 ^ 32
+extended_word bits n some small h = elim (sign_cases bits n) [ inl p ↦ omega (arith, p.0, p.1, h, small) | inr p ↦ omega (arith, p.0, p.1, h, small) ]
+
+extended : (width : Width) (n : ℕ) → n < 2 ^ (8 * bytes_of width) → (sign_extended (8 * bytes_of width) n < 2 ^ 32) × (n < 2 ^ 32)
+extended Byte n h = (extended_word 8 n (omega arith) (omega arith) h, omega arith)
+extended Half n h = (extended_word 16 n (omega arith) (omega arith) h, omega arith)
+extended Word n h = (extended_word 32 n (omega arith) (omega arith) h, omega arith)
+
+sign_or_not : (b : Bool) (m n : ℕ) → m < 2 ^ 32 → n < 2 ^ 32 → cond b m n < 2 ^ 32
+sign_or_not true m n p q = p
+sign_or_not false m n p q = q
+
+loads : (s : MachineState) (rd : ℕ) (width : Width) (with_sign : Bool) (o : Option ℕ) → IfSome o (λ n. n < 2 ^ (8 * bytes_of width)) → IsMachineState s → IsMachineState (loaded s rd width with_sign o)
+loads s rd width with_sign None small h = traps s 5 refl h
+loads s rd width with_sign (Some n) small h =
+    let p = extended width n small in
+    puts s rd _ (sign_or_not with_sign (sign_extended (8 * bytes_of width) n) n p.0 p.1) h
+
+stores_by : (s : MachineState) (at : ℕ) (width : Width) (value : ℕ) (b : Bool) → is_some (number_at s.memory at (bytes_of width)) ≡ b → IsMachineState s → IsMachineState (cond b (record s { pc = wrapped (s.pc + 4); memory = with_number s.memory at (bytes_of width) value }) (trapped s 7))
+stores_by s at width value true e h =
+    record { pc = omega arith; aligned = omega (arith, h.aligned); registers = h.registers; words = h.words; zero = h.zero; status = h.status; item = h.item; offset = h.offset; written = h.written; memory = with_number_memory s.memory at (bytes_of width) value h.memory e }
+stores_by s at width value false e h = traps s 7 refl h
+
+happens : (s : MachineState) (effect : Effect) → HasWords effect → IsMachineState s → IsMachineState (happened s effect)
+happens s (Put rd value) small h = puts s rd value small h
+happens s (Jump rd target) small h = jumps s rd target small h
+happens s (Branch taken target) small h = branches s taken target small h
+happens s (Load rd at width with_sign) small h = loads s rd width with_sign _ (number_below s.memory h.memory at (bytes_of width)) h
+happens s (Store at width value) small h = stores_by s at width value _ refl h
+happens s Nothing small h = goes_on s h
+happens s Call small h = puts s 10 0xFFFFFFDA (omega arith) h
+happens s Break small h = traps s 3 refl h
+
+says : (s : MachineState) (o : Option Inst) → IfSome o HasRanges → IsMachineState s → IsMachineState (said s o)
+says s None ranges h = traps s 2 refl h
+says s (Some inst) ranges h = happens s (effect_in s inst) (words (λ n. slice_index s.registers n) s.pc (λ n. word s.registers n h.words) inst ranges) h
+
 executes : (s : MachineState) (w : Option ℕ) → IfSome w (λ v. v < 2 ^ 32) → IsMachineState s → IsMachineState (executed s w)
-executes s None small h = traps s 1 (omega arith) h
-executes s (Some w) small h =
-    puts s (rd w) _ (value_is_word w _ _ small (word s.registers (rs1 w) h.words) (word s.registers (rs2 w) h.words)).word h
+executes s None small h = traps s 1 refl h
+executes s (Some w) small h = says s (decoded w) (decoded_ranges w small) h
 
 either : (b : Bool) (s t : MachineState) → IsMachineState s → IsMachineState t → IsMachineState (cond b s t)
 either true s t h g = h

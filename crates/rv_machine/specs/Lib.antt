@@ -1,7 +1,8 @@
 pub mod MachineState
 pub mod StateCode
-pub mod Words
+pub mod Numbers
+pub mod Effects
 pub mod StepTable
+pub mod FirstRows
 pub mod States
-pub mod Meaning
 pub mod StateFields

@@ -1,10 +1,13 @@
-//! The machine: its state, and one step of it. It stands on the memory and the recorded input; images, the runner and
-//! the top call stand on it. What a step does is said by `specs/StepTable.antt` over the fields of a word and a map of
-//! bytes; the code may decode words and keep pages as it likes. Only `step` counts a step, so every state that a caller
-//! has is one that it stepped to, copied, or was given.
+//! The machine: its state, and one step of it. It stands on the instruction words, the memory and the recorded input;
+//! images, the runner and the top call stand on it. `specs/Effects.antt` has what each instruction does, a line each, and
+//! `specs/StepTable.antt` what that makes of a state, over a map of bytes; the code may keep pages as it likes. Of the
+//! crate's functions only `step` takes a step, and each call of it counts one. The fields of a state are public: a caller
+//! may make and change states itself, and nothing is counted then.
 #![tactic(auto)]
 
-mod instruction;
+mod effect;
+mod first_rows;
+mod happening;
 pub mod laws;
 mod raw;
 mod state;
@@ -12,9 +15,9 @@ mod status;
 mod stepping;
 mod steps;
 
-pub use crate::instruction::is_instruction;
+pub use crate::first_rows::is_instruction;
 pub use crate::raw::load_raw;
 pub use crate::state::State;
 pub use crate::status::Status;
-pub use crate::stepping::step;
+pub use crate::stepping::{step, wrote};
 pub use crate::steps::Steps;

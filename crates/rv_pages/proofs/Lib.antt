@@ -1,8 +1,12 @@
+pub mod Marking
+pub mod Entering
+pub mod Reading
 pub mod Found
 pub mod Ordered
 pub mod Numbers
 pub mod Bytes
 pub mod Zeroed
-pub mod Words
 pub mod Written
+pub mod Storing
+pub mod Changed
 pub mod Whole

@@ -2,12 +2,14 @@
 use Rattle.std.proofs.Common.{◌≡◌, ℕ, suc, zero, ◌+◌, ◌*◌, ◌<◌, ◌≤◌, ◌^◌, T, true, false, cond, Option, Some, None, IfSome, List, [], ◌∷◌, ◌++◌, length, get_or, take, drop, refl, sym, ap, subst, ◌∙◌, arith}
 use Rattle.std.proofs.lemmas.List.{get_or-take, get_or-drop, length-take, length-drop, drop-drop}
 use Rattle.std.proofs.lemmas.List.Elements.{All-from_get_or}
+use Rattle.std.proofs.lemmas.Nat.{pow-add}
+use Rattle.std.specs.Option.{option_map}
 use Rattle.std.specs.Cmp.{nat_cmp_total}
 use Rattle.std.specs.List.{All, AllByRecursion, enumerate_from, flat_map}
 use Rattle.std.specs.List.Sorted.{IsStrictlyIncreasing}
 use Rattle.std.specs.Ordering.{nat_cmp, eq_by_cmp}
 use Rattle.std.specs.FinMap.{find, get, is_sorted, from_sorted, from_entries, get-from_sorted, get-from_entries, same_map, nat_cmp-IsAntisymmetric}
-use Rattle.rv_pages.specs.Memory.{Memory, wrapped, byte_at, four_bytes, word_at, page_numbers, page_bytes, of_pages, IsPage, IsMemory}
+use Rattle.rv_pages.specs.Memory.{Memory, wrapped, byte_at, bytes_at, followed_by, little_endian, number_at, word_at, page_numbers, page_bytes, of_pages, IsPage, IsMemory}
 use Rattle.rv_pages.specs.Kept.{entries_kept, memory_kept, AreKept}
 use Rattle.rv_pages.proofs.Ordered.{kept_order}
 use Rattle.rv_pages.proofs.Numbers.{kept_numbers}
@@ -34,7 +36,7 @@ sorted_entries es fs sorted same =
     same_map nat_cmp_total nat_cmp-IsAntisymmetric _ _ (λ q.
     get-from_sorted nat_cmp es q sorted ∙ sym (get-from_entries nat_cmp_total fs q ∙ ap (find nat_cmp q) same))
 
-made_of : (numbers bytes : List ℕ) (f : ℕ → List ℕ) → AreKept numbers bytes → ((i : ℕ) → i < length numbers → f (get_or numbers i 0) ≡ take 4096 (drop (i * 4096) bytes)) → memory_kept numbers bytes ≡ of_pages f numbers
+pub made_of : (numbers bytes : List ℕ) (f : ℕ → List ℕ) → AreKept numbers bytes → ((i : ℕ) → i < length numbers → f (get_or numbers i 0) ≡ take 4096 (drop (i * 4096) bytes)) → memory_kept numbers bytes ≡ of_pages f numbers
 unfolding memory_kept of_pages
 made_of numbers bytes f h is = sorted_entries (entries_kept 4096 numbers bytes) _ (kept_order numbers bytes h) (entries_alike 4096 f numbers bytes is)
 
@@ -66,6 +68,7 @@ kept_is_memory numbers bytes h small =
     record {
       made = made_of numbers bytes (page_bytes m) h (kept_bytes numbers bytes h) ∙ ap (of_pages (page_bytes m)) (sym are);
       ascending = subst IsStrictlyIncreasing (sym are) h.ascending;
+      few = omega (arith, ap length are, h.few);
       pages = subst (All (IsPage m)) (sym are) (All-from_get_or (IsPage m) numbers 0 (kept_page numbers bytes h small));
     }
 
@@ -78,7 +81,7 @@ pub same_pages : (f g : ℕ → List ℕ) (pages : List ℕ) → AllByRecursion 
 unfolding of_pages
 same_pages f g pages h = ap (λ es. from_entries {R = nat_cmp} es) (entries_same f g pages 4096 h)
 
--- what memory has is a byte, and a word of it is below 2 ^ 32
+-- what memory has is a byte
 abbrev Small : List (ℕ × ℕ) → Type 0
 Small es = AllByRecursion (λ e. e.1 < 256) es
 
@@ -107,12 +110,25 @@ small_byte : (m : Memory) → IsMemory m → (at : ℕ) → IfSome (byte_at m at
 small_byte m h at =
     subst (λ (k : Memory). IfSome (get k (wrapped at)) (λ b. b < 256)) (sym h.made) (made_small (page_bytes m) (page_numbers m) (λ i d l. (h.pages i d l).bytes) (wrapped at))
 
-small_word : (a b c d : Option ℕ) → IfSome a (λ x. x < 256) → IfSome b (λ x. x < 256) → IfSome c (λ x. x < 256) → IfSome d (λ x. x < 256) → IfSome (four_bytes a b c d) (λ w. w < 2 ^ 32)
-small_word (Some a) (Some b) (Some c) (Some d) p q r s = omega (arith, p, q, r, s)
-small_word None b c d p q r s = tt
-small_word (Some a) None c d p q r s = tt
-small_word (Some a) (Some b) None d p q r s = tt
-small_word (Some a) (Some b) (Some c) None p q r s = tt
+-- so many bytes, as a number
+small_followed : (x : Option ℕ) (ys : Option (List ℕ)) (k : ℕ) → IfSome x (λ b. b < 256) → IfSome ys (λ bs. little_endian bs < 2 ^ k) → IfSome (followed_by x ys) (λ bs. little_endian bs < 2 ^ (8 + k))
+small_followed None ys k p q = tt
+small_followed (Some b) None k p q = tt
+small_followed (Some b) (Some bs) k p q = let power : 2 ^ (8 + k) ≡ 2 ^ 8 * 2 ^ k = pow-add 2 8 k in omega (arith, p, q, power)
+
+small_bytes : (m : Memory) → IsMemory m → (n at : ℕ) → IfSome (bytes_at m at n) (λ bs. little_endian bs < 2 ^ (8 * n))
+small_bytes m h zero at = omega arith
+small_bytes m h (suc n) at =
+    let next : 8 + 8 * n ≡ 8 * suc n = omega arith in
+    subst (λ k. IfSome (bytes_at m at (suc n)) (λ bs. little_endian bs < 2 ^ k)) next
+    (small_followed (byte_at m at) (bytes_at m (at + 1) n) (8 * n) (small_byte m h at) (small_bytes m h n (at + 1)))
+
+small_number : (o : Option (List ℕ)) (top : ℕ) → IfSome o (λ bs. little_endian bs < top) → IfSome (option_map little_endian o) (λ w. w < top)
+small_number None top h = tt
+small_number (Some bs) top h = h
+
+pub number_below : (m : Memory) → IsMemory m → (at n : ℕ) → IfSome (number_at m at n) (λ w. w < 2 ^ (8 * n))
+number_below m h at n = small_number (bytes_at m at n) (2 ^ (8 * n)) (small_bytes m h n at)
 
 pub word_below : (m : Memory) → IsMemory m → (at : ℕ) → IfSome (word_at m at) (λ w. w < 2 ^ 32)
-word_below m h at = small_word _ _ _ _ (small_byte m h at) (small_byte m h (at + 1)) (small_byte m h (at + 2)) (small_byte m h (at + 3))
+word_below m h at = number_below m h at 4

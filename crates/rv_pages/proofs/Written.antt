@@ -14,10 +14,10 @@ nowhere n ns p apart none zero l e = apart e
 nowhere n ns p apart none (suc k) l e = none k (omega arith) e
 
 -- a number stands somewhere, or nowhere
-abbrev StandsIn : List ℕ → ℕ → Type 0
+abbrev pub StandsIn : List ℕ → ℕ → Type 0
 StandsIn numbers p = (k : ℕ) × ((k < length numbers) × (get_or numbers k 0 ≡ p))
 
-somewhere : (numbers : List ℕ) (p : ℕ) → StandsIn numbers p ⊎ ((k : ℕ) → k < length numbers → get_or numbers k 0 ≡ p → ⊥)
+pub somewhere : (numbers : List ℕ) (p : ℕ) → StandsIn numbers p ⊎ ((k : ℕ) → k < length numbers → get_or numbers k 0 ≡ p → ⊥)
 somewhere [] p = inr (λ k l e. omega arith)
 somewhere (n ∷ ns) p =
     elim (cases_eq n p) [
@@ -28,13 +28,13 @@ somewhere (n ∷ ns) p =
       ]
     ]
 
-mid_inside : (bs page : List ℕ) (a k r : ℕ) → a ≤ length bs → r < length page → get_or (put_mid a k bs page) (a + r) 0 ≡ get_or page r 0
+pub mid_inside : (bs page : List ℕ) (a k r : ℕ) → a ≤ length bs → r < length page → get_or (put_mid a k bs page) (a + r) 0 ≡ get_or page r 0
 mid_inside bs page a k r h l = search (rules, places)
 
-mid_below : (bs page : List ℕ) (a k j : ℕ) → a ≤ length bs → j < a → get_or (put_mid a k bs page) j 0 ≡ get_or bs j 0
+pub mid_below : (bs page : List ℕ) (a k j : ℕ) → a ≤ length bs → j < a → get_or (put_mid a k bs page) j 0 ≡ get_or bs j 0
 mid_below bs page a k j h l = search (rules, places)
 
-mid_above : (bs page : List ℕ) (a k j : ℕ) → a + k ≤ length bs → length page ≡ k → a + k ≤ j → get_or (put_mid a k bs page) j 0 ≡ get_or bs j 0
+pub mid_above : (bs page : List ℕ) (a k j : ℕ) → a + k ≤ length bs → length page ≡ k → a + k ≤ j → get_or (put_mid a k bs page) j 0 ≡ get_or bs j 0
 mid_above bs page a k j h l m = search (rules, places)
 
 -- a byte at an offset of a page, after page i is written

@@ -1,9 +1,11 @@
 -- How pages are kept: their numbers in ascending order, and the bytes of all of them, one page after the other.
-use Rattle.std.specs.Prelude.{◌≡◌, ℕ, ◌*◌, ◌^◌, ◌<◌, ◌≤◌, List, [], ◌∷◌, ◌++◌, length, take, drop, slice_index, Option, MatchOption}
+use Rattle.std.specs.Prelude.{◌≡◌, ℕ, ◌*◌, ◌/◌, ◌^◌, ◌<◌, ◌≤◌, List, [], ◌∷◌, ◌++◌, length, take, drop, slice_index, Option, MatchOption}
 use Rattle.std.specs.List.{All, enumerate_from}
 use Rattle.std.specs.List.Sorted.{IsStrictlyIncreasing}
 use Rattle.std.specs.FinMap as finmap
 use Rattle.rv_pages.specs.Memory.{Memory}
+use Rattle.rv_pages.specs.Marks.{mark_of}
+use Rattle.rv_pages.specs.Tables.{AreTables, Finds}
 
 -- the addresses of the pages with their bytes, where a page has so many bytes
 abbrev pub entries_kept : ℕ → List ℕ → List ℕ → List (ℕ × ℕ)
@@ -27,3 +29,13 @@ IsPlaceOf numbers number place =
     MatchOption place
     ((k : ℕ) → k < length numbers → slice_index numbers k ≡ number → ⊥)
     (λ k. (k < length numbers) × (slice_index numbers k ≡ number))
+
+-- What is true of all that a value of pages holds: the tables find the pages, only pages that are mapped are marked, and
+-- a page that isn't marked is all zero.
+pub record ArePages (numbers tops lows bytes words : List ℕ) : Type 0 where
+  pub kept : AreKept numbers bytes
+  pub tables : AreTables tops lows
+  pub found : Finds tops lows numbers
+  pub size : length words ≡ 64
+  pub marked : (index : ℕ) → length numbers ≤ index → mark_of words index ≡ 0
+  pub unmarked : (place : ℕ) → mark_of words (place / 4096) ≡ 0 → slice_index bytes place ≡ 0

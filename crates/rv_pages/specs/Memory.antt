@@ -1,6 +1,7 @@
 -- Memory as a finite map from mapped addresses to bytes. Addresses are below 2 ^ 32 and are mapped by whole pages of
 -- 4,096 bytes. How the pages are kept is not said here.
-use Rattle.std.specs.Prelude.{◌≡◌, ℕ, zero, suc, ◌+◌, ◌*◌, ◌/◌, ◌%◌, ◌^◌, ◌==◌, ◌<◌, cond, List, [], ◌∷◌, map, filter, length, Option, None, Some}
+use Rattle.std.specs.Prelude.{◌≡◌, ℕ, zero, suc, ◌+◌, ◌*◌, ◌/◌, ◌%◌, ◌^◌, ◌==◌, ◌<◌, ◌≤◌, cond, List, [], ◌∷◌, map, filter, length, Option, None, Some, IsSome}
+use Rattle.std.specs.Option.{option_map}
 use Rattle.std.specs.List.{All, enumerate_from, filter_map, flat_map}
 use Rattle.std.specs.List.Sorted.{IsStrictlyIncreasing}
 use Rattle.std.specs.Ordering.{nat_cmp}
@@ -17,14 +18,45 @@ wrapped n = n % 2 ^ 32
 abbrev pub byte_at : Memory → ℕ → Option ℕ
 byte_at m at = finmap.get m (wrapped at)
 
--- four bytes as a number, the lowest first, if all four are there
-abbrev pub four_bytes : Option ℕ → Option ℕ → Option ℕ → Option ℕ → Option ℕ
-four_bytes (Some a) (Some b) (Some c) (Some d) = Some (a + b * 2 ^ 8 + c * 2 ^ 16 + d * 2 ^ 24)
-four_bytes _ _ _ _ = None
+-- so many bytes from an address on, each at its address modulo 2 ^ 32, if all of them are mapped
+abbrev pub followed_by : Option ℕ → Option (List ℕ) → Option (List ℕ)
+followed_by (Some b) (Some bs) = Some (b ∷ bs)
+followed_by _ _ = None
 
--- the little-endian word at an address, which needs no alignment
+abbrev pub bytes_at : Memory → ℕ → ℕ → Option (List ℕ)
+bytes_at m at zero = Some []
+bytes_at m at (suc n) = followed_by (byte_at m at) (bytes_at m (at + 1) n)
+
+-- bytes as a number, the lowest first (RISC-V unprivileged manual, "Load and Store Instructions": little-endian)
+abbrev pub little_endian : List ℕ → ℕ
+little_endian [] = 0
+little_endian (b ∷ bs) = b + little_endian bs * 2 ^ 8
+
+-- the lowest bytes of a number, so many, the lowest first
+abbrev pub low_bytes : ℕ → ℕ → List ℕ
+low_bytes zero value = []
+low_bytes (suc n) value = value % 2 ^ 8 ∷ low_bytes n (value / 2 ^ 8)
+
+-- the little-endian number of so many bytes at an address, which needs no alignment
+abbrev pub number_at : Memory → ℕ → ℕ → Option ℕ
+number_at m at n = option_map little_endian (bytes_at m at n)
+
+-- the word at an address: four bytes
 abbrev pub word_at : Memory → ℕ → Option ℕ
-word_at m at = four_bytes (byte_at m at) (byte_at m (at + 1)) (byte_at m (at + 2)) (byte_at m (at + 3))
+word_at m at = number_at m at 4
+
+-- all of so many bytes from an address on are mapped
+abbrev pub IsMapped : Memory → ℕ → ℕ → Type 0
+IsMapped m at n = (k : ℕ) → k < n → IsSome (byte_at m (at + k))
+
+-- the memory with these bytes from an address on, each at its address modulo 2 ^ 32, and all else as before
+abbrev pub with_bytes : Memory → ℕ → List ℕ → Memory
+with_bytes m at [] = m
+with_bytes m at (b ∷ bs) = with_bytes (finmap.insert m (wrapped at) b) (at + 1) bs
+
+-- the memory with the lowest bytes of a number, so many, from an address on
+abbrev pub with_number : Memory → ℕ → ℕ → ℕ → Memory
+with_number m at n value = with_bytes m at (low_bytes n value)
 
 -- the numbers of the mapped pages, in ascending order: a page is mapped where its first address is
 abbrev pub page_numbers : Memory → List ℕ
@@ -33,6 +65,10 @@ page_numbers m = filter_map (λ at. cond (at % 4096 == 0) (Some (at / 4096)) Non
 -- the bytes at the addresses of a page, in the order of the addresses
 abbrev pub page_bytes : Memory → ℕ → List ℕ
 page_bytes m page = map (λ e. e.1) (filter (λ e. e.0 / 4096 == page) (finmap.entries m))
+
+-- a page that has no byte other than 0
+abbrev pub IsZeroPage : Memory → ℕ → Type 0
+IsZeroPage m page = All (λ b. b ≡ 0) (page_bytes m page)
 
 -- the addresses from this one on, so many, each with the byte 0
 abbrev pub zeros_from : ℕ → ℕ → List (ℕ × ℕ)
@@ -53,8 +89,10 @@ pub record IsPage (m : Memory) (page : ℕ) : Type 0 where
   pub full : length (page_bytes m page) ≡ 4096
   pub bytes : All (λ b. b < 256) (page_bytes m page)
 
--- Memory as a machine has it: it is made of its pages and of nothing else, and these are whole pages of bytes.
+-- Memory as a machine has it: it is made of its pages and of nothing else, and these are whole pages of bytes, at most
+-- 4,096 of them.
 pub record IsMemory (m : Memory) : Type 0 where
   pub made : m ≡ of_pages (page_bytes m) (page_numbers m)
   pub ascending : IsStrictlyIncreasing (page_numbers m)
+  pub few : length (page_numbers m) ≤ 4096
   pub pages : All (IsPage m) (page_numbers m)

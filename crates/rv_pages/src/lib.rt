@@ -3,7 +3,8 @@
 //! the numbers and the bytes of the mapped ones, which images are made of.
 #![tactic(auto)]
 
+mod marks;
 mod pages;
-mod places;
+mod tables;
 
 pub use crate::pages::{PAGE, Pages};

@@ -1,29 +1,45 @@
 // Mapped pages.
-ghost use Rattle.std.specs.Prelude.{◌≡◌, ℕ, ◌/◌, ◌%◌, ◌^◌, ◌<◌, ◌≤◌, ◌==◌, length, slice_index, slice_get, IfOk, if◌then◌else◌};
+ghost use Rattle.std.specs.Prelude.{◌≡◌, ◌↔◌, ℕ, ◌+◌, ◌*◌, ◌/◌, ◌%◌, ◌^◌, ◌<◌, ◌≤◌, ◌==◌, length, replicate, slice_index, slice_get, IfOk, IfSome, IsTrue, IsFalse, Some, None, unwrap_or, if◌then◌else◌};
 ghost use Rattle.std.specs.List.{All};
 ghost use Rattle.std.specs.List.Sorted.{IsStrictlyIncreasing};
 ghost use Rattle.std.specs.FinMap as finmap;
-ghost use Rattle.rv_pages.specs.Memory.{word_at, page_numbers, page_bytes, zeroed, IsMemory};
+ghost use Rattle.rv_pages.specs.Marks.{mark_of};
+ghost use Rattle.rv_pages.specs.Memory.{byte_at, bytes_at, number_at, word_at, IsMapped, with_bytes, with_number, page_numbers, page_bytes, IsZeroPage, zeroed, IsMemory};
 
-use crate::places::word_of;
+use crate::marks::Marks;
+use crate::tables::Tables;
 use std::alloc::{AllocError, Global};
 use std::marker::Model;
 
 /// The bytes of a page.
 pub const PAGE: usize = 4096;
 
-/// Memory of mapped pages. Only `map` and `clone` take memory.
+// The same, as a part of an address.
+const SIZE: u32 = 4096;
+
+// Where in a page the last whole half and the last whole word begin.
+const LAST_HALF: usize = 4094;
+
+const LAST_WORD: usize = 4092;
+
+/// Memory of mapped pages. Only `map` and `clone` take memory. A page that was never written costs no time when memory is
+/// copied, and is passed over by `next_touched`.
 #[derive(Drop)]
 pub struct Pages {
+    // The numbers of the pages in ascending order, and the tables that find their indices.
     numbers: Vec<u32>,
+    tables: Tables,
+    // The bytes of all pages, one page after the other.
     bytes: Vec<u8>,
+    // The pages that were written. All others are zero.
+    written: Marks,
 }
 
 impl Model for Pages {
     ghost use Rattle.std.specs.Coded.{coded_ℕ};
     ghost use Rattle.std.specs.FinMap as finmap;
     ghost use Rattle.rv_pages.specs.Memory.{Memory};
-    ghost use Rattle.rv_pages.specs.Kept.{AreKept, memory_kept};
+    ghost use Rattle.rv_pages.specs.Kept.{ArePages, memory_kept};
 
     ghost Value = { Memory };
 
@@ -31,7 +47,7 @@ impl Model for Pages {
 
     ghost view = { λ p. memory_kept p.numbers.items p.bytes.items };
 
-    ghost invariant = { λ p. AreKept p.numbers.items p.bytes.items };
+    ghost invariant = { λ p. ArePages p.numbers.items p.tables.tops.items p.tables.lows.items p.bytes.items p.written.words };
 }
 
 impl Clone for Pages {
@@ -39,9 +55,15 @@ impl Clone for Pages {
 
     fn clone(&self) -> Result<Pages, AllocError> {
         let alloc = *self.bytes.allocator();
+        let numbers = Vec::from_slice(alloc, &self.numbers)?;
+        let tables = self.tables.copied(alloc)?;
+        let mut bytes = zero_pages(alloc, self.numbers.len())?;
+        copy_marked(&mut bytes, &self.bytes, &self.written);
         Ok(Pages {
-            numbers: Vec::from_slice(alloc, &self.numbers)?,
-            bytes: Vec::from_slice(alloc, &self.bytes)?,
+            numbers,
+            tables,
+            bytes,
+            written: self.written,
         })
     }
 }
@@ -57,23 +79,185 @@ impl Pages {
     {
         Ok(Pages {
             numbers: Vec::from_slice(alloc, numbers)?,
-            bytes: vec![in alloc; 0; PAGE * numbers.len()]?,
+            tables: Tables::of(alloc, numbers)?,
+            bytes: zero_pages(alloc, numbers.len())?,
+            written: Marks::none(),
         })
     }
 
+    /// The byte at an address, if it is mapped.
+    #[inline(always)]
+    pub fn load8(&self, at: u32) -> Option<u8>
+        ensures { result ≡ byte_at self.now at }
+    {
+        let index = self.tables.place_of(at / SIZE)?;
+        Some(self.bytes[index * PAGE + (at % SIZE) as usize])
+    }
+
+    /// The half at an address, if its two bytes are mapped.
+    #[inline(always)]
+    pub fn load16(&self, at: u32) -> Option<u16>
+        ensures { result ≡ number_at self.now at 2 }
+    {
+        let offset = (at % SIZE) as usize;
+        if offset > LAST_HALF {
+            return self.split_half(at);
+        }
+        let start = self.tables.place_of(at / SIZE)? * PAGE + offset;
+        Some(u16::from_le_bytes([self.bytes[start], self.bytes[start + 1]]))
+    }
+
     /// The word at an address, if its four bytes are mapped.
+    #[inline(always)]
     pub fn load32(&self, at: u32) -> Option<u32>
         ensures { result ≡ word_at self.now at }
     {
-        word_of(&self.numbers, &self.bytes, at)
+        let offset = (at % SIZE) as usize;
+        if offset > LAST_WORD {
+            return self.split_word(at);
+        }
+        let start = self.tables.place_of(at / SIZE)? * PAGE + offset;
+        let word = [
+            self.bytes[start],
+            self.bytes[start + 1],
+            self.bytes[start + 2],
+            self.bytes[start + 3],
+        ];
+        Some(u32::from_le_bytes(word))
     }
 
-    /// Takes over the bytes of memory that maps the same pages.
+    // A half and a word that lie in two pages.
+    #[inline(never)]
+    fn split_half(&self, at: u32) -> Option<u16>
+        ensures { result ≡ number_at self.now at 2 }
+    {
+        let mut bytes = [0; 2];
+        if self.load_bytes(at, &mut bytes) {
+            Some(u16::from_le_bytes(bytes))
+        } else {
+            None
+        }
+    }
+
+    #[inline(never)]
+    fn split_word(&self, at: u32) -> Option<u32>
+        ensures { result ≡ word_at self.now at }
+    {
+        let mut bytes = [0; 4];
+        if self.load_bytes(at, &mut bytes) {
+            Some(u32::from_le_bytes(bytes))
+        } else {
+            None
+        }
+    }
+
+    // Loads bytes one by one, and answers whether all are mapped.
+    fn load_bytes(&self, at: u32, into: &mut [u8]) -> bool
+        requires { length into.old < 2 ^ 32 }
+        ensures all { IsTrue result → bytes_at self.now at (length into.old) ≡ Some into.new }
+        ensures none { IsFalse result → bytes_at self.now at (length into.old) ≡ None }
+    {
+        for (k, byte) in into.iter_mut().enumerate() {
+            match self.load8(at.wrapping_add(k as u32)) {
+                Some(loaded) => *byte = loaded,
+                None => return false,
+            }
+        }
+        true
+    }
+
+    /// Writes a byte, if it is mapped, and answers whether it did.
+    pub fn store8(&mut self, at: u32, value: u8) -> bool
+        ensures stored { IsTrue result ↔ IsMapped self.old at 1 }
+        ensures written { IsTrue result → self.new ≡ with_number self.old at 1 value }
+        ensures refused { IsFalse result → self.new ≡ self.old }
+        ensures pages { page_numbers self.new ≡ page_numbers self.old }
+    {
+        self.store(at, &[value])
+    }
+
+    /// Writes a half, if its two bytes are mapped, and answers whether it did.
+    pub fn store16(&mut self, at: u32, value: u16) -> bool
+        ensures stored { IsTrue result ↔ IsMapped self.old at 2 }
+        ensures written { IsTrue result → self.new ≡ with_number self.old at 2 value }
+        ensures refused { IsFalse result → self.new ≡ self.old }
+        ensures pages { page_numbers self.new ≡ page_numbers self.old }
+    {
+        self.store(at, &value.to_le_bytes())
+    }
+
+    /// Writes a word, if its four bytes are mapped, and answers whether it did.
+    pub fn store32(&mut self, at: u32, value: u32) -> bool
+        ensures stored { IsTrue result ↔ IsMapped self.old at 4 }
+        ensures written { IsTrue result → self.new ≡ with_number self.old at 4 value }
+        ensures refused { IsFalse result → self.new ≡ self.old }
+        ensures pages { page_numbers self.new ≡ page_numbers self.old }
+    {
+        self.store(at, &value.to_le_bytes())
+    }
+
+    // Writes bytes, if all of them are mapped.
+    #[inline(always)]
+    fn store(&mut self, at: u32, bytes: &[u8]) -> bool
+        requires some { 0 < length bytes.now }
+        requires few { length bytes.now ≤ 4 }
+        ensures stored { IsTrue result ↔ IsMapped self.old at (length bytes.now) }
+        ensures written { IsTrue result → self.new ≡ with_bytes self.old at bytes.now }
+        ensures refused { IsFalse result → self.new ≡ self.old }
+        ensures pages { page_numbers self.new ≡ page_numbers self.old }
+    {
+        if (at % SIZE) as usize + bytes.len() > PAGE {
+            return self.store_split(at, bytes);
+        }
+        self.store_within(at, bytes)
+    }
+
+    // Writes bytes that lie in one page.
+    #[inline(always)]
+    fn store_within(&mut self, at: u32, bytes: &[u8]) -> bool
+        requires some { 0 < length bytes.now }
+        requires within { at % 4096 + length bytes.now ≤ 4096 }
+        ensures stored { IsTrue result ↔ IsMapped self.old at (length bytes.now) }
+        ensures written { IsTrue result → self.new ≡ with_bytes self.old at bytes.now }
+        ensures refused { IsFalse result → self.new ≡ self.old }
+        ensures pages { page_numbers self.new ≡ page_numbers self.old }
+    {
+        let Some(index) = self.tables.place_of(at / SIZE) else {
+            return false;
+        };
+        self.written.mark(index);
+        let start = index * PAGE + (at % SIZE) as usize;
+        self.bytes[start..start + bytes.len()].copy_from_slice(bytes);
+        true
+    }
+
+    // Writes bytes that lie in two pages, one by one, once all are found to be mapped.
+    #[inline(never)]
+    fn store_split(&mut self, at: u32, bytes: &[u8]) -> bool
+        requires few { length bytes.now ≤ 4 }
+        ensures stored { IsTrue result ↔ IsMapped self.old at (length bytes.now) }
+        ensures written { IsTrue result → self.new ≡ with_bytes self.old at bytes.now }
+        ensures refused { IsFalse result → self.new ≡ self.old }
+        ensures pages { page_numbers self.new ≡ page_numbers self.old }
+    {
+        let mut old = [0; 4];
+        if !self.load_bytes(at, &mut old[..bytes.len()]) {
+            return false;
+        }
+        for (k, byte) in bytes.iter().enumerate() {
+            self.store_within(at.wrapping_add(k as u32), &[*byte]);
+        }
+        true
+    }
+
+    /// Takes over the bytes of memory that maps the same pages. Only pages that were written in either are copied.
     pub fn copy_from(&mut self, other: &Pages)
         requires { page_numbers self.old ≡ page_numbers other.now }
         ensures { self.new ≡ other.now }
     {
-        self.bytes.copy_from_slice(&other.bytes);
+        let written = self.written.union(&other.written);
+        copy_marked(&mut self.bytes, &other.bytes, &written);
+        self.written = other.written;
     }
 
     /// Does nothing. Its contract is a law: mapped pages are memory as a machine has it.
@@ -116,8 +300,52 @@ impl Pages {
         ensures pages { page_numbers self.new ≡ page_numbers self.old }
         ensures bytes { (at : ℕ) → finmap.get self.new at ≡ (if at / 4096 == slice_index (page_numbers self.old) index then Some (slice_index bytes.now (at % 4096)) else finmap.get self.old at) }
     {
+        self.written.mark(index as usize);
         let start = index as usize * PAGE;
         self.bytes[start..start + PAGE].copy_from_slice(bytes);
+    }
+
+    /// The first index, from this one on, of a page that may have a byte other than 0. The pages that are passed over are
+    /// all zero. To go over the pages that were written takes the time of these, whatever the number of mapped ones.
+    pub fn next_touched(&self, from: u32) -> Option<u32>
+        ensures index { IfSome result (λ index. (from ≤ index) × (index < length (page_numbers self.now))) }
+        ensures few { IfSome result (λ index. index < 4096) }
+        ensures zero { (k : ℕ) → from ≤ k → k < unwrap_or result (length (page_numbers self.now)) → IsZeroPage self.now (slice_index (page_numbers self.now) k) }
+    {
+        match self.written.next(from as usize) {
+            Some(index) => Some(index as u32),
+            None => None,
+        }
+    }
+}
+
+// So many pages of zeros.
+fn zero_pages(alloc: Global, count: usize) -> Result<Vec<u8>, AllocError>
+    requires { count ≤ 4096 }
+    ensures { IfOk result (λ v. v.items ≡ replicate (4096 * count) 0) }
+{
+    let zeros = [0; PAGE];
+    let mut bytes = Vec::with_capacity(alloc, PAGE * count)?;
+    for _page in 0..count {
+        bytes.extend_from_slice(&zeros)?;
+    }
+    Ok(bytes)
+}
+
+// Copies the bytes of marked pages from those of other memory, of the same pages.
+fn copy_marked(bytes: &mut [u8], from: &[u8], marks: &Marks)
+    requires size { length marks.now.words ≡ 64 }
+    requires long { length bytes.old ≡ length from.now }
+    requires pages { (index : ℕ) → mark_of marks.now.words index ≡ 1 → index * 4096 + 4096 ≤ length bytes.old }
+    ensures long { length bytes.new ≡ length bytes.old }
+    ensures copied { (k : ℕ) → mark_of marks.now.words (k / 4096) ≡ 1 → slice_index bytes.new k ≡ slice_index from.now k }
+    ensures others { (k : ℕ) → mark_of marks.now.words (k / 4096) ≡ 0 → slice_index bytes.new k ≡ slice_index bytes.old k }
+{
+    let mut next = 0;
+    while let Some(index) = marks.next(next) {
+        let start = index * PAGE;
+        bytes[start..start + PAGE].copy_from_slice(&from[start..start + PAGE]);
+        next = index + 1;
     }
 }
 
@@ -127,70 +355,4 @@ fn are_bytes(bytes: &[u8])
 {}
 
 #[cfg(test)]
-mod tests {
-    use super::*;
-    use std::test::Fail;
-
-    // Pages 1, 2 and the last: 2 follows on 1, and the address after the last page is 0, which is not mapped.
-    fn three_pages(alloc: Global) -> Result<Pages, AllocError>
-        ensures { IfOk result (λ p. length (page_numbers p) ≡ 3) }
-    {
-        let numbers = [1, 2, 0xFFFFF];
-        Pages::map(alloc, &numbers)
-    }
-
-    // The bytes 0 to 15 at either end of the page, and zeros between them.
-    fn counted() -> [u8; 4096] {
-        let mut bytes = [0; 4096];
-        for i in 0..16u8 {
-            bytes[i as usize] = i;
-            bytes[4080 + i as usize] = i;
-        }
-        bytes
-    }
-
-    #[test]
-    fn words_are_little_endian_and_may_lie_in_two_pages(rt: HostRuntime) -> Result<(), Fail> {
-        let mut pages = three_pages(rt.alloc())?;
-        let bytes = counted();
-        pages.set_page(0, &bytes);
-        pages.set_page(1, &bytes);
-        assert_eq!(rt; pages.load32(0x1004), Some(0x07060504));
-        assert_eq!(rt; pages.load32(0x1FFC), Some(0x0F0E0D0C));
-        assert_eq!(rt; pages.load32(0x1FFE), Some(0x01000F0E));
-        assert_eq!(rt; pages.load32(0x2FFE), None);
-        assert_eq!(rt; pages.load32(0xFFE), None);
-        assert_eq!(rt; pages.load32(0xFFFFF000), Some(0));
-        assert_eq!(rt; pages.load32(0xFFFFFFFE), None);
-        Ok(())
-    }
-
-    #[test]
-    fn a_word_at_the_end_of_memory_goes_on_at_its_start(rt: HostRuntime) -> Result<(), Fail> {
-        let numbers = [0, 0xFFFFF];
-        let mut pages = Pages::map(rt.alloc(), &numbers)?;
-        let bytes = counted();
-        pages.set_page(0, &bytes);
-        pages.set_page(1, &bytes);
-        assert_eq!(rt; pages.load32(0xFFFFFFFD), Some(0x000F0E0D));
-        Ok(())
-    }
-
-    #[test]
-    fn pages_are_read_and_copied_whole(rt: HostRuntime) -> Result<(), Fail> {
-        let mut pages = three_pages(rt.alloc())?;
-        let bytes = counted();
-        pages.set_page(2, &bytes);
-        assert_eq!(rt; pages.count(), 3);
-        assert_eq!(rt; pages.number(2), 0xFFFFF);
-        assert!(rt; pages.page(2) == bytes.as_slice());
-        let twin = pages.clone()?;
-        let zeros = [0; 4096];
-        pages.set_page(2, &zeros);
-        assert_eq!(rt; pages.load32(0xFFFFF001), Some(0));
-        assert_eq!(rt; twin.load32(0xFFFFF001), Some(0x04030201));
-        pages.copy_from(&twin);
-        assert_eq!(rt; pages.load32(0xFFFFF001), Some(0x04030201));
-        Ok(())
-    }
-}
+mod tests;

@@ -16,6 +16,7 @@ use Rattle.rv_machine.specs.declared.status.Status.{Status}
 use Rattle.rv_machine.specs.declared.status.Status.TheVariants.{Running, Exited, Trapped}
 use Rattle.rv_machine.specs.MachineState.{MachineState, IsStatus, IsMachineState}
 use Rattle.rv_machine.specs.States.{raw_start, state_number}
+use Rattle.rv_machine.proofs.Causes.{cause_below}
 use Rattle.rv_machine.proofs.Runs.{state_number_keeps_pages}
 use Rattle.rv_machine.proofs.Staying.{number_is_state}
 use Rattle.rv_machine.proofs.Starting.{start_is_state}
@@ -152,7 +153,7 @@ kind_below (Trapped cause) = omega arith
 value_below : (a : Status) → IsStatus a → status_value a < 2 ^ 32
 value_below Running h = omega arith
 value_below (Exited code) h = omega (arith, h)
-value_below (Trapped cause) h = omega (arith, h)
+value_below (Trapped cause) h = omega (arith, cause_below cause h)
 
 status_tells : (a b : Status) → status_kind a ≡ status_kind b → status_value a ≡ status_value b → a ≡ b
 status_tells Running Running e f = refl

@@ -1,3 +1,4 @@
 pub mod Image
+pub mod Marked
 pub mod Line
 pub mod Feed

@@ -1,10 +1,11 @@
 // The digest of a state's image. The image itself is nowhere in memory: it goes into the hash piece by piece.
-ghost use Rattle.std.specs.Prelude.{◌≡◌, ◌==◌, length, drop};
+ghost use Rattle.std.specs.Prelude.{◌≡◌, ◌==◌, ℕ, false, length, drop, slice_index_or};
 ghost use Rattle.std.specs.List.{flat_map, list_all};
 ghost use Rattle.std.specs.Int.{to_le_bytes, w32};
 ghost use Rattle.sha2.specs.Hashers.{Holds256};
 ghost use Rattle.sha2.specs.Sha256.{sha256};
 ghost use Rattle.state_image.specs.Feed.{Feeds};
+ghost use Rattle.state_image.specs.Marked.{MarksStored};
 ghost use Rattle.state_image.specs.Image.{image, header, status_kind, status_value, pages_stored, page_field};
 
 use rv_machine::{State, Status};
@@ -14,17 +15,23 @@ use sha2::{Digest, Sha256};
 // The version of the form.
 const VERSION: u32 = 1;
 
+// As many pages as may be mapped.
+const MAX_PAGES: usize = 4096;
+
 /// The SHA-256 of a state's image.
 pub(crate) fn image_digest(state: &State) -> [u8; 32]
     ensures { result ≡ sha256 (image state.now) }
 {
-    let mut hasher = hash_header(state);
-    feed_pages(&mut hasher, &state.pages);
+    let mut stored = [false; MAX_PAGES];
+    let count = mark_stored(&state.pages, &mut stored);
+    let mut hasher = hash_header(state, count);
+    feed_pages(&mut hasher, &state.pages, &stored);
     hasher.finalize()
 }
 
-// The hash of all of the image before its pages.
-fn hash_header(state: &State) -> Sha256
+// The hash of all of the image before its pages, of which so many are stored.
+fn hash_header(state: &State, stored: u32) -> Sha256
+    requires { stored ≡ length (pages_stored state.now.memory) }
     ensures { Holds256 result (header state.now) }
 {
     let mut hasher = Sha256::new();
@@ -38,7 +45,7 @@ fn hash_header(state: &State) -> Sha256
     hasher.update(state.item.to_le_bytes());
     hasher.update(state.offset.to_le_bytes());
     hasher.update(state.written.to_le_bytes());
-    hasher.update(count_stored(&state.pages).to_le_bytes());
+    hasher.update(stored.to_le_bytes());
     hasher
 }
 
@@ -63,29 +70,38 @@ fn status_numbers(status: Status) -> (u32, u32)
     }
 }
 
-// How many pages are stored.
-fn count_stored(pages: &Pages) -> u32
-    ensures { result ≡ length (pages_stored pages.now) }
+// Marks the pages that are stored by their indices, and counts them. Pages that were never written aren't looked at.
+fn mark_stored(pages: &Pages, stored: &mut [bool]) -> u32
+    requires room { length stored.old ≡ 4096 }
+    requires unmarked { (k : ℕ) → slice_index_or stored.old k false ≡ false }
+    ensures count { result ≡ length (pages_stored pages.now) }
+    ensures marked { MarksStored pages.now stored.new }
+    ensures room { length stored.new ≡ 4096 }
 {
-    let mut stored = 0;
-    for index in 0..pages.count() {
-        if !is_zero(pages.page(index)) {
-            stored += 1;
-        }
+    let mut count = 0;
+    let mut from = 0;
+    while let Some(index) = pages.next_touched(from) {
+        let is_stored = !is_zero(pages.page(index));
+        stored[index as usize] = is_stored;
+        count += is_stored as u32;
+        from = index + 1;
     }
-    stored
+    count
 }
 
 // Feeds the pages that are stored.
-fn feed_pages(hasher: &mut Sha256, pages: &Pages)
+fn feed_pages(hasher: &mut Sha256, pages: &Pages, stored: &[bool])
+    requires room { length stored.now ≡ 4096 }
+    requires marked { MarksStored pages.now stored.now }
     ensures { Feeds hasher.old hasher.new (flat_map (page_field pages.now) (pages_stored pages.now)) }
 {
-    for index in 0..pages.count() {
-        let page = pages.page(index);
-        if !is_zero(page) {
+    let mut from = 0;
+    while let Some(index) = pages.next_touched(from) {
+        if stored[index as usize] {
             hasher.update(pages.number(index).to_le_bytes());
-            hasher.update(page);
+            hasher.update(pages.page(index));
         }
+        from = index + 1;
     }
 }
 

@@ -1,5 +1,5 @@
 use Rattle.std.proofs.Common.{◌≡◌, ℕ, ◌<◌, true}
-use Rattle.rv_machine.specs.StepTable.{is_built}
+use Rattle.rv_machine.specs.FirstRows.{is_built}
 use Rattle.reversal.specs.ProgramForm.{word_of}
 use Rattle.reversal.proofs.program_form.are_instructions.Given as goal
 

@@ -7,4 +7,4 @@ use Rattle.rv_pages.proofs.pages.Pages.are_memory.Goals as goal
 pub returns : goal.returns
 returns c =
     let small = subst (All (λ b. b < 256)) c.deref.ensures.value c.are_bytes.ensures in
-    subst IsMemory c.self.view_is (kept_is_memory _ _ c.self.invariant small)
+    subst IsMemory c.self.view_is (kept_is_memory _ _ c.self.invariant.kept small)

@@ -1,0 +1,4 @@
+pub mod Formats
+pub mod Rows
+pub mod Ranges
+pub mod Words

@@ -1,0 +1,48 @@
+// The instructions of RV32I.
+
+/// An instruction of RV32I with its registers. An immediate is sign-extended to 32 bits; of SLLI, SRLI and SRAI it is the
+/// number of places.
+#[derive(Clone, Copy, Debug, PartialEq, Eq)]
+pub enum Inst {
+    Lui { rd: u8, imm: u32 },
+    Auipc { rd: u8, imm: u32 },
+    Jal { rd: u8, imm: u32 },
+    Jalr { rd: u8, rs1: u8, imm: u32 },
+    Beq { rs1: u8, rs2: u8, imm: u32 },
+    Bne { rs1: u8, rs2: u8, imm: u32 },
+    Blt { rs1: u8, rs2: u8, imm: u32 },
+    Bge { rs1: u8, rs2: u8, imm: u32 },
+    Bltu { rs1: u8, rs2: u8, imm: u32 },
+    Bgeu { rs1: u8, rs2: u8, imm: u32 },
+    Lb { rd: u8, rs1: u8, imm: u32 },
+    Lh { rd: u8, rs1: u8, imm: u32 },
+    Lw { rd: u8, rs1: u8, imm: u32 },
+    Lbu { rd: u8, rs1: u8, imm: u32 },
+    Lhu { rd: u8, rs1: u8, imm: u32 },
+    Sb { rs1: u8, rs2: u8, imm: u32 },
+    Sh { rs1: u8, rs2: u8, imm: u32 },
+    Sw { rs1: u8, rs2: u8, imm: u32 },
+    Addi { rd: u8, rs1: u8, imm: u32 },
+    Slti { rd: u8, rs1: u8, imm: u32 },
+    Sltiu { rd: u8, rs1: u8, imm: u32 },
+    Xori { rd: u8, rs1: u8, imm: u32 },
+    Ori { rd: u8, rs1: u8, imm: u32 },
+    Andi { rd: u8, rs1: u8, imm: u32 },
+    Slli { rd: u8, rs1: u8, imm: u32 },
+    Srli { rd: u8, rs1: u8, imm: u32 },
+    Srai { rd: u8, rs1: u8, imm: u32 },
+    Add { rd: u8, rs1: u8, rs2: u8 },
+    Sub { rd: u8, rs1: u8, rs2: u8 },
+    Sll { rd: u8, rs1: u8, rs2: u8 },
+    Slt { rd: u8, rs1: u8, rs2: u8 },
+    Sltu { rd: u8, rs1: u8, rs2: u8 },
+    Xor { rd: u8, rs1: u8, rs2: u8 },
+    Srl { rd: u8, rs1: u8, rs2: u8 },
+    Sra { rd: u8, rs1: u8, rs2: u8 },
+    Or { rd: u8, rs1: u8, rs2: u8 },
+    And { rd: u8, rs1: u8, rs2: u8 },
+    /// A FENCE keeps its whole word, of which only the opcode and funct3 are looked at.
+    Fence { word: u32 },
+    Ecall,
+    Ebreak,
+}
