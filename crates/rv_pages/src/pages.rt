@@ -22,8 +22,8 @@ const LAST_HALF: usize = 4094;
 
 const LAST_WORD: usize = 4092;
 
-/// Memory of mapped pages. Only `map` and `clone` take memory. A page that was never written costs no time when memory is
-/// copied, and is passed over by `next_touched`.
+/// Memory of mapped pages. Only `map` and `clone` take memory, and make the zeros of all pages. After that a page that was
+/// never written costs nothing: `copy_from` doesn't copy it, and `next_touched` passes it over.
 #[derive(Drop)]
 pub struct Pages {
     // The numbers of the pages in ascending order, and the tables that find their indices.

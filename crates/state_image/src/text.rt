@@ -103,8 +103,12 @@ mod tests {
     // The digests of the tests were computed from the form by another program.
 
     #[test]
-    fn the_line_of_a_start_state(rt: HostRuntime) -> Result<(), Fail> {
-        let state = load_raw(rt.alloc(), &PROGRAM)?;
+    fn the_line_of_a_start_state_also_after_a_page_was_made_zero_again(
+        rt: HostRuntime,
+    ) -> Result<(), Fail> {
+        let mut state = load_raw(rt.alloc(), &PROGRAM)?;
+        assert!(rt; state.pages.store32(0xbffffffc, 5));
+        assert!(rt; state.pages.store32(0xbffffffc, 0));
         let mut text = Line::new();
         state_line(0, &state, &mut text);
         assert!(rt;
