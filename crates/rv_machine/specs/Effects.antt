@@ -10,18 +10,23 @@ use Rattle.rv_machine.specs.declared.effect.Width.{Width}
 use Rattle.rv_machine.specs.declared.effect.Width.TheVariants.{Byte, Half, Word}
 use Rattle.rv_machine.specs.Numbers.{signed_lt, shifted_left, shifted_right, shifted_right_signed, one_if}
 
--- Put rd value; Jump rd target; Branch taken target; Load rd address width signed; Store address width value
+-- An effect is one of these: Put rd value; Jump rd target; Branch taken target; Load rd address width with_sign; Store
+-- address width value; Nothing; Call; Break.
 abbrev pub effect_of : (ℕ → ℕ) → ℕ → Inst → Effect
+-- upper immediates
 effect_of x pc (Lui rd imm) = Put rd imm
 effect_of x pc (Auipc rd imm) = Put rd (wrapped (pc + imm))
+-- jumps
 effect_of x pc (Jal rd imm) = Jump rd (wrapped (pc + imm))
 effect_of x pc (Jalr rd rs1 imm) = Jump rd (wrapped (x rs1 + imm) / 2 * 2)
+-- branches
 effect_of x pc (Beq rs1 rs2 imm) = Branch (x rs1 == x rs2) (wrapped (pc + imm))
 effect_of x pc (Bne rs1 rs2 imm) = Branch (not (x rs1 == x rs2)) (wrapped (pc + imm))
 effect_of x pc (Blt rs1 rs2 imm) = Branch (signed_lt (x rs1) (x rs2)) (wrapped (pc + imm))
 effect_of x pc (Bge rs1 rs2 imm) = Branch (not (signed_lt (x rs1) (x rs2))) (wrapped (pc + imm))
 effect_of x pc (Bltu rs1 rs2 imm) = Branch (nat_lt (x rs1) (x rs2)) (wrapped (pc + imm))
 effect_of x pc (Bgeu rs1 rs2 imm) = Branch (not (nat_lt (x rs1) (x rs2))) (wrapped (pc + imm))
+-- loads and stores
 effect_of x pc (Lb rd rs1 imm) = Load rd (wrapped (x rs1 + imm)) Byte true
 effect_of x pc (Lh rd rs1 imm) = Load rd (wrapped (x rs1 + imm)) Half true
 effect_of x pc (Lw rd rs1 imm) = Load rd (wrapped (x rs1 + imm)) Word false
@@ -30,6 +35,7 @@ effect_of x pc (Lhu rd rs1 imm) = Load rd (wrapped (x rs1 + imm)) Half false
 effect_of x pc (Sb rs1 rs2 imm) = Store (wrapped (x rs1 + imm)) Byte (x rs2)
 effect_of x pc (Sh rs1 rs2 imm) = Store (wrapped (x rs1 + imm)) Half (x rs2)
 effect_of x pc (Sw rs1 rs2 imm) = Store (wrapped (x rs1 + imm)) Word (x rs2)
+-- computations on a register and an immediate
 effect_of x pc (Addi rd rs1 imm) = Put rd (wrapped (x rs1 + imm))
 effect_of x pc (Slti rd rs1 imm) = Put rd (one_if (signed_lt (x rs1) imm))
 effect_of x pc (Sltiu rd rs1 imm) = Put rd (one_if (nat_lt (x rs1) imm))
@@ -39,6 +45,7 @@ effect_of x pc (Andi rd rs1 imm) = Put rd (bit_and (x rs1) imm)
 effect_of x pc (Slli rd rs1 imm) = Put rd (shifted_left (x rs1) imm)
 effect_of x pc (Srli rd rs1 imm) = Put rd (shifted_right (x rs1) imm)
 effect_of x pc (Srai rd rs1 imm) = Put rd (shifted_right_signed (x rs1) imm)
+-- computations on two registers
 effect_of x pc (Add rd rs1 rs2) = Put rd (wrapped (x rs1 + x rs2))
 effect_of x pc (Sub rd rs1 rs2) = Put rd (wrapped (x rs1 + 2 ^ 32 - x rs2))
 effect_of x pc (Sll rd rs1 rs2) = Put rd (shifted_left (x rs1) (x rs2 % 32))
@@ -49,6 +56,7 @@ effect_of x pc (Srl rd rs1 rs2) = Put rd (shifted_right (x rs1) (x rs2 % 32))
 effect_of x pc (Sra rd rs1 rs2) = Put rd (shifted_right_signed (x rs1) (x rs2 % 32))
 effect_of x pc (Or rd rs1 rs2) = Put rd (bit_or (x rs1) (x rs2))
 effect_of x pc (And rd rs1 rs2) = Put rd (bit_and (x rs1) (x rs2))
+-- the rest
 effect_of x pc (Fence word) = Nothing
 effect_of x pc Ecall = Call
 effect_of x pc Ebreak = Break

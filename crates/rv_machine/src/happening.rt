@@ -1,10 +1,9 @@
 // What an effect makes of a state.
-ghost use Rattle.std.specs.Prelude.{◌≡◌, ◌+◌, ◌*◌, ◌<◌, ◌==◌, cond, is_some, IsTrue, IsFalse};
-ghost use Rattle.std.specs.List.{list_any};
+ghost use Rattle.std.specs.Prelude.{◌≡◌, ◌+◌, ◌*◌, ◌<◌, cond, is_some, IsTrue, IsFalse};
 ghost use Rattle.std.specs.Option.{option_map};
 ghost use Rattle.rv_pages.specs.Memory.{number_at, with_number, page_numbers};
 ghost use Rattle.rv_decode.specs.Formats.{sign_extended};
-ghost use Rattle.rv_machine.specs.MachineState.{trap_causes};
+ghost use Rattle.rv_machine.specs.MachineState.{IsStatus};
 ghost use Rattle.rv_machine.specs.Effects.{bytes_of, NamesRegister};
 ghost use Rattle.rv_machine.specs.StepTable.{happened, jumped, put as put_in, gone_on, trapped};
 
@@ -58,7 +57,7 @@ pub(crate) fn happen(state: &mut State, effect: Effect)
 
 #[inline(always)]
 fn trap(state: &mut State, cause: u8)
-    requires { IsTrue (list_any (λ c. c == cause) trap_causes) }
+    requires { IsStatus (Status.Trapped cause) }
     ensures { state.new ≡ trapped state.old cause }
 {
     state.status = Status::Trapped(cause);
