@@ -10,7 +10,7 @@ use Rattle.std.specs.FinMap as finmap
 abbrev pub Memory : Type 0
 Memory = finmap.FinMap nat_cmp ℕ
 
--- an address modulo 2 ^ 32
+-- an address modulo 2 ^ 32: the address space is circular (RISC-V unprivileged manual, "Memory")
 abbrev pub wrapped : ℕ → ℕ
 wrapped n = n % 2 ^ 32
 
@@ -18,11 +18,12 @@ wrapped n = n % 2 ^ 32
 abbrev pub byte_at : Memory → ℕ → Option ℕ
 byte_at m at = finmap.get m (wrapped at)
 
--- so many bytes from an address on, each at its address modulo 2 ^ 32, if all of them are mapped
+-- a byte before others, if all of them are there
 abbrev pub followed_by : Option ℕ → Option (List ℕ) → Option (List ℕ)
 followed_by (Some b) (Some bs) = Some (b ∷ bs)
 followed_by _ _ = None
 
+-- so many bytes from an address on, each at its address modulo 2 ^ 32, if all of them are mapped
 abbrev pub bytes_at : Memory → ℕ → ℕ → Option (List ℕ)
 bytes_at m at zero = Some []
 bytes_at m at (suc n) = followed_by (byte_at m at) (bytes_at m (at + 1) n)
