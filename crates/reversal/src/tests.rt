@@ -1,6 +1,6 @@
 // Runs of the top call over inputs, keepers and a sink in memory. The lines stand here as a program in another language
 // gave them, which shares nothing with this one.
-ghost use Rattle.std.specs.Prelude.{◌≡◌, ◌<◌};
+ghost use Rattle.std.specs.Prelude.{◌≡◌, ◌<◌, ◌≤◌};
 
 use crate::ended::{Ended, ended_text};
 use crate::top::reversal;
@@ -233,15 +233,22 @@ fn a_state_kept_once_and_loaded_often_gives_every_line(rt: HostRuntime) -> Resul
     Ok(())
 }
 
-// A list for 1,026 steps that keeps the start alone.
-fn start_kept_list(alloc: Global) -> Result<String, AllocError> {
+// A list for `last` + 1 steps that keeps the start alone, where `last` is 1 or more.
+fn start_kept_list(alloc: Global, last: u32) -> Result<String, AllocError>
+    requires { (1 ≤ last) × (last < 1000000) }
+{
     let mut text = String::new(alloc);
-    text.push_str("Forward(0, 1025, True, False, RAM)\n")?;
-    text.push_str(
-        "Forward(1025, 1026, False, True, WORK)\nEndForward()\nReverse(1026, 1025, True)\n",
+    write!(text, "Forward(0, {}, True, False, RAM)\n", last)?;
+    write!(
+        text,
+        "Forward({}, {}, False, True, WORK)\nEndForward()\nReverse({}, {}, True)\n",
+        last,
+        last + 1,
+        last + 1,
+        last
     )?;
-    for from in 0..1024u32 {
-        let at = 1024 - from;
+    for from in 1..last {
+        let at = last - from;
         write!(
             text,
             "Copy(0, RAM, WORK)\nForward(0, {}, False, False, NONE)\n",
@@ -268,7 +275,7 @@ fn a_program_that_runs_past_its_page_is_trapped(rt: HostRuntime) -> Result<(), F
     for _ in 0..1024u32 {
         program.extend_from_slice(b"\x93\x82\x12\x00")?;
     }
-    let schedule = start_kept_list(rt.alloc())?;
+    let schedule = start_kept_list(rt.alloc(), 1025)?;
     let given = Given {
         program: &program,
         book: ONE_SLOT,
@@ -283,6 +290,94 @@ fn a_program_that_runs_past_its_page_is_trapped(rt: HostRuntime) -> Result<(), F
         "the last two states"
     );
     Ok(())
+}
+
+// The last state of a run that has one slot is this one.
+fn ends_in(
+    rt: &impl Abort,
+    alloc: Global,
+    program: &[u8],
+    steps: &[u8],
+    schedule: &[u8],
+    line: &[u8],
+) -> Result<(), Fail> {
+    let given = Given {
+        program,
+        book: ONE_SLOT,
+        schedule,
+        steps,
+    };
+    let mut out = MemorySink::new(alloc, 4096)?;
+    assert_eq!(rt; run(alloc, &given, &mut out)?.status, 0);
+    assert!(rt; out.bytes().starts_with(line));
+    Ok(())
+}
+
+// LUI x5, 0x10; ADDI x5, x5, 2; JALR x0, 3(x5).
+const JUMP_TO_AN_ODD_ADDRESS: &[u8] = b"\xb7\x02\x01\x00\x93\x82\x22\x00\x67\x80\x32\x00";
+
+const AFTER_THE_JUMP: &[u8] =
+    b"3 00010004 00000000 bffffff0 00000000 00000000 00010002 00000000 00000000 00000000 00000000 00000000 00000000 00000000 00000000 00000000 00000000 00000000 00000000 00000000 00000000 00000000 00000000 00000000 00000000 00000000 00000000 00000000 00000000 00000000 00000000 00000000 00000000 run 0:0 0 a981b8be2788cc98e9bacbb80750f3d617b6a1d173887978ba4f71db6d18de68\n";
+
+#[test]
+fn a_jump_clears_bit_0_of_its_address(rt: HostRuntime) -> Result<(), Fail> {
+    let list = start_kept_list(rt.alloc(), 2)?;
+    ends_in(
+        &rt,
+        rt.alloc(),
+        JUMP_TO_AN_ODD_ADDRESS,
+        b"3",
+        list.as_bytes(),
+        AFTER_THE_JUMP,
+    )
+}
+
+// LUI x5, 0x80000; SRAI x6, x5, 4.
+const SHIFT_OF_THE_SIGN: &[u8] = b"\xb7\x02\x00\x80\x13\xd3\x42\x40";
+
+const AFTER_THE_SHIFT: &[u8] =
+    b"2 00010008 00000000 bffffff0 00000000 00000000 80000000 f8000000 00000000 00000000 00000000 00000000 00000000 00000000 00000000 00000000 00000000 00000000 00000000 00000000 00000000 00000000 00000000 00000000 00000000 00000000 00000000 00000000 00000000 00000000 00000000 00000000 00000000 run 0:0 0 ebbb3007680df2bf48a55add92a448e79285edeef71c4bcf8213cf7b02bb11f8\n";
+
+#[test]
+fn a_shift_to_the_right_brings_the_sign_in(rt: HostRuntime) -> Result<(), Fail> {
+    let list = start_kept_list(rt.alloc(), 1)?;
+    ends_in(
+        &rt,
+        rt.alloc(),
+        SHIFT_OF_THE_SIGN,
+        b"2",
+        list.as_bytes(),
+        AFTER_THE_SHIFT,
+    )
+}
+
+// SW x0, 0(x0).
+const STORE_AT_0: &[u8] = b"\x23\x20\x00\x00";
+
+const AFTER_THE_STORE: &[u8] =
+    b"1 00010000 00000000 bffffff0 00000000 00000000 00000000 00000000 00000000 00000000 00000000 00000000 00000000 00000000 00000000 00000000 00000000 00000000 00000000 00000000 00000000 00000000 00000000 00000000 00000000 00000000 00000000 00000000 00000000 00000000 00000000 00000000 00000000 trap:7 0:0 0 a2952a1c28689d181c1d2adefeee9762cd0670623fa9b20936b67094fcf90c9a\n";
+
+#[test]
+fn a_store_where_nothing_is_mapped_traps(rt: HostRuntime) -> Result<(), Fail> {
+    ends_in(&rt, rt.alloc(), STORE_AT_0, b"1", ONE_STEP, AFTER_THE_STORE)
+}
+
+// JAL x1, 6.
+const JUMP_BY_6: &[u8] = b"\xef\x00\x60\x00";
+
+const AFTER_THE_JUMP_BY_6: &[u8] =
+    b"1 00010000 00000000 bffffff0 00000000 00000000 00000000 00000000 00000000 00000000 00000000 00000000 00000000 00000000 00000000 00000000 00000000 00000000 00000000 00000000 00000000 00000000 00000000 00000000 00000000 00000000 00000000 00000000 00000000 00000000 00000000 00000000 00000000 trap:0 0:0 0 eae7f1b795a0fb2b8c5fdf940daa47d7f3c9b0532bb006de84259b6b77c1deb6\n";
+
+#[test]
+fn a_jump_that_is_not_aligned_traps(rt: HostRuntime) -> Result<(), Fail> {
+    ends_in(
+        &rt,
+        rt.alloc(),
+        JUMP_BY_6,
+        b"1",
+        ONE_STEP,
+        AFTER_THE_JUMP_BY_6,
+    )
 }
 
 #[test]
@@ -349,8 +444,8 @@ Reverse(1, 0, True)
 
 const HALF_LINE: &[u8] = b"Forward(0, 1)\n";
 
-// The four words, the last of them ECALL.
-const UNKNOWN_WORD: &[u8] = b"\x13\x05\x70\x00\x93\x02\x10\x00\x13\x83\x22\x00\x73\x00\x00\x00";
+// The first of the four words, and a part of the next.
+const HALF_WORD: &[u8] = b"\x13\x05\x70\x00\x93\x02";
 
 // A run ends with this text behind the name of the program, and nothing is written.
 fn ends(rt: &impl Abort, alloc: Global, given: Given<'_>, text: &[u8]) -> Result<(), Fail> {
@@ -366,7 +461,7 @@ fn ends(rt: &impl Abort, alloc: Global, given: Given<'_>, text: &[u8]) -> Result
 fn a_form_that_is_not_built_is_named(rt: HostRuntime) -> Result<(), Fail> {
     let good = FOUR_STEPS_GIVEN;
     let alloc = rt.alloc();
-    ends(&rt, alloc, good.program(UNKNOWN_WORD), b"18 NotBuilt 1 0 0")?;
+    ends(&rt, alloc, good.program(HALF_WORD), b"18 NotBuilt 1 0 0")?;
     ends(&rt, alloc, good.book(b"{}"), b"18 NotBuilt 2 0 0")?;
     ends(&rt, alloc, good.schedule(HALF_LINE), b"18 NotBuilt 3 0 0")?;
     ends(&rt, alloc, good.steps(b"1000001"), b"18 NotBuilt 0 0 0")

@@ -3,6 +3,5 @@ pub mod StateCode
 pub mod Numbers
 pub mod Effects
 pub mod StepTable
-pub mod FirstRows
 pub mod States
 pub mod StateFields

@@ -6,7 +6,6 @@
 #![tactic(auto)]
 
 mod effect;
-mod first_rows;
 mod happening;
 pub mod laws;
 mod raw;
@@ -15,7 +14,6 @@ mod status;
 mod stepping;
 mod steps;
 
-pub use crate::first_rows::is_instruction;
 pub use crate::raw::load_raw;
 pub use crate::state::State;
 pub use crate::status::Status;
