@@ -1,6 +1,6 @@
 // The book of levels.
 ghost use Rattle.std.specs.Prelude.{◌≡◌, ◌≤◌, ◌<◌, [], ◌∷◌, length, slice_get, Some};
-ghost use Rattle.level_book.specs.BookCosts.{plain};
+ghost use Rattle.level_book.specs.BookCosts.{plain, IsWithinLimits};
 
 use std::marker::Model;
 
@@ -60,13 +60,13 @@ pub struct Book {
 
 impl Model for Book {
     ghost use Rattle.std.specs.Prelude.{◌≤◌, length, take};
-    ghost use Rattle.level_book.specs.BookCosts.{BookCosts};
+    ghost use Rattle.level_book.specs.BookCosts.{BookCosts, IsWithinLimits};
 
     ghost Value = { BookCosts };
 
     ghost view = { λ b. record { forward = b.forward; reverse = b.reverse; levels = take b.count b.levels } };
 
-    ghost invariant = { λ b. (1 ≤ b.count) × (b.count ≤ 4) × (b.count ≤ length b.levels) };
+    ghost invariant = { λ b. (1 ≤ b.count) × (b.count ≤ 4) × (b.count ≤ length b.levels) × IsWithinLimits (record { forward = b.forward; reverse = b.reverse; levels = b.levels }) };
 }
 
 impl Book {
@@ -81,6 +81,13 @@ impl Book {
             levels: [ram(slots), ram(0), ram(0), ram(0)],
             count: 1,
         }
+    }
+
+    /// Does nothing. Its contract is a law: no cost and no count of slots of a book is above 1,000,000.
+    pub fn is_within_limits(&self)
+        ensures { IsWithinLimits self.now }
+    {
+        let _count = self.count;
     }
 
     /// The cost of one forward step.

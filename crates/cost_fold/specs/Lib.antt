@@ -1,0 +1,2 @@
+pub mod CanBeTallied
+pub mod CountsOf

@@ -1,0 +1,13 @@
+//! What a schedule costs: the counts of a list, taken in one pass, and their price by a book. It stands on the actions and
+//! the book; the report stands on it. What a list costs is defined in `level_book`. Nothing here knows what a valid list
+//! is, or what bounds its cost from below.
+#![tactic(auto)]
+
+mod counts;
+pub mod laws;
+mod price;
+#[cfg(test)]
+mod tests;
+
+pub use crate::counts::{Counts, tally};
+pub use crate::price::total;
