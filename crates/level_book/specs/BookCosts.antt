@@ -1,5 +1,5 @@
 -- What a book says: the costs of the two kinds of step, and its levels, the fastest first.
-use Rattle.std.specs.Prelude.{ℕ, ◌≤◌, List, [], ◌∷◌, map, codes}
+use Rattle.std.specs.Prelude.{ℕ, ◌+◌, ◌≤◌, min, List, [], ◌∷◌, map, fold, slice_index_or, codes}
 use Rattle.std.specs.List.{AllByRecursion}
 use Rattle.level_book.specs.declared.book.Level.{Level}
 use Rattle.level_book.specs.declared.book.Slots.{Slots}
@@ -21,6 +21,24 @@ plain slots = record {
   reverse = 1;
   levels = record { name = codes "RAM"; slots = Count slots; write = 0; read = 0 } ∷ [];
 }
+
+-- of so many slots, those that a run of so many steps can use
+abbrev pub least : Slots → ℕ → ℕ
+least (Count slots) steps = min slots steps
+least Unlimited steps = steps
+
+-- the slots of two levels together
+abbrev pub both : Slots → Slots → Slots
+both (Count slots) (Count more) = Count (slots + more)
+both (Count slots) Unlimited = Unlimited
+both Unlimited more = Unlimited
+
+-- how many images level k holds at most in a run of so many steps, and how many all levels do
+abbrev pub room : BookCosts → ℕ → ℕ → ℕ
+room book k steps = least (slice_index_or (slots_of book) k (Count 0)) steps
+
+abbrev pub total_room : BookCosts → ℕ → ℕ
+total_room book steps = least (fold both (Count 0) (slots_of book)) steps
 
 -- the slots that a level counts, 0 where it counts none
 abbrev pub slot_count : Slots → ℕ

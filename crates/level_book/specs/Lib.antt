@@ -1,4 +1,7 @@
 pub mod BookCosts
+pub mod BookText
+pub mod BookFaults
+pub mod EntryTests
 pub mod Configuration
 pub mod Moves
 pub mod Rules

@@ -1,6 +1,6 @@
 // The book of levels.
-ghost use Rattle.std.specs.Prelude.{◌≡◌, ◌≤◌, ◌<◌, [], ◌∷◌, length, slice_get, Some};
-ghost use Rattle.level_book.specs.BookCosts.{plain, IsWithinLimits};
+ghost use Rattle.std.specs.Prelude.{◌≡◌, ◌≤◌, ◌<◌, [], ◌∷◌, take, length, slice_get, Some};
+ghost use Rattle.level_book.specs.BookCosts.{plain, room, total_room, BookCosts, IsWithinLimits};
 
 use std::marker::Model;
 
@@ -22,6 +22,19 @@ impl Model for Name {
 }
 
 impl Name {
+    // The name of these bytes.
+    pub(crate) fn new(bytes: &[u8]) -> Name
+        requires { (1 ≤ length bytes.now) × (length bytes.now ≤ 16) }
+        ensures { result ≡ bytes.now }
+    {
+        let mut text = [0; 16];
+        text[..bytes.len()].copy_from_slice(bytes);
+        Name {
+            text,
+            len: bytes.len(),
+        }
+    }
+
     /// The bytes of the name.
     pub fn bytes(&self) -> &[u8]
         ensures value { result.now ≡ self.now }
@@ -70,6 +83,20 @@ impl Model for Book {
 }
 
 impl Book {
+    // The book of these costs, with so many of the levels.
+    pub(crate) fn new(forward: u32, reverse: u32, levels: [Level; 4], count: u8) -> Book
+        requires count { (1 ≤ count) × (count ≤ 4) }
+        requires limits { IsWithinLimits (record { forward = forward; reverse = reverse; levels = levels }) }
+        ensures { result ≡ record { forward = forward; reverse = reverse; levels = take count levels } }
+    {
+        Book {
+            forward,
+            reverse,
+            levels,
+            count,
+        }
+    }
+
     /// The book of one level `RAM` with so many slots, free to write and to read, and steps that cost 1.
     pub fn plain(slots: u32) -> Book
         requires { slots ≤ 1000000 }
@@ -112,6 +139,32 @@ impl Book {
         self.count
     }
 
+    /// How many images a level holds at most in a run of so many steps: the lesser of its slots and the steps.
+    pub fn room(&self, k: u8, steps: u32) -> u32
+        requires { k < length self.now.levels }
+        ensures { result ≡ room self.now k steps }
+    {
+        match self.levels[k as usize].slots {
+            Slots::Count(slots) => slots.min(steps),
+            Slots::Unlimited => steps,
+        }
+    }
+
+    /// The same for all levels together.
+    pub fn total_room(&self, steps: u32) -> u32
+        ensures { result ≡ total_room self.now steps }
+    {
+        self.is_within_limits();
+        let mut slots = 0;
+        for k in 0..self.levels() {
+            match self.level(k).slots {
+                Slots::Count(more) => slots += more,
+                Slots::Unlimited => return steps,
+            }
+        }
+        slots.min(steps)
+    }
+
     /// The level with this number, counted from 0.
     pub fn level(&self, k: u8) -> &Level
         requires { k < length self.now.levels }
@@ -122,7 +175,7 @@ impl Book {
 }
 
 // A level `RAM` that costs nothing.
-fn ram(slots: u32) -> Level
+pub(crate) fn ram(slots: u32) -> Level
     ensures { (result.name ≡ 82 ∷ 65 ∷ 77 ∷ []) × (result.slots ≡ Slots.Count slots) × (result.write ≡ 0) × (result.read ≡ 0) }
 {
     Level {
