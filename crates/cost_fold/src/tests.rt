@@ -1,6 +1,6 @@
 // Counts and costs by hand, from what each action does.
 use crate::{Counts, tally, total};
-use level_book::Book;
+use level_book::{Book, read_book};
 use plan_types::{Action, Dest, Keep};
 
 macro_rules! store {
@@ -105,4 +105,35 @@ fn the_longest_steps_and_the_greatest_counts_do_not_overflow(rt: HostRuntime) {
         ..Counts::default()
     };
     assert_eq!(rt; total(&greatest, &Book::plain(1)), 16_777_216_000_000);
+}
+
+#[test]
+fn each_level_is_paid_at_its_own_costs(rt: HostRuntime) {
+    let text =
+        br#"{"forward":2,"reverse":3,"levels":[{"name":"RAM","slots":1,"write":5,"read":7},{"name":"DISK","slots":null,"write":11,"read":13}]}"#;
+    let book = read_book(rt.alloc(), text).expect(&rt, "a book");
+    let counts = Counts {
+        forward: 1000,
+        taped: 17,
+        reversed: 100,
+        writes: [1, 10, 1000, 1000],
+        reads: [2, 20, 1000, 1000],
+    };
+    // 2000 + 300 + 5 + 14 + 110 + 260: the book has two levels.
+    assert_eq!(rt; total(&counts, &book), 2689);
+}
+
+#[test]
+fn the_greatest_counts_at_the_greatest_cost_do_not_overflow(rt: HostRuntime) {
+    let text =
+        br#"{"forward":1000000,"reverse":1000000,"levels":[{"name":"RAM","slots":1,"write":1000000,"read":1000000}]}"#;
+    let book = read_book(rt.alloc(), text).expect(&rt, "a book");
+    let counts = Counts {
+        forward: 16_777_216_000_000,
+        taped: 16_777_216,
+        reversed: 16_777_216,
+        writes: [16_777_216, 0, 0, 0],
+        reads: [16_777_216, 0, 0, 0],
+    };
+    assert_eq!(rt; total(&counts, &book), 16_777_266_331_648_000_000);
 }
