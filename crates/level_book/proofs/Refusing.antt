@@ -11,40 +11,41 @@ use Rattle.level_book.specs.BookCosts.{BookCosts}
 use Rattle.level_book.specs.BookText.{IsTextOf, SaysBook, number_in, list_in}
 use Rattle.level_book.specs.BookFaults.{unless, first_of, number_of, missing_in, shape_fault, name_fault, cost_fault, slot_fault, order_fault, faults_in, fault_in, IsRefused}
 
--- whether the fault is that there is no value
-is_not_json : Option BookFault → Bool
-is_not_json (Some NotJson) = true
-is_not_json _ = false
+-- whether the fault is one of bytes, and not of a value
+is_of_bytes : Option BookFault → Bool
+is_of_bytes (Some NotJson) = true
+is_of_bytes (Some Memory) = true
+is_of_bytes _ = false
 
 -- the first of some faults is one of them
-first_is_other : (faults : List (Option BookFault)) → AllByRecursion (λ fault. is_not_json fault ≡ false) faults → is_not_json (first_of faults) ≡ false
-unfolding is_not_json
+first_is_other : (faults : List (Option BookFault)) → AllByRecursion (λ fault. is_of_bytes fault ≡ false) faults → is_of_bytes (first_of faults) ≡ false
+unfolding is_of_bytes
 first_is_other [] all = refl
 first_is_other (None ∷ rest) all = first_is_other rest all.1
 first_is_other (Some fault ∷ rest) all = all.0
 
-unless_other : (holds : Bool) (fault : BookFault) → is_not_json (Some fault) ≡ false → is_not_json (unless holds fault) ≡ false
-unfolding is_not_json
+unless_other : (holds : Bool) (fault : BookFault) → is_of_bytes (Some fault) ≡ false → is_of_bytes (unless holds fault) ≡ false
+unfolding is_of_bytes
 unless_other true fault other = refl
 unless_other false fault other = other
 
-each_other_from : (f : ℕ → Data → Option BookFault) (n : ℕ) (ds : List Data) → ((k : ℕ) (d : Data) → is_not_json (f k d) ≡ false) →
-    is_not_json (first_of (map (λ entry. f entry.0 entry.1) (enumerate_from n ds))) ≡ false
-unfolding is_not_json
+each_other_from : (f : ℕ → Data → Option BookFault) (n : ℕ) (ds : List Data) → ((k : ℕ) (d : Data) → is_of_bytes (f k d) ≡ false) →
+    is_of_bytes (first_of (map (λ entry. f entry.0 entry.1) (enumerate_from n ds))) ≡ false
+unfolding is_of_bytes
 each_other_from f n ds other = first_is_other (map (λ entry. f entry.0 entry.1) (enumerate_from n ds)) (all n ds)
   where
-    all : (m : ℕ) (es : List Data) → AllByRecursion (λ fault. is_not_json fault ≡ false) (map (λ entry. f entry.0 entry.1) (enumerate_from m es))
+    all : (m : ℕ) (es : List Data) → AllByRecursion (λ fault. is_of_bytes fault ≡ false) (map (λ entry. f entry.0 entry.1) (enumerate_from m es))
     all m [] = tt
     all m (d ∷ es) = (other m d, all (m + 1) es)
 
-shape_other : (k : ℕ) (missing : Option ℕ) → is_not_json (option_map (λ field. Shape (4 + 4 * k + field)) missing) ≡ false
-unfolding is_not_json
+shape_other : (k : ℕ) (missing : Option ℕ) → is_of_bytes (option_map (λ field. Shape (4 + 4 * k + field)) missing) ≡ false
+unfolding is_of_bytes
 shape_other k None = refl
 shape_other k (Some field) = refl
 
 -- a value has no such fault
-fault_is_other : (d : Data) → is_not_json (fault_in d) ≡ false
-unfolding is_not_json
+fault_is_other : (d : Data) → is_of_bytes (fault_in d) ≡ false
+unfolding is_of_bytes
 fault_is_other d =
     let entries = unwrap_or (list_in (codes "levels") d) [] in
     first_is_other (faults_in d) (
@@ -87,9 +88,11 @@ fault_is_other d =
 
 -- what a value's fault says of the bytes
 refuses : (bytes : List ℕ) (d : Data) (fault : BookFault) → IsTextOf bytes d → fault_in d ≡ Some fault → IsRefused bytes fault
-unfolding is_not_json
-refuses bytes d NotJson text is = let other = ap is_not_json (sym is) ∙ fault_is_other d in absurd (cc other)
-refuses bytes d Memory text is = tt
+unfolding is_of_bytes
+refuses bytes d NotJson text is = let other = ap is_of_bytes (sym is) ∙ fault_is_other d in absurd (cc other)
+refuses bytes d Memory text is =
+    let other = ap is_of_bytes (sym is) ∙ fault_is_other d in
+    absurd (cc other)
 refuses bytes d (Shape n) text is = (d, text, is)
 refuses bytes d (Levels n) text is = (d, text, is)
 refuses bytes d (Name n) text is = (d, text, is)

@@ -1,6 +1,6 @@
 -- Which fault a text has that says no book: a table of tests in their order, of which the first that fails names the
 -- fault.
-use Rattle.std.specs.Prelude.{◌≡◌, ℕ, ◌+◌, ◌-◌, ◌*◌, ◌==◌, min, nat_lt, nat_le, Bool, not, ◌&&◌, ◌||◌, cond, List, [], ◌∷◌, map, length, take, codes, slice_index, slice_index_or, Option, Some, None, option_map, unwrap_or, is_some, position}
+use Rattle.std.specs.Prelude.{◌≡◌, ℕ, ◌+◌, ◌-◌, ◌*◌, ◌<◌, ◌==◌, min, nat_lt, nat_le, Bool, not, ◌&&◌, ◌||◌, cond, List, [], ◌∷◌, map, length, take, codes, slice_index, slice_index_or, Option, Some, None, option_map, unwrap_or, is_some, position}
 use Rattle.std.specs.Char.{is_ascii_uppercase, is_ascii_digit}
 use Rattle.std.specs.List.{enumerate_from, list_all, list_any}
 use Rattle.std.specs.Option.{option_or}
@@ -106,8 +106,8 @@ pub record IsBookText (bytes : List ℕ) (book : BookCosts) : Type 0 where
   pub faultless : fault_in value ≡ None
 
 -- The bytes are no book, for this cause: they are the text of no value, or of one whose first fault it is. Want of memory
--- says nothing of the bytes.
+-- says only that there are bytes to read.
 abbrev pub IsRefused : List ℕ → BookFault → Type 0
 IsRefused bytes NotJson = (d : Data) → IsTextOf bytes d → ⊥
-IsRefused bytes Memory = Unit {0}
+IsRefused bytes Memory = 0 < length bytes
 IsRefused bytes fault = (d : Data) × IsTextOf bytes d × (fault_in d ≡ Some fault)
