@@ -1,7 +1,7 @@
-//! The top call: words and inputs in, lines out, and one ending that says what happened. It stands on all other crates,
-//! and the program is a thin shell around it. It has three steps, and a file of `specs/` for what each means, to be read in
-//! this order: `Request` and `Bounds` (what the words ask for), `Inputs` and `Decision` (what that comes to), `Deeds` (what
-//! is done). Readers know nothing of runs, and the run nothing of text.
+//! The top call: words and inputs in, lines out, and one ending that says what happened. It stands on the crates for
+//! schedules, for the machine and for storage, and the program is a thin shell around it. It has three steps, and a file
+//! of `specs/` for what each means, to be read in this order: `Request` and `Bounds` (what the words ask for), `Inputs` and
+//! `Decision` (what that comes to), `Deeds` (what is done). Readers know nothing of runs, and the run nothing of text.
 #![tactic(auto)]
 
 mod book_form;

@@ -23,7 +23,7 @@ pub(crate) enum Width {
     Word,
 }
 
-/// What an instruction does, beside that pc goes on to the next word.
+/// What an instruction does. Where no case says otherwise, pc goes on to the next word.
 #[derive(Clone, Copy)]
 pub(crate) enum Effect {
     /// The register with a number gets a value.

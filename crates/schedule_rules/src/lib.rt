@@ -1,7 +1,7 @@
 //! The validator: what an action does to a configuration, which rule it breaks, and whether a list is valid. It stands on
-//! the actions and the book, and the runner, the classes and the bounds stand on it. Which action leads where is defined
-//! in `level_book`; here a configuration is kept in bits and counts that are reserved at the start, and no public
-//! contract mentions them. Nothing here runs a machine or reads text.
+//! the actions and the book, and the runner and the top call stand on it. Which action leads where is defined in
+//! `level_book`; here a configuration is kept in bits and counts that are reserved at the start, and no public contract
+//! mentions them. Nothing here runs a machine or reads text.
 #![tactic(auto)]
 
 mod config;
