@@ -8,20 +8,21 @@ use Rattle.std.proofs.lemmas.Bool.{leb-true}
 use Rattle.serde_json.specs.Data.{Data}
 use Rattle.level_book.specs.declared.fault.BookFault.{BookFault}
 use Rattle.level_book.specs.declared.fault.BookFault.TheVariants.{Shape, Name, CostRange, SlotRange}
-use Rattle.level_book.specs.BookFaults.{unless, first_of, each, number_of, name_of, is_name, missing_in, shape_fault, name_fault, cost_fault, slot_fault}
+use Rattle.level_book.specs.Names.{is_name}
+use Rattle.level_book.specs.BookFaults.{unless, first_of, each, number_of, name_of, missing_in, shape_fault, name_fault, cost_fault, slot_fault}
 use Rattle.level_book.specs.EntryTests.{IsFaultless}
 
 -- the test holds where there is no fault
-holds_unless : (holds : Bool) (fault : BookFault) → unless holds fault ≡ None → holds ≡ true
+pub holds_unless : (holds : Bool) (fault : BookFault) → unless holds fault ≡ None → holds ≡ true
 holds_unless true fault none = refl
 holds_unless false fault none = cc
 
-both_hold : (a b : Bool) → (a && b) ≡ true → (a ≡ true) × (b ≡ true)
+pub both_hold : (a b : Bool) → (a && b) ≡ true → (a ≡ true) × (b ≡ true)
 both_hold true true h = (refl, refl)
 both_hold true false h = cc
 both_hold false b h = cc
 
-none_of_both : (a b : Option BookFault) → option_or a b ≡ None → (a ≡ None) × (b ≡ None)
+pub none_of_both : (a b : Option BookFault) → option_or a b ≡ None → (a ≡ None) × (b ≡ None)
 none_of_both None b h = (refl, h)
 none_of_both (Some x) b h = cc
 
@@ -30,7 +31,7 @@ unmapped f None h = refl
 unmapped f (Some x) h = cc
 
 -- what f finds at each entry, counted from n
-abbrev from : ℕ → (ℕ → Data → Option BookFault) → List Data → List (Option BookFault)
+abbrev pub from : ℕ → (ℕ → Data → Option BookFault) → List Data → List (Option BookFault)
 from n f ds = map (λ entry. f entry.0 entry.1) (enumerate_from n ds)
 
 faultless_from : (names : ℕ → Data → Option BookFault) (n : ℕ) (ds : List Data) → ((k : ℕ) (d : Data) → names k d ≡ None → is_name (name_of d) ≡ true) →

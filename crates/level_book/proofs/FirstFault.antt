@@ -10,7 +10,8 @@ use Rattle.serde_json.specs.Data.{Data}
 use Rattle.serde_json.specs.View.{view}
 use Rattle.serde_json.specs.declared.value.Value.{Value}
 use Rattle.level_book.specs.declared.fault.BookFault.{BookFault}
-use Rattle.level_book.specs.BookFaults.{first_of, each, unless, is_name, name_of}
+use Rattle.level_book.specs.Names.{is_name}
+use Rattle.level_book.specs.BookFaults.{first_of, each, unless, name_of}
 
 -- a test that holds has no fault, and one that doesn't has its own
 pub unless_holds : (holds : Bool) (fault : BookFault) → holds ≡ true → unless holds fault ≡ None

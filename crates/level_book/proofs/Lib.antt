@@ -5,3 +5,4 @@ pub mod ReadLevels
 pub mod Faultless
 pub mod Refusing
 pub mod OneBook
+pub mod LevelNames

@@ -14,6 +14,10 @@ pub record BookCosts : Type 0 where
 abbrev pub slots_of : BookCosts → List Slots
 slots_of book = map (λ level. level.slots) book.levels
 
+-- the names of the levels
+abbrev pub names_of : BookCosts → List (List ℕ)
+names_of book = map (λ level. level.name) book.levels
+
 -- one level RAM that is free to write and to read, and steps that cost 1
 abbrev pub plain : ℕ → BookCosts
 plain slots = record {

@@ -1,8 +1,7 @@
 -- Which fault a text has that says no book: a table of tests in their order, of which the first that fails names the
 -- fault.
-use Rattle.std.specs.Prelude.{◌≡◌, ℕ, ◌+◌, ◌-◌, ◌*◌, ◌<◌, ◌==◌, min, nat_lt, nat_le, Bool, not, ◌&&◌, ◌||◌, cond, List, [], ◌∷◌, map, length, take, codes, slice_index, slice_index_or, Option, Some, None, option_map, unwrap_or, is_some, position}
-use Rattle.std.specs.Char.{is_ascii_uppercase, is_ascii_digit}
-use Rattle.std.specs.List.{enumerate_from, list_all, list_any}
+use Rattle.std.specs.Prelude.{◌≡◌, ℕ, ◌+◌, ◌-◌, ◌*◌, ◌<◌, ◌==◌, min, nat_lt, nat_le, Bool, not, ◌&&◌, ◌||◌, cond, List, [], ◌∷◌, map, length, take, codes, slice_index_or, Option, Some, None, option_map, unwrap_or, is_some, position}
+use Rattle.std.specs.List.{enumerate_from, list_any}
 use Rattle.std.specs.Option.{option_or}
 use Rattle.std.specs.Str.{bytes_eq}
 use Rattle.serde_json.specs.Data.{Data, null}
@@ -10,6 +9,7 @@ use Rattle.serde_json.specs.Find.{as_object}
 use Rattle.level_book.specs.declared.fault.BookFault.{BookFault}
 use Rattle.level_book.specs.declared.fault.BookFault.TheVariants.{NotJson, Shape, Levels, Name, CostRange, SlotRange, CostOrder, Memory}
 use Rattle.level_book.specs.BookCosts.{BookCosts}
+use Rattle.level_book.specs.Names.{is_name}
 use Rattle.level_book.specs.BookText.{IsTextOf, SaysBook, number_in, text_in, slots_in, list_in}
 
 -- the fault, unless the test holds
@@ -44,17 +44,6 @@ missing_in d =
 
 abbrev pub shape_fault : ℕ → Data → Option BookFault
 shape_fault k d = option_map (λ field. Shape (4 + 4 * k + field)) (missing_in d)
-
--- 1 to 16 upper-case letters of ASCII, digits and underscores, the first a letter
-abbrev pub is_name_byte : ℕ → Bool
-is_name_byte b = is_ascii_uppercase b || is_ascii_digit b || b == 95
-
-abbrev pub is_spelled : List ℕ → Bool
-is_spelled name = is_ascii_uppercase (slice_index name 0) && nat_le (length name) 16 && list_all is_name_byte name
-
--- so is a name spelled; but WORK and NONE name places that are no level
-abbrev pub is_name : List ℕ → Bool
-is_name name = is_spelled name && not (bytes_eq name (codes "WORK")) && not (bytes_eq name (codes "NONE"))
 
 -- the name is one, and no earlier entry has it
 abbrev pub name_fault : List Data → ℕ → Data → Option BookFault

@@ -4,7 +4,8 @@ use Rattle.serde_json.specs.Data.{Data}
 use Rattle.level_book.specs.declared.checks.EntryTest.{EntryTest}
 use Rattle.level_book.specs.declared.checks.EntryTest.TheVariants as test
 use Rattle.level_book.specs.declared.fault.BookFault.{BookFault}
-use Rattle.level_book.specs.BookFaults.{number_of, name_of, missing_in, is_name, shape_fault, name_fault, cost_fault, slot_fault, order_fault}
+use Rattle.level_book.specs.Names.{is_name}
+use Rattle.level_book.specs.BookFaults.{number_of, name_of, missing_in, shape_fault, name_fault, cost_fault, slot_fault, order_fault}
 
 -- what a test finds at an entry with this number, among these entries
 abbrev pub found_by : EntryTest → List Data → ℕ → Data → Option BookFault

@@ -1,3 +1,4 @@
+pub mod Names
 pub mod BookCosts
 pub mod BookText
 pub mod BookFaults

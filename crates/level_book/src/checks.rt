@@ -5,7 +5,8 @@ ghost use Rattle.std.specs.Char.{is_ascii_uppercase};
 ghost use Rattle.std.specs.Str.{bytes_eq};
 ghost use Rattle.serde_json.specs.View.{view};
 ghost use Rattle.serde_json.specs.declared.value.Value.{Value};
-ghost use Rattle.level_book.specs.BookFaults.{unless, first_of, each, number_of, name_of, is_name, is_spelled, is_name_byte, shape_fault, name_fault, cost_fault, slot_fault, order_fault};
+ghost use Rattle.level_book.specs.Names.{is_name, is_spelled, is_name_byte};
+ghost use Rattle.level_book.specs.BookFaults.{unless, first_of, each, number_of, name_of, shape_fault, name_fault, cost_fault, slot_fault, order_fault};
 ghost use Rattle.level_book.specs.EntryTests.{found_by};
 
 use crate::fault::BookFault;

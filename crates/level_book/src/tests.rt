@@ -326,6 +326,17 @@ fn the_plain_book_is_read(rt: HostRuntime) {
     assert_eq!(rt; (level.write, level.read), (expected.write, expected.read));
 }
 
+// Texts, and the levels that they name where RAM and DISK are the levels.
+const NAMED: &[(&[u8], Option<u8>)] = &[
+    (b"RAM", Some(0)),
+    (b"DISK", Some(1)),
+    (b"", None),
+    (b"DIS", None),
+    (b"DISKS", None),
+    (b"RAN", None),
+    (b"WORK", None),
+];
+
 #[test]
 fn a_book_says_its_levels_and_other_fields_are_passed_over(rt: HostRuntime) {
     let text = br#" {"note":[{"levels":[7]},"x",{"a":null}],"forward":"x","forward":2,"reverse":3,
@@ -340,6 +351,9 @@ fn a_book_says_its_levels_and_other_fields_are_passed_over(rt: HostRuntime) {
     assert_eq!(rt; disk.name.bytes(), b"DISK".as_slice());
     assert_eq!(rt; disk.slots, Slots::Unlimited);
     assert_eq!(rt; (disk.write, disk.read), (5, 6));
+    for (name, level) in NAMED {
+        assert_eq!(rt; book.level_named(name), *level, "{name:?}");
+    }
 }
 
 #[test]

@@ -3,7 +3,8 @@ use Rattle.std.specs.List.{list_any}
 use Rattle.std.specs.Str.{bytes_eq}
 use Rattle.serde_json.specs.View.{view}
 use Rattle.level_book.specs.declared.fault.BookFault.TheVariants.{Name}
-use Rattle.level_book.specs.BookFaults.{unless, is_name, name_of}
+use Rattle.level_book.specs.Names.{is_name}
+use Rattle.level_book.specs.BookFaults.{unless, name_of}
 use Rattle.level_book.proofs.FirstFault.{name_fault_is}
 use Rattle.level_book.proofs.checks.name_fault.Goals as goal
 use Rattle.level_book.proofs.checks.name_fault.Goals.{then-is_name, else-is_name}

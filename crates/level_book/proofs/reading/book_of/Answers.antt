@@ -1,8 +1,14 @@
-use Rattle.std.proofs.Common.{map}
+use Rattle.std.proofs.Common.{map, take, length}
 use Rattle.serde_json.specs.View.{view}
 use Rattle.level_book.proofs.Faultless.{faultless}
+use Rattle.level_book.proofs.LevelNames.{levels_named}
 use Rattle.level_book.proofs.reading.book_of.Goals as goal
 
 pub levels_of-requires-clause-faultless : goal.levels_of-requires-clause-faultless
 levels_of-requires-clause-faultless c =
     faultless (map view c.in_ok-entries.entries.now) c.in_ok-check.ensures c.in_ok-check-2.ensures c.in_ok-check-3.ensures c.in_ok-check-4.ensures
+
+pub new-requires-clause-names : goal.new-requires-clause-names
+new-requires-clause-names c =
+    let entries = c.in_ok-entries.entries.now in
+    levels_named (map view entries) (take (length entries) c.levels_of.result) c.levels_of.ensures.says c.in_ok-check-2.ensures
