@@ -111,3 +111,6 @@ put_again images k v = same_map nat_cmp_total nat_cmp-IsAntisymmetric _ _
 
 pub others_stay : (images : Images) (k : ℕ) → SameButAt k images (finmap.remove images k)
 others_stay images k q apart = get-remove nat_cmp_total images k q ∙ ap (λ b. cond b None (finmap.get images q)) (not_at k q apart)
+
+pub others_put : (images : Images) (k : ℕ) (v : List ℕ) → SameButAt k images (finmap.insert images k v)
+others_put images k v q apart = get-insert nat_cmp_total images k v q ∙ ap (λ b. cond b (Some v) (finmap.get images q)) (not_at k q apart)

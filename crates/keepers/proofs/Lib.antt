@@ -1,3 +1,4 @@
 pub mod Files
 pub mod Images
 pub mod Known
+pub mod Listed

@@ -1,5 +1,5 @@
 // Where images are kept.
-ghost use Rattle.std.specs.Prelude.{◌≡◌, ◌⊎◌, ℕ, ◌<◌, ◌≤◌, take, Option, Err, OnOk, OnErr};
+ghost use Rattle.std.specs.Prelude.{◌≡◌, ◌≢◌, ◌⊎◌, ℕ, ◌<◌, ◌≤◌, length, take, Option, Some, Err, OnOk, OnErr};
 ghost use Rattle.std.specs.Vec.{vec_len, vec_capacity};
 ghost use Rattle.std.specs.FinMap as finmap;
 ghost use Rattle.keepers.specs.Counts.{Rose, raised};
@@ -32,25 +32,31 @@ pub trait Keeper {
     ghost free_count: { Self → ℕ };
 
     ghost fault_count: { Self → ℕ };
+    /// A number of bytes for which it never asks for memory, if it has one.
+    ghost room_bytes: { Self → Option ℕ };
 
     /// The number of slots.
     fn slots(&self) -> u32
         ensures { result ≡ slot_count self.now };
 
-    /// Puts an image into a slot, in place of what was there. After a refusal the slot may hold anything.
+    /// Puts an image into a slot, in place of what was there. After a refusal the slot may hold anything. Where the keeper
+    /// has a room, an image of at most so many bytes takes no memory.
     fn put(&mut self, slot: u32, image: &[u8]) -> Result<(), KeepFault>
         requires { slot < slot_count self.old }
         ensures ok { OnOk result (Tells (told self.old) (told self.new) (λ old new. new ≡ finmap.insert old slot image.now)) }
         ensures refused { OnErr result (Tells (told self.old) (told self.new) (SameButAt slot)) }
         ensures slots { slot_count self.new ≡ slot_count self.old }
+        ensures room { room_bytes self.new ≡ room_bytes self.old }
+        ensures roomy { (room : ℕ) → room_bytes self.old ≡ Some room → length image.now ≤ room → result ≢ Err KeepFault.Memory }
         ensures puts { put_count self.new ≡ raised (put_count self.old) 1 }
         ensures gets { get_count self.new ≡ get_count self.old }
         ensures frees { free_count self.new ≡ free_count self.old }
+        ensures quiet { result ≢ Err KeepFault.Failed → fault_count self.new ≡ fault_count self.old }
         ensures later { fault_count self.old ≤ fault_count self.new }
         ensures cause { result ≡ Err KeepFault.Failed → Rose (fault_count self.old) (fault_count self.new) };
 
     /// Gets the first `len` bytes of the image in a slot, and no bytes where the slot is empty. After a refusal `into`
-    /// may hold anything.
+    /// may hold anything. Where the keeper has a room, and `into` is reserved for `len` bytes, it takes no memory.
     fn get(&mut self, slot: u32, len: u32, into: &mut Vec<u8>) -> Result<(), KeepFault>
         requires { slot < slot_count self.old }
         ensures ok { OnOk result (WhereTold (told self.old) (λ old. into.new.items ≡ take len (image_in old slot))) }
@@ -58,9 +64,12 @@ pub trait Keeper {
         ensures reserved { vec_capacity into.old ≤ vec_capacity into.new }
         ensures same { told self.new ≡ told self.old }
         ensures slots { slot_count self.new ≡ slot_count self.old }
+        ensures room { room_bytes self.new ≡ room_bytes self.old }
+        ensures roomy { (room : ℕ) → room_bytes self.old ≡ Some room → len ≤ vec_capacity into.old → result ≢ Err KeepFault.Memory }
         ensures gets { get_count self.new ≡ raised (get_count self.old) 1 }
         ensures puts { put_count self.new ≡ put_count self.old }
         ensures frees { free_count self.new ≡ free_count self.old }
+        ensures quiet { result ≢ Err KeepFault.Failed → fault_count self.new ≡ fault_count self.old }
         ensures later { fault_count self.old ≤ fault_count self.new }
         ensures cause { result ≡ Err KeepFault.Failed → Rose (fault_count self.old) (fault_count self.new) };
 
@@ -70,9 +79,54 @@ pub trait Keeper {
         ensures ok { OnOk result (Tells (told self.old) (told self.new) (λ old new. new ≡ finmap.remove old slot)) }
         ensures refused { OnErr result (Tells (told self.old) (told self.new) (λ old new. (new ≡ old) ⊎ (new ≡ finmap.remove old slot))) }
         ensures slots { slot_count self.new ≡ slot_count self.old }
+        ensures room { room_bytes self.new ≡ room_bytes self.old }
+        ensures roomy { (room : ℕ) → room_bytes self.old ≡ Some room → result ≢ Err KeepFault.Memory }
         ensures frees { free_count self.new ≡ raised (free_count self.old) 1 }
         ensures puts { put_count self.new ≡ put_count self.old }
         ensures gets { get_count self.new ≡ get_count self.old }
+        ensures quiet { result ≢ Err KeepFault.Failed → fault_count self.new ≡ fault_count self.old }
         ensures later { fault_count self.old ≤ fault_count self.new }
         ensures cause { result ≡ Err KeepFault.Failed → Rose (fault_count self.old) (fault_count self.new) };
+}
+
+// Calls that the tests of the keepers make. Each says whether the keeper did as it should.
+#[cfg(test)]
+pub(crate) mod calls {
+    use super::{KeepFault, Keeper};
+
+    pub fn puts<K: Keeper>(keeper: &mut K, slot: u32, image: &[u8]) -> bool
+        requires { slot < K.slot_count keeper.old }
+        ensures { K.slot_count keeper.new ≡ K.slot_count keeper.old }
+    {
+        keeper.put(slot, image).is_ok()
+    }
+
+    pub fn gives<K: Keeper>(
+        keeper: &mut K,
+        slot: u32,
+        len: u32,
+        image: &[u8],
+        into: &mut Vec<u8>,
+    ) -> bool
+        requires { slot < K.slot_count keeper.old }
+        ensures { K.slot_count keeper.new ≡ K.slot_count keeper.old }
+    {
+        keeper.get(slot, len, into).is_ok() && into.as_slice() == image
+    }
+
+    pub fn frees<K: Keeper>(keeper: &mut K, slot: u32) -> bool
+        requires { slot < K.slot_count keeper.old }
+        ensures { K.slot_count keeper.new ≡ K.slot_count keeper.old }
+    {
+        keeper.free(slot).is_ok()
+    }
+
+    pub fn fails<K: Keeper>(keeper: &mut K, slot: u32, into: &mut Vec<u8>) -> bool
+        requires { slot < K.slot_count keeper.old }
+        ensures { K.slot_count keeper.new ≡ K.slot_count keeper.old }
+    {
+        keeper.put(slot, b"new") == Err(KeepFault::Failed)
+            && keeper.get(slot, 9, into) == Err(KeepFault::Failed)
+            && keeper.free(slot) == Err(KeepFault::Failed)
+    }
 }

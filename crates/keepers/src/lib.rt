@@ -4,7 +4,10 @@
 //! a fault is answered only where the outside failed: `specs/Told.antt` and `specs/Counts.antt`.
 #![tactic(auto)]
 
+mod any_keeper;
 mod file_inputs;
+mod file_keeper;
+mod flip_keeper;
 mod inputs;
 mod keeper;
 mod memory_inputs;
@@ -14,11 +17,14 @@ mod names;
 mod sink;
 mod stdout_sink;
 
+pub use crate::any_keeper::AnyKeeper;
 pub use crate::file_inputs::FileInputs;
+pub use crate::file_keeper::FileKeeper;
+pub use crate::flip_keeper::FlipKeeper;
 pub use crate::inputs::{InputFault, Inputs, Whole};
 pub use crate::keeper::{KeepFault, Keeper};
 pub use crate::memory_inputs::MemoryInputs;
-pub use crate::memory_keeper::MemoryKeeper;
+pub use crate::memory_keeper::{MemoryKeeper, Op};
 pub use crate::memory_sink::MemorySink;
 pub use crate::sink::{Sink, SinkFault};
 pub use crate::stdout_sink::StdoutSink;

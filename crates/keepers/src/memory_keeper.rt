@@ -1,22 +1,35 @@
 // A keeper in memory.
-ghost use Rattle.std.specs.Prelude.{◌≡◌, IsOk};
+ghost use Rattle.std.specs.Prelude.{◌≡◌, ◌≢◌, ◌↔◌, ◌<◌, ◌≤◌, [], take, IsTrue, Ok, Err, OnOk};
+ghost use Rattle.std.specs.Vec.{vec_len, vec_capacity};
 ghost use Rattle.std.specs.FinMap as finmap;
 ghost use Rattle.keepers.specs.Counts.{raised};
+ghost use Rattle.keepers.specs.Failing.{IsListed};
+ghost use Rattle.keepers.specs.Told.{image_in, SameButAt};
 
 use crate::keeper::{KeepFault, Keeper};
 use std::alloc::Global;
 use std::collections::BTreeMap;
 use std::marker::Model;
 
-/// Keeps images in memory. It fails only where there is no memory, so it has no faults.
+/// The calls of a keeper, by their kinds.
+#[derive(Clone, Copy, Debug, PartialEq, Eq)]
+pub enum Op {
+    Put,
+    Get,
+    Free,
+}
+
+/// Keeps images in memory. It fails only where it is told to.
 #[derive(Drop)]
 pub struct MemoryKeeper {
     alloc: Global,
     images: BTreeMap<u32, Vec<u8>>,
     slots: u32,
+    failing: Vec<(Op, u64)>,
     puts: u64,
     gets: u64,
     frees: u64,
+    faults: u64,
 }
 
 impl Model for MemoryKeeper {
@@ -30,7 +43,7 @@ impl Model for MemoryKeeper {
 
     ghost coded = { keeper_state_code };
 
-    ghost view = { λ k. record { images = finmap.from_entries (map (λ e. (e.0, e.1.items)) k.images.entries); slots = k.slots; puts = k.puts; gets = k.gets; frees = k.frees } };
+    ghost view = { λ k. record { images = finmap.from_entries (map (λ e. (e.0, e.1.items)) k.images.entries); slots = k.slots; failing = k.failing.items; puts = k.puts; gets = k.gets; frees = k.frees; faults = k.faults } };
 
     // No slot past the last one has an image.
     ghost invariant = { λ k. IsOrdered nat_cmp k.images × (k.slots < 2 ^ 32) × ((slot : ℕ) → k.slots ≤ slot → get nat_cmp k.images slot ≡ None) };
@@ -39,15 +52,27 @@ impl Model for MemoryKeeper {
 impl MemoryKeeper {
     /// Has empty slots, and takes no memory.
     pub fn new(alloc: Global, slots: u32) -> Self
-        ensures { result ≡ record { images = finmap.empty; slots = slots; puts = 0; gets = 0; frees = 0 } }
+        ensures { result ≡ record { images = finmap.empty; slots = slots; failing = []; puts = 0; gets = 0; frees = 0; faults = 0 } }
     {
         Self {
             alloc,
             images: BTreeMap::new(alloc),
             slots,
+            failing: Vec::new(alloc),
             puts: 0,
             gets: 0,
             frees: 0,
+            faults: 0,
+        }
+    }
+
+    /// Lets the listed calls fail, where the first call of a kind is number 1. Such a call does nothing but fail.
+    pub fn failing(self, list: Vec<(Op, u64)>) -> Self
+        ensures { result ≡ record self { failing = list.items } }
+    {
+        Self {
+            failing: list,
+            ..self
         }
     }
 
@@ -79,16 +104,16 @@ impl MemoryKeeper {
         self.frees
     }
 
-    /// How often the storage failed, which it never does.
+    /// How many of the listed calls failed, up to `u64::MAX`.
     pub fn faults(&self) -> u64
-        ensures { result ≡ ⟦<MemoryKeeper as Keeper>⟧.fault_count self.now }
+        ensures { result ≡ self.now.faults }
     {
-        0
+        self.faults
     }
 }
 
 impl Keeper for MemoryKeeper {
-    ghost use Rattle.std.specs.Prelude.{Some};
+    ghost use Rattle.std.specs.Prelude.{Some, None};
 
     ghost told = { λ k. Some k.images };
 
@@ -100,14 +125,28 @@ impl Keeper for MemoryKeeper {
 
     ghost free_count = { λ k. k.frees };
 
-    ghost fault_count = { λ _. 0 };
+    ghost fault_count = { λ k. k.faults };
+
+    ghost room_bytes = { λ _. None };
 
     fn slots(&self) -> u32 {
         self.slots
     }
 
-    fn put(&mut self, slot: u32, image: &[u8]) -> Result<(), KeepFault> {
+    fn put(&mut self, slot: u32, image: &[u8]) -> Result<(), KeepFault>
+        requires { slot < self.old.slots }
+        ensures listed { (result ≡ Err KeepFault.Failed) ↔ IsListed self.old.failing Op.Put self.old.puts }
+        ensures ok { OnOk result (self.new ≡ record self.old { images = finmap.insert self.old.images slot image.now; puts = raised self.old.puts 1 }) }
+        ensures failed { result ≡ Err KeepFault.Failed → self.new ≡ record self.old { puts = raised self.old.puts 1; faults = raised self.old.faults 1 } }
+        ensures memory { result ≡ Err KeepFault.Memory → self.new ≡ record self.old { images = self.new.images; puts = raised self.old.puts 1 } }
+        ensures others { SameButAt slot self.old.images self.new.images }
+    {
+        let fails = is_listed(&self.failing, Op::Put, self.puts);
         self.puts = self.puts.saturating_add(1);
+        if fails {
+            self.faults = self.faults.saturating_add(1);
+            return Err(KeepFault::Failed);
+        }
         let mut copy = match self.images.remove(&slot) {
             Some(old) => old,
             None => Vec::new(self.alloc),
@@ -122,8 +161,20 @@ impl Keeper for MemoryKeeper {
         Ok(())
     }
 
-    fn get(&mut self, slot: u32, len: u32, into: &mut Vec<u8>) -> Result<(), KeepFault> {
+    fn get(&mut self, slot: u32, len: u32, into: &mut Vec<u8>) -> Result<(), KeepFault>
+        ensures listed { (result ≡ Err KeepFault.Failed) ↔ IsListed self.old.failing Op.Get self.old.gets }
+        ensures ok { OnOk result (into.new.items ≡ take len (image_in self.old.images slot)) }
+        ensures short { OnOk result (vec_len into.new ≤ len) }
+        ensures reserved { vec_capacity into.old ≤ vec_capacity into.new }
+        ensures failed { result ≡ Err KeepFault.Failed → self.new ≡ record self.old { gets = raised self.old.gets 1; faults = raised self.old.faults 1 } }
+        ensures unfailed { result ≢ Err KeepFault.Failed → self.new ≡ record self.old { gets = raised self.old.gets 1 } }
+    {
+        let fails = is_listed(&self.failing, Op::Get, self.gets);
         self.gets = self.gets.saturating_add(1);
+        if fails {
+            self.faults = self.faults.saturating_add(1);
+            return Err(KeepFault::Failed);
+        }
         into.clear();
         let Some(image) = self.images.get(&slot) else {
             return Ok(());
@@ -136,54 +187,66 @@ impl Keeper for MemoryKeeper {
     }
 
     fn free(&mut self, slot: u32) -> Result<(), KeepFault>
-        // It takes no memory, so it never fails.
-        ensures frees_it { IsOk result }
-        ensures freed { self.new ≡ record self.old { images = finmap.remove self.old.images slot; frees = raised self.old.frees 1 } }
+        // It takes no memory.
+        ensures listed { (result ≡ Err KeepFault.Failed) ↔ IsListed self.old.failing Op.Free self.old.frees }
+        ensures no_memory { result ≢ Err KeepFault.Memory }
+        ensures ok { OnOk result (self.new ≡ record self.old { images = finmap.remove self.old.images slot; frees = raised self.old.frees 1 }) }
+        ensures failed { result ≡ Err KeepFault.Failed → self.new ≡ record self.old { frees = raised self.old.frees 1; faults = raised self.old.faults 1 } }
     {
+        let fails = is_listed(&self.failing, Op::Free, self.frees);
         self.frees = self.frees.saturating_add(1);
+        if fails {
+            self.faults = self.faults.saturating_add(1);
+            return Err(KeepFault::Failed);
+        }
         let _ = self.images.remove(&slot);
         Ok(())
     }
 }
 
+// Whether the call after so many of its kind is one of the list.
+fn is_listed(failing: &[(Op, u64)], op: Op, before: u64) -> bool
+    ensures { IsTrue result ↔ IsListed failing.now op before }
+{
+    failing.contains(&(op, before.saturating_add(1)))
+}
+
 #[cfg(test)]
 mod tests {
     use super::*;
+    use crate::keeper::calls::{frees, gives, puts};
     use std::test::Fail;
 
-    fn put_both<K: Keeper>(keeper: &mut K, first: &[u8], second: &[u8]) -> Result<(), KeepFault>
-        requires { K.slot_count keeper.old ≡ 2 }
-        ensures { K.slot_count keeper.new ≡ K.slot_count keeper.old }
-    {
-        keeper.put(0, first)?;
-        keeper.put(1, second)
+    #[test]
+    fn keeps_what_was_put_last_until_it_is_freed(rt: HostRuntime) {
+        let mut keeper = MemoryKeeper::new(rt.alloc(), 2);
+        let mut into = Vec::new(rt.alloc());
+        assert_eq!(rt; (keeper.slots(), keeper.filled()), (2, 0));
+        assert!(rt; puts(&mut keeper, 0, b"first"));
+        assert!(rt; puts(&mut keeper, 1, b"second"));
+        assert!(rt; puts(&mut keeper, 1, b"2nd"));
+        assert_eq!(rt; keeper.filled(), 2);
+        assert!(rt; gives(&mut keeper, 0, 9, b"first", &mut into));
+        assert!(rt; gives(&mut keeper, 1, 2, b"2n", &mut into));
+        assert!(rt; frees(&mut keeper, 0));
+        assert!(rt; gives(&mut keeper, 0, 9, b"", &mut into));
+        assert_eq!(rt; (keeper.filled(), keeper.faults()), (1, 0));
+        assert_eq!(rt; (keeper.puts(), keeper.gets(), keeper.frees()), (3, 3, 1));
     }
 
     #[test]
-    fn keeps_what_was_put_last_until_it_is_freed(rt: HostRuntime) -> Result<(), Fail> {
-        let mut keeper = MemoryKeeper::new(rt.alloc(), 2);
-        let mut image = Vec::new(rt.alloc());
-        assert_eq!(rt; (keeper.slots(), keeper.filled()), (2, 0));
-        put_both(&mut keeper, b"first", b"second")?;
-        keeper.put(1, b"2nd")?;
-        assert_eq!(rt; keeper.filled(), 2);
-        keeper.get(0, 9, &mut image)?;
-        assert_eq!(rt; image.as_slice(), b"first".as_slice());
-        keeper.get(1, 2, &mut image)?;
-        assert_eq!(rt; image.as_slice(), b"2n".as_slice());
-        keeper.free(0)?;
-        keeper.get(0, 9, &mut image)?;
-        assert!(rt; image.is_empty());
-        assert_eq!(rt; keeper.filled(), 1);
-        assert_eq!(rt;
-            (
-                keeper.puts(),
-                keeper.gets(),
-                keeper.frees(),
-                keeper.faults()
-            ),
-            (3, 3, 1, 0)
-        );
+    fn listed_calls_fail_and_do_nothing_else(rt: HostRuntime) -> Result<(), Fail> {
+        let listed = vec![in rt.alloc(); (Op::Put, 2u64), (Op::Get, 1), (Op::Free, 1)]?;
+        let mut keeper = MemoryKeeper::new(rt.alloc(), 2).failing(listed);
+        let mut into = Vec::from_slice(rt.alloc(), b"as before")?;
+        assert!(rt; puts(&mut keeper, 0, b"first"));
+        assert!(rt; !puts(&mut keeper, 0, b"second"));
+        assert!(rt; !gives(&mut keeper, 0, 9, b"first", &mut into));
+        assert_eq!(rt; into.as_slice(), b"as before".as_slice());
+        assert!(rt; !frees(&mut keeper, 0));
+        assert!(rt; gives(&mut keeper, 0, 9, b"first", &mut into));
+        assert!(rt; frees(&mut keeper, 0));
+        assert_eq!(rt; (keeper.filled(), keeper.faults()), (0, 3));
         Ok(())
     }
 }

@@ -55,7 +55,7 @@ impl<R: Print> Sink for StdoutSink<R> {
 }
 
 // Writes a whole piece, and flushes it. After a refusal a prefix of it was written.
-fn write_whole<W: Write>(out: &mut W, piece: &[u8]) -> Result<(), SinkFault>
+pub(crate) fn write_whole<W: Write>(out: &mut W, piece: &[u8]) -> Result<(), SinkFault>
     ensures ok { OnOk result (Appends (W.contents out.old) (W.contents out.new) piece.now) }
     ensures refused { OnErr result ((k : ℕ) × Appends (W.contents out.old) (W.contents out.new) (take k piece.now)) }
 {

@@ -1,0 +1,126 @@
+// A keeper of any kind.
+ghost use Rattle.std.specs.Prelude.{◌≡◌};
+
+use crate::file_keeper::FileKeeper;
+use crate::flip_keeper::FlipKeeper;
+use crate::keeper::{KeepFault, Keeper};
+use crate::memory_keeper::MemoryKeeper;
+use std::rt::Files;
+
+/// A keeper of any kind, so that the levels of a book may have keepers of different kinds. Its calls are its part's.
+#[derive(Drop)]
+pub enum AnyKeeper<R> {
+    Memory(MemoryKeeper),
+    Flip(FlipKeeper),
+    File(FileKeeper<R>),
+}
+
+impl<R: Files + AllocGlobal> AnyKeeper<R> {
+    /// How many faults its part counts.
+    pub fn faults(&self) -> u64
+        ensures { result ≡ ⟦<AnyKeeper<R> as Keeper>⟧.fault_count self.now }
+    {
+        match self {
+            AnyKeeper::Memory(keeper) => keeper.faults(),
+            AnyKeeper::Flip(keeper) => keeper.faults(),
+            AnyKeeper::File(keeper) => keeper.faults(),
+        }
+    }
+}
+
+impl<R: Files + AllocGlobal> Keeper for AnyKeeper<R> {
+    ghost use Rattle.keepers.specs.AnyKeeper.{told_of, slots_of, puts_of, gets_of, frees_of, faults_of, room_of};
+
+    ghost told = { told_of };
+
+    ghost slot_count = { slots_of };
+
+    ghost put_count = { puts_of };
+
+    ghost get_count = { gets_of };
+
+    ghost free_count = { frees_of };
+
+    ghost fault_count = { faults_of };
+
+    ghost room_bytes = { room_of };
+
+    fn slots(&self) -> u32 {
+        match self {
+            AnyKeeper::Memory(keeper) => keeper.slots(),
+            AnyKeeper::Flip(keeper) => keeper.slots(),
+            AnyKeeper::File(keeper) => keeper.slots(),
+        }
+    }
+
+    fn put(&mut self, slot: u32, image: &[u8]) -> Result<(), KeepFault> {
+        match self {
+            AnyKeeper::Memory(keeper) => keeper.put(slot, image),
+            AnyKeeper::Flip(keeper) => keeper.put(slot, image),
+            AnyKeeper::File(keeper) => keeper.put(slot, image),
+        }
+    }
+
+    fn get(&mut self, slot: u32, len: u32, into: &mut Vec<u8>) -> Result<(), KeepFault> {
+        match self {
+            AnyKeeper::Memory(keeper) => keeper.get(slot, len, into),
+            AnyKeeper::Flip(keeper) => keeper.get(slot, len, into),
+            AnyKeeper::File(keeper) => keeper.get(slot, len, into),
+        }
+    }
+
+    fn free(&mut self, slot: u32) -> Result<(), KeepFault> {
+        match self {
+            AnyKeeper::Memory(keeper) => keeper.free(slot),
+            AnyKeeper::Flip(keeper) => keeper.free(slot),
+            AnyKeeper::File(keeper) => keeper.free(slot),
+        }
+    }
+}
+
+#[cfg(test)]
+mod tests {
+    use super::*;
+    use crate::keeper::calls::{frees, gives, puts};
+    use crate::memory_keeper::Op;
+    use std::fs;
+    use std::test::Fail;
+
+    #[test]
+    fn memory_is_a_part(rt: HostRuntime) -> Result<(), Fail> {
+        let listed = vec![in rt.alloc(); (Op::Free, 1u64)]?;
+        let memory = MemoryKeeper::new(rt.alloc(), 1).failing(listed);
+        let mut keeper: AnyKeeper<HostRuntime> = AnyKeeper::Memory(memory);
+        let mut into = Vec::new(rt.alloc());
+        assert!(rt; puts(&mut keeper, 0, b"abcd"));
+        assert!(rt; gives(&mut keeper, 0, 9, b"abcd", &mut into));
+        assert!(rt; !frees(&mut keeper, 0), "free 1 is listed");
+        assert_eq!(rt; (keeper.slots(), keeper.faults()), (1, 1));
+        Ok(())
+    }
+
+    #[test]
+    fn a_wrong_bit_is_a_part(rt: HostRuntime) {
+        let flip = FlipKeeper::new(rt.alloc(), 1, 1, 0);
+        let mut keeper: AnyKeeper<HostRuntime> = AnyKeeper::Flip(flip);
+        let mut into = Vec::new(rt.alloc());
+        assert!(rt; puts(&mut keeper, 0, b"abcd"));
+        assert!(rt; gives(&mut keeper, 0, 9, b"`bcd", &mut into));
+        assert!(rt; frees(&mut keeper, 0));
+        assert_eq!(rt; (keeper.slots(), keeper.faults()), (1, 0));
+    }
+
+    #[test]
+    fn files_are_a_part(rt: HostRuntime) -> Result<(), Fail> {
+        fs::create_dir(&rt, "parts")?;
+        let mut into = Vec::from_slice(rt.alloc(), b"parts")?;
+        let file = FileKeeper::new(rt.clone()?, into.clone()?, 3, 1);
+        let mut keeper = AnyKeeper::File(file);
+        assert!(rt; puts(&mut keeper, 0, b"abcd"));
+        assert!(rt; gives(&mut keeper, 0, 9, b"abcd", &mut into));
+        assert!(rt; frees(&mut keeper, 0));
+        assert_eq!(rt; (keeper.slots(), keeper.faults()), (1, 0));
+        fs::remove_dir(&rt, "parts")?;
+        Ok(())
+    }
+}

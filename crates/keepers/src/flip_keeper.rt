@@ -1,0 +1,164 @@
+// A keeper in memory that gives one wrong bit.
+ghost use Rattle.std.specs.Prelude.{◌≡◌, ◌≢◌, ◌<◌, ◌≤◌, [], take, None, Ok, Err, OnOk, OnErr};
+ghost use Rattle.std.specs.Vec.{vec_len, vec_capacity};
+ghost use Rattle.std.specs.FinMap as finmap;
+ghost use Rattle.keepers.specs.Counts.{raised};
+ghost use Rattle.keepers.specs.FlipState.{flipped, given};
+ghost use Rattle.keepers.specs.Told.{image_in, SameButAt};
+
+use crate::keeper::{KeepFault, Keeper};
+use crate::memory_keeper::MemoryKeeper;
+use std::alloc::Global;
+use std::marker::Model;
+
+/// Keeps images in memory, and gives one wrong bit: one get gives one byte with its lowest bit changed. So it tells
+/// nothing of its content.
+#[derive(Drop)]
+pub struct FlipKeeper {
+    keeper: MemoryKeeper,
+    get: u64,
+    at: u32,
+}
+
+impl Model for FlipKeeper {
+    ghost use Rattle.std.specs.Prelude.{◌≡◌, []};
+    ghost use Rattle.keepers.specs.FlipState.{FlipState, flip_state_code};
+
+    ghost Value = { FlipState };
+
+    ghost coded = { flip_state_code };
+
+    ghost view = { λ k. record { keeper = k.keeper; get = k.get; at = k.at } };
+
+    // No call is listed to fail.
+    ghost invariant = { λ k. k.keeper.failing ≡ [] };
+}
+
+impl FlipKeeper {
+    /// Has empty slots, and takes no memory. The get with this number, counted from 1, gives the byte at `at` with its
+    /// lowest bit changed, and all bytes as they are where there is no such byte.
+    pub fn new(alloc: Global, slots: u32, get: u64, at: u32) -> Self
+        ensures { result ≡ record { keeper = record { images = finmap.empty; slots = slots; failing = []; puts = 0; gets = 0; frees = 0; faults = 0 }; get = get; at = at } }
+    {
+        Self {
+            keeper: MemoryKeeper::new(alloc, slots),
+            get,
+            at,
+        }
+    }
+
+    /// How often `put` was called, up to `u64::MAX`.
+    pub fn puts(&self) -> u64
+        ensures { result ≡ self.now.keeper.puts }
+    {
+        self.keeper.puts()
+    }
+
+    /// How often `get` was called, up to `u64::MAX`.
+    pub fn gets(&self) -> u64
+        ensures { result ≡ self.now.keeper.gets }
+    {
+        self.keeper.gets()
+    }
+
+    /// How often `free` was called, up to `u64::MAX`.
+    pub fn frees(&self) -> u64
+        ensures { result ≡ self.now.keeper.frees }
+    {
+        self.keeper.frees()
+    }
+
+    /// How often the storage failed, which it never does.
+    pub fn faults(&self) -> u64
+        ensures { result ≡ self.now.keeper.faults }
+    {
+        self.keeper.faults()
+    }
+}
+
+impl Keeper for FlipKeeper {
+    ghost told = { λ _. None };
+
+    ghost slot_count = { λ k. k.keeper.slots };
+
+    ghost put_count = { λ k. k.keeper.puts };
+
+    ghost get_count = { λ k. k.keeper.gets };
+
+    ghost free_count = { λ k. k.keeper.frees };
+
+    ghost fault_count = { λ k. k.keeper.faults };
+
+    ghost room_bytes = { λ _. None };
+
+    fn slots(&self) -> u32 {
+        self.keeper.slots()
+    }
+
+    fn put(&mut self, slot: u32, image: &[u8]) -> Result<(), KeepFault>
+        requires { slot < self.old.keeper.slots }
+        ensures ok { OnOk result (self.new ≡ record self.old { keeper = record self.old.keeper { images = finmap.insert self.old.keeper.images slot image.now; puts = raised self.old.keeper.puts 1 } }) }
+        ensures refused { OnErr result (self.new ≡ record self.old { keeper = record self.old.keeper { images = self.new.keeper.images; puts = raised self.old.keeper.puts 1 } }) }
+        ensures others { SameButAt slot self.old.keeper.images self.new.keeper.images }
+        ensures quiet { result ≢ Err KeepFault.Failed }
+    {
+        self.keeper.put(slot, image)
+    }
+
+    fn get(&mut self, slot: u32, len: u32, into: &mut Vec<u8>) -> Result<(), KeepFault>
+        ensures ok { OnOk result (into.new.items ≡ given self.old (take len (image_in self.old.keeper.images slot))) }
+        ensures short { OnOk result (vec_len into.new ≤ len) }
+        ensures reserved { vec_capacity into.old ≤ vec_capacity into.new }
+        ensures after { self.new ≡ record self.old { keeper = record self.old.keeper { gets = raised self.old.keeper.gets 1 } } }
+        ensures quiet { result ≢ Err KeepFault.Failed }
+    {
+        self.keeper.get(slot, len, into)?;
+        if self.keeper.gets() == self.get {
+            flip(into.as_mut_slice(), self.at as usize);
+        }
+        Ok(())
+    }
+
+    fn free(&mut self, slot: u32) -> Result<(), KeepFault>
+        ensures ok { result ≡ Ok tt }
+        ensures freed { self.new ≡ record self.old { keeper = record self.old.keeper { images = finmap.remove self.old.keeper.images slot; frees = raised self.old.keeper.frees 1 } } }
+    {
+        self.keeper.free(slot)
+    }
+}
+
+// Changes the lowest bit of a byte, where there is one.
+fn flip(bytes: &mut [u8], at: usize)
+    ensures { bytes.new ≡ flipped at bytes.old }
+{
+    if at < bytes.len() {
+        bytes[at] ^= 1;
+    }
+}
+
+#[cfg(test)]
+mod tests {
+    use super::*;
+    use crate::keeper::calls::{frees, gives, puts};
+
+    #[test]
+    fn one_get_gives_one_wrong_bit(rt: HostRuntime) {
+        let mut into = Vec::new(rt.alloc());
+        let mut keeper = FlipKeeper::new(rt.alloc(), 1, 2, 3);
+        assert!(rt; puts(&mut keeper, 0, b"abcd"));
+        assert!(rt; gives(&mut keeper, 0, 4, b"abcd", &mut into));
+        assert!(rt; gives(&mut keeper, 0, 4, b"abce", &mut into));
+        assert!(rt; gives(&mut keeper, 0, 4, b"abcd", &mut into));
+        assert!(rt; frees(&mut keeper, 0));
+        assert_eq!(rt; (keeper.puts(), keeper.gets(), keeper.frees()), (1, 3, 1));
+        assert_eq!(rt; keeper.faults(), 0);
+    }
+
+    #[test]
+    fn there_is_no_wrong_bit_past_the_end(rt: HostRuntime) {
+        let mut into = Vec::new(rt.alloc());
+        let mut keeper = FlipKeeper::new(rt.alloc(), 1, 1, 4);
+        assert!(rt; puts(&mut keeper, 0, b"abcd"));
+        assert!(rt; gives(&mut keeper, 0, 4, b"abcd", &mut into));
+    }
+}
