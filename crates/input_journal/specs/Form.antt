@@ -1,8 +1,8 @@
 -- The bytes of a journal, in our own form: four letters, a version, the number of items, and the items, each behind its
 -- length. Numbers are of four bytes, the lowest first.
-use Rattle.std.specs.Prelude.{◌≡◌, ◌≤◌, ℕ, List, [], ◌∷◌, ◌++◌, length}
+use Rattle.std.specs.Prelude.{◌≡◌, ◌≤◌, ◌<◌, ℕ, List, [], ◌∷◌, ◌++◌, length}
 use Rattle.std.specs.Int.{w32, to_le_bytes}
-use Rattle.std.specs.List.{flat_map, AllByRecursion}
+use Rattle.std.specs.List.{All, flat_map, AllByRecursion}
 
 -- the letters RVJL
 abbrev pub letters : List ℕ
@@ -33,3 +33,9 @@ pub record IsJournal (bytes : List ℕ) (items : List (List ℕ)) : Type 0 where
   pub few : length items ≤ 65536
   pub short : AllByRecursion IsShort items
   pub spelled : bytes ≡ journal_bytes items
+
+-- recorded input: at most 65,536 items, each of at most 1,048,576 bytes
+pub record IsRecorded (items : List (List ℕ)) : Type 0 where
+  pub few : length items ≤ 65536
+  pub short : All IsShort items
+  pub bytes : All (λ item. All (λ b. b < 256) item) items

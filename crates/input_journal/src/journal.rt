@@ -1,6 +1,7 @@
 // A journal of recorded input.
-ghost use Rattle.std.specs.Prelude.{◌≡◌, ◌<◌, ◌≤◌, ◌^◌, [], length, slice_get, Some};
-ghost use Rattle.std.specs.Vec.{vec_len};
+ghost use Rattle.std.specs.Prelude.{◌≡◌, ◌<◌, [], length, slice_get, Some};
+ghost use Rattle.std.specs.List.{All};
+ghost use Rattle.input_journal.specs.Form.{IsShort, IsRecorded};
 
 use std::alloc::Global;
 use std::marker::Model;
@@ -45,11 +46,24 @@ impl Journal {
     /// The bytes of the item with this index, counted from 0.
     pub fn item(&self, index: u32) -> &[u8]
         requires { index < length self.now }
-        ensures { slice_get self.now index ≡ Some result.now }
+        ensures value { slice_get self.now index ≡ Some result.now }
+        ensures short { IsShort result.now }
     {
         self.items[index as usize].as_slice()
     }
+
+    /// Does nothing. Its contract is a law: the items are recorded input.
+    pub fn is_recorded(&self)
+        ensures { IsRecorded self.now }
+    {
+        are_bytes(&self.items);
+    }
 }
+
+// Does nothing. Bytes are below 256.
+fn are_bytes(items: &[Vec<u8>])
+    ensures { All (λ item. All (λ b. b < 256) item.items) items.now }
+{}
 
 #[cfg(test)]
 mod tests {

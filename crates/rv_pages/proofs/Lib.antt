@@ -10,3 +10,4 @@ pub mod Written
 pub mod Storing
 pub mod Changed
 pub mod Whole
+pub mod Stores

@@ -1,7 +1,8 @@
 -- What so many bytes from an address on are: of any memory, and of kept pages.
-use Rattle.std.proofs.Common.{◌≡◌, ℕ, zero, suc, ◌+◌, ◌*◌, ◌/◌, ◌%◌, ◌^◌, ◌<◌, ◌≤◌, List, [], ◌∷◌, ◌++◌, length, get_or, refl, sym, ap, subst, ◌∙◌, arith, Option, Some, None, IsSome}
+use Rattle.std.proofs.Common.{◌≡◌, ℕ, zero, suc, ◌+◌, ◌-◌, ◌*◌, ◌/◌, ◌%◌, ◌^◌, ◌<◌, ◌≤◌, inl, inr, List, [], ◌∷◌, ◌++◌, length, get_or, refl, sym, ap, subst, ◌∙◌, arith, Option, Some, None, IsSome}
+use Rattle.std.proofs.lemmas.Bool.{cases_lt}
 use Rattle.std.specs.FinMap.{get}
-use Rattle.rv_pages.specs.Memory.{Memory, byte_at, bytes_at, followed_by, little_endian, number_at, word_at, IsMapped}
+use Rattle.rv_pages.specs.Memory.{Memory, wrapped, byte_at, bytes_at, followed_by, little_endian, number_at, word_at, IsMapped}
 use Rattle.std.specs.Option.{option_map}
 use Rattle.rv_pages.specs.Kept.{memory_kept, AreKept}
 use Rattle.rv_pages.proofs.Ordered.{get_kept, get_not_kept}
@@ -76,7 +77,7 @@ some_followed None ys p q = p
 some_followed (Some b) None p q = q
 some_followed (Some b) (Some bs) p q = refl
 
-mapped_some : (m : Memory) (n a : ℕ) → IsMapped m a n → IsSome (bytes_at m a n)
+pub mapped_some : (m : Memory) (n a : ℕ) → IsMapped m a n → IsSome (bytes_at m a n)
 mapped_some m zero a h = refl
 mapped_some m (suc n) a h =
     let here : a + 0 ≡ a = omega arith in
@@ -101,6 +102,19 @@ pub missing_byte : (o : Option ℕ) → o ≡ None → IsSome o → ⊥
 missing_byte None e h = cc
 missing_byte (Some b) e h = cc
 
+pub some_mapped : (m : Memory) (n a : ℕ) → IsSome (bytes_at m a n) → IsMapped m a n
+some_mapped m n a h k l = some_or_missing (byte_at m (a + k)) (λ none. none_some (bytes_at m a n) (bytes_at_missing m n k a l none) h)
+
+-- more bytes behind mapped ones, from an address modulo 2 ^ 32 on
+pub mapped_more : (m : Memory) (a n p : ℕ) → IsMapped m a n → IsMapped m ((a + n) % 2 ^ 32) p → IsMapped m a (n + p)
+mapped_more m a n p h g k l =
+    elim (cases_lt k n) [
+      | inl before ↦ h k before
+      | inr behind ↦
+          let same : wrapped ((a + n) % 2 ^ 32 + (k - n)) ≡ wrapped (a + k) = omega arith in
+          subst (λ q. IsSome (get m q)) same (g (k - n) (omega arith))
+    ]
+
 -- an address that was taken modulo 2 ^ 32 has the same byte
 pub byte_at_wrapped : (m : Memory) (at : ℕ) → byte_at m at ≡ byte_at m (at % 2 ^ 32)
 byte_at_wrapped m at = ap (get m) (let e : at % 2 ^ 32 ≡ at % 2 ^ 32 % 2 ^ 32 = omega arith in e)
@@ -116,6 +130,11 @@ module _ (numbers bytes : List ℕ) (h : AreKept numbers bytes) (i at : ℕ) (l 
       let second : get_or bytes (start + 1 + 1) 0 ≡ get_or bytes (start + 2) 0 = ap (λ k. get_or bytes k 0) (let e : start + 1 + 1 ≡ start + 2 = omega arith in e) in
       let third : get_or bytes (start + 1 + 1 + 1) 0 ≡ get_or bytes (start + 3) 0 = ap (λ k. get_or bytes k 0) (let e : start + 1 + 1 + 1 ≡ start + 3 = omega arith in e) in
       ap (option_map little_endian) (bytes_kept numbers bytes h i l 4 (at % 4096) at start (omega arith) refl (omega arith)) ∙ ap Some (omega (arith, second, third))
+
+-- bytes that lie in one page that is mapped
+pub page_mapped : (numbers bytes : List ℕ) → AreKept numbers bytes → (i : ℕ) → i < length numbers → (at n : ℕ) → get_or numbers i 0 ≡ at / 4096 → at % 4096 + n ≤ 4096 → IsMapped (memory_kept numbers bytes) at n
+page_mapped numbers bytes h i l at n is fits =
+    bytes_mapped (memory_kept numbers bytes) n at _ (bytes_kept numbers bytes h i l n (at % 4096) at (i * 4096 + at % 4096) (omega arith) refl fits)
 
 -- numbers of which the first byte isn't mapped
 pub number_not_kept : (numbers bytes : List ℕ) → AreKept numbers bytes → (at n : ℕ) → at < 2 ^ 32 → 0 < n → ((k : ℕ) → k < length numbers → get_or numbers k 0 ≡ at / 4096 → ⊥) → number_at (memory_kept numbers bytes) at n ≡ None

@@ -94,7 +94,7 @@ some_cond : (t : Bool) (b : ℕ) (o : Option ℕ) → IsSome o → IsSome (cond 
 some_cond true b o h = refl
 some_cond false b o h = h
 
-some_inserted : (m : Memory) (k b q : ℕ) → IsSome (get m q) → IsSome (get (insert m k b) q)
+pub some_inserted : (m : Memory) (k b q : ℕ) → IsSome (get m q) → IsSome (get (insert m k b) q)
 some_inserted m k b q h = subst (λ (o : Option ℕ). IsSome o) (sym (get-insert nat_cmp_total m k b q)) (some_cond (eq_by_cmp nat_cmp q k) b (get m q) h)
 
 pub some_with_bytes : (m : Memory) (a : ℕ) (xs : List ℕ) (q : ℕ) → IsSome (get m q) → IsSome (get (with_bytes m a xs) q)
@@ -107,3 +107,15 @@ with_bytes-push m a [] x = let here : a ≡ a + 0 = omega arith in ap (λ k. ins
 with_bytes-push m a (y ∷ ys) x =
     let next : a + 1 + length ys ≡ a + suc (length ys) = omega arith in
     with_bytes-push (insert m (wrapped a) y) (a + 1) ys x ∙ ap (λ k. insert (with_bytes m a (y ∷ ys)) (wrapped k) x) next
+
+-- bytes behind bytes
+pub with_bytes-append : (m : Memory) (a : ℕ) (xs ys : List ℕ) → with_bytes (with_bytes m a xs) (a + length xs) ys ≡ with_bytes m a (xs ++ ys)
+with_bytes-append m a [] ys = let here : a + 0 ≡ a = omega arith in ap (λ k. with_bytes m k ys) here
+with_bytes-append m a (x ∷ xs) ys =
+    let next : a + suc (length xs) ≡ a + 1 + length xs = omega arith in
+    ap (λ k. with_bytes (with_bytes m a (x ∷ xs)) k ys) next ∙ with_bytes-append (insert m (wrapped a) x) (a + 1) xs ys
+
+-- an address that was taken modulo 2 ^ 32 is the same place
+pub with_bytes_alike : (m : Memory) (a b : ℕ) (xs : List ℕ) → wrapped a ≡ wrapped b → with_bytes m a xs ≡ with_bytes m b xs
+with_bytes_alike m a b [] e = refl
+with_bytes_alike m a b (x ∷ xs) e = with_bytes_alike (insert m (wrapped a) x) (a + 1) (b + 1) xs (omega arith) ∙ ap (λ k. with_bytes (insert m k x) (b + 1) xs) e

@@ -1,5 +1,5 @@
 // Mapped pages.
-ghost use Rattle.std.specs.Prelude.{◌≡◌, ◌↔◌, ℕ, ◌+◌, ◌*◌, ◌/◌, ◌%◌, ◌^◌, ◌<◌, ◌≤◌, ◌==◌, length, replicate, slice_index, slice_get, IfOk, IfSome, IsTrue, IsFalse, Some, None, unwrap_or, if◌then◌else◌};
+ghost use Rattle.std.specs.Prelude.{◌≡◌, ◌↔◌, ℕ, ◌+◌, ◌*◌, ◌/◌, ◌%◌, ◌^◌, ◌<◌, ◌≤◌, ◌==◌, length, replicate, slice_index, slice_get, IfOk, IfSome, IsTrue, IsFalse, Some, None, is_some, unwrap_or, if◌then◌else◌};
 ghost use Rattle.std.specs.List.{All};
 ghost use Rattle.std.specs.List.Sorted.{IsStrictlyIncreasing};
 ghost use Rattle.std.specs.FinMap as finmap;
@@ -196,7 +196,46 @@ impl Pages {
         self.store(at, &value.to_le_bytes())
     }
 
-    // Writes bytes, if all of them are mapped.
+    /// Whether all of so many bytes from an address on are mapped. It looks at each page that they lie in once. Behind the
+    /// last address the next is 0.
+    pub fn are_mapped(&self, at: u32, count: u32) -> bool
+        ensures { result ≡ is_some (bytes_at self.now at count) }
+    {
+        let mut done = 0;
+        while done < count {
+            let place = at.wrapping_add(done);
+            if self.tables.place_of(place / SIZE).is_none() {
+                return false;
+            }
+            done += (SIZE - place % SIZE).min(count - done);
+        }
+        true
+    }
+
+    /// Writes bytes, if all of them are mapped, and answers whether it did. Those that lie in one page are copied at once.
+    /// Behind the last address the next is 0.
+    #[inline(never)]
+    pub fn store_bytes(&mut self, at: u32, bytes: &[u8]) -> bool
+        requires { length bytes.now < 2 ^ 32 }
+        ensures stored { IsTrue result ↔ IsMapped self.old at (length bytes.now) }
+        ensures written { IsTrue result → self.new ≡ with_bytes self.old at bytes.now }
+        ensures refused { IsFalse result → self.new ≡ self.old }
+        ensures pages { page_numbers self.new ≡ page_numbers self.old }
+    {
+        if !self.are_mapped(at, bytes.len() as u32) {
+            return false;
+        }
+        let mut done = 0;
+        while done < bytes.len() {
+            let place = at.wrapping_add(done as u32);
+            let part = (PAGE - (place % SIZE) as usize).min(bytes.len() - done);
+            self.store_within(place, &bytes[done..done + part]);
+            done += part;
+        }
+        true
+    }
+
+    // Writes the few bytes of a number, if all of them are mapped.
     #[inline(always)]
     fn store(&mut self, at: u32, bytes: &[u8]) -> bool
         requires some { 0 < length bytes.now }
@@ -207,7 +246,7 @@ impl Pages {
         ensures pages { page_numbers self.new ≡ page_numbers self.old }
     {
         if (at % SIZE) as usize + bytes.len() > PAGE {
-            return self.store_split(at, bytes);
+            return self.store_bytes(at, bytes);
         }
         self.store_within(at, bytes)
     }
@@ -228,25 +267,6 @@ impl Pages {
         self.written.mark(index);
         let start = index * PAGE + (at % SIZE) as usize;
         self.bytes[start..start + bytes.len()].copy_from_slice(bytes);
-        true
-    }
-
-    // Writes bytes that lie in two pages, one by one, once all are found to be mapped.
-    #[inline(never)]
-    fn store_split(&mut self, at: u32, bytes: &[u8]) -> bool
-        requires few { length bytes.now ≤ 4 }
-        ensures stored { IsTrue result ↔ IsMapped self.old at (length bytes.now) }
-        ensures written { IsTrue result → self.new ≡ with_bytes self.old at bytes.now }
-        ensures refused { IsFalse result → self.new ≡ self.old }
-        ensures pages { page_numbers self.new ≡ page_numbers self.old }
-    {
-        let mut old = [0; 4];
-        if !self.load_bytes(at, &mut old[..bytes.len()]) {
-            return false;
-        }
-        for (k, byte) in bytes.iter().enumerate() {
-            self.store_within(at.wrapping_add(k as u32), &[*byte]);
-        }
         true
     }
 

@@ -254,3 +254,47 @@ fn memories_with_different_pages_written_are_copied_to_each_other(
     );
     Ok(())
 }
+
+#[test]
+fn bytes_are_mapped_where_all_of_them_are(rt: HostRuntime) -> Result<(), Fail> {
+    let pages = three_pages(rt.alloc())?;
+    let cases: [(u32, u32, bool); 12] = [
+        (0x1000, 0x2000, true),
+        (0x1000, 0x2001, false),
+        (0xFFF, 0, true),
+        (0xFFF, 1, false),
+        (0xFFF, 2, false),
+        (0x1FFF, 2, true),
+        (0x2FFF, 1, true),
+        (0x2FFF, 2, false),
+        (0xFFFFF000, 0x1000, true),
+        (0xFFFFF000, 0x1001, false),
+        (0xFFFFFFFF, 0xFFFFFFFF, false),
+        (0x1000, 0xFFFFFFFF, false),
+    ];
+    for (at, count, mapped) in cases {
+        assert_eq!(rt; pages.are_mapped(at, count), mapped, "{count} at {at:x}");
+    }
+    Ok(())
+}
+
+#[test]
+fn many_bytes_are_stored_over_pages_or_not_at_all(rt: HostRuntime) -> Result<(), Fail> {
+    let mut pages = three_pages(rt.alloc())?;
+    let mut bytes = [7; 4100];
+    bytes[0] = 1;
+    bytes[4098] = 2;
+    bytes[4099] = 3;
+    assert!(rt; !pages.store_bytes(0x1FFE, &bytes));
+    assert_eq!(rt; pages.next_touched(0), None);
+    assert!(rt; pages.store_bytes(0x1FFC, &bytes));
+    check_bytes(&rt, &pages, 0x1FFA, &[0, 0, 1, 7, 7, 7, 7]);
+    check_bytes(&rt, &pages, 0x2FFC, &[7, 7, 2, 3]);
+    assert!(rt; pages.store_bytes(0xFFF, &[]));
+    let numbers = [0, 0xFFFFF];
+    let mut round = Pages::map(rt.alloc(), &numbers)?;
+    assert!(rt; round.store_bytes(0xFFFFFFFD, &[1, 2, 3, 4, 5]));
+    check_bytes(&rt, &round, 0xFFFFFFFC, &[0, 1, 2, 3, 4, 5, 0]);
+    assert!(rt; round.are_mapped(0xFFFFF000, 0x2000));
+    Ok(())
+}
