@@ -1,0 +1,44 @@
+// Repeats, advanced steps and the split of a stretch.
+ghost use Rattle.std.specs.Prelude.{◌≡◌, ◌≤◌};
+ghost use Rattle.binomials.specs.Advances.{IsRepeats, repeats, least_advances, split};
+ghost use Rattle.binomials.specs.Laws.{IsSplit};
+
+use crate::climb::climb_to;
+
+/// How often a step of a stretch of `l` steps is advanced at most, where it is reversed with `c` slots: the number r with
+/// β(c, r − 1) < l ≤ β(c, r). It takes no memory.
+pub fn repeats(l: u32, c: u32) -> u32
+    requires some { 1 ≤ l }
+    requires short { l ≤ 1000000 }
+    requires slots { 1 ≤ c }
+    ensures value { result ≡ repeats l c }
+    ensures between { IsRepeats l c result }
+{
+    climb_to(l, c).repeats as u32
+}
+
+/// How many steps are advanced without tape to reverse a stretch of `l` steps with `c` slots: t(l, c), which is
+/// r · l − β(c + 1, r − 1). It takes no memory.
+pub fn least_advances(l: u32, c: u32) -> u64
+    requires some { 1 ≤ l }
+    requires short { l ≤ 1000000 }
+    requires slots { 1 ≤ c }
+    ensures { result ≡ least_advances l c }
+{
+    let climb = climb_to(l, c);
+    climb.repeats * l as u64 - climb.below
+}
+
+/// How many steps from its start a stretch of `l` steps is split: max(1, β(c, r − 2), l − β(c − 1, r)). It takes no memory.
+pub fn split(l: u32, c: u32) -> u32
+    requires some { 2 ≤ l }
+    requires short { l ≤ 1000000 }
+    requires slots { 1 ≤ c }
+    ensures value { result ≡ split l c }
+    ensures within { IsSplit l c result }
+{
+    let climb = climb_to(l, c);
+    let behind = climb.reached - climb.before;
+    let least = (l as u64).saturating_sub(behind).max(1);
+    climb.earlier.max(least) as u32
+}
