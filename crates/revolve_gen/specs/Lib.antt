@@ -1,0 +1,5 @@
+pub mod Places
+pub mod Written
+pub mod Plans
+pub mod Laws
+pub mod Owed

@@ -1,0 +1,57 @@
+-- What is still to be written, by the phase of the current stretch and the stack of held stretches. The view of a stream is
+-- this list.
+use Rattle.std.specs.Prelude.{ℕ, suc, ◌+◌, ◌-◌, ◌<◌, ◌≤◌, false, List, [], ◌∷◌, ◌++◌, length}
+use Rattle.plan_types.specs.declared.action.Keep.TheVariants.{Nothing}
+use Rattle.plan_types.specs.declared.action.Action.{Action}
+use Rattle.plan_types.specs.declared.action.Action.TheVariants.{Forward, Reverse, EndForward, EndReverse}
+use Rattle.binomials.specs.Laws.{IsStretch}
+use Rattle.revolve_gen.specs.declared.stretch.Stretch.{Stretch}
+use Rattle.revolve_gen.specs.declared.stretch.Phase.{Phase}
+use Rattle.revolve_gen.specs.declared.stretch.Phase.TheVariants.{Empty, Fresh, Ahead, Last, Taped, Back, Ended}
+use Rattle.revolve_gen.specs.Written.{fresh, held}
+
+-- what the held stretches owe, the newest first, which stands last; p places lie below them
+abbrev pub owed_held : (ℕ → ℕ) → ℕ → ℕ → List Stretch → List Action → List Action
+owed_held level room p [] rest = rest
+owed_held level room p (s ∷ stack) rest = owed_held level room (suc p) stack (held s.steps level s.start s.steps (room - p) p ++ rest)
+
+-- what is owed before `rest`, which the held stretches owe, where p images are held
+abbrev pub owed_by : (ℕ → ℕ) → ℕ → ℕ → Phase → List Action → List Action
+owed_by level room p Empty rest = EndForward ∷ rest
+owed_by level room p (Fresh start steps first) rest = fresh steps level first start steps (room - p) p ++ rest
+owed_by level room p (Ahead start split end) rest = Forward start split Nothing ∷ (fresh (end - split) level false split (end - split) (room - p) p ++ rest)
+owed_by level room p (Last start) rest = EndForward ∷ Reverse (start + 1) start ∷ rest
+owed_by level room p (Taped start) rest = Reverse (start + 1) start ∷ rest
+owed_by level room p Back rest = rest
+owed_by level room p Ended rest = []
+
+-- all that is owed
+abbrev pub owed : (ℕ → ℕ) → ℕ → Phase → List Stretch → List Action
+owed level room phase stack = owed_by level room (length stack) phase (owed_held level room 0 stack (EndReverse ∷ []))
+
+-- a stretch that can be reversed with so many slots, below the greatest number of steps
+pub record IsWithin (start steps slots : ℕ) : Type 0 where
+  pub stretch : IsStretch steps slots
+  pub within : start + steps ≤ 1000000
+
+-- the held stretches can be reversed with the slots from their places on
+abbrev pub AreStretches : ℕ → ℕ → List Stretch → Type 0
+AreStretches room p [] = Unit {0}
+AreStretches room p (s ∷ stack) = IsWithin s.start s.steps (room - p) × AreStretches room (suc p) stack
+
+-- the phase stands so, where p images are held
+abbrev pub IsPhase : ℕ → ℕ → Phase → Type 0
+IsPhase room p Empty = Unit {0}
+IsPhase room p (Fresh start steps first) = IsWithin start steps (room - p)
+IsPhase room p (Ahead start split end) = (start < split) × (split < end) × IsWithin split (end - split) (room - p)
+IsPhase room p (Last start) = start < 1000000
+IsPhase room p (Taped start) = start < 1000000
+IsPhase room p Back = Unit {0}
+IsPhase room p Ended = Unit {0}
+
+-- there is a place for each held stretch, and each stretch can be reversed with the slots that are left for it
+pub record IsOwing (room : ℕ) (phase : Phase) (stack : List Stretch) : Type 0 where
+  pub few : length stack ≤ room
+  pub small : room ≤ 1000000
+  pub stretches : AreStretches room 0 stack
+  pub next : IsPhase room (length stack) phase

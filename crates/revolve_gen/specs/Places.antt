@@ -1,0 +1,25 @@
+-- On which level of a book the image at each place of a stack stands. Places are counted from 0.
+use Rattle.std.specs.Prelude.{ℕ, zero, suc, ◌+◌, ◌-◌, ◌<◌, ◌==◌, cond, nat_lt, List, [], ◌∷◌, length, slice_index_or}
+use Rattle.level_book.specs.declared.book.Slots.{Slots}
+use Rattle.level_book.specs.declared.book.Slots.TheVariants.{Count, Unlimited}
+
+-- the first level whose slots, together with those of the levels before it, are more than the place
+abbrev pub level_at : List Slots → ℕ → ℕ
+level_at [] p = 0
+level_at (Count s ∷ slots) p = cond (nat_lt p s) 0 (suc (level_at slots (p - s)))
+level_at (Unlimited ∷ slots) p = 0
+
+-- how many of the first p places stand on level k, where `level` says on which level each place stands
+abbrev pub places_on : (ℕ → ℕ) → ℕ → ℕ → ℕ
+places_on level k zero = 0
+places_on level k (suc p) = places_on level k p + cond (level p == k) 1 0
+
+-- a level has more slots than so many
+abbrev pub HasMore : Slots → ℕ → Type 0
+HasMore (Count slots) n = n < slots
+HasMore Unlimited n = Unit {0}
+
+-- each of the first `room` places stands on a level of the book, which has a slot for it beside those of the places before
+pub record IsRoomy (slots : List Slots) (level : ℕ → ℕ) (room : ℕ) : Type 0 where
+  pub known : (p : ℕ) → p < room → level p < length slots
+  pub more : (p : ℕ) → p < room → HasMore (slice_index_or slots (level p) (Count 0)) (places_on level (level p) p)

@@ -1,0 +1,15 @@
+// Why there is no list.
+
+use thiserror::Error;
+
+/// Why a generator gives no list.
+#[derive(Clone, Copy, Debug, PartialEq, Eq, Error)]
+pub enum GenFault {
+    /// The book has no plan for so many steps, by the rule with this number. Rule 1: there are two steps or more, and no
+    /// slot.
+    #[error("no plan, by rule {0}")]
+    NoPlan(u8),
+    /// There was no memory.
+    #[error("out of memory")]
+    Memory,
+}

@@ -1,0 +1,31 @@
+// Laws over the written lists. Each function does nothing; its contract is the law.
+ghost use Rattle.std.specs.Prelude.{ℕ, List};
+ghost use Rattle.level_book.specs.declared.book.Slots.{Slots};
+ghost use Rattle.level_book.specs.BookCosts.{BookCosts};
+ghost use Rattle.revolve_gen.specs.Laws.{WrittenByRules, RevolveIsValid, BookIsRoomy, RevolveIsCounted, BookListIsRight};
+
+/// The list is written by the two rules.
+pub fn revolve_is_by_the_rules()
+    ensures { (l c : ℕ) → WrittenByRules l c }
+{}
+
+/// The list is valid, on whichever levels its places stand.
+pub fn revolve_is_valid()
+    ensures { (steps : ℕ) (slots : List Slots) → RevolveIsValid steps slots }
+{}
+
+/// The places of a book's slots in their order are as many as the book has room for.
+pub fn books_are_roomy()
+    ensures { (steps : ℕ) (book : BookCosts) → BookIsRoomy steps book }
+{}
+
+/// The list has four actions for each step, and N + t(N, c) forward steps.
+pub fn revolve_is_counted()
+    ensures { (level : ℕ → ℕ) (steps c : ℕ) → RevolveIsCounted level steps c }
+{}
+
+/// For every book that has a slot where there are two steps or more, the list is valid, and has so many actions and forward
+/// steps.
+pub fn book_lists_are_right()
+    ensures { (steps : ℕ) (book : BookCosts) → BookListIsRight steps book }
+{}

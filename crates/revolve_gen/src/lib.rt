@@ -1,0 +1,19 @@
+//! The lists of Revolve, the optimal schedule of Griewank and Walther, one action at a time. It stands on the actions, the
+//! book and the binomial numbers; every plan over few slots stands on it. A stream is seen as the list of the actions that
+//! are still to come, and keeps only a stack of held stretches. `specs/Written.antt` has the two rules by which a list is
+//! written, `specs/Places.antt` the levels on which its images stand, `specs/Plans.antt` where there is no list, and
+//! `specs/Laws.antt` that it is valid and how many steps it takes.
+#![tactic(auto)]
+
+mod fault;
+pub mod laws;
+mod phases;
+mod places;
+mod stream;
+mod stretch;
+#[cfg(test)]
+mod tests;
+
+pub use crate::fault::GenFault;
+pub use crate::stream::{Revolve, revolve_list};
+pub use crate::stretch::Stretch;

@@ -1,0 +1,60 @@
+// The levels of a book's slots, in their order.
+ghost use Rattle.std.specs.Prelude.{◌≡◌};
+ghost use Rattle.level_book.specs.BookCosts.{slots_of};
+ghost use Rattle.revolve_gen.specs.Places.{level_at};
+
+use level_book::{Book, Slots};
+use std::marker::Model;
+
+// The slots of each level.
+#[derive(Drop)]
+pub(crate) struct Places {
+    slots: [Slots; 4],
+    count: u8,
+}
+
+impl Model for Places {
+    ghost use Rattle.std.specs.Prelude.{◌≡◌, ◌≤◌, List, length, take};
+    ghost use Rattle.level_book.specs.declared.book.Slots.{Slots};
+
+    ghost Value = { List Slots };
+
+    ghost view = { λ a. take a.count a.slots };
+
+    ghost invariant = { λ a. (a.count ≤ 4) × (length a.slots ≡ 4) };
+}
+
+impl Places {
+    // The slots of a book.
+    pub(crate) fn of(book: &Book) -> Places
+        ensures { result ≡ slots_of book.now }
+    {
+        let mut slots = [Slots::Count(0); 4];
+        let count = book.levels();
+        for k in 0..count {
+            slots[k as usize] = book.level(k).slots;
+        }
+        Places { slots, count }
+    }
+
+    // The level on which a place of the stack stands.
+    pub(crate) fn level(&self, place: u32) -> u8
+        ensures { result ≡ level_at self.now place }
+    {
+        let mut rest = place;
+        let mut k = 0;
+        while k < self.count {
+            match self.slots[k as usize] {
+                Slots::Count(slots) => {
+                    if rest < slots {
+                        return k;
+                    }
+                    rest -= slots;
+                }
+                Slots::Unlimited => return k,
+            }
+            k += 1;
+        }
+        k
+    }
+}
