@@ -1,4 +1,4 @@
-use Rattle.std.proofs.Common.{◌≡◌, ℕ, ◌-◌, ◌≤◌, ◌∙◌, ap, subst, length, arith}
+use Rattle.std.proofs.Common.{◌≡◌, ℕ, ◌-◌, ◌∙◌, ap, subst, length, arith}
 use Rattle.binomials.specs.Laws.{IsStretch}
 use Rattle.revolve_gen.specs.Places.{level_at}
 use Rattle.revolve_gen.proofs.Owing.{held_one_owed, held_more_owed, held_taken, held_owing}

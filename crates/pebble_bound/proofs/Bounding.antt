@@ -1,0 +1,42 @@
+-- The laws over all valid lists.
+use Rattle.std.proofs.Common.{◌≡◌, ℕ, zero, suc, ◌+◌, ◌-◌, ◌*◌, ◌≤◌, List, refl, ◌∙◌, ap, arith}
+use Rattle.plan_types.specs.declared.action.Action.{Action}
+use Rattle.level_book.specs.BookCosts.{BookCosts, slots_of, total_room}
+use Rattle.level_book.specs.CostFold.{forward}
+use Rattle.binomials.specs.Binomials.{beta_before}
+use Rattle.binomials.specs.Advances.{repeats, least_advances}
+use Rattle.binomials.proofs.Counting.{beta_one, beta_before_slots}
+use Rattle.pebble_bound.specs.Crossings.{crossings}
+use Rattle.pebble_bound.specs.Laws.{IsValidWithin, FewAreAdvancedSeldom, EachIsTapedOnce, ForwardIsBounded, NoneIsBelowRevolve, NoneWithoutSlots}
+use Rattle.pebble_bound.proofs.Counting.{few}
+use Rattle.pebble_bound.proofs.Ending.{few_crossed, at_most_few, taped_once as taped_on_the_way, forward_from}
+
+-- with more slots than the book has room for it is no less
+seldom : (steps : ℕ) (book : BookCosts) (c : ℕ) (list : List Action) → IsValidWithin steps book c list → (k : ℕ) → few (crossings list) k steps ≤ beta_before c k
+seldom steps book c list is k = omega (arith, few_crossed steps book list is.valid k, beta_before_slots (total_room book steps) c k is.room)
+
+pub few_seldom : (steps : ℕ) (book : BookCosts) (c : ℕ) (list : List Action) → FewAreAdvancedSeldom steps book c list
+few_seldom steps book c list is k = omega (arith, seldom steps book c list is (suc k), at_most_few (crossings list) k steps)
+
+pub taped_once : (steps : ℕ) (book : BookCosts) (list : List Action) → EachIsTapedOnce steps book list
+taped_once steps book list valid = taped_on_the_way steps (slots_of book) list valid
+
+pub forward_bounded : (steps : ℕ) (book : BookCosts) (c : ℕ) (list : List Action) → ForwardIsBounded steps book c list
+forward_bounded steps book c list is = forward_from steps c (slots_of book) list is.valid (seldom steps book c list is)
+
+pub none_below : (steps : ℕ) (book : BookCosts) (c : ℕ) (list : List Action) → NoneIsBelowRevolve steps book c list
+unfolding least_advances
+none_below steps book c list is =
+    let taped = forward_bounded steps book c list is 0 in
+    let bound = forward_bounded steps book c list is (repeats steps c) in
+    omega (arith, taped, bound)
+
+too_many : (n k m f : ℕ) → n + k * n - m ≤ f → m ≡ k → k ≡ suc f → n ≤ 1
+too_many zero k m f h e g = omega arith
+too_many (suc zero) k m f h e g = omega arith
+too_many (suc (suc n)) k m f h e g = absurd (omega arith)
+
+pub none_without : (steps : ℕ) (book : BookCosts) (list : List Action) → NoneWithoutSlots steps book list
+none_without steps book list is =
+    let k = suc (forward list) in
+    too_many steps k (beta_before (0 + 1) k) (forward list) (forward_bounded steps book 0 list is k) (beta_one (forward list)) refl

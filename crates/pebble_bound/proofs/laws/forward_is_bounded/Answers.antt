@@ -1,0 +1,5 @@
+use Rattle.pebble_bound.proofs.Bounding.{forward_bounded}
+use Rattle.pebble_bound.proofs.laws.forward_is_bounded.Goals as goal
+
+pub returns : goal.returns
+returns c = forward_bounded

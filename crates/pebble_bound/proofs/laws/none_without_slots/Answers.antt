@@ -1,0 +1,5 @@
+use Rattle.pebble_bound.proofs.Bounding.{none_without}
+use Rattle.pebble_bound.proofs.laws.none_without_slots.Goals as goal
+
+pub returns : goal.returns
+returns c = none_without
