@@ -41,3 +41,11 @@ beta_before_up c j (suc k) h = elim (cases_lt j (suc k)) [
   | inl lt ↦ omega (arith, beta_before_up c j k (omega arith), beta_before_next c k)
   | inr ge ↦ let e : j ≡ suc k = omega arith in omega (arith, ap (beta_before c) e)
 ]
+
+-- more slots, and no fewer steps
+pub beta_before_slots : (c d k : ℕ) → c ≤ d → beta_before c k ≤ beta_before d k
+beta_before_slots c zero k h = let e : c ≡ 0 = omega arith in omega (arith, ap (λ c. beta_before c k) e)
+beta_before_slots c (suc d) k h = elim (cases_lt c (suc d)) [
+  | inl lt ↦ omega (arith, beta_before_slots c d k (omega arith), beta_before_more d k)
+  | inr ge ↦ let e : c ≡ suc d = omega arith in omega (arith, ap (λ c. beta_before c k) e)
+]

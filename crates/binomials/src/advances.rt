@@ -1,5 +1,5 @@
 // Repeats, advanced steps and the split of a stretch.
-ghost use Rattle.std.specs.Prelude.{◌≡◌, ◌≤◌};
+ghost use Rattle.std.specs.Prelude.{◌≡◌, ◌<◌, ◌≤◌, ◌*◌};
 ghost use Rattle.binomials.specs.Advances.{IsRepeats, repeats, least_advances, split};
 ghost use Rattle.binomials.specs.Laws.{IsSplit};
 
@@ -13,6 +13,7 @@ pub fn repeats(l: u32, c: u32) -> u32
     requires slots { 1 ≤ c }
     ensures value { result ≡ repeats l c }
     ensures between { IsRepeats l c result }
+    ensures few { result < l }
 {
     climb_to(l, c).repeats as u32
 }
@@ -23,7 +24,10 @@ pub fn least_advances(l: u32, c: u32) -> u64
     requires some { 1 ≤ l }
     requires short { l ≤ 1000000 }
     requires slots { 1 ≤ c }
-    ensures { result ≡ least_advances l c }
+    ensures value { result ≡ least_advances l c }
+
+    // So that a sum with it fits.
+    ensures few { result < l * l }
 {
     let climb = climb_to(l, c);
     climb.repeats * l as u64 - climb.below

@@ -40,3 +40,12 @@ pub none_without : (steps : ℕ) (book : BookCosts) (list : List Action) → Non
 none_without steps book list is =
     let k = suc (forward list) in
     too_many steps k (beta_before (0 + 1) k) (forward list) (forward_bounded steps book 0 list is k) (beta_one (forward list)) refl
+
+pub no_fewer_than_steps : (steps : ℕ) (book : BookCosts) (c : ℕ) (list : List Action) → IsValidWithin steps book c list → steps ≤ forward list
+no_fewer_than_steps steps book c list is = omega (arith, forward_bounded steps book c list is 0)
+
+-- with no slots there is a valid list for one step at most
+pub none_with : (steps : ℕ) (book : BookCosts) (c : ℕ) (list : List Action) → c ≡ 0 → 2 ≤ steps → IsValidWithin steps book c list → ⊥
+none_with steps book c list none two is =
+    let within : IsValidWithin steps book 0 list = record { valid = is.valid; room = omega (arith, is.room) } in
+    absurd (omega (arith, none_without steps book list within))
