@@ -1,12 +1,18 @@
 -- A text says one book at most, and one that says a book is refused for want of memory alone.
-use Rattle.std.proofs.Common.{◌≡◌, ℕ, List, [], ◌∷◌, Some, None, refl, ◌∙◌, ap, subst}
+use Rattle.std.proofs.Common.{◌≡◌, ◌≢◌, ◌⊎◌, inl, inr, sym, Option, ℕ, List, [], ◌∷◌, Some, None, refl, ◌∙◌, ap, subst}
+use Rattle.std.specs.Prelude.{unwrap_or}
+use Rattle.std.specs.List.{AllByRecursion}
+use Rattle.std.proofs.lemmas.Option.{same_Some}
 use Rattle.serde_json.specs.Data.{Data}
 use Rattle.level_book.specs.declared.book.Level.{Level}
 use Rattle.level_book.specs.declared.fault.BookFault.{BookFault}
 use Rattle.level_book.specs.declared.fault.BookFault.TheVariants.{NotJson, Shape, Levels, Name, CostRange, SlotRange, CostOrder, Memory}
-use Rattle.level_book.specs.BookCosts.{BookCosts}
+use Rattle.level_book.specs.BookCosts.{BookCosts, names_of}
+use Rattle.level_book.specs.Names.{AreNames}
 use Rattle.level_book.specs.BookText.{IsTextOf, SaysLevel, SayLevels, SaysBook}
-use Rattle.level_book.specs.BookFaults.{fault_in, IsBookText, IsRefused}
+use Rattle.level_book.specs.BookFaults.{fault_in, faults_in, first_of, each, name_fault, IsBookText, IsRefused}
+use Rattle.level_book.proofs.Faultless.{none_of_both}
+use Rattle.level_book.proofs.LevelNames.{levels_named}
 
 -- an entry says one level
 one_level : (d : Data) (level other : Level) → SaysLevel d level → SaysLevel d other → level ≡ other
@@ -69,3 +75,40 @@ not_refused bytes book (Name n) text refused = absurd (contrary bytes book (Name
 not_refused bytes book (CostRange n) text refused = absurd (contrary bytes book (CostRange n) refused.0 text refused.1 refused.2)
 not_refused bytes book (SlotRange n) text refused = absurd (contrary bytes book (SlotRange n) refused.0 text refused.1 refused.2)
 not_refused bytes book (CostOrder n) text refused = absurd (contrary bytes book (CostOrder n) refused.0 text refused.1 refused.2)
+
+-- ---- a text has one fault at most
+
+-- of any fault but want of memory: the bytes are no JSON text, or the text of a value that has it
+fault_of : (bytes : List ℕ) (fault : BookFault) → IsRefused bytes fault → fault ≢ Memory → (fault ≡ NotJson) ⊎ ((d : Data) × IsTextOf bytes d × (fault_in d ≡ Some fault))
+fault_of bytes NotJson refused other = inl refl
+fault_of bytes Memory refused other = absurd (other refl)
+fault_of bytes (Shape n) refused other = inr refused
+fault_of bytes (Levels n) refused other = inr refused
+fault_of bytes (Name n) refused other = inr refused
+fault_of bytes (CostRange n) refused other = inr refused
+fault_of bytes (SlotRange n) refused other = inr refused
+fault_of bytes (CostOrder n) refused other = inr refused
+
+no_value : (bytes : List ℕ) (fault : BookFault) (d : Data) → IsRefused bytes fault → fault ≡ NotJson → IsTextOf bytes d → ⊥
+no_value bytes fault d refused is text = let P : BookFault → Type 0 = λ x. IsRefused bytes x in subst P is refused d text
+
+pub one_fault : (bytes : List ℕ) (a b : BookFault) → IsRefused bytes a → IsRefused bytes b → a ≢ Memory → b ≢ Memory → a ≡ b
+one_fault bytes a b refused also other more = elim (fault_of bytes a refused other) [
+  | inl x ↦ elim (fault_of bytes b also more) [ inl y ↦ x ∙ sym y | inr y ↦ absurd (no_value bytes a y.0 refused x y.1) ]
+  | inr x ↦ elim (fault_of bytes b also more) [
+    | inl y ↦ absurd (no_value bytes b x.0 also y x.1)
+    | inr y ↦ let same : x.0 ≡ y.0 = one_value bytes x.0 y.0 x.1 y.1 in same_Some a b (sym x.2 ∙ ap fault_in same ∙ y.2)
+  ]
+]
+
+-- ---- the names of a book that a text says
+
+none_of_all : (faults : List (Option BookFault)) → first_of faults ≡ None → AllByRecursion (λ fault. fault ≡ None) faults
+none_of_all [] h = tt
+none_of_all (fault ∷ faults) h = let parts = none_of_both fault (first_of faults) h in (parts.0, none_of_all faults parts.1)
+
+pub text_names : (bytes : List ℕ) (book : BookCosts) → IsBookText bytes book → AreNames (names_of book)
+text_names bytes book text =
+    let none = (none_of_all (faults_in text.value) text.faultless).1.1.1.1.1.1.0 in
+    let P : List Data → Type 0 = λ ds. first_of (each (name_fault ds) ds) ≡ None in
+    levels_named text.says.entries book.levels text.says.levels (subst P (ap (λ o. unwrap_or o []) text.says.list) none)
