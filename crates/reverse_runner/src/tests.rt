@@ -6,7 +6,8 @@ use input_journal::Journal;
 use keepers::{MemoryKeeper, MemorySink};
 use level_book::Book;
 use plan_types::{Action, Dest, Keep};
-use rv_machine::{Steps, load_raw};
+use rv_machine::{State, Status, Steps};
+use rv_pages::Pages;
 use std::alloc::{AllocError, Global};
 use std::marker::Brand;
 use std::sync::ledger::{Blank, Ledger};
@@ -15,6 +16,29 @@ use std::test::Fail;
 const FOUR_WORDS: &[u8] = b"\x13\x05\x70\x00\x93\x02\x10\x00\x13\x83\x22\x00\x93\x08\xd0\x05";
 
 const LINE: usize = 365;
+
+// A page for words, and sixteen for the stack.
+const MAPPED: [u32; 17] = [
+    0x10, 0xbfff0, 0xbfff1, 0xbfff2, 0xbfff3, 0xbfff4, 0xbfff5, 0xbfff6, 0xbfff7, 0xbfff8,
+    0xbfff9, 0xbfffa, 0xbfffb, 0xbfffc, 0xbfffd, 0xbfffe, 0xbffff,
+];
+
+// The state in which the four words stand from 0x10000 on, and the first is next.
+fn start(alloc: Global) -> Result<State, AllocError> {
+    let mut pages = Pages::map(alloc, &MAPPED)?;
+    pages.store_bytes(0x10000, FOUR_WORDS);
+    let mut x = [0; 32];
+    x[2] = 0xbffffff0;
+    Ok(State {
+        pc: 0x10000,
+        x,
+        status: Status::Running,
+        item: 0,
+        offset: 0,
+        written: 0,
+        pages,
+    })
+}
 
 const LIST: [Action; 16] = [
     Action::Forward {
@@ -96,8 +120,7 @@ fn performed<L: Ledger>(
     let mut steps = Steps::<L>::new(blank);
     let mut faults = Vec::new(alloc);
     let mut writer = LineWriter::new(out);
-    let start = load_raw(alloc, FOUR_WORDS)?;
-    let mut session = Session::begin(alloc, start, Journal::none(alloc), 4, Book::plain(2))?;
+    let mut session = Session::begin(alloc, start(alloc)?, Journal::none(alloc), 4, Book::plain(2))?;
     for action in LIST.iter() {
         if let Ok(()) = session.config().judge(action) {
             match session.perform(action, &mut keepers, &mut writer, &mut steps) {

@@ -1,6 +1,9 @@
 -- What callers of a step use.
-use Rattle.std.proofs.Common.{◌≡◌, ◌==◌, ◌+◌, ◌%◌, ℕ, zero, suc, add-one, add-zero, add-suc, ap, Bool, true, false, cond, List, refl, ◌∙◌, Option, None, Some, is_some}
-use Rattle.rv_pages.specs.Memory.{page_numbers, wrapped, word_at, number_at, with_number}
+use Rattle.std.proofs.Common.{◌≡◌, ◌==◌, ◌+◌, ◌%◌, ℕ, zero, suc, add-one, add-zero, add-suc, ap, Bool, true, false, cond, ◌||◌, List, length, slice_get, refl, ◌∙◌, Option, None, Some, is_some}
+use Rattle.std.specs.Prelude.{nat_le}
+use Rattle.rv_pages.specs.Memory.{page_numbers, wrapped, word_at, bytes_at, number_at, with_bytes, with_number}
+use Rattle.rv_pages.proofs.Reading.{some_mapped}
+use Rattle.rv_pages.proofs.Stores.{with_bytes_numbers}
 use Rattle.rv_decode.specs.declared.instruction.Inst.{Inst}
 use Rattle.rv_decode.specs.Rows.{decoded}
 use Rattle.rv_machine.specs.declared.effect.Effect.{Effect}
@@ -8,7 +11,9 @@ use Rattle.rv_machine.specs.declared.effect.Effect.TheVariants.{Put, Jump, Branc
 use Rattle.rv_machine.specs.declared.effect.Width.{Width}
 use Rattle.rv_machine.specs.Effects.{bytes_of}
 use Rattle.rv_machine.specs.MachineState.{MachineState}
-use Rattle.rv_machine.specs.StepTable.{next, executed, said, effect_in, happened, jumped, loaded, gone_on, trapped, is_running}
+use Rattle.rv_machine.specs.StateChanges.{put, gone_on, trapped}
+use Rattle.rv_machine.specs.SystemCalls.{argument, not_mapped, no_such_call, bytes_read, received, read_from, sent, exited, called}
+use Rattle.rv_machine.specs.StepTable.{next, executed, said, effect_in, happened, jumped, loaded, is_running}
 use Rattle.rv_machine.specs.States.{state_number}
 use Rattle.rv_machine.proofs.Stores.{with_number_numbers}
 
@@ -27,23 +32,47 @@ stored_pages : (s : MachineState) (at : ℕ) (width : Width) (value : ℕ) (b : 
 stored_pages s at width value true e = with_number_numbers s.memory at (bytes_of width) value e
 stored_pages s at width value false e = refl
 
-pub happened_pages : (s : MachineState) (effect : Effect) → page_numbers (happened s effect).memory ≡ page_numbers s.memory
-happened_pages s (Put rd value) = refl
-happened_pages s (Jump rd target) = jumped_pages s rd target
-happened_pages s (Branch taken target) = cond_pages taken s (jumped s 0 target) (gone_on s) (jumped_pages s 0 target) refl
-happened_pages s (Load rd at width with_sign) = loaded_pages s rd width with_sign _
-happened_pages s (Store at width value) = stored_pages s at width value _ refl
-happened_pages s Nothing = refl
-happened_pages s Call = refl
-happened_pages s Break = refl
+-- what a system call does
+received_pages : (s : MachineState) (item bytes : List ℕ) → is_some (bytes_at s.memory (argument s 1) (length bytes)) ≡ true → page_numbers (received s item bytes).memory ≡ page_numbers s.memory
+received_pages s item bytes e =
+    let t : MachineState = record s { memory = with_bytes s.memory (argument s 1) bytes } in
+    cond_pages (nat_le (length item) (s.offset + length bytes)) t (record t { item = s.item + 1; offset = 0 }) (record t { offset = s.offset + length bytes }) refl refl
+    ∙ with_bytes_numbers s.memory (argument s 1) bytes (some_mapped s.memory (length bytes) (argument s 1) e)
 
-said_pages : (s : MachineState) (o : Option Inst) → page_numbers (said s o).memory ≡ page_numbers s.memory
-said_pages s None = refl
-said_pages s (Some inst) = happened_pages s (effect_in s inst)
+read_pages_by : (s : MachineState) (item bytes : List ℕ) (b : Bool) → is_some (bytes_at s.memory (argument s 1) (length bytes)) ≡ b → page_numbers (cond b (received s item bytes) (put s 10 not_mapped)).memory ≡ page_numbers s.memory
+read_pages_by s item bytes true e = received_pages s item bytes e
+read_pages_by s item bytes false e = refl
 
-executed_pages : (s : MachineState) (word : Option ℕ) → page_numbers (executed s word).memory ≡ page_numbers s.memory
-executed_pages s None = refl
-executed_pages s (Some word) = said_pages s (decoded word)
+read_pages : (s : MachineState) (o : Option (List ℕ)) → page_numbers (read_from s o).memory ≡ page_numbers s.memory
+read_pages s None = refl
+read_pages s (Some item) = read_pages_by s item (bytes_read s item) _ refl
+
+sent_pages : (s : MachineState) → page_numbers (sent s).memory ≡ page_numbers s.memory
+sent_pages s = cond_pages (is_some (bytes_at s.memory (argument s 1) (argument s 2))) s _ (put s 10 not_mapped) refl refl
+
+pub called_pages : (s : MachineState) (journal : List (List ℕ)) → page_numbers (called s journal).memory ≡ page_numbers s.memory
+called_pages s journal =
+    cond_pages (argument s 7 == 63) s (read_from s (slice_get journal s.item)) _ (read_pages s (slice_get journal s.item))
+    (cond_pages (argument s 7 == 64) s (sent s) _ (sent_pages s)
+    (cond_pages (argument s 7 == 93 || argument s 7 == 94) s (exited s) (put s 10 no_such_call) refl refl))
+
+pub happened_pages : (s : MachineState) (journal : List (List ℕ)) (effect : Effect) → page_numbers (happened s journal effect).memory ≡ page_numbers s.memory
+happened_pages s journal (Put rd value) = refl
+happened_pages s journal (Jump rd target) = jumped_pages s rd target
+happened_pages s journal (Branch taken target) = cond_pages taken s (jumped s 0 target) (gone_on s) (jumped_pages s 0 target) refl
+happened_pages s journal (Load rd at width with_sign) = loaded_pages s rd width with_sign _
+happened_pages s journal (Store at width value) = stored_pages s at width value _ refl
+happened_pages s journal Nothing = refl
+happened_pages s journal Call = called_pages s journal
+happened_pages s journal Break = refl
+
+said_pages : (s : MachineState) (journal : List (List ℕ)) (o : Option Inst) → page_numbers (said s journal o).memory ≡ page_numbers s.memory
+said_pages s journal None = refl
+said_pages s journal (Some inst) = happened_pages s journal (effect_in s inst)
+
+executed_pages : (s : MachineState) (journal : List (List ℕ)) (word : Option ℕ) → page_numbers (executed s journal word).memory ≡ page_numbers s.memory
+executed_pages s journal None = refl
+executed_pages s journal (Some word) = said_pages s journal (decoded word)
 
 if_running : (s t : MachineState) (running : Bool) → page_numbers t.memory ≡ page_numbers s.memory → page_numbers (cond running t s).memory ≡ page_numbers s.memory
 if_running s t true e = e
@@ -51,7 +80,7 @@ if_running s t false e = refl
 
 -- a step maps no page and unmaps none
 pub next_keeps_pages : (s : MachineState) (journal : List (List ℕ)) → page_numbers (next s journal).memory ≡ page_numbers s.memory
-next_keeps_pages s journal = if_running s _ (is_running s.status) (executed_pages s (word_at s.memory s.pc))
+next_keeps_pages s journal = if_running s _ (is_running s.status) (executed_pages s journal (word_at s.memory s.pc))
 
 -- nor do any steps
 pub state_number_keeps_pages : (s : MachineState) (journal : List (List ℕ)) (n : ℕ) → page_numbers (state_number s journal n).memory ≡ page_numbers s.memory
@@ -69,7 +98,7 @@ state_number-add s journal m (suc n) = rw (add-suc m n) (ap (λ t. next t journa
 
 -- a stopped state is that of every later number
 pub next_stopped : (s : MachineState) (journal : List (List ℕ)) → is_running s.status ≡ false → next s journal ≡ s
-next_stopped s journal e = ap (λ b. cond b (executed s (word_at s.memory s.pc)) s) e
+next_stopped s journal e = ap (λ b. cond b (executed s journal (word_at s.memory s.pc)) s) e
 
 pub state_number_stopped : (s : MachineState) (journal : List (List ℕ)) (n : ℕ) → is_running s.status ≡ false → state_number s journal n ≡ s
 state_number_stopped s journal zero e = refl

@@ -1,17 +1,21 @@
 -- That a step leads from a state that a machine can be in to another one.
-use Rattle.std.proofs.Common.{◌≡◌, ◌≢◌, ℕ, suc, zero, ◌+◌, ◌-◌, ◌*◌, ◌%◌, ◌^◌, ◌<◌, ◌≤◌, ◌==◌, inl, inr, Bool, true, false, cond, List, [], ◌∷◌, length, refl, sym, ap, subst, ◌∙◌, arith, ℤ, pos, negsuc, pow_pos, Option, Some, None, IfSome, is_some}
-use Rattle.std.proofs.lemmas.Bool.{eqb-true}
+use Rattle.std.proofs.Common.{◌≡◌, ◌≢◌, ℕ, suc, zero, ◌+◌, ◌-◌, ◌*◌, ◌%◌, ◌^◌, ◌<◌, ◌≤◌, ◌==◌, inl, inr, Bool, true, false, cond, ◌||◌, nat_le, List, [], ◌∷◌, length, get_or, drop, slice_get, refl, sym, ap, subst, ◌∙◌, arith, ℤ, pos, negsuc, pow_pos, Option, Some, None, IfSome, is_some}
+use Rattle.std.proofs.lemmas.Bool.{eqb-true, leb-false}
 use Rattle.std.proofs.lemmas.Bool.Decides.{eqb_tells}
 use Rattle.std.proofs.lemmas.Int.{of_z-to_z}
-use Rattle.std.proofs.lemmas.List.{length-set, get_or-set_other}
-use Rattle.std.proofs.lemmas.List.Elements.{All-set}
+use Rattle.std.proofs.lemmas.List.{length-set, length-take, get_or-set_other}
+use Rattle.std.proofs.lemmas.List.Elements.{All-set, All-take, All-drop}
+use Rattle.std.proofs.lemmas.Option.{slice_get_cases, get_or_from_slice_get}
 use Rattle.std.proofs.lemmas.Nat.{xor_lt, or_lt}
 use Rattle.std.proofs.Math.Nat.{div-le_self}
 use Rattle.std.specs.Int.{w32, cast_unsigned}
 use lib.Signed.{shr_z}
 use Rattle.std.specs.Int.Bits.{and_lt}
 use Rattle.std.specs.List.{All, slice_index, slice_set}
-use Rattle.rv_pages.specs.Memory.{wrapped, number_at, word_at, with_number}
+use Rattle.input_journal.specs.Form.{IsShort, IsRecorded}
+use Rattle.rv_pages.specs.Memory.{wrapped, bytes_at, number_at, word_at, with_bytes, with_number}
+use Rattle.rv_pages.proofs.Reading.{some_mapped}
+use Rattle.rv_pages.proofs.Stores.{with_bytes_memory}
 use Rattle.rv_pages.proofs.Whole.{word_below, number_below}
 use Rattle.rv_decode.specs.declared.instruction.Inst.{Inst}
 use Rattle.rv_decode.specs.declared.instruction.Inst.TheVariants.{Lui, Auipc, Jal, Jalr, Beq, Bne, Blt, Bge, Bltu, Bgeu, Lb, Lh, Lw, Lbu, Lhu, Sb, Sh, Sw, Addi, Slti, Sltiu, Xori, Ori, Andi, Slli, Srli, Srai, Add, Sub, Sll, Slt, Sltu, Xor, Srl, Sra, Or, And, Fence, Ecall, Ebreak}
@@ -28,7 +32,9 @@ use Rattle.rv_machine.specs.declared.status.Status.TheVariants.{Trapped}
 use Rattle.rv_machine.specs.Numbers.{signed, shifted_right_signed, one_if}
 use Rattle.rv_machine.specs.Effects.{effect_of, bytes_of}
 use Rattle.rv_machine.specs.MachineState.{MachineState, IsMachineState, IsStatus}
-use Rattle.rv_machine.specs.StepTable.{with_register, trapped, gone_on, put, jumped, loaded, happened, effect_in, said, executed, is_running, next}
+use Rattle.rv_machine.specs.StateChanges.{with_register, trapped, gone_on, put}
+use Rattle.rv_machine.specs.SystemCalls.{argument, not_mapped, no_such_call, bytes_read, moved, received, read_from, sent, exited, called}
+use Rattle.rv_machine.specs.StepTable.{jumped, loaded, happened, effect_in, said, executed, is_running, next}
 use Rattle.rv_machine.specs.States.{state_number}
 use Rattle.rv_machine.proofs.Stores.{with_number_memory}
 
@@ -174,31 +180,85 @@ stores_by s at width value true e h =
     record { pc = omega arith; aligned = omega (arith, h.aligned); registers = h.registers; words = h.words; zero = h.zero; status = h.status; item = h.item; offset = h.offset; written = h.written; memory = with_number_memory s.memory at (bytes_of width) value h.memory e }
 stores_by s at width value false e h = traps s 7 refl h
 
-happens : (s : MachineState) (effect : Effect) → HasWords effect → IsMachineState s → IsMachineState (happened s effect)
-happens s (Put rd value) small h = puts s rd value small h
-happens s (Jump rd target) small h = jumps s rd target small h
-happens s (Branch taken target) small h = branches s taken target small h
-happens s (Load rd at width with_sign) small h = loads s rd width with_sign _ (number_below s.memory h.memory at (bytes_of width)) h
-happens s (Store at width value) small h = stores_by s at width value _ refl h
-happens s Nothing small h = goes_on s h
-happens s Call small h = puts s 10 0xFFFFFFDA (omega arith) h
-happens s Break small h = traps s 3 refl h
+-- what a system call does
+chosen : (b : Bool) (s t : MachineState) → IsMachineState s → IsMachineState t → IsMachineState (cond b s t)
+chosen true s t h g = h
+chosen false s t h g = g
 
-says : (s : MachineState) (o : Option Inst) → IfSome o HasRanges → IsMachineState s → IsMachineState (said s o)
-says s None ranges h = traps s 2 refl h
-says s (Some inst) ranges h = happens s (effect_in s inst) (words (λ n. slice_index s.registers n) s.pc (λ n. word s.registers n h.words) inst ranges) h
+moves_by : (s : MachineState) (item : List ℕ) (n : ℕ) (b : Bool) → nat_le (length item) (s.offset + n) ≡ b → s.item < 65536 → IsShort item → IsMachineState s → IsMachineState (cond b (record s { item = s.item + 1; offset = 0 }) (record s { offset = s.offset + n }))
+moves_by s item n true e few short h =
+    record { pc = h.pc; aligned = h.aligned; registers = h.registers; words = h.words; zero = h.zero; status = h.status; item = omega arith; offset = omega arith; written = h.written; memory = h.memory }
+moves_by s item n false e few short h =
+    let inside : s.offset + n < length item = leb-false _ _ e in
+    record { pc = h.pc; aligned = h.aligned; registers = h.registers; words = h.words; zero = h.zero; status = h.status; item = h.item; offset = omega (arith, inside, short); written = h.written; memory = h.memory }
 
-executes : (s : MachineState) (w : Option ℕ) → IfSome w (λ v. v < 2 ^ 32) → IsMachineState s → IsMachineState (executed s w)
-executes s None small h = traps s 1 refl h
-executes s (Some w) small h = says s (decoded w) (decoded_ranges w small) h
+stored_state : (s : MachineState) (at : ℕ) (bytes : List ℕ) → is_some (bytes_at s.memory at (length bytes)) ≡ true → All (λ b. b < 256) bytes → IsMachineState s → IsMachineState (record s { memory = with_bytes s.memory at bytes })
+stored_state s at bytes e small h =
+    record { pc = h.pc; aligned = h.aligned; registers = h.registers; words = h.words; zero = h.zero; status = h.status; item = h.item; offset = h.offset; written = h.written; memory = with_bytes_memory s.memory at bytes h.memory (some_mapped s.memory (length bytes) at e) small }
 
-either : (b : Bool) (s t : MachineState) → IsMachineState s → IsMachineState t → IsMachineState (cond b s t)
-either true s t h g = h
-either false s t h g = g
+reads_by : (s : MachineState) (item bytes : List ℕ) (b : Bool) → is_some (bytes_at s.memory (argument s 1) (length bytes)) ≡ b → s.item < 65536 → IsShort item → length bytes < 2 ^ 32 → All (λ b. b < 256) bytes → IsMachineState s → IsMachineState (cond b (received s item bytes) (put s 10 not_mapped))
+reads_by s item bytes true e few short fits small h =
+    let t : MachineState = record s { memory = with_bytes s.memory (argument s 1) bytes } in
+    puts (moved t item (length bytes)) 10 (length bytes) fits (moves_by t item (length bytes) _ refl few short (stored_state s (argument s 1) bytes e small h))
+reads_by s item bytes false e few short fits small h = puts s 10 not_mapped (omega arith) h
 
-pub next_is_state : (s : MachineState) (journal : List (List ℕ)) → IsMachineState s → IsMachineState (next s journal)
-next_is_state s journal h = either (is_running s.status) _ s (executes s (word_at s.memory s.pc) (word_below s.memory h.memory s.pc) h) h
+-- an item of recorded input
+recorded_item : (journal : List (List ℕ)) (index : ℕ) (item : List ℕ) → IsRecorded journal → slice_get journal index ≡ Some item → (index < 65536) × IsShort item × All (λ b. b < 256) item
+recorded_item journal index item h e =
+    elim (slice_get_cases journal index).1 [
+      | inl w ↦
+          let inside : index < length journal = w.1 in
+          let is : get_or journal index [] ≡ item = get_or_from_slice_get journal index item [] e in
+          (omega (arith, h.few), subst IsShort is (h.short index [] inside), subst (λ (xs : List ℕ). All (λ b. b < 256) xs) is (h.bytes index [] inside))
+      | inr w ↦ absurd (let none : slice_get journal index ≡ None = w.1 in cc)
+    ]
 
-pub number_is_state : (s : MachineState) (journal : List (List ℕ)) (n : ℕ) → IsMachineState s → IsMachineState (state_number s journal n)
-number_is_state s journal zero h = h
-number_is_state s journal (suc n) h = next_is_state (state_number s journal n) journal (number_is_state s journal n h)
+reads : (s : MachineState) (journal : List (List ℕ)) (o : Option (List ℕ)) → slice_get journal s.item ≡ o → IsRecorded journal → IsMachineState s → IsMachineState (read_from s o)
+reads s journal None e recorded h = puts s 10 0 (omega arith) h
+reads s journal (Some item) e recorded h =
+    let parts = recorded_item journal s.item item recorded e in
+    let limit : argument s 2 < 2 ^ 32 = word s.registers 12 h.words in
+    reads_by s item (bytes_read s item) _ refl parts.0 parts.1 (omega (arith, length-take (argument s 2) (drop s.offset item), limit))
+    (All-take (λ b. b < 256) (argument s 2) (drop s.offset item) (All-drop (λ b. b < 256) s.offset item parts.2)) h
+
+sends : (s : MachineState) → IsMachineState s → IsMachineState (sent s)
+sends s h =
+    let count : argument s 2 < 2 ^ 32 = word s.registers 12 h.words in
+    let t : MachineState = record s { written = (s.written + argument s 2) % 2 ^ 64 } in
+    let is : IsMachineState t = record { pc = h.pc; aligned = h.aligned; registers = h.registers; words = h.words; zero = h.zero; status = h.status; item = h.item; offset = h.offset; written = omega arith; memory = h.memory } in
+    chosen (is_some (bytes_at s.memory (argument s 1) (argument s 2))) (put t 10 (argument s 2)) (put s 10 not_mapped) (puts t 10 (argument s 2) count is) (puts s 10 not_mapped (omega arith) h)
+
+exits : (s : MachineState) → IsMachineState s → IsMachineState (exited s)
+exits s h =
+    record { pc = h.pc; aligned = h.aligned; registers = h.registers; words = h.words; zero = h.zero; status = omega arith; item = h.item; offset = h.offset; written = h.written; memory = h.memory }
+
+calls : (s : MachineState) (journal : List (List ℕ)) → IsRecorded journal → IsMachineState s → IsMachineState (called s journal)
+calls s journal recorded h =
+    chosen (argument s 7 == 63) _ _ (reads s journal (slice_get journal s.item) refl recorded h)
+    (chosen (argument s 7 == 64) _ _ (sends s h)
+    (chosen (argument s 7 == 93 || argument s 7 == 94) _ _ (exits s h) (puts s 10 no_such_call (omega arith) h)))
+
+happens : (s : MachineState) (journal : List (List ℕ)) (effect : Effect) → HasWords effect → IsRecorded journal → IsMachineState s → IsMachineState (happened s journal effect)
+happens s journal (Put rd value) small recorded h = puts s rd value small h
+happens s journal (Jump rd target) small recorded h = jumps s rd target small h
+happens s journal (Branch taken target) small recorded h = branches s taken target small h
+happens s journal (Load rd at width with_sign) small recorded h = loads s rd width with_sign _ (number_below s.memory h.memory at (bytes_of width)) h
+happens s journal (Store at width value) small recorded h = stores_by s at width value _ refl h
+happens s journal Nothing small recorded h = goes_on s h
+happens s journal Call small recorded h = calls s journal recorded h
+happens s journal Break small recorded h = traps s 3 refl h
+
+says : (s : MachineState) (journal : List (List ℕ)) (o : Option Inst) → IfSome o HasRanges → IsRecorded journal → IsMachineState s → IsMachineState (said s journal o)
+says s journal None ranges recorded h = traps s 2 refl h
+says s journal (Some inst) ranges recorded h = happens s journal (effect_in s inst) (words (λ n. slice_index s.registers n) s.pc (λ n. word s.registers n h.words) inst ranges) recorded h
+
+executes : (s : MachineState) (journal : List (List ℕ)) (w : Option ℕ) → IfSome w (λ v. v < 2 ^ 32) → IsRecorded journal → IsMachineState s → IsMachineState (executed s journal w)
+executes s journal None small recorded h = traps s 1 refl h
+executes s journal (Some w) small recorded h = says s journal (decoded w) (decoded_ranges w small) recorded h
+
+pub next_is_state : (s : MachineState) (journal : List (List ℕ)) → IsRecorded journal → IsMachineState s → IsMachineState (next s journal)
+next_is_state s journal recorded h = chosen (is_running s.status) _ s (executes s journal (word_at s.memory s.pc) (word_below s.memory h.memory s.pc) recorded h) h
+
+pub number_is_state : (s : MachineState) (journal : List (List ℕ)) (n : ℕ) → IsMachineState s → IsRecorded journal → IsMachineState (state_number s journal n)
+number_is_state s journal zero h recorded = h
+number_is_state s journal (suc n) h recorded = next_is_state (state_number s journal n) journal recorded (number_is_state s journal n h recorded)

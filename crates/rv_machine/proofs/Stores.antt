@@ -1,130 +1,30 @@
--- Memory after a store: the same pages are mapped, and it is still memory as a machine has it.
-use Rattle.std.proofs.Common.{◌≡◌, ◌==◌, ℕ, zero, suc, ◌+◌, ◌*◌, ◌/◌, ◌%◌, ◌^◌, ◌<◌, inl, inr, Bool, true, false, cond, List, [], ◌∷◌, ◌++◌, map, length, get_or, set, take, drop, refl, sym, ap, subst, ◌∙◌, arith, Option, Some, None, IsSome, is_some}
-use Rattle.std.proofs.Math.Seq.{take-append_seam, drop-append-add}
-use Rattle.std.proofs.lemmas.List.{length-append}
-use Rattle.std.proofs.lemmas.List.Elements.{All-set, All-append}
-use Rattle.std.specs.Cmp.{nat_cmp_total}
-use Rattle.std.specs.List.{All, flat_map, filter_map}
+-- Memory after a number is stored where its bytes are mapped: the same pages are mapped, and it is still memory as a
+-- machine has it.
+use Rattle.std.proofs.Common.{◌≡◌, ℕ, zero, suc, ◌/◌, ◌%◌, ◌^◌, ◌<◌, true, List, length, refl, sym, ap, subst, arith, Option, Some, None, IsSome, is_some}
+use Rattle.std.proofs.lemmas.List.Elements.{All-cons, All-nil}
+use Rattle.std.specs.List.{All}
 use Rattle.std.specs.Option.{option_map}
-use Rattle.std.specs.Ordering.{nat_cmp, eq_by_cmp}
-use Rattle.std.specs.FinMap.Entries.{by_order}
-use Rattle.std.specs.FinMap.{get, insert, put, entries, len, get-insert, entries-insert, len-insert, len-entries}
-use Rattle.std.specs.declared.cmp.Ordering.TheVariants.{Less, Equal, Greater}
-use Rattle.rv_pages.specs.Memory.{Memory, wrapped, byte_at, bytes_at, number_at, followed_by, low_bytes, with_bytes, with_number, page_numbers, page_bytes, IsMemory}
-use Rattle.rv_pages.specs.Kept.{memory_kept, AreKept}
-use Rattle.rv_pages.proofs.Ordered.{get_not_kept}
-use Rattle.rv_pages.proofs.Storing.{memory_set, kept_set}
-use Rattle.rv_pages.proofs.Whole.{made_of, kept_is_memory}
-use Rattle.rv_pages.proofs.Written.{somewhere}
+use Rattle.rv_pages.specs.Memory.{Memory, bytes_at, number_at, low_bytes, with_number, page_numbers, IsMapped, IsMemory}
+use Rattle.rv_pages.proofs.Reading.{some_mapped}
+use Rattle.rv_pages.proofs.Stores.{with_bytes_numbers, with_bytes_memory}
 
--- a new value at a key that is there leaves the keys as they are
-keys_put : (k v : ℕ) (es : List (ℕ × ℕ)) → length (put nat_cmp k v es) ≡ length es → map (λ e. e.0) (put nat_cmp k v es) ≡ map (λ e. e.0) es
-keys_put k v [] h = absurd (omega (arith, h))
-keys_put k v (e ∷ es) h =
-    elim (nat_cmp k e.0) as (λ o. length (by_order o ((k, v) ∷ e ∷ es) ((e.0, v) ∷ es) (e ∷ put nat_cmp k v es)) ≡ length (e ∷ es) → map (λ e. e.0) (by_order o ((k, v) ∷ e ∷ es) ((e.0, v) ∷ es) (e ∷ put nat_cmp k v es)) ≡ map (λ e. e.0) (e ∷ es)) [
-      | Less ↦ λ l. absurd (omega (arith, l))
-      | Equal ↦ λ l. refl
-      | Greater ↦ λ l. ap (λ ks. e.0 ∷ ks) (keys_put k v es (omega (arith, l)))
-    ] h
+length-low_bytes : (n value : ℕ) → length (low_bytes n value) ≡ n
+length-low_bytes zero value = refl
+length-low_bytes (suc n) value = ap suc (length-low_bytes n (value / 2 ^ 8))
 
-long_put : (m : Memory) (k v : ℕ) → IsSome (get m k) → length (put nat_cmp k v (entries m)) ≡ length (entries m)
-long_put m k v h =
-    ap length (sym (entries-insert nat_cmp_total m k v)) ∙ sym (len-entries (insert m k v)) ∙ len-insert nat_cmp_total m k v ∙ ap (λ b. cond b (len m) (len m + 1)) h ∙ len-entries m
+low_bytes_small : (n value : ℕ) → All (λ b. b < 256) (low_bytes n value)
+low_bytes_small zero value = All-nil (λ b. b < 256)
+low_bytes_small (suc n) value = All-cons (λ b. b < 256) (value % 2 ^ 8) (low_bytes n (value / 2 ^ 8)) (omega arith) (low_bytes_small n (value / 2 ^ 8))
 
-numbers_insert : (m : Memory) (k v : ℕ) → IsSome (get m k) → page_numbers (insert m k v) ≡ page_numbers m
-numbers_insert m k v h =
-    ap (filter_map (λ at. cond (at % 4096 == 0) (Some (at / 4096)) None)) (ap (map (λ e. e.0)) (entries-insert nat_cmp_total m k v) ∙ keys_put k v (entries m) (long_put m k v h))
+some_bytes : (o : Option (List ℕ)) (f : List ℕ → ℕ) → is_some (option_map f o) ≡ true → IsSome o
+some_bytes None f h = h
+some_bytes (Some bs) f h = refl
 
--- what was mapped is mapped
-some_cond : (t : Bool) (b : ℕ) (o : Option ℕ) → IsSome o → IsSome (cond t (Some b) o)
-some_cond true b o h = refl
-some_cond false b o h = h
-
-some_inserted : (m : Memory) (k b q : ℕ) → IsSome (get m q) → IsSome (get (insert m k b) q)
-some_inserted m k b q h = subst (λ (o : Option ℕ). IsSome o) (sym (get-insert nat_cmp_total m k b q)) (some_cond (eq_by_cmp nat_cmp q k) b (get m q) h)
-
-some_parts : (x : Option ℕ) (ys : Option (List ℕ)) → IsSome (followed_by x ys) → IsSome x × IsSome ys
-some_parts None ys h = absurd (cc)
-some_parts (Some b) None h = absurd (cc)
-some_parts (Some b) (Some bs) h = (refl, refl)
-
-some_both : (x : Option ℕ) (ys : Option (List ℕ)) → IsSome x → IsSome ys → IsSome (followed_by x ys)
-some_both None ys p q = p
-some_both (Some b) None p q = q
-some_both (Some b) (Some bs) p q = refl
-
-bytes_inserted : (m : Memory) (k b n at : ℕ) → IsSome (bytes_at m at n) → IsSome (bytes_at (insert m k b) at n)
-bytes_inserted m k b zero at h = refl
-bytes_inserted m k b (suc n) at h =
-    let p = some_parts (byte_at m at) (bytes_at m (at + 1) n) h in
-    some_both _ _ (some_inserted m k b (wrapped at) p.0) (bytes_inserted m k b n (at + 1) p.1)
-
--- a store maps no page and unmaps none
-with_bytes_numbers : (n : ℕ) (m : Memory) (at value : ℕ) → IsSome (bytes_at m at n) → page_numbers (with_bytes m at (low_bytes n value)) ≡ page_numbers m
-with_bytes_numbers zero m at value h = refl
-with_bytes_numbers (suc n) m at value h =
-    let p = some_parts (byte_at m at) (bytes_at m (at + 1) n) h in
-    let b : ℕ = value % 2 ^ 8 in
-    with_bytes_numbers n (insert m (wrapped at) b) (at + 1) (value / 2 ^ 8) (bytes_inserted m (wrapped at) b n (at + 1) p.1)
-    ∙ numbers_insert m (wrapped at) b p.0
-
-some_mapped : (o : Option (List ℕ)) (f : List ℕ → ℕ) → is_some (option_map f o) ≡ true → IsSome o
-some_mapped None f h = h
-some_mapped (Some bs) f h = refl
+number_mapped : (m : Memory) (at n value : ℕ) → is_some (number_at m at n) ≡ true → IsMapped m at (length (low_bytes n value))
+number_mapped m at n value h = subst (IsMapped m at) (sym (length-low_bytes n value)) (some_mapped m n at (some_bytes (bytes_at m at n) _ h))
 
 pub with_number_numbers : (m : Memory) (at n value : ℕ) → is_some (number_at m at n) ≡ true → page_numbers (with_number m at n value) ≡ page_numbers m
-with_number_numbers m at n value h = with_bytes_numbers n m at value (some_mapped (bytes_at m at n) _ h)
-
--- the pages of memory, one after the other, are kept pages
-part : (f : ℕ → List ℕ) (numbers : List ℕ) → ((i : ℕ) → i < length numbers → length (f (get_or numbers i 0)) ≡ 4096) → (i : ℕ) → i < length numbers → f (get_or numbers i 0) ≡ take 4096 (drop (i * 4096) (flat_map f numbers))
-part f [] full i l = absurd (omega arith)
-part f (n ∷ ns) full zero l =
-    let long = full 0 (omega arith) in
-    let start : zero * 4096 ≡ 0 = omega arith in
-    sym (ap (λ k. take 4096 (drop k (f n ++ flat_map f ns))) start ∙ ap (λ k. take k (f n ++ flat_map f ns)) (sym long) ∙ take-append_seam (f n) (flat_map f ns))
-part f (n ∷ ns) full (suc i) l =
-    let long = full 0 (omega arith) in
-    let next : suc i * 4096 ≡ length (f n) + i * 4096 = omega (arith, long) in
-    part f ns (λ k m. full (suc k) (omega arith)) i (omega arith)
-    ∙ sym (ap (take 4096) (ap (λ k. drop k (f n ++ flat_map f ns)) next ∙ drop-append-add (f n) (flat_map f ns) (i * 4096)))
-
-long_flat : (f : ℕ → List ℕ) (numbers : List ℕ) → ((i : ℕ) → i < length numbers → length (f (get_or numbers i 0)) ≡ 4096) → length (flat_map f numbers) ≡ 4096 * length numbers
-long_flat f [] full = refl
-long_flat f (n ∷ ns) full =
-    let long = full 0 (omega arith) in
-    let rest = long_flat f ns (λ k m. full (suc k) (omega arith)) in
-    omega (arith, length-append (f n) (flat_map f ns), long, rest)
-
-small_flat : (f : ℕ → List ℕ) (numbers : List ℕ) → ((i : ℕ) → i < length numbers → All (λ b. b < 256) (f (get_or numbers i 0))) → All (λ b. b < 256) (flat_map f numbers)
-small_flat f [] small = λ k d l. absurd (omega arith)
-small_flat f (n ∷ ns) small = All-append (λ b. b < 256) (f n) (flat_map f ns) (small 0 (omega arith)) (small_flat f ns (λ k m. small (suc k) (omega arith)))
-
-is_some_none : {A : Type 0} (o : Option A) → o ≡ None → IsSome o → ⊥
-is_some_none None e h = cc
-is_some_none (Some b) e h = cc
-
-insert_memory : (m : Memory) (a b : ℕ) → IsMemory m → IsSome (get m a) → b < 256 → IsMemory (insert m a b)
-insert_memory m a b h some small =
-    let numbers : List ℕ = page_numbers m in
-    let bytes : List ℕ = flat_map (page_bytes m) numbers in
-    let full : (i : ℕ) → i < length numbers → length (page_bytes m (get_or numbers i 0)) ≡ 4096 = λ i l. (h.pages i 0 l).full in
-    let kept : AreKept numbers bytes = record { ascending = h.ascending; below = λ i d l. (h.pages i d l).below; few = h.few; whole = long_flat (page_bytes m) numbers full } in
-    let is : memory_kept numbers bytes ≡ m = made_of numbers bytes (page_bytes m) kept (part (page_bytes m) numbers full) ∙ sym h.made in
-    let all : All (λ x. x < 256) bytes = small_flat (page_bytes m) numbers (λ i l. (h.pages i 0 l).bytes) in
-    elim (somewhere numbers (a / 4096)) [
-      | inl w ↦
-          let place : ℕ = w.0 * 4096 + a % 4096 in
-          let made : memory_kept numbers (set bytes place b) ≡ insert m a b = memory_set numbers bytes kept w.0 (a % 4096) b a place w.1.0 (omega arith) (omega (arith, w.1.1)) refl ∙ ap (λ k. insert k a b) is in
-          subst IsMemory made (kept_is_memory numbers (set bytes place b) (kept_set numbers bytes place b kept) (All-set (λ x. x < 256) bytes place b small all))
-      | inr none ↦ absurd (is_some_none (get m a) (ap (λ k. get k a) (sym is) ∙ get_not_kept numbers bytes kept a none) some)
-    ]
-
-with_bytes_memory : (n : ℕ) (m : Memory) (at value : ℕ) → IsMemory m → IsSome (bytes_at m at n) → IsMemory (with_bytes m at (low_bytes n value))
-with_bytes_memory zero m at value h some = h
-with_bytes_memory (suc n) m at value h some =
-    let p = some_parts (byte_at m at) (bytes_at m (at + 1) n) some in
-    let b : ℕ = value % 2 ^ 8 in
-    with_bytes_memory n (insert m (wrapped at) b) (at + 1) (value / 2 ^ 8) (insert_memory m (wrapped at) b h p.0 (omega arith)) (bytes_inserted m (wrapped at) b n (at + 1) p.1)
+with_number_numbers m at n value h = with_bytes_numbers m at (low_bytes n value) (number_mapped m at n value h)
 
 pub with_number_memory : (m : Memory) (at n value : ℕ) → IsMemory m → is_some (number_at m at n) ≡ true → IsMemory (with_number m at n value)
-with_number_memory m at n value h some = with_bytes_memory n m at value h (some_mapped (bytes_at m at n) _ some)
+with_number_memory m at n value h some = with_bytes_memory m at (low_bytes n value) h (number_mapped m at n value some) (low_bytes_small n value)

@@ -2,6 +2,8 @@ pub mod MachineState
 pub mod StateCode
 pub mod Numbers
 pub mod Effects
+pub mod StateChanges
+pub mod SystemCalls
 pub mod StepTable
 pub mod States
 pub mod StateFields

@@ -3,14 +3,15 @@ ghost use Rattle.std.specs.Prelude.{◌≡◌, ◌+◌, ◌*◌, ◌<◌, cond, 
 ghost use Rattle.std.specs.Option.{option_map};
 ghost use Rattle.rv_pages.specs.Memory.{number_at, with_number, page_numbers};
 ghost use Rattle.rv_decode.specs.Formats.{sign_extended};
-ghost use Rattle.rv_machine.specs.MachineState.{IsStatus};
 ghost use Rattle.rv_machine.specs.Effects.{bytes_of, NamesRegister};
-ghost use Rattle.rv_machine.specs.StepTable.{happened, jumped, put as put_in, gone_on, trapped};
+ghost use Rattle.rv_machine.specs.StepTable.{happened, jumped};
 
+use crate::calls::call;
+use crate::changes::{go_on, put, trap};
 use crate::effect::Effect::{self, Branch, Break, Call, Jump, Load, Nothing, Put, Store};
 use crate::effect::Width::{self, Byte, Half, Word};
 use crate::state::State;
-use crate::status::Status;
+use input_journal::Journal;
 use rv_pages::Pages;
 
 // The causes of traps that an effect has.
@@ -22,16 +23,11 @@ const LOAD_UNMAPPED: u8 = 5;
 
 const STORE_UNMAPPED: u8 = 7;
 
-// Where a call finds its answer, and the answer -38, "function not implemented".
-const A0: u8 = 10;
-
-const NOT_IMPLEMENTED: u32 = 0xffff_ffda;
-
-/// Makes the state what it is after the effect.
+/// Makes the state what it is after the effect, with the recorded input.
 #[inline(always)]
-pub(crate) fn happen(state: &mut State, effect: Effect)
+pub(crate) fn happen(state: &mut State, journal: &Journal, effect: Effect)
     requires { NamesRegister effect }
-    ensures state { state.new ≡ happened state.old effect }
+    ensures state { state.new ≡ happened state.old journal.now effect }
     ensures mapped { page_numbers state.new.memory ≡ page_numbers state.old.memory }
 {
     match effect {
@@ -50,33 +46,9 @@ pub(crate) fn happen(state: &mut State, effect: Effect)
                 trap(state, STORE_UNMAPPED);
             }
         }
-        Call => put(state, A0, NOT_IMPLEMENTED),
+        Call => call(state, journal),
         Break => trap(state, BREAKPOINT),
     }
-}
-
-#[inline(always)]
-fn trap(state: &mut State, cause: u8)
-    requires { IsStatus (Status.Trapped cause) }
-    ensures { state.new ≡ trapped state.old cause }
-{
-    state.status = Status::Trapped(cause);
-}
-
-#[inline(always)]
-fn go_on(state: &mut State)
-    ensures { state.new ≡ gone_on state.old }
-{
-    state.pc = state.pc.wrapping_add(4);
-}
-
-#[inline(always)]
-fn put(state: &mut State, rd: u8, value: u32)
-    requires { rd < 32 }
-    ensures { state.new ≡ put_in state.old rd value }
-{
-    state.set_register(rd, value);
-    go_on(state);
 }
 
 #[inline(always)]
@@ -95,7 +67,7 @@ fn jump(state: &mut State, rd: u8, target: u32)
 
 // The number of so many bytes at an address, as a word with or without its sign, if they are mapped.
 #[inline(always)]
-pub(crate) fn load(pages: &Pages, at: u32, width: Width, with_sign: bool) -> Option<u32>
+fn load(pages: &Pages, at: u32, width: Width, with_sign: bool) -> Option<u32>
     ensures { result ≡ option_map (λ n. cond with_sign (sign_extended (8 * bytes_of width) n) n) (number_at pages.now at (bytes_of width)) }
 {
     match (width, with_sign) {

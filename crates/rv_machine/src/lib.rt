@@ -5,6 +5,8 @@
 //! may make and change states itself, and nothing is counted then.
 #![tactic(auto)]
 
+mod calls;
+mod changes;
 mod effect;
 mod happening;
 pub mod laws;

@@ -3,7 +3,7 @@ ghost use Rattle.std.specs.Prelude.{◌≡◌, ◌<◌, ◌^◌};
 ghost use Rattle.std.specs.List.{All};
 ghost use Rattle.rv_pages.specs.Memory.{page_numbers};
 ghost use Rattle.rv_machine.specs.MachineState.{IsMachineState};
-ghost use Rattle.rv_machine.specs.StepTable.{with_register};
+ghost use Rattle.rv_machine.specs.StateChanges.{with_register};
 
 use crate::status::Status;
 use rv_pages::Pages;

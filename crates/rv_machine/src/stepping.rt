@@ -1,16 +1,17 @@
 // One step of the machine.
-ghost use Rattle.std.specs.Prelude.{◌≡◌, ℕ, ◌+◌, ◌≤◌, ◌<◌, ◌&&◌, ◌↔◌, List, [], nat_le, nat_lt, Any, IsTrue};
+ghost use Rattle.std.specs.Prelude.{◌≡◌, ◌+◌, ◌≤◌, ◌<◌, ◌↔◌, cond, [], is_some, Any, IsTrue};
 ghost use Rattle.std.specs.Option.{option_map_or};
-ghost use Rattle.std.specs.List.{list_any};
-ghost use Rattle.rv_pages.specs.Memory.{page_numbers};
+ghost use Rattle.rv_pages.specs.Memory.{number_at, page_numbers};
 ghost use Rattle.rv_decode.specs.Rows.{decoded};
 ghost use Rattle.rv_machine.specs.Effects.{bytes_of};
-ghost use Rattle.rv_machine.specs.StepTable.{next, said, effect_at_pc, written, addresses};
+ghost use Rattle.rv_machine.specs.StateChanges.{addresses};
+ghost use Rattle.rv_machine.specs.StepTable.{next, said, effect_at_pc, written};
 
-use crate::effect::Effect::{self, Store};
+use crate::calls::part_written;
+use crate::effect::Effect::{self, Call, Store};
 use crate::effect::Width::{self, Byte, Half, Word};
 use crate::effect::effect_of;
-use crate::happening::{happen, load};
+use crate::happening::happen;
 use crate::state::State;
 use crate::status::Status;
 use crate::steps::Steps;
@@ -34,22 +35,22 @@ pub fn step<L: Ledger>(state: &mut State, journal: &Journal, steps: &mut Steps<L
     steps.tick();
     if let Status::Running = state.status {
         match state.pages.load32(state.pc) {
-            Some(word) => execute(state, word),
+            Some(word) => execute(state, journal, word),
             None => state.status = Status::Trapped(UNMAPPED),
         }
     }
 }
 
-// What the word at pc does.
+// What the word at pc does, with the recorded input.
 #[inline(always)]
-fn execute(state: &mut State, word: u32)
-    ensures state { state.new ≡ said state.old (decoded word) }
+fn execute(state: &mut State, journal: &Journal, word: u32)
+    ensures state { state.new ≡ said state.old journal.now (decoded word) }
     ensures mapped { page_numbers state.new.memory ≡ page_numbers state.old.memory }
 {
     match decode(word) {
         Some(inst) => {
             let effect = effect_of(inst, state.pc, &state.x);
-            happen(state, effect);
+            happen(state, journal, effect);
         }
         None => state.status = Status::Trapped(ILLEGAL),
     }
@@ -61,24 +62,36 @@ pub fn wrote(state: &State, journal: &Journal, word: u32) -> bool
     requires { word ≤ 0xFFFFFFFC }
     ensures { IsTrue result ↔ Any (λ at. (word ≤ at) × (at < word + 4)) (written state.now journal.now) }
 {
-    match next_store(state) {
-        Some((at, width)) => meets(at, width, word),
+    match next_part_written(state, journal) {
+        Some((at, count)) => meets(at, count, word),
         None => false,
     }
 }
 
-// Where the next step stores, and how much, if it stores and does not trap.
-fn next_store(state: &State) -> Option<(u32, Width)>
-    ensures { (journal : List (List ℕ)) → written state.now journal ≡ option_map_or (λ store. addresses store.0 (bytes_of store.1)) result [] }
+// Where the next step writes, and how many bytes, if it writes.
+fn next_part_written(state: &State, journal: &Journal) -> Option<(u32, u32)>
+    ensures { written state.now journal.now ≡ option_map_or (λ part. addresses part.0 part.1) result [] }
 {
-    if let Status::Running = state.status
-        && let Some(Store(at, width, _)) = effect_at(state)
-        && load(&state.pages, at, width, false).is_some()
-    {
-        Some((at, width))
-    } else {
-        None
+    if state.status != Status::Running {
+        return None;
     }
+    match effect_at(state)? {
+        Store(at, width, _) => part_stored(state, at, width),
+        Call => part_written(state, journal),
+        _ => None,
+    }
+}
+
+// Where a store writes, and how many bytes, if it does not trap.
+fn part_stored(state: &State, at: u32, width: Width) -> Option<(u32, u32)>
+    ensures { cond (is_some (number_at state.now.memory at (bytes_of width))) (addresses at (bytes_of width)) [] ≡ option_map_or (λ part. addresses part.0 part.1) result [] }
+{
+    let count = match width {
+        Byte => 1,
+        Half => 2,
+        Word => 4,
+    };
+    state.pages.are_mapped(at, count).then_some((at, count))
 }
 
 // The effect of the word at pc, if it is mapped and an instruction.
@@ -90,18 +103,13 @@ fn effect_at(state: &State) -> Option<Effect>
     Some(effect_of(inst, state.pc, &state.x))
 }
 
-// Whether one of the addresses from `at` on, as many as the width says, is one of the four from `word` on.
-fn meets(at: u32, width: Width, word: u32) -> bool
+// Whether one of so many addresses from `at` on, modulo 2 ^ 32, is one of the four from `word` on: the first of the four
+// is among them, or the first of them is among the four.
+fn meets(at: u32, count: u32, word: u32) -> bool
     requires { word ≤ 0xFFFFFFFC }
-    ensures { result ≡ list_any (λ a. nat_le word a && nat_lt a (word + 4)) (addresses at (bytes_of width)) }
+    ensures { IsTrue result ↔ Any (λ a. (word ≤ a) × (a < word + 4)) (addresses at count) }
 {
-    let is_within = |a: u32| a.wrapping_sub(word) < 4;
-    let (second, third, fourth) = (at.wrapping_add(1), at.wrapping_add(2), at.wrapping_add(3));
-    match width {
-        Byte => is_within(at),
-        Half => is_within(at) || is_within(second),
-        Word => is_within(at) || is_within(second) || is_within(third) || is_within(fourth),
-    }
+    count > 0 && (word.wrapping_sub(at) < count || at.wrapping_sub(word) < 4)
 }
 
 #[cfg(test)]

@@ -15,11 +15,11 @@ use Rattle.rv_pages.proofs.Whole.{same_pages}
 use Rattle.rv_machine.specs.declared.status.Status.{Status}
 use Rattle.rv_machine.specs.declared.status.Status.TheVariants.{Running, Exited, Trapped}
 use Rattle.rv_machine.specs.MachineState.{MachineState, IsStatus, IsMachineState}
-use Rattle.rv_machine.specs.States.{raw_start, state_number}
+use Rattle.input_journal.specs.Form.{IsRecorded}
+use Rattle.rv_machine.specs.States.{state_number}
 use Rattle.rv_machine.proofs.Causes.{cause_below}
 use Rattle.rv_machine.proofs.Runs.{state_number_keeps_pages}
 use Rattle.rv_machine.proofs.Staying.{number_is_state}
-use Rattle.rv_machine.proofs.Starting.{start_is_state}
 use Rattle.state_image.specs.Image.{image, status_kind, status_value, pages_stored, page_field}
 
 -- two joined lists whose first parts are equally long
@@ -237,10 +237,8 @@ image_tells s t p q numbers h =
     let memory : s.memory ≡ t.memory = memory_tells s.memory t.memory p.memory q.memory numbers whole.1 in
     λ i. record { pc = pc i; registers = registers i; status = status i; item = item i; offset = offset i; written = written i; memory = memory i }
 
--- the same of two states of a program's run
-pub run_image_tells : (program : List ℕ) (journal : List (List ℕ)) (m n : ℕ) → length program ≤ 4096 → All (λ b. b < 256) program → image (state_number (raw_start program) journal m) ≡ image (state_number (raw_start program) journal n) → state_number (raw_start program) journal m ≡ state_number (raw_start program) journal n
-run_image_tells program journal m n few small h =
-    let start : MachineState = raw_start program in
-    let is : IsMachineState start = start_is_state program few small in
-    image_tells (state_number start journal m) (state_number start journal n) (number_is_state start journal m is) (number_is_state start journal n is)
-    (state_number_keeps_pages start journal m ∙ sym (state_number_keeps_pages start journal n)) h
+-- the same of two states of a run
+pub run_image_tells : (first : MachineState) (journal : List (List ℕ)) (m n : ℕ) → IsMachineState first → IsRecorded journal → image (state_number first journal m) ≡ image (state_number first journal n) → state_number first journal m ≡ state_number first journal n
+run_image_tells first journal m n is recorded h =
+    image_tells (state_number first journal m) (state_number first journal n) (number_is_state first journal m is recorded) (number_is_state first journal n is recorded)
+    (state_number_keeps_pages first journal m ∙ sym (state_number_keeps_pages first journal n)) h

@@ -91,7 +91,8 @@ fn push_digest(text: &mut Line, digest: &[u8; 32])
 #[cfg(test)]
 mod tests {
     use super::*;
-    use rv_machine::load_raw;
+    use rv_pages::Pages;
+    use std::alloc::{AllocError, Global};
     use std::test::Fail;
 
     // addi a0, x0, 7; addi t0, x0, 1; addi t1, t0, 2; addi a7, x0, 93
@@ -100,13 +101,36 @@ mod tests {
         0x05,
     ];
 
+    // A page for words, and sixteen for the stack.
+    const MAPPED: [u32; 17] = [
+        0x10, 0xbfff0, 0xbfff1, 0xbfff2, 0xbfff3, 0xbfff4, 0xbfff5, 0xbfff6, 0xbfff7, 0xbfff8,
+        0xbfff9, 0xbfffa, 0xbfffb, 0xbfffc, 0xbfffd, 0xbfffe, 0xbffff,
+    ];
+
+    // The state in which the program is next, at 0x10000.
+    fn start(alloc: Global) -> Result<State, AllocError> {
+        let mut pages = Pages::map(alloc, &MAPPED)?;
+        pages.store_bytes(0x10000, &PROGRAM);
+        let mut x = [0; 32];
+        x[2] = 0xbffffff0;
+        Ok(State {
+            pc: 0x10000,
+            x,
+            status: Status::Running,
+            item: 0,
+            offset: 0,
+            written: 0,
+            pages,
+        })
+    }
+
     // The digests of the tests were computed from the form by another program.
 
     #[test]
     fn the_line_of_a_start_state_also_after_a_page_was_made_zero_again(
         rt: HostRuntime,
     ) -> Result<(), Fail> {
-        let mut state = load_raw(rt.alloc(), &PROGRAM)?;
+        let mut state = start(rt.alloc())?;
         assert!(rt; state.pages.store32(0xbffffffc, 5));
         assert!(rt; state.pages.store32(0xbffffffc, 0));
         let mut text = Line::new();
@@ -125,7 +149,7 @@ mod tests {
 
     #[test]
     fn the_line_of_a_state_that_exited(rt: HostRuntime) -> Result<(), Fail> {
-        let mut state = load_raw(rt.alloc(), &PROGRAM)?;
+        let mut state = start(rt.alloc())?;
         let mut page = [0; 4096];
         page[4095] = 0x80;
         assert_eq!(rt; state.pages.count(), 17);
@@ -155,7 +179,7 @@ mod tests {
 
     #[test]
     fn the_line_of_a_state_that_trapped(rt: HostRuntime) -> Result<(), Fail> {
-        let mut state = load_raw(rt.alloc(), &PROGRAM)?;
+        let mut state = start(rt.alloc())?;
         state.pc = 0x10008;
         state.status = Status::Trapped(0);
         state.item = 5;

@@ -1,40 +1,71 @@
 // Programs of a few words, with values by hand from the manual.
-ghost use Rattle.std.specs.Prelude.{◌≡◌, ◌≤◌, ◌<◌, length};
+ghost use Rattle.std.specs.Prelude.{◌≡◌, ◌<◌};
 ghost use Rattle.rv_pages.specs.Memory.{page_numbers};
 
 use super::*;
-use crate::raw::load_raw;
+use rv_pages::Pages;
 use std::alloc::{AllocError, Global};
 use std::marker::Brand;
 use std::sync::ledger::Blank;
 use std::test::Fail;
 
+mod calls;
 mod qemu;
 
 const EXIT: [u32; 4] = [0x00700513, 0x00100293, 0x00228313, 0x05d00893];
 
-// The state of the program of these words after so many steps.
-fn run(alloc: Global, words: &[u32], count: u32) -> Result<State, AllocError>
-    requires some { 0 < length words.now }
-    requires page { length words.now ≤ 1024 }
-{
-    let mut bytes = Vec::new(alloc);
+// A page for words, and sixteen for the stack.
+const MAPPED: [u32; 17] = [
+    0x10, 0xbfff0, 0xbfff1, 0xbfff2, 0xbfff3, 0xbfff4, 0xbfff5, 0xbfff6, 0xbfff7, 0xbfff8, 0xbfff9,
+    0xbfffa, 0xbfffb, 0xbfffc, 0xbfffd, 0xbfffe, 0xbffff,
+];
+
+// The state in which these words stand from 0x10000 on, and the first is next.
+fn start(alloc: Global, words: &[u32]) -> Result<State, AllocError> {
+    let mut pages = Pages::map(alloc, &MAPPED)?;
+    let mut at = 0x10000u32;
     for word in words {
-        bytes.extend_from_slice(&word.to_le_bytes())?;
+        pages.store32(at, *word);
+        at = at.wrapping_add(4);
     }
-    Ok(run_from::<Brand>(load_raw(alloc, &bytes)?, alloc, count, Blank::new(1)))
+    let mut x = [0; 32];
+    x[2] = 0xbffffff0;
+    Ok(State {
+        pc: 0x10000,
+        x,
+        status: Status::Running,
+        item: 0,
+        offset: 0,
+        written: 0,
+        pages,
+    })
 }
 
-fn run_from<L: Ledger>(mut state: State, alloc: Global, count: u32, blank: Blank) -> State
+// The state of the program of these words after so many steps.
+fn run(alloc: Global, words: &[u32], count: u32) -> Result<State, AllocError> {
+    Ok(run_from::<Brand>(start(alloc, words)?, alloc, count, Blank::new(1)))
+}
+
+// The state after so many steps without recorded input.
+fn run_from<L: Ledger>(state: State, alloc: Global, count: u32, blank: Blank) -> State
     requires name { blank.name ≡ L.name }
     requires parts { blank.parts ≡ L.parts }
     requires some { 0 < blank.parts }
     ensures { page_numbers result.memory ≡ page_numbers state.memory }
 {
-    let journal = Journal::none(alloc);
+    run_with::<L>(state, &Journal::none(alloc), count, blank)
+}
+
+// The state after so many steps with recorded input.
+fn run_with<L: Ledger>(mut state: State, journal: &Journal, count: u32, blank: Blank) -> State
+    requires name { blank.name ≡ L.name }
+    requires parts { blank.parts ≡ L.parts }
+    requires some { 0 < blank.parts }
+    ensures { page_numbers result.memory ≡ page_numbers state.memory }
+{
     let mut steps = Steps::<L>::new(blank);
     for _ in 0..count {
-        step(&mut state, &journal, &mut steps);
+        step(&mut state, journal, &mut steps);
     }
     state
 }
@@ -173,14 +204,6 @@ fn a_shift_brings_the_sign_in(rt: HostRuntime) -> Result<(), Fail> {
     // SRAI x6, x5, 4
     let state = one_step(rt.alloc(), 0x4042d313, 0x80000000)?;
     assert_eq!(rt; (state.pc, state.x[6]), (0x10004, 0xf8000000));
-    Ok(())
-}
-
-#[test]
-fn a_call_is_answered_that_it_is_not_there(rt: HostRuntime) -> Result<(), Fail> {
-    let state = one_step(rt.alloc(), 0x00000073, 0)?;
-    assert_eq!(rt; (state.pc, state.status), (0x10004, Status::Running));
-    assert_eq!(rt; state.x[10], 0xffffffda);
     Ok(())
 }
 
