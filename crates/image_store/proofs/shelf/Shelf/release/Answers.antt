@@ -1,0 +1,58 @@
+use Rattle.std.proofs.Common.{◌≡◌, ◌<◌, ◌+◌, ◌^◌, ℕ, List, Option, Some, length, ◌∙◌, sym, ap, subst, set}
+use Rattle.std.proofs.lemmas.List.{length-set}
+use Rattle.image_store.specs.declared.shelf.Kept.{Kept}
+use Rattle.image_store.specs.declared.shelf.Fingerprint.{Fingerprint}
+use Rattle.std.specs.FinMap as finmap
+use Rattle.keepers.specs.Told.{Tells}
+use Rattle.image_store.specs.Calls.{without_pair}
+use Rattle.image_store.specs.Pairs.{pair_at}
+use Rattle.image_store.specs.Sharing.{SharesOut, IsShelf, pairs_in}
+use Rattle.image_store.specs.Shelves.{ShelfState}
+use Rattle.image_store.specs.Standing.{LevelStands, LevelAlone, KeepsAs, Alone, IsToldAnd}
+use Rattle.image_store.proofs.Sharing.{shares_less}
+use Rattle.image_store.proofs.Places.{pairs_less}
+use Rattle.image_store.proofs.Stands.{level_less, level_alone_less}
+use Rattle.image_store.proofs.shelf.Shelf.release.Goals as goal
+
+shelf_less : (prints : List Fingerprint) (places free : List ℕ) (count n : ℕ) (kept : Kept) → IsShelf prints places free count → pair_at (pairs_in prints places) n ≡ Some kept →
+    IsShelf prints (set places n 0) (set free count kept.slot) (count + 1)
+shelf_less prints places free count n kept shelf is =
+    let long : length (set free count kept.slot) ≡ length free = length-set free count kept.slot in
+    record {
+      shares = subst (λ ps. SharesOut ps (set free count kept.slot) (count + 1)) (sym (pairs_less prints places n)) (shares_less (pairs_in prints places) free count n kept shelf.shares is);
+      each = shelf.each ∙ sym long;
+      small = subst (λ q. q < 2 ^ 32) (sym long) shelf.small;
+    }
+
+pub invariant_of-self : goal.invariant_of-self
+invariant_of-self g c =
+    let is = ap (λ (s : ShelfState). pair_at s.pairs c.args.n) c.self.view_is ∙ c.kept-kept.ensures.value in
+    shelf_less _ _ _ _ c.args.n c.kept-kept.result c.self.invariant is
+
+pub returns-clause-ok : goal.returns-clause-ok
+returns-clause-ok g c = λ kept at.
+    let prints = c.self.inside.fingerprints.items in
+    let places = c.self.inside.places.items in
+    let same : c.kept-kept.result ≡ kept = cc (c.kept-kept.ensures.value, at) in
+    let less = pairs_less prints places c.args.n in
+    let long = length-set c.self.inside.free.items c.self.inside.count c.kept-kept.result.slot in
+    let changed : ◌≡◌ {A = ShelfState} (record { pairs = pairs_in prints (set places c.args.n 0); room = length (set c.self.inside.free.items c.self.inside.count c.kept-kept.result.slot) }) (without_pair (record { pairs = pairs_in prints places; room = length c.self.inside.free.items }) c.args.n) =
+    λ i. record { pairs = less i; room = long i } in
+    record {
+      pairs = changed ∙ ap (λ (s : ShelfState). without_pair s c.args.n) c.self.view_is;
+      told = subst (λ (k : Kept). Tells (g.K.Keeper.told c.args.keeper.now) (g.K.Keeper.told c.free.new.self) (λ images images'. images' ≡ finmap.remove images k.slot)) same c.in-Ok.ensures.ok;
+    }
+
+pub returns-clause-stands : goal.returns-clause-stands
+returns-clause-stands g c = λ bytes stands.
+    let is = ap (λ (s : ShelfState). pair_at s.pairs c.args.n) c.self.view_is ∙ c.kept-kept.ensures.value in
+    let before = subst (λ (s : ShelfState). LevelStands s (g.K.Keeper.told c.args.keeper.now) bytes) (sym c.self.view_is) stands in
+    let after = level_less (pairs_in c.self.inside.fingerprints.items c.self.inside.places.items) bytes (g.K.Keeper.told c.args.keeper.now) (g.K.Keeper.told c.free.new.self) c.args.n c.kept-kept.result is c.in-Ok.ensures.ok before in
+    subst (λ (ps : List (Option Kept)). IsToldAnd (g.K.Keeper.told c.free.new.self) (KeepsAs ps (finmap.remove bytes c.args.n))) (sym (pairs_less c.self.inside.fingerprints.items c.self.inside.places.items c.args.n)) after
+
+pub returns-clause-alone : goal.returns-clause-alone
+returns-clause-alone g c = λ alone.
+    let is = ap (λ (s : ShelfState). pair_at s.pairs c.args.n) c.self.view_is ∙ c.kept-kept.ensures.value in
+    let before = subst (λ (s : ShelfState). LevelAlone s (g.K.Keeper.told c.args.keeper.now)) (sym c.self.view_is) alone in
+    let after = level_alone_less (pairs_in c.self.inside.fingerprints.items c.self.inside.places.items) (g.K.Keeper.told c.args.keeper.now) (g.K.Keeper.told c.free.new.self) c.args.n c.kept-kept.result is c.in-Ok.ensures.ok before in
+    subst (λ (ps : List (Option Kept)). IsToldAnd (g.K.Keeper.told c.free.new.self) (Alone ps)) (sym (pairs_less c.self.inside.fingerprints.items c.self.inside.places.items c.args.n)) after

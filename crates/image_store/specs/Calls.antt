@@ -1,0 +1,47 @@
+-- What a call does to a level of a store and to what its keeper tells, also where nothing stands.
+use Rattle.std.specs.Prelude.{◌≡◌, ◌⊎◌, ℕ, ◌<◌, List, length, slice_set, take, Option, None, Some}
+use Rattle.std.specs.FinMap as finmap
+use Rattle.sha2.specs.Sha256.{sha256}
+use Rattle.keepers.specs.Told.{Images, Tells, WhereTold, SameButAt, image_in}
+use Rattle.image_store.specs.declared.shelf.Kept.{Kept}
+use Rattle.image_store.specs.Pairs.{IsFreeSlot}
+use Rattle.image_store.specs.Shelves.{ShelfState}
+
+-- the level with this pair
+abbrev pub with_pair : ShelfState → ℕ → Kept → ShelfState
+with_pair shelf n kept = record shelf { pairs = slice_set shelf.pairs n (Some kept) }
+
+-- the level without this pair
+abbrev pub without_pair : ShelfState → ℕ → ShelfState
+without_pair shelf n = record shelf { pairs = slice_set shelf.pairs n None }
+
+-- what is kept of an image in a slot
+abbrev pub kept_in : ℕ → List ℕ → Kept
+kept_in slot image = record { slot = slot; length = length image; digest = sha256 image }
+
+-- a pair is kept: in a slot of the level that no other has, where the keeper tells the image, and all else as before
+pub record IsKept (old new : ShelfState) (n : ℕ) (image : List ℕ) (before after : Option Images) : Type 0 where
+  pub slot : ℕ
+  pub within : slot < old.room
+  pub unused : IsFreeSlot old.pairs slot
+  pub pairs : new ≡ with_pair old n (kept_in slot image)
+  pub told : Tells before after (λ images images'. images' ≡ finmap.insert images slot image)
+
+-- a pair isn't kept: one slot that no pair has may hold anything
+pub record IsNotKept (old : ShelfState) (before after : Option Images) : Type 0 where
+  pub slot : ℕ
+  pub unused : IsFreeSlot old.pairs slot
+  pub told : Tells before after (SameButAt slot)
+
+-- what was got of a pair: so many bytes of what the keeper tells at its slot
+abbrev pub IsGot : Kept → Option Images → List ℕ → Type 0
+IsGot kept told got = WhereTold told (λ images. got ≡ take kept.length (image_in images kept.slot))
+
+-- a pair is released: its slot is empty, and all else as before
+pub record IsReleased (old new : ShelfState) (n : ℕ) (kept : Kept) (before after : Option Images) : Type 0 where
+  pub pairs : new ≡ without_pair old n
+  pub told : Tells before after (λ images images'. images' ≡ finmap.remove images kept.slot)
+
+-- a pair isn't released: its slot holds what it held, or nothing
+abbrev pub IsNotReleased : Kept → Option Images → Option Images → Type 0
+IsNotReleased kept before after = Tells before after (λ images images'. (images' ≡ images) ⊎ (images' ≡ finmap.remove images kept.slot))

@@ -1,0 +1,5 @@
+pub mod Calls
+pub mod Pairs
+pub mod Sharing
+pub mod Shelves
+pub mod Standing

@@ -1,0 +1,227 @@
+// The pairs of one level.
+ghost use Rattle.std.specs.Prelude.{◌≡◌, ◌≢◌, ℕ, ◌<◌, ◌≤◌, ◌^◌, List, length, None, Some, IsSome, Err, IfOk, OnOk, OnErr};
+ghost use Rattle.std.specs.Vec.{vec_len, vec_capacity};
+ghost use Rattle.sha2.specs.Sha256.{sha256};
+ghost use Rattle.std.specs.FinMap as finmap;
+ghost use Rattle.keepers.specs.Counts.{Rose, raised};
+ghost use Rattle.keepers.specs.Told.{Images};
+ghost use Rattle.image_store.specs.Pairs.{pair_at, held};
+ghost use Rattle.image_store.specs.Calls.{IsKept, IsNotKept, IsGot, IsReleased, IsNotReleased};
+ghost use Rattle.image_store.specs.Shelves.{no_pairs};
+ghost use Rattle.image_store.specs.Standing.{LevelStands, LevelAlone};
+
+use keepers::{KeepFault, Keeper};
+use sha2::{Digest, Sha256};
+use std::alloc::{AllocError, Global};
+use std::marker::Model;
+use thiserror::Error;
+
+/// Why a store refuses a call.
+#[derive(Clone, Copy, Debug, PartialEq, Eq, Error)]
+pub enum StoreFault {
+    /// The keeper failed.
+    #[error("the storage failed")]
+    Keeper,
+    /// The bytes that were got aren't those that were put: the SHA-256 of both.
+    #[error("the image isn't the one that was stored")]
+    Damaged { put: [u8; 32], got: [u8; 32] },
+    /// There was no memory.
+    #[error("out of memory")]
+    Memory,
+}
+
+/// What is kept of a pair: its slot, and the length and the SHA-256 of its bytes.
+#[derive(Clone, Copy, Debug, PartialEq, Eq)]
+pub struct Kept {
+    pub slot: u32,
+    pub length: u32,
+    pub digest: [u8; 32],
+}
+
+/// The length and the SHA-256 of the bytes in a slot.
+#[derive(Clone, Copy)]
+pub(crate) struct Fingerprint {
+    length: u32,
+    digest: [u8; 32],
+}
+
+const NO_FINGERPRINT: Fingerprint = Fingerprint {
+    length: 0,
+    digest: [0; 32],
+};
+
+/// The pairs of one level. `places` has a number for each state: 0 where its pair isn't held, else one more than its slot.
+/// `fingerprints` has one for each slot. The first `count` of `free` are the slots that no pair has.
+#[derive(Drop)]
+pub(crate) struct Shelf {
+    places: Vec<u32>,
+    fingerprints: Vec<Fingerprint>,
+    free: Vec<u32>,
+    count: usize,
+}
+
+impl Model for Shelf {
+    ghost use Rattle.std.specs.Prelude.{length};
+    ghost use Rattle.image_store.specs.Sharing.{IsShelf, pairs_in};
+    ghost use Rattle.image_store.specs.Shelves.{ShelfState};
+
+    ghost Value = { ShelfState };
+
+    ghost view = { λ s. record { pairs = pairs_in s.fingerprints.items s.places.items; room = length s.free.items } };
+
+    ghost invariant = { λ s. IsShelf s.fingerprints.items s.places.items s.free.items s.count };
+}
+
+impl Shelf {
+    /// No pairs, and room for so many of the states 0 to `steps`. It takes all the memory that the level ever needs.
+    pub fn new(alloc: Global, steps: u32, room: u32) -> Result<Shelf, AllocError>
+        ensures { IfOk result (λ shelf. shelf ≡ no_pairs steps room) }
+    {
+        let places = vec![in alloc; 0; steps as usize + 1]?;
+        let fingerprints = vec![in alloc; NO_FINGERPRINT; room as usize]?;
+        let mut free = Vec::with_capacity(alloc, room as usize)?;
+        for above in 0..room {
+            free.push(room - 1 - above)?;
+        }
+        Ok(Shelf {
+            places,
+            fingerprints,
+            free,
+            count: room as usize,
+        })
+    }
+
+    /// What is kept of a held pair.
+    pub fn kept(&self, n: u32) -> Kept
+        requires { IsSome (pair_at self.now.pairs n) }
+        ensures value { pair_at self.now.pairs n ≡ Some result }
+        ensures slot { result.slot < self.now.room }
+    {
+        let slot = self.places[n as usize] - 1;
+        let Fingerprint { length, digest } = self.fingerprints[slot as usize];
+        Kept {
+            slot,
+            length,
+            digest,
+        }
+    }
+
+    /// Puts an image into a slot that no pair has, and keeps it for a pair. After a refusal the pairs are as before.
+    pub fn keep<K: Keeper>(
+        &mut self,
+        keeper: &mut K,
+        n: u32,
+        image: &[u8],
+    ) -> Result<(), StoreFault>
+        requires number { n < length self.old.pairs }
+        requires new { pair_at self.old.pairs n ≡ None }
+        requires room { held self.old.pairs < self.old.room }
+        requires size { length image.now < 2 ^ 32 }
+        requires slots { self.old.room ≤ K.slot_count keeper.old }
+        ensures ok { OnOk result (IsKept self.old self.new n image.now (K.told keeper.old) (K.told keeper.new)) }
+        ensures stands { (bytes : Images) → LevelStands self.old (K.told keeper.old) bytes → OnOk result (LevelStands self.new (K.told keeper.new) (finmap.insert bytes n image.now)) }
+        ensures alone { LevelAlone self.old (K.told keeper.old) → OnOk result (LevelAlone self.new (K.told keeper.new)) }
+        ensures refused { OnErr result (self.new ≡ self.old) }
+        ensures still { (bytes : Images) → LevelStands self.old (K.told keeper.old) bytes → OnErr result (LevelStands self.new (K.told keeper.new) bytes) }
+        ensures left { OnErr result (IsNotKept self.old (K.told keeper.old) (K.told keeper.new)) }
+        ensures slots { K.slot_count keeper.new ≡ K.slot_count keeper.old }
+        ensures room { K.room_bytes keeper.new ≡ K.room_bytes keeper.old }
+        ensures puts { K.put_count keeper.new ≡ raised (K.put_count keeper.old) 1 }
+        ensures gets { K.get_count keeper.new ≡ K.get_count keeper.old }
+        ensures frees { K.free_count keeper.new ≡ K.free_count keeper.old }
+        ensures quiet { result ≢ Err StoreFault.Keeper → K.fault_count keeper.new ≡ K.fault_count keeper.old }
+        ensures later { K.fault_count keeper.old ≤ K.fault_count keeper.new }
+        ensures cause { result ≡ Err StoreFault.Keeper → Rose (K.fault_count keeper.old) (K.fault_count keeper.new) }
+        ensures whole { (put got : List ℕ) → result ≢ Err (StoreFault.Damaged put got) }
+        ensures roomy { (room : ℕ) → K.room_bytes keeper.old ≡ Some room → length image.now ≤ room → result ≢ Err StoreFault.Memory }
+    {
+        let slot = self.free[self.count - 1];
+        match keeper.put(slot, image) {
+            Ok(()) => {}
+            Err(KeepFault::Failed) => return Err(StoreFault::Keeper),
+            Err(KeepFault::Memory) => return Err(StoreFault::Memory),
+        }
+        self.count -= 1;
+        self.places[n as usize] = slot + 1;
+        self.fingerprints[slot as usize] = Fingerprint {
+            length: image.len() as u32,
+            digest: Sha256::digest(image),
+        };
+        Ok(())
+    }
+
+    /// Gets the bytes of a held pair. Damaged says that their digest isn't that of the bytes that were put.
+    pub fn fetch<K: Keeper>(
+        &self,
+        keeper: &mut K,
+        n: u32,
+        into: &mut Vec<u8>,
+    ) -> Result<(), StoreFault>
+        requires held { IsSome (pair_at self.now.pairs n) }
+        requires slots { self.now.room ≤ K.slot_count keeper.old }
+        ensures ok { OnOk result ((kept : Kept) → pair_at self.now.pairs n ≡ Some kept →
+            IsGot kept (K.told keeper.old) into.new.items × (vec_len into.new ≤ kept.length) × (sha256 into.new.items ≡ kept.digest)) }
+        ensures damaged { (put got : List ℕ) → result ≡ Err (StoreFault.Damaged put got) → (kept : Kept) → pair_at self.now.pairs n ≡ Some kept →
+            IsGot kept (K.told keeper.old) into.new.items × (put ≡ kept.digest) × (got ≡ sha256 into.new.items) × (got ≢ put) }
+        ensures stands { (bytes : Images) → LevelStands self.now (K.told keeper.old) bytes → OnOk result (finmap.get bytes n ≡ Some into.new.items) }
+        ensures sound { (bytes : Images) → LevelStands self.now (K.told keeper.old) bytes → (put got : List ℕ) → result ≢ Err (StoreFault.Damaged put got) }
+        ensures same { K.told keeper.new ≡ K.told keeper.old }
+        ensures reserved { vec_capacity into.old ≤ vec_capacity into.new }
+        ensures slots { K.slot_count keeper.new ≡ K.slot_count keeper.old }
+        ensures room { K.room_bytes keeper.new ≡ K.room_bytes keeper.old }
+        ensures gets { K.get_count keeper.new ≡ raised (K.get_count keeper.old) 1 }
+        ensures puts { K.put_count keeper.new ≡ K.put_count keeper.old }
+        ensures frees { K.free_count keeper.new ≡ K.free_count keeper.old }
+        ensures quiet { result ≢ Err StoreFault.Keeper → K.fault_count keeper.new ≡ K.fault_count keeper.old }
+        ensures later { K.fault_count keeper.old ≤ K.fault_count keeper.new }
+        ensures cause { result ≡ Err StoreFault.Keeper → Rose (K.fault_count keeper.old) (K.fault_count keeper.new) }
+        ensures roomy { (room : ℕ) (kept : Kept) → K.room_bytes keeper.old ≡ Some room → pair_at self.now.pairs n ≡ Some kept → kept.length ≤ vec_capacity into.old → result ≢ Err StoreFault.Memory }
+    {
+        let kept = self.kept(n);
+        match keeper.get(kept.slot, kept.length, into) {
+            Ok(()) => {}
+            Err(KeepFault::Failed) => return Err(StoreFault::Keeper),
+            Err(KeepFault::Memory) => return Err(StoreFault::Memory),
+        }
+        let got = Sha256::digest(into.as_slice());
+        if got != kept.digest {
+            return Err(StoreFault::Damaged {
+                put: kept.digest,
+                got,
+            });
+        }
+        Ok(())
+    }
+
+    /// Frees the slot of a held pair, and keeps the pair no longer. After a refusal the pairs are as before.
+    pub fn release<K: Keeper>(&mut self, keeper: &mut K, n: u32) -> Result<(), StoreFault>
+        requires held { IsSome (pair_at self.old.pairs n) }
+        requires slots { self.old.room ≤ K.slot_count keeper.old }
+        ensures ok { OnOk result ((kept : Kept) → pair_at self.old.pairs n ≡ Some kept → IsReleased self.old self.new n kept (K.told keeper.old) (K.told keeper.new)) }
+        ensures stands { (bytes : Images) → LevelStands self.old (K.told keeper.old) bytes → OnOk result (LevelStands self.new (K.told keeper.new) (finmap.remove bytes n)) }
+        ensures alone { LevelAlone self.old (K.told keeper.old) → OnOk result (LevelAlone self.new (K.told keeper.new)) }
+        ensures refused { OnErr result (self.new ≡ self.old) }
+        ensures left { OnErr result ((kept : Kept) → pair_at self.old.pairs n ≡ Some kept → IsNotReleased kept (K.told keeper.old) (K.told keeper.new)) }
+        ensures slots { K.slot_count keeper.new ≡ K.slot_count keeper.old }
+        ensures room { K.room_bytes keeper.new ≡ K.room_bytes keeper.old }
+        ensures frees { K.free_count keeper.new ≡ raised (K.free_count keeper.old) 1 }
+        ensures puts { K.put_count keeper.new ≡ K.put_count keeper.old }
+        ensures gets { K.get_count keeper.new ≡ K.get_count keeper.old }
+        ensures quiet { result ≢ Err StoreFault.Keeper → K.fault_count keeper.new ≡ K.fault_count keeper.old }
+        ensures later { K.fault_count keeper.old ≤ K.fault_count keeper.new }
+        ensures cause { result ≡ Err StoreFault.Keeper → Rose (K.fault_count keeper.old) (K.fault_count keeper.new) }
+        ensures whole { (put got : List ℕ) → result ≢ Err (StoreFault.Damaged put got) }
+        ensures roomy { (room : ℕ) → K.room_bytes keeper.old ≡ Some room → result ≢ Err StoreFault.Memory }
+    {
+        let kept = self.kept(n);
+        match keeper.free(kept.slot) {
+            Ok(()) => {}
+            Err(KeepFault::Failed) => return Err(StoreFault::Keeper),
+            Err(KeepFault::Memory) => return Err(StoreFault::Memory),
+        }
+        self.places[n as usize] = 0;
+        self.free[self.count] = kept.slot;
+        self.count += 1;
+        Ok(())
+    }
+}
