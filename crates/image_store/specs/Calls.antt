@@ -37,11 +37,10 @@ pub record IsNotKept (old : ShelfState) (before after : Option Images) : Type 0 
 abbrev pub IsGot : Kept → Option Images → List ℕ → Type 0
 IsGot kept told got = WhereTold told (λ images. got ≡ take kept.length (image_in images kept.slot))
 
--- a pair is released: its slot is empty, and all else as before
-pub record IsReleased (old new : ShelfState) (n : ℕ) (kept : Kept) (before after : Option Images) : Type 0 where
-  pub pairs : new ≡ without_pair old n
-  pub told : Tells before after (λ images images'. images' ≡ finmap.remove images kept.slot)
+-- the slot of a pair is emptied, and all else is as before
+abbrev pub IsFreed : Kept → Option Images → Option Images → Type 0
+IsFreed kept before after = Tells before after (λ images images'. images' ≡ finmap.remove images kept.slot)
 
--- a pair isn't released: its slot holds what it held, or nothing
-abbrev pub IsNotReleased : Kept → Option Images → Option Images → Type 0
-IsNotReleased kept before after = Tells before after (λ images images'. (images' ≡ images) ⊎ (images' ≡ finmap.remove images kept.slot))
+-- the slot of a pair isn't emptied: it holds what it held, or nothing
+abbrev pub IsNotFreed : Kept → Option Images → Option Images → Type 0
+IsNotFreed kept before after = Tells before after (λ images images'. (images' ≡ images) ⊎ (images' ≡ finmap.remove images kept.slot))

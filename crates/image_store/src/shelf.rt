@@ -6,7 +6,7 @@ ghost use Rattle.std.specs.FinMap as finmap;
 ghost use Rattle.keepers.specs.Counts.{Rose, raised};
 ghost use Rattle.keepers.specs.Told.{Images};
 ghost use Rattle.image_store.specs.Pairs.{pair_at, held};
-ghost use Rattle.image_store.specs.Calls.{IsKept, IsNotKept, IsGot, IsReleased, IsNotReleased};
+ghost use Rattle.image_store.specs.Calls.{IsKept, IsNotKept, IsGot, IsFreed, IsNotFreed, without_pair};
 ghost use Rattle.image_store.specs.Shelves.{no_pairs};
 ghost use Rattle.image_store.specs.Standing.{LevelStands, LevelAlone};
 
@@ -197,11 +197,12 @@ impl Shelf {
     pub fn release<K: Keeper>(&mut self, keeper: &mut K, n: u32) -> Result<(), StoreFault>
         requires held { IsSome (pair_at self.old.pairs n) }
         requires slots { self.old.room ≤ K.slot_count keeper.old }
-        ensures ok { OnOk result ((kept : Kept) → pair_at self.old.pairs n ≡ Some kept → IsReleased self.old self.new n kept (K.told keeper.old) (K.told keeper.new)) }
+        ensures ok { OnOk result (self.new ≡ without_pair self.old n) }
+        ensures freed { OnOk result ((kept : Kept) → pair_at self.old.pairs n ≡ Some kept → IsFreed kept (K.told keeper.old) (K.told keeper.new)) }
         ensures stands { (bytes : Images) → LevelStands self.old (K.told keeper.old) bytes → OnOk result (LevelStands self.new (K.told keeper.new) (finmap.remove bytes n)) }
         ensures alone { LevelAlone self.old (K.told keeper.old) → OnOk result (LevelAlone self.new (K.told keeper.new)) }
         ensures refused { OnErr result (self.new ≡ self.old) }
-        ensures left { OnErr result ((kept : Kept) → pair_at self.old.pairs n ≡ Some kept → IsNotReleased kept (K.told keeper.old) (K.told keeper.new)) }
+        ensures left { OnErr result ((kept : Kept) → pair_at self.old.pairs n ≡ Some kept → IsNotFreed kept (K.told keeper.old) (K.told keeper.new)) }
         ensures slots { K.slot_count keeper.new ≡ K.slot_count keeper.old }
         ensures room { K.room_bytes keeper.new ≡ K.room_bytes keeper.old }
         ensures frees { K.free_count keeper.new ≡ raised (K.free_count keeper.old) 1 }

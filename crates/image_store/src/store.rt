@@ -9,7 +9,7 @@ ghost use Rattle.keepers.specs.Told.{Images};
 ghost use Rattle.image_store.specs.declared.shelf.Kept.{Kept};
 ghost use Rattle.image_store.specs.Pairs.{held};
 ghost use Rattle.image_store.specs.Shelves.{level_of, kept_at, no_pairs_on};
-ghost use Rattle.image_store.specs.Calls.{IsKept, IsNotKept, IsGot, IsReleased, IsNotReleased};
+ghost use Rattle.image_store.specs.Calls.{IsKept, IsNotKept, IsGot, IsFreed, IsNotFreed, without_pair};
 ghost use Rattle.image_store.specs.Standing.{LevelStands, LevelAlone};
 
 use crate::shelf::{Shelf, StoreFault};
@@ -125,12 +125,13 @@ impl Store {
         requires level { level < length self.old }
         requires held { IsSome (kept_at self.old level n) }
         requires slots { (level_of self.old level).room ≤ K.slot_count keeper.old }
-        ensures ok { OnOk result ((kept : Kept) → kept_at self.old level n ≡ Some kept → IsReleased (level_of self.old level) (level_of self.new level) n kept (K.told keeper.old) (K.told keeper.new)) }
+        ensures ok { OnOk result (level_of self.new level ≡ without_pair (level_of self.old level) n) }
+        ensures freed { OnOk result ((kept : Kept) → kept_at self.old level n ≡ Some kept → IsFreed kept (K.told keeper.old) (K.told keeper.new)) }
         ensures others { self.new ≡ slice_set self.old level (level_of self.new level) }
         ensures stands { (bytes : Images) → LevelStands (level_of self.old level) (K.told keeper.old) bytes → OnOk result (LevelStands (level_of self.new level) (K.told keeper.new) (finmap.remove bytes n)) }
         ensures alone { LevelAlone (level_of self.old level) (K.told keeper.old) → OnOk result (LevelAlone (level_of self.new level) (K.told keeper.new)) }
         ensures refused { OnErr result (self.new ≡ self.old) }
-        ensures left { OnErr result ((kept : Kept) → kept_at self.old level n ≡ Some kept → IsNotReleased kept (K.told keeper.old) (K.told keeper.new)) }
+        ensures left { OnErr result ((kept : Kept) → kept_at self.old level n ≡ Some kept → IsNotFreed kept (K.told keeper.old) (K.told keeper.new)) }
         ensures slots { K.slot_count keeper.new ≡ K.slot_count keeper.old }
         ensures room { K.room_bytes keeper.new ≡ K.room_bytes keeper.old }
         ensures frees { K.free_count keeper.new ≡ raised (K.free_count keeper.old) 1 }

@@ -3,8 +3,7 @@ use Rattle.std.proofs.lemmas.List.{length-set}
 use Rattle.image_store.specs.declared.shelf.Kept.{Kept}
 use Rattle.image_store.specs.declared.shelf.Fingerprint.{Fingerprint}
 use Rattle.std.specs.FinMap as finmap
-use Rattle.keepers.specs.Told.{Tells}
-use Rattle.image_store.specs.Calls.{without_pair}
+use Rattle.image_store.specs.Calls.{without_pair, IsFreed}
 use Rattle.image_store.specs.Pairs.{pair_at}
 use Rattle.image_store.specs.Sharing.{SharesOut, IsShelf, pairs_in}
 use Rattle.image_store.specs.Shelves.{ShelfState}
@@ -30,18 +29,19 @@ invariant_of-self g c =
     shelf_less _ _ _ _ c.args.n c.kept-kept.result c.self.invariant is
 
 pub returns-clause-ok : goal.returns-clause-ok
-returns-clause-ok g c = λ kept at.
+returns-clause-ok g c =
     let prints = c.self.inside.fingerprints.items in
     let places = c.self.inside.places.items in
-    let same : c.kept-kept.result ≡ kept = cc (c.kept-kept.ensures.value, at) in
     let less = pairs_less prints places c.args.n in
     let long = length-set c.self.inside.free.items c.self.inside.count c.kept-kept.result.slot in
     let changed : ◌≡◌ {A = ShelfState} (record { pairs = pairs_in prints (set places c.args.n 0); room = length (set c.self.inside.free.items c.self.inside.count c.kept-kept.result.slot) }) (without_pair (record { pairs = pairs_in prints places; room = length c.self.inside.free.items }) c.args.n) =
-    λ i. record { pairs = less i; room = long i } in
-    record {
-      pairs = changed ∙ ap (λ (s : ShelfState). without_pair s c.args.n) c.self.view_is;
-      told = subst (λ (k : Kept). Tells (g.K.Keeper.told c.args.keeper.now) (g.K.Keeper.told c.free.new.self) (λ images images'. images' ≡ finmap.remove images k.slot)) same c.in-Ok.ensures.ok;
-    }
+      λ i. record { pairs = less i; room = long i } in
+    changed ∙ ap (λ (s : ShelfState). without_pair s c.args.n) c.self.view_is
+
+pub returns-clause-freed : goal.returns-clause-freed
+returns-clause-freed g c = λ kept at.
+    let same : c.kept-kept.result ≡ kept = cc (c.kept-kept.ensures.value, at) in
+    subst (λ (k : Kept). IsFreed k (g.K.Keeper.told c.args.keeper.now) (g.K.Keeper.told c.free.new.self)) same c.in-Ok.ensures.ok
 
 pub returns-clause-stands : goal.returns-clause-stands
 returns-clause-stands g c = λ bytes stands.
