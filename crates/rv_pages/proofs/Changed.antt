@@ -1,6 +1,6 @@
 -- What stays true of pages when one of them is written, and when their bytes become those of other pages.
 use Rattle.std.proofs.Common.{Vec, Global, ◌≡◌, ◌≢◌, ℕ, ◌+◌, ◌-◌, ◌*◌, ◌/◌, ◌<◌, ◌≤◌, inl, inr, List, length, get_or, take, drop, max, sym, ap, subst, ◌∙◌, arith}
-use Rattle.std.proofs.lemmas.Bool.{cases_lt}
+use Rattle.std.proofs.lemmas.Bool.{cases_lt, cases_eq}
 use Rattle.std.proofs.lemmas.List.{get_or-take, get_or-drop, length-take, ext_get_or, with_items_is}
 use Rattle.std.proofs.lemmas.List.Elements.{All-from_get_or}
 use Rattle.std.specs.List.{All}
@@ -96,3 +96,17 @@ zero_seen numbers tops lows bytes words h m is i l unmarked =
 pub marked_inside : (numbers tops lows bytes words : List ℕ) → ArePages numbers tops lows bytes words → (i : ℕ) → mark_of words i ≡ 1 → i < length numbers
 marked_inside numbers tops lows bytes words h i is =
     elim (cases_lt i (length numbers)) [ inl l ↦ l | inr r ↦ absurd (let none = h.marked i r in omega arith) ]
+
+-- a page is made zero, and its mark is taken away
+pub pages_cleared : (numbers tops lows bytes words after marks : List ℕ) → ArePages numbers tops lows bytes words → (i : ℕ) → i < length numbers → mark_of marks i ≡ 0 → ((k : ℕ) → k ≢ i → mark_of marks k ≡ mark_of words k) → length marks ≡ 64 → length after ≡ length bytes → ((place : ℕ) → place / 4096 ≡ i → get_or after place 0 ≡ 0) → ((place : ℕ) → place / 4096 ≢ i → get_or after place 0 ≡ get_or bytes place 0) → ArePages numbers tops lows after marks
+pages_cleared numbers tops lows bytes words after marks h i l none others size long zero same = record {
+  kept = record { ascending = h.kept.ascending; below = h.kept.below; few = h.kept.few; whole = long ∙ h.kept.whole };
+  tables = h.tables;
+  found = h.found;
+  size = size;
+  marked = λ k past. others k (λ (e : k ≡ i). omega arith) ∙ h.marked k past;
+  unmarked = λ place unmarked. elim (cases_eq (place / 4096) i) [
+    | inl e ↦ zero place e
+    | inr other ↦ same place other ∙ h.unmarked place (sym (others (place / 4096) other) ∙ unmarked)
+  ];
+}

@@ -4,6 +4,7 @@ pub mod Reading
 pub mod Found
 pub mod Ordered
 pub mod Numbers
+pub mod OnePage
 pub mod Bytes
 pub mod Zeroed
 pub mod Written

@@ -1,12 +1,12 @@
 -- Marks after one more is set, those of two together, and the first one from an index on.
 use Rattle.std.proofs.Common.{◌≡◌, ◌≢◌, ℕ, ◌+◌, ◌-◌, ◌*◌, ◌/◌, ◌%◌, ◌^◌, ◌<◌, ◌≤◌, ◌⊎◌, inl, inr, List, length, get_or, sym, ap, subst, ◌∙◌, arith, Some}
-use Rattle.std.specs.Prelude.{bit_or}
-use Rattle.std.specs.Int.{bit_at, trailing_zeros, w64}
+use Rattle.std.specs.Prelude.{bit_or, bit_and}
+use Rattle.std.specs.Int.{bit_at, bit_not, trailing_zeros, w64}
 use Rattle.std.specs.List.{slice_set}
 use Rattle.std.proofs.lemmas.Bool.{cases_lt, cases_eq}
 use Rattle.std.proofs.lemmas.List.{get_or-set_same, get_or-set_other, get_or_past}
 use Rattle.std.proofs.lemmas.Nat.{shr-shr, shr_le}
-use Rattle.std.proofs.lemmas.Nat.Bits.{bit_at-zero, bit_at-lt, bit_at_above, bit_at_set_same, bit_at_set_other, bit_at-trailing_zeros}
+use Rattle.std.proofs.lemmas.Nat.Bits.{bit_at-zero, bit_at-lt, bit_at_above, bit_at_set_same, bit_at_set_other, bit_at_clear_same, bit_at_clear_other, bit_at-trailing_zeros}
 use Rattle.rv_pages.specs.Marks.{mark_of, IsNextMark}
 
 -- a word that is 0 has no mark
@@ -38,6 +38,27 @@ mark_of-with_mark_other words index k size below other =
           ap (λ n. bit_at (get_or (with_mark words index) n 0) (k % 64)) same
           ∙ ap (λ w. bit_at w (k % 64)) (get_or-set_same words (index / 64) _ 0 (omega arith))
           ∙ bit_at_set_other w64 (get_or words (index / 64) 0) (index % 64) (omega arith) (k % 64) apart
+          ∙ ap (λ n. bit_at (get_or words n 0) (k % 64)) (sym same)
+      | inr apart ↦ ap (λ w. bit_at w (k % 64)) (get_or-set_other words (index / 64) (k / 64) _ 0 apart)
+    ]
+
+-- one mark less
+abbrev pub without_mark : List ℕ → ℕ → List ℕ
+without_mark words index = slice_set words (index / 64) (bit_and (get_or words (index / 64) 0) (bit_not w64 (1 * 2 ^ (index % 64) % 2 ^ 64)))
+
+pub mark_of-without_mark_same : (words : List ℕ) (index : ℕ) → length words ≡ 64 → index < 4096 → mark_of (without_mark words index) index ≡ 0
+mark_of-without_mark_same words index size below =
+    ap (λ w. bit_at w (index % 64)) (get_or-set_same words (index / 64) _ 0 (omega arith))
+    ∙ bit_at_clear_same w64 (get_or words (index / 64) 0) (index % 64) (omega arith)
+
+pub mark_of-without_mark_other : (words : List ℕ) (index k : ℕ) → length words ≡ 64 → index < 4096 → k ≢ index → mark_of (without_mark words index) k ≡ mark_of words k
+mark_of-without_mark_other words index k size below other =
+    elim (cases_eq (k / 64) (index / 64)) [
+      | inl same ↦
+          let apart : k % 64 ≢ index % 64 = λ (e : k % 64 ≡ index % 64). other (omega arith) in
+          ap (λ n. bit_at (get_or (without_mark words index) n 0) (k % 64)) same
+          ∙ ap (λ w. bit_at w (k % 64)) (get_or-set_same words (index / 64) _ 0 (omega arith))
+          ∙ bit_at_clear_other w64 (get_or words (index / 64) 0) (index % 64) (omega arith) (k % 64) (omega arith) apart
           ∙ ap (λ n. bit_at (get_or words n 0) (k % 64)) (sym same)
       | inr apart ↦ ap (λ w. bit_at w (k % 64)) (get_or-set_other words (index / 64) (k / 64) _ 0 apart)
     ]

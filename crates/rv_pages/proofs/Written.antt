@@ -38,7 +38,7 @@ pub mid_above : (bs page : List ℕ) (a k j : ℕ) → a + k ≤ length bs → l
 mid_above bs page a k j h l m = search (rules, places)
 
 -- a byte at an offset of a page, after page i is written
-byte_written : (bs page : List ℕ) (i k r : ℕ) → i * 4096 + 4096 ≤ length bs → length page ≡ 4096 → r < 4096 → (i ≡ k → ⊥) → get_or (put_mid (i * 4096) 4096 bs page) (k * 4096 + r) 0 ≡ get_or bs (k * 4096 + r) 0
+pub byte_written : (bs page : List ℕ) (i k r : ℕ) → i * 4096 + 4096 ≤ length bs → length page ≡ 4096 → r < 4096 → (i ≡ k → ⊥) → get_or (put_mid (i * 4096) 4096 bs page) (k * 4096 + r) 0 ≡ get_or bs (k * 4096 + r) 0
 byte_written bs page i k r h whole inside apart =
     elim (cases_order i k) [
       | inl same ↦ absurd (apart same)

@@ -1,5 +1,5 @@
 -- How pages are kept: their numbers in ascending order, and the bytes of all of them, one page after the other.
-use Rattle.std.specs.Prelude.{◌≡◌, ℕ, ◌*◌, ◌/◌, ◌^◌, ◌<◌, ◌≤◌, List, [], ◌∷◌, ◌++◌, length, take, drop, slice_index, Option, MatchOption}
+use Rattle.std.specs.Prelude.{◌≡◌, ℕ, ◌*◌, ◌/◌, ◌^◌, ◌<◌, ◌≤◌, List, [], ◌∷◌, ◌++◌, length, take, drop, slice_index}
 use Rattle.std.specs.List.{All, enumerate_from}
 use Rattle.std.specs.List.Sorted.{IsStrictlyIncreasing}
 use Rattle.std.specs.FinMap as finmap
@@ -22,13 +22,6 @@ pub record AreKept (numbers bytes : List ℕ) : Type 0 where
   pub below : All (λ number. number < 2 ^ 20) numbers
   pub few : length numbers ≤ 4096
   pub whole : length bytes ≡ 4096 * length numbers
-
--- where a number stands in a list, if it does
-abbrev pub IsPlaceOf : List ℕ → ℕ → Option ℕ → Type 0
-IsPlaceOf numbers number place =
-    MatchOption place
-    ((k : ℕ) → k < length numbers → slice_index numbers k ≡ number → ⊥)
-    (λ k. (k < length numbers) × (slice_index numbers k ≡ number))
 
 -- What is true of all that a value of pages holds: the tables find the pages, only pages that are mapped are marked, and
 -- a page that isn't marked is all zero.

@@ -1,6 +1,6 @@
 -- Memory as a finite map from mapped addresses to bytes. Addresses are below 2 ^ 32 and are mapped by whole pages of
 -- 4,096 bytes. How the pages are kept is not said here.
-use Rattle.std.specs.Prelude.{◌≡◌, ℕ, zero, suc, ◌+◌, ◌*◌, ◌/◌, ◌%◌, ◌^◌, ◌==◌, ◌<◌, ◌≤◌, cond, List, [], ◌∷◌, map, filter, length, Option, None, Some, IsSome}
+use Rattle.std.specs.Prelude.{◌≡◌, ◌≢◌, ℕ, zero, suc, ◌+◌, ◌*◌, ◌/◌, ◌%◌, ◌^◌, ◌==◌, ◌<◌, ◌≤◌, cond, List, [], ◌∷◌, map, filter, length, slice_index, Option, None, Some, IsSome, MatchOption}
 use Rattle.std.specs.Option.{option_map}
 use Rattle.std.specs.List.{All, enumerate_from, filter_map, flat_map}
 use Rattle.std.specs.List.Sorted.{IsStrictlyIncreasing}
@@ -66,6 +66,17 @@ page_numbers m = filter_map (λ at. cond (at % 4096 == 0) (Some (at / 4096)) Non
 -- the bytes at the addresses of a page, in the order of the addresses
 abbrev pub page_bytes : Memory → ℕ → List ℕ
 page_bytes m page = map (λ e. e.1) (filter (λ e. e.0 / 4096 == page) (finmap.entries m))
+
+-- where a number stands in a list, if it does
+abbrev pub IsPlaceOf : List ℕ → ℕ → Option ℕ → Type 0
+IsPlaceOf numbers number place =
+    MatchOption place
+    ((k : ℕ) → k < length numbers → slice_index numbers k ≡ number → ⊥)
+    (λ k. (k < length numbers) × (slice_index numbers k ≡ number))
+
+-- all mapped pages but the one at this index have the bytes that they had
+abbrev pub KeepsPagesBut : ℕ → Memory → Memory → Type 0
+KeepsPagesBut index old new = (k : ℕ) → k < length (page_numbers old) → k ≢ index → page_bytes new (slice_index (page_numbers old) k) ≡ page_bytes old (slice_index (page_numbers old) k)
 
 -- a page that has no byte other than 0
 abbrev pub IsZeroPage : Memory → ℕ → Type 0

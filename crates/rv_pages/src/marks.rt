@@ -34,6 +34,17 @@ impl Marks {
         self.words[index / BITS] |= 1 << (index % BITS);
     }
 
+    /// Takes the mark of an index away.
+    pub(crate) fn unmark(&mut self, index: usize)
+        requires index { index < 4096 }
+        requires size { length self.old.words ≡ 64 }
+        ensures unmarked { mark_of self.new.words index ≡ 0 }
+        ensures others { (k : ℕ) → k ≢ index → mark_of self.new.words k ≡ mark_of self.old.words k }
+        ensures size { length self.new.words ≡ 64 }
+    {
+        self.words[index / BITS] &= !(1 << (index % BITS));
+    }
+
     /// The marks that either has.
     pub(crate) fn union(&self, other: &Marks) -> Marks
         requires mine { length self.now.words ≡ 64 }

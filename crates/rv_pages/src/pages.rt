@@ -4,7 +4,7 @@ ghost use Rattle.std.specs.List.{All};
 ghost use Rattle.std.specs.List.Sorted.{IsStrictlyIncreasing};
 ghost use Rattle.std.specs.FinMap as finmap;
 ghost use Rattle.rv_pages.specs.Marks.{mark_of};
-ghost use Rattle.rv_pages.specs.Memory.{byte_at, bytes_at, number_at, word_at, IsMapped, with_bytes, with_number, page_numbers, page_bytes, IsZeroPage, zeroed, IsMemory};
+ghost use Rattle.rv_pages.specs.Memory.{byte_at, bytes_at, number_at, word_at, IsMapped, with_bytes, with_number, page_numbers, page_bytes, IsPlaceOf, IsZeroPage, KeepsPagesBut, zeroed, IsMemory};
 
 use crate::marks::Marks;
 use crate::tables::Tables;
@@ -16,6 +16,9 @@ pub const PAGE: usize = 4096;
 
 // The same, as a part of an address.
 const SIZE: u32 = 4096;
+
+// As many numbers of pages as there are.
+const NUMBERS: u32 = 0x10_0000;
 
 // Where in a page the last whole half and the last whole word begin.
 const LAST_HALF: usize = 4094;
@@ -303,6 +306,20 @@ impl Pages {
         self.numbers[index as usize]
     }
 
+    /// The index of the page with this number, in constant time, if it is mapped.
+    pub fn index_of(&self, number: u32) -> Option<u32>
+        ensures { IsPlaceOf (page_numbers self.now) number result }
+    {
+        let tables = &self.tables;
+        if number >= NUMBERS {
+            return None;
+        }
+        match tables.place_of(number) {
+            Some(index) => Some(index as u32),
+            None => None,
+        }
+    }
+
     /// The bytes of the page with this index.
     pub fn page(&self, index: u32) -> &[u8]
         requires { index < length (page_numbers self.now) }
@@ -319,10 +336,24 @@ impl Pages {
         requires whole { length bytes.now ≡ 4096 }
         ensures pages { page_numbers self.new ≡ page_numbers self.old }
         ensures bytes { (at : ℕ) → finmap.get self.new at ≡ (if at / 4096 == slice_index (page_numbers self.old) index then Some (slice_index bytes.now (at % 4096)) else finmap.get self.old at) }
+        ensures page { page_bytes self.new (slice_index (page_numbers self.old) index) ≡ bytes.now }
+        ensures others { KeepsPagesBut index self.old self.new }
     {
         self.written.mark(index as usize);
         let start = index as usize * PAGE;
         self.bytes[start..start + PAGE].copy_from_slice(bytes);
+    }
+
+    /// Makes all bytes of the page with this index 0, and takes it for one that was never written.
+    pub fn clear_page(&mut self, index: u32)
+        requires { index < length (page_numbers self.old) }
+        ensures pages { page_numbers self.new ≡ page_numbers self.old }
+        ensures zero { IsZeroPage self.new (slice_index (page_numbers self.old) index) }
+        ensures others { KeepsPagesBut index self.old self.new }
+    {
+        self.written.unmark(index as usize);
+        let start = index as usize * PAGE;
+        self.bytes[start..start + PAGE].fill(0);
     }
 
     /// The first index, from this one on, of a page that may have a byte other than 0. The pages that are passed over are

@@ -2,7 +2,7 @@
 ghost use Rattle.std.specs.Prelude.{◌≡◌, ◌≢◌, ℕ, List, ◌+◌, ◌*◌, ◌^◌, ◌<◌, ◌≤◌, length, slice_index, vec_len, OnOk, IfOk};
 ghost use Rattle.std.specs.List.{All};
 ghost use Rattle.std.specs.List.Sorted.{IsStrictlyIncreasing};
-ghost use Rattle.rv_pages.specs.Kept.{IsPlaceOf};
+ghost use Rattle.rv_pages.specs.Memory.{IsPlaceOf};
 ghost use Rattle.rv_pages.specs.Tables.{AreTables, Finds, entry_of};
 
 use std::alloc::{AllocError, Global};

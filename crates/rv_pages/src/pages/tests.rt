@@ -298,3 +298,28 @@ fn many_bytes_are_stored_over_pages_or_not_at_all(rt: HostRuntime) -> Result<(),
     assert!(rt; round.are_mapped(0xFFFFF000, 0x2000));
     Ok(())
 }
+
+#[test]
+fn a_page_is_found_by_its_number(rt: HostRuntime) -> Result<(), Fail> {
+    let pages = three_pages(rt.alloc())?;
+    for index in 0..3 {
+        assert_eq!(rt; index < pages.count(), true);
+        assert_eq!(rt; pages.index_of(pages.number(index)), Some(index));
+    }
+    for number in [0, 3, 0xFFFFE, 0x10_0000, u32::MAX] {
+        assert_eq!(rt; pages.index_of(number), None, "{number:x}");
+    }
+    Ok(())
+}
+
+#[test]
+fn a_cleared_page_is_zero_and_not_touched(rt: HostRuntime) -> Result<(), Fail> {
+    let mut pages = three_pages(rt.alloc())?;
+    assert!(rt; pages.store32(0x1FFE, 0x04030201));
+    assert_eq!(rt; pages.next_touched(0), Some(0));
+    assert!(rt; pages.count() == 3);
+    pages.clear_page(0);
+    assert_eq!(rt; pages.next_touched(0), Some(1));
+    check_bytes(&rt, &pages, 0x1FFC, &[0, 0, 0, 0, 3, 4, 0]);
+    Ok(())
+}

@@ -1,10 +1,11 @@
 use Rattle.std.proofs.Common.{◌≤◌, ◌≡◌, ◌+◌, ◌*◌, ◌<◌, ◌/◌, ◌%◌, ◌==◌, cond, Some, ℕ, List, ap, sym, subst, ◌∙◌, length, get_or, arith}
 use Rattle.std.specs.FinMap.{get}
-use Rattle.rv_pages.specs.Memory.{page_numbers}
+use Rattle.rv_pages.specs.Memory.{page_numbers, page_bytes}
 use Rattle.rv_pages.specs.Kept.{memory_kept, AreKept, ArePages}
 use Rattle.rv_pages.proofs.Written.{kept_written, get_written, length_written}
 use Rattle.rv_pages.proofs.Changed.{written_items, pages_written, outside_page}
 use Rattle.rv_pages.proofs.Numbers.{kept_numbers, seen_numbers}
+use Rattle.rv_pages.proofs.OnePage.{page_written, page_kept}
 use Rattle.rv_pages.proofs.pages.Pages.set_page.Goals as goal
 
 -- the page at an index lies within the bytes
@@ -35,6 +36,28 @@ returns-clause-bytes c =
     λ at. ap (λ bytes. get (memory_kept c.self.inside.numbers.items bytes) at) items
     ∙ get_written c.self.inside.numbers.items c.self.inside.bytes.items c.args.bytes.now c.self.invariant.kept c.args.index below c.requires.whole at
     ∙ (λ i. cond (at / 4096 == get_or (sym mapped i) c.args.index 0) (Some (get_or c.args.bytes.now (at % 4096) 0)) (get (c.self.view_is i) at))
+
+pub returns-clause-page : goal.returns-clause-page
+returns-clause-page c =
+    let numbers : List ℕ = c.self.inside.numbers.items in
+    let bytes : List ℕ = c.self.inside.bytes.items in
+    let mapped = seen_numbers numbers bytes _ c.self.invariant.kept c.self.view_is in
+    let below : c.args.index < length numbers = omega (arith, ap length mapped) in
+    let items = written_items c.self.inside.bytes _ _ (c.args.index * 4096) 4096 _ (c.deref_mut.ensures.value) c.copy_from_slice.ensures.after (fits numbers bytes c.self.invariant.kept c.args.index below) c.requires.whole in
+    (λ i. page_bytes (memory_kept numbers (items i)) (get_or (mapped i) c.args.index 0))
+    ∙ page_written numbers bytes c.args.bytes.now c.self.invariant.kept c.args.index below c.requires.whole
+
+pub returns-clause-others : goal.returns-clause-others
+returns-clause-others c = λ k low apart.
+    let numbers : List ℕ = c.self.inside.numbers.items in
+    let bytes : List ℕ = c.self.inside.bytes.items in
+    let mapped = seen_numbers numbers bytes _ c.self.invariant.kept c.self.view_is in
+    let below : c.args.index < length numbers = omega (arith, ap length mapped) in
+    let near : k < length numbers = omega (arith, low, ap length mapped) in
+    let items = written_items c.self.inside.bytes _ _ (c.args.index * 4096) 4096 _ (c.deref_mut.ensures.value) c.copy_from_slice.ensures.after (fits numbers bytes c.self.invariant.kept c.args.index below) c.requires.whole in
+    (λ i. page_bytes (memory_kept numbers (items i)) (get_or (mapped i) k 0))
+    ∙ page_kept numbers bytes c.args.bytes.now c.self.invariant.kept c.args.index below c.requires.whole k near apart
+    ∙ (λ i. page_bytes (c.self.view_is i) (get_or (sym mapped i) k 0))
 
 pub mark-requires-clause-index : goal.mark-requires-clause-index
 mark-requires-clause-index c =

@@ -1,0 +1,8 @@
+use Rattle.rv_pages.proofs.Marking.{mark_of-without_mark_same, mark_of-without_mark_other}
+use Rattle.rv_pages.proofs.marks.Marks.unmark.Goals as goal
+
+pub returns-clause-unmarked : goal.returns-clause-unmarked
+returns-clause-unmarked c = mark_of-without_mark_same c.args.self.now.words c.args.index c.requires.size c.requires.index
+
+pub returns-clause-others : goal.returns-clause-others
+returns-clause-others c = λ k other. mark_of-without_mark_other c.args.self.now.words c.args.index k c.requires.size c.requires.index other

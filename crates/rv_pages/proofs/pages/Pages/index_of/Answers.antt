@@ -1,0 +1,20 @@
+use Rattle.std.proofs.Common.{◌≡◌, ◌<◌, ◌≤◌, ◌^◌, ℕ, List, length, get_or, Some, None, sym, subst, ap, arith}
+use Rattle.rv_pages.specs.Memory.{page_numbers, IsPlaceOf}
+use Rattle.rv_pages.proofs.Numbers.{seen_numbers}
+use Rattle.rv_pages.proofs.pages.Pages.index_of.Goals as goal
+
+pub returns-then-number-ge-NUMBERS : goal.returns-then-number-ge-NUMBERS
+returns-then-number-ge-NUMBERS c = λ k low is.
+    let mapped = seen_numbers c.self.inside.numbers.items c.self.inside.bytes.items _ c.self.invariant.kept c.self.view_is in
+    let below = subst (λ (ns : List ℕ). get_or ns k 0 < 2 ^ 20) (sym mapped) (c.self.invariant.kept.below k 0 (subst (λ (ns : List ℕ). k < length ns) mapped low)) in
+    omega (arith, below, is)
+
+pub returns-in-Some : goal.returns-in-Some
+returns-in-Some c =
+    let mapped = seen_numbers c.self.inside.numbers.items c.self.inside.bytes.items _ c.self.invariant.kept c.self.view_is in
+    subst (λ (ns : List ℕ). IsPlaceOf ns c.args.number (Some c.in-Some.index)) (sym mapped) (c.in-Some.ensures c.self.inside.numbers.items c.self.invariant.found)
+
+pub returns-in-None : goal.returns-in-None
+returns-in-None c =
+    let mapped = seen_numbers c.self.inside.numbers.items c.self.inside.bytes.items _ c.self.invariant.kept c.self.view_is in
+    subst (λ (ns : List ℕ). IsPlaceOf ns c.args.number None) (sym mapped) (c.in-None.ensures c.self.inside.numbers.items c.self.invariant.found)
