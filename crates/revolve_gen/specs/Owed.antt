@@ -1,5 +1,5 @@
--- What is still to be written, by the phase of the current stretch and the stack of held stretches. The view of a stream is
--- this list.
+-- No public clause cites this file. What is still to be written, by the phase of the current stretch and the stack of held
+-- stretches: the list `owed`, as which a stream is seen.
 use Rattle.std.specs.Prelude.{ℕ, suc, ◌+◌, ◌-◌, ◌<◌, ◌≤◌, false, List, [], ◌∷◌, ◌++◌, length}
 use Rattle.plan_types.specs.declared.action.Keep.TheVariants.{Nothing}
 use Rattle.plan_types.specs.declared.action.Action.{Action}
