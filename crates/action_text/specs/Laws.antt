@@ -1,0 +1,42 @@
+-- What the definitions imply, for levels whose names are names and apart.
+use Rattle.std.specs.Prelude.{◌≡◌, ◌≢◌, ◌≤◌, ◌⊎◌, ℕ, List, [], ◌∷◌, ◌++◌, length}
+use Rattle.std.specs.List.{AllByRecursion, flat_map}
+use Rattle.plan_types.specs.declared.action.Action.{Action}
+use Rattle.level_book.specs.Names.{AreNames}
+use Rattle.action_text.specs.declared.fault.TextFault.{TextFault}
+use Rattle.action_text.specs.ScheduleText.{IsSchedule}
+use Rattle.action_text.specs.Faults.{HasFirstFault}
+use Rattle.action_text.specs.Canonical.{canonical, HasSpelling, text_of}
+
+-- bytes say one schedule at most
+abbrev pub OneSchedule : Type 0
+OneSchedule = (names : List (List ℕ)) → AreNames names → (bytes : List ℕ) (a b : List Action) → IsSchedule names bytes a → IsSchedule names bytes b → a ≡ b
+
+-- they have one first fault at most, and a schedule has none
+abbrev pub OneFault : Type 0
+OneFault = (names : List (List ℕ)) → AreNames names → (bytes : List ℕ) (a b : TextFault) → HasFirstFault names bytes a → HasFirstFault names bytes b → a ≡ b
+
+abbrev pub SchedulesHaveNoFault : Type 0
+SchedulesHaveNoFault = (names : List (List ℕ)) → AreNames names → (bytes : List ℕ) (list : List Action) (fault : TextFault) → IsSchedule names bytes list → HasFirstFault names bytes fault → ⊥
+
+-- all bytes are a schedule or have a first fault
+abbrev pub ScheduleOrFault : Type 0
+ScheduleOrFault = (names : List (List ℕ)) → AreNames names → (bytes : List ℕ) → ((list : List Action) × IsSchedule names bytes list) ⊎ ((fault : TextFault) × HasFirstFault names bytes fault)
+
+-- a line behind a list, as a certificate has it: it begins with `#!`, and byte 10 ends it and stands in it nowhere else
+abbrev pub certificate_line : List ℕ → List ℕ
+certificate_line text = 35 ∷ 33 ∷ (text ++ 10 ∷ [])
+
+abbrev pub HasOneEnd : List ℕ → Type 0
+HasOneEnd text = AllByRecursion (λ b. b ≢ 10) text
+
+-- the canonical text of a list, with such lines behind it, is read as that list
+abbrev pub CanonicalIsRead : Type 0
+CanonicalIsRead =
+    (names : List (List ℕ)) → AreNames names → (list : List Action) → length list ≤ 16777216 → AllByRecursion (HasSpelling names) list →
+    (texts : List (List ℕ)) → AllByRecursion HasOneEnd texts → IsSchedule names (text_of names list ++ flat_map certificate_line texts) list
+
+-- two actions with one canonical spelling are one
+abbrev pub OneSpelling : Type 0
+OneSpelling =
+    (names : List (List ℕ)) → AreNames names → (a b : Action) → HasSpelling names a → HasSpelling names b → canonical names a ≡ canonical names b → a ≡ b

@@ -1,0 +1,10 @@
+pub mod Tokens
+pub mod Shapes
+pub mod Meaning
+pub mod ScheduleText
+pub mod Faults
+pub mod Canonical
+pub mod Laws
+pub mod Rest
+pub mod Bytes
+pub mod Reading

@@ -1,0 +1,32 @@
+-- Which bytes are the text of a list of actions.
+use Rattle.std.specs.Prelude.{◌≤◌, ◌⊎◌, ◌==◌, ℕ, List, [], ◌∷◌, map, length, if◌then◌else◌}
+use Rattle.plan_types.specs.declared.action.Action.{Action}
+use Rattle.action_text.specs.Tokens.{tokens}
+use Rattle.action_text.specs.Meaning.{Says, IsPassed}
+
+-- a byte is put before the first line
+abbrev pub longer_line : ℕ → List (List ℕ) → List (List ℕ)
+longer_line b [] = (b ∷ []) ∷ []
+longer_line b (line ∷ rest) = (b ∷ line) ∷ rest
+
+-- the lines of bytes: each is ended by byte 10, the last by the end
+unfoldable pub lines : List ℕ → List (List ℕ)
+lines [] = [] ∷ []
+lines (b ∷ bs) = if b == 10 then [] ∷ lines bs else longer_line b (lines bs)
+
+-- the texts of a line's tokens
+abbrev pub texts : List ℕ → List (List ℕ)
+texts line = map (λ t. t.text) (tokens 1 line)
+
+-- each line says nothing, or the next action of the list, and no action is left
+abbrev pub LinesSay : List (List ℕ) → List (List ℕ) → List Action → Type 0
+LinesSay names [] [] = Unit {0}
+LinesSay names [] (a ∷ list) = ⊥
+LinesSay names (line ∷ rest) [] = IsPassed line × LinesSay names rest []
+LinesSay names (line ∷ rest) (a ∷ list) =
+    (IsPassed line × LinesSay names rest (a ∷ list)) ⊎ (Says names (texts line) a × LinesSay names rest list)
+
+-- the bytes say this list, of at most 16,777,216 actions
+pub record IsSchedule (names : List (List ℕ)) (bytes : List ℕ) (list : List Action) : Type 0 where
+  pub few : length list ≤ 16777216
+  pub says : LinesSay names (lines bytes) list

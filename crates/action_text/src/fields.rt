@@ -1,0 +1,115 @@
+// The fields of an action: each is the next token of its line, which goes by a value.
+ghost use Rattle.std.specs.Prelude.{◌≡◌, ◌≤◌, Some, Ok, Err, MatchResult, IfOk, OnOk};
+ghost use Rattle.level_book.specs.BookCosts.{names_of};
+ghost use Rattle.action_text.specs.Reading.{text_at, number_of, truth_of, level_of, target_of, place_of, number_next, truth_next, level_next, target_next, place_next, number_rule, not_action};
+
+use crate::cursor::{Cursor, Word};
+use crate::fault::{LineFault, Rule};
+use crate::number;
+use crate::words::{self, Place};
+use level_book::Book;
+use plan_types::Dest;
+
+// A number.
+#[tactic(auto, unfolding(crate::specs::Reading::number_next))]
+pub(crate) fn next_number(cursor: &mut Cursor) -> Result<u32, LineFault>
+    ensures value { MatchResult result (λ x. (number_next cursor.old ≡ Ok (text_at cursor.old, cursor.new)) × (number_of (text_at cursor.old) ≡ Some x)) (λ e. number_next cursor.old ≡ Err e) }
+    ensures later { OnOk result (cursor.new.later ≡ cursor.old.later) }
+    ensures small { IfOk result (λ n. n ≤ 1000000) }
+{
+    let word = cursor.word()?;
+    match number::number(word.text) {
+        Some(x) => Ok(x),
+        None => Err(number_fault(&word)),
+    }
+}
+
+// A truth.
+#[tactic(auto, unfolding(crate::specs::Reading::truth_next))]
+pub(crate) fn next_truth(cursor: &mut Cursor) -> Result<bool, LineFault>
+    ensures value { MatchResult result (λ x. (truth_next cursor.old ≡ Ok (text_at cursor.old, cursor.new)) × (truth_of (text_at cursor.old) ≡ Some x)) (λ e. truth_next cursor.old ≡ Err e) }
+    ensures later { OnOk result (cursor.new.later ≡ cursor.old.later) }
+{
+    let word = cursor.word()?;
+    match words::truth_of(word.text) {
+        Some(x) => Ok(x),
+        None => Err(other_fault(&word)),
+    }
+}
+
+// A level.
+#[tactic(auto, unfolding(crate::specs::Reading::level_next))]
+pub(crate) fn next_level(cursor: &mut Cursor, book: &Book) -> Result<u8, LineFault>
+    ensures value { MatchResult result (λ x. (level_next (names_of book.now) cursor.old ≡ Ok (text_at cursor.old, cursor.new)) × (level_of (names_of book.now) (text_at cursor.old) ≡ Some x)) (λ e. level_next (names_of book.now) cursor.old ≡ Err e) }
+    ensures later { OnOk result (cursor.new.later ≡ cursor.old.later) }
+{
+    let word = cursor.word()?;
+    match words::level_of(word.text, book) {
+        Some(x) => Ok(x),
+        None => Err(level_fault(&word)),
+    }
+}
+
+// A level or the work state.
+#[tactic(auto, unfolding(crate::specs::Reading::target_next))]
+pub(crate) fn next_target(cursor: &mut Cursor, book: &Book) -> Result<Dest, LineFault>
+    ensures value { MatchResult result (λ x. (target_next (names_of book.now) cursor.old ≡ Ok (text_at cursor.old, cursor.new)) × (target_of (names_of book.now) (text_at cursor.old) ≡ Some x)) (λ e. target_next (names_of book.now) cursor.old ≡ Err e) }
+    ensures later { OnOk result (cursor.new.later ≡ cursor.old.later) }
+{
+    let word = cursor.word()?;
+    match words::target_of(word.text, book) {
+        Some(x) => Ok(x),
+        None => Err(level_fault(&word)),
+    }
+}
+
+// A level, the work state or none.
+#[tactic(auto, unfolding(crate::specs::Reading::place_next))]
+pub(crate) fn next_place(cursor: &mut Cursor, book: &Book) -> Result<Place, LineFault>
+    ensures value { MatchResult result (λ x. (place_next (names_of book.now) cursor.old ≡ Ok (text_at cursor.old, cursor.new)) × (place_of (names_of book.now) (text_at cursor.old) ≡ Some x)) (λ e. place_next (names_of book.now) cursor.old ≡ Err e) }
+    ensures later { OnOk result (cursor.new.later ≡ cursor.old.later) }
+{
+    let word = cursor.word()?;
+    match words::place_of(word.text, book) {
+        Some(x) => Ok(x),
+        None => Err(level_fault(&word)),
+    }
+}
+
+// The fault where a number is due.
+fn number_fault(word: &Word) -> LineFault
+    ensures { result ≡ record { rule = number_rule word.now.text.now; column = word.now.column } }
+{
+    let is_digit = match word.text {
+        [first, ..] => first.is_ascii_digit(),
+        [] => false,
+    };
+    LineFault {
+        rule: if is_digit {
+            Rule::Number
+        } else {
+            Rule::NotAction
+        },
+        column: word.column,
+    }
+}
+
+// The fault where a level is due. A word is a run.
+fn level_fault(word: &Word) -> LineFault
+    ensures { result ≡ record { rule = Rule.Level; column = word.now.column } }
+{
+    LineFault {
+        rule: Rule::Level,
+        column: word.column,
+    }
+}
+
+// The fault where something else is due.
+fn other_fault(word: &Word) -> LineFault
+    ensures { result ≡ not_action word.now.column }
+{
+    LineFault {
+        rule: Rule::NotAction,
+        column: word.column,
+    }
+}

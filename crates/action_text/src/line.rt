@@ -1,0 +1,180 @@
+// A line of a schedule, with a function for each kind of action.
+ghost use Rattle.std.specs.Prelude.{◌≡◌, ◌≤◌, OnOk};
+ghost use Rattle.level_book.specs.BookCosts.{names_of};
+ghost use Rattle.action_text.specs.declared.words.Kind.TheVariants as kinds;
+ghost use Rattle.action_text.specs.Reading.{Gives, arguments_of, forward_said, reverse_said, line_of};
+
+use crate::cursor::Cursor;
+use crate::fault::{LineFault, Rule};
+use crate::fields::{next_level, next_number, next_place, next_target, next_truth};
+use crate::words::{Kind, Place, kind_of};
+use level_book::Book;
+use plan_types::{Action, Keep};
+
+// The action that the line says, or none, where it says nothing; full says that no more actions may come.
+#[tactic(auto, unfolding(crate::specs::Reading::line_of))]
+pub(crate) fn line(cursor: &mut Cursor, book: &Book, full: bool) -> Result<Option<Action>, LineFault>
+    ensures value { Gives (λ found. found) result (line_of (names_of book.now) full cursor.old) }
+    ensures later { OnOk result (cursor.new.later ≡ cursor.old.later) }
+{
+    if cursor.says_nothing() {
+        return Ok(None);
+    }
+    let name = cursor.word()?;
+    let Some(kind) = kind_of(name.text) else {
+        return Err(LineFault {
+            rule: Rule::NotAction,
+            column: name.column,
+        });
+    };
+    if full {
+        return Err(LineFault {
+            rule: Rule::TooMany,
+            column: name.column,
+        });
+    }
+    let Some(action) = arguments(kind, cursor, book)? else {
+        return Err(LineFault {
+            rule: Rule::Profile,
+            column: name.column,
+        });
+    };
+    Ok(Some(action))
+}
+
+// The action of this kind that the rest of the line says, or none, where its profile is none.
+fn arguments(kind: Kind, cursor: &mut Cursor, book: &Book) -> Result<Option<Action>, LineFault>
+    ensures value { Gives (λ found. found) result (arguments_of (names_of book.now) kind cursor.old) }
+    ensures later { OnOk result (cursor.new.later ≡ cursor.old.later) }
+{
+    match kind {
+        Kind::Forward => forward(cursor, book),
+        Kind::Reverse => reverse(cursor, book),
+        Kind::Copy => copy(cursor, book),
+        Kind::Move => move_(cursor, book),
+        Kind::EndForward => end_forward(cursor, book),
+        Kind::EndReverse => end_reverse(cursor, book),
+    }
+}
+
+// The arguments of a Forward.
+#[tactic(auto, unfolding(crate::specs::Reading::arguments_of))]
+fn forward(cursor: &mut Cursor, book: &Book) -> Result<Option<Action>, LineFault>
+    ensures value { Gives (λ found. found) result (arguments_of (names_of book.now) kinds.Forward cursor.old) }
+    ensures later { OnOk result (cursor.new.later ≡ cursor.old.later) }
+{
+    cursor.mark(b'(')?;
+    let from = next_number(cursor)?;
+    cursor.mark(b',')?;
+    let to = next_number(cursor)?;
+    cursor.mark(b',')?;
+    let state = next_truth(cursor)?;
+    cursor.mark(b',')?;
+    let tape = next_truth(cursor)?;
+    cursor.mark(b',')?;
+    let place = next_place(cursor, book)?;
+    cursor.mark(b')')?;
+    cursor.end()?;
+    Ok(forward_said(from, to, state, tape, place))
+}
+
+// The Forward of these arguments.
+fn forward_said(from: u32, to: u32, state: bool, tape: bool, place: Place) -> Option<Action>
+    requires { from ≤ 1000000 }
+    ensures { result ≡ forward_said from to state tape place }
+{
+    let keep = match (state, tape, place) {
+        (false, false, Place::Nowhere | Place::Work) => Keep::Nothing,
+        (true, false, Place::Level(k)) => Keep::Store(k),
+        (false, true, Place::Work) if to == from + 1 => Keep::Tape,
+        _ => return None,
+    };
+    Some(Action::Forward { from, to, keep })
+}
+
+// The arguments of a Reverse.
+#[tactic(auto, unfolding(crate::specs::Reading::arguments_of))]
+fn reverse(cursor: &mut Cursor, book: &Book) -> Result<Option<Action>, LineFault>
+    ensures value { Gives (λ found. found) result (arguments_of (names_of book.now) kinds.Reverse cursor.old) }
+    ensures later { OnOk result (cursor.new.later ≡ cursor.old.later) }
+{
+    cursor.mark(b'(')?;
+    let from = next_number(cursor)?;
+    cursor.mark(b',')?;
+    let to = next_number(cursor)?;
+    cursor.mark(b',')?;
+    let is_true = next_truth(cursor)?;
+    cursor.mark(b')')?;
+    cursor.end()?;
+    Ok(reverse_said(from, to, is_true))
+}
+
+// The Reverse of these arguments.
+fn reverse_said(from: u32, to: u32, is_true: bool) -> Option<Action>
+    requires { to ≤ 1000000 }
+    ensures { result ≡ reverse_said from to is_true }
+{
+    if is_true && from == to + 1 {
+        Some(Action::Reverse { from, to })
+    } else {
+        None
+    }
+}
+
+// The arguments of a Copy.
+#[tactic(auto, unfolding(crate::specs::Reading::arguments_of))]
+fn copy(cursor: &mut Cursor, book: &Book) -> Result<Option<Action>, LineFault>
+    ensures value { Gives (λ found. found) result (arguments_of (names_of book.now) kinds.Copy cursor.old) }
+    ensures later { OnOk result (cursor.new.later ≡ cursor.old.later) }
+{
+    cursor.mark(b'(')?;
+    let n = next_number(cursor)?;
+    cursor.mark(b',')?;
+    let from = next_level(cursor, book)?;
+    cursor.mark(b',')?;
+    let dest = next_target(cursor, book)?;
+    cursor.mark(b')')?;
+    cursor.end()?;
+    Ok(Some(Action::Copy { n, from, dest }))
+}
+
+// The arguments of a Move.
+#[tactic(auto, unfolding(crate::specs::Reading::arguments_of))]
+fn move_(cursor: &mut Cursor, book: &Book) -> Result<Option<Action>, LineFault>
+    ensures value { Gives (λ found. found) result (arguments_of (names_of book.now) kinds.Move cursor.old) }
+    ensures later { OnOk result (cursor.new.later ≡ cursor.old.later) }
+{
+    cursor.mark(b'(')?;
+    let n = next_number(cursor)?;
+    cursor.mark(b',')?;
+    let from = next_level(cursor, book)?;
+    cursor.mark(b',')?;
+    let dest = next_target(cursor, book)?;
+    cursor.mark(b')')?;
+    cursor.end()?;
+    Ok(Some(Action::Move { n, from, dest }))
+}
+
+// The brackets of an EndForward.
+#[tactic(auto, unfolding(crate::specs::Reading::arguments_of))]
+fn end_forward(cursor: &mut Cursor, book: &Book) -> Result<Option<Action>, LineFault>
+    ensures value { Gives (λ found. found) result (arguments_of (names_of book.now) kinds.EndForward cursor.old) }
+    ensures later { OnOk result (cursor.new.later ≡ cursor.old.later) }
+{
+    cursor.mark(b'(')?;
+    cursor.mark(b')')?;
+    cursor.end()?;
+    Ok(Some(Action::EndForward))
+}
+
+// The brackets of an EndReverse.
+#[tactic(auto, unfolding(crate::specs::Reading::arguments_of))]
+fn end_reverse(cursor: &mut Cursor, book: &Book) -> Result<Option<Action>, LineFault>
+    ensures value { Gives (λ found. found) result (arguments_of (names_of book.now) kinds.EndReverse cursor.old) }
+    ensures later { OnOk result (cursor.new.later ≡ cursor.old.later) }
+{
+    cursor.mark(b'(')?;
+    cursor.mark(b')')?;
+    cursor.end()?;
+    Ok(Some(Action::EndReverse))
+}

@@ -1,0 +1,56 @@
+// Texts that are read as lists of actions.
+ghost use Rattle.std.specs.Prelude.{◌≡◌, ◌≢◌, ◌⊎◌, ◌<◌, ◌^◌, List, length, MatchResult, IfOk, IfErr};
+ghost use Rattle.plan_types.specs.declared.action.Action.{Action};
+ghost use Rattle.level_book.specs.BookCosts.{names_of};
+ghost use Rattle.action_text.specs.declared.fault.TextFault.{TextFault};
+ghost use Rattle.action_text.specs.ScheduleText.{IsSchedule};
+ghost use Rattle.action_text.specs.Faults.{HasFirstFault};
+ghost use Rattle.action_text.specs.Reading.{GivesUnlessMemory, reading};
+
+use crate::cursor::Cursor;
+use crate::fault::TextFault;
+use crate::line::line;
+use level_book::Book;
+use plan_types::{Action, MOST_ACTIONS};
+use std::alloc::Global;
+
+// About how many bytes a line takes. By it room is made first, which may be too little.
+const LINE_LENGTH: usize = 24;
+
+/// Reads the actions that a text says, all of it, in one pass. The memory that it takes is the list's.
+pub fn read_actions(alloc: Global, bytes: &[u8], book: &Book) -> Result<Vec<Action>, TextFault>
+    requires { length bytes.now < 2 ^ 31 }
+    // What is read is said so, and what is said so is read, unless memory runs out.
+    ensures found { IfOk result (λ list. IsSchedule (names_of book.now) bytes.now list.items) }
+    ensures only { (list : List Action) → IsSchedule (names_of book.now) bytes.now list → MatchResult result (λ v. v.items ≡ list) (λ e. e ≡ TextFault.Memory) }
+
+    // What is refused has that fault first, and what has a fault is refused for it, unless memory runs out.
+    ensures refused { IfErr result (λ e. e ≢ TextFault.Memory → HasFirstFault (names_of book.now) bytes.now e) }
+    ensures first { (e : TextFault) → HasFirstFault (names_of book.now) bytes.now e → MatchResult result (λ _. ⊥) (λ answer. (answer ≡ e) ⊎ (answer ≡ TextFault.Memory)) }
+{
+    book.has_names();
+    read_lines(alloc, bytes, book)
+}
+
+#[tactic(auto, unfolding(crate::specs::Reading::reading))]
+fn read_lines(alloc: Global, bytes: &[u8], book: &Book) -> Result<Vec<Action>, TextFault>
+    requires { length bytes.now < 2 ^ 31 }
+    ensures { GivesUnlessMemory (λ list. list.items) result (reading (names_of book.now) bytes.now) }
+{
+    let room = (bytes.len() / LINE_LENGTH).min(MOST_ACTIONS);
+    let mut list = Vec::with_capacity(alloc, room)?;
+    let mut cursor = Cursor::new(bytes);
+    let mut number = 1;
+    loop {
+        let full = list.len() == MOST_ACTIONS;
+        match line(&mut cursor, book, full) {
+            Ok(Some(action)) => list.push(action)?,
+            Ok(None) => {}
+            Err(fault) => return Err(fault.at(number)),
+        }
+        if !cursor.next_line() {
+            return Ok(list);
+        }
+        number += 1;
+    }
+}
