@@ -1,3 +1,4 @@
 pub mod Steps
 pub mod Decimal
 pub mod Seen
+pub mod LineOf

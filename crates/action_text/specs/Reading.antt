@@ -289,5 +289,11 @@ lines_of names list n (line ∷ later) =
     in_line n (line_of names (length list == 16777216) (whole_line line later))
     >>= λ found. lines_of names (list ++ option_to_list found) (n + 1) later
 
+-- the same of what is left of a line, and the lines after it
+unfoldable pub here_of : List (List ℕ) → List Action → ℕ → Rest → Result (List Action) TextFault
+here_of names list n rest =
+    in_line n (line_of names (length list == 16777216) rest)
+    >>= λ found. lines_of names (list ++ option_to_list found) (n + 1) rest.later
+
 unfoldable pub reading : List (List ℕ) → List ℕ → Result (List Action) TextFault
 reading names bytes = lines_of names [] 1 (lines bytes)
