@@ -1,5 +1,6 @@
 // Texts that are read as lists of actions.
-ghost use Rattle.std.specs.Prelude.{◌≡◌, ◌≢◌, ◌⊎◌, ◌<◌, ◌^◌, List, length, MatchResult, IfOk, IfErr};
+ghost use Rattle.std.specs.Prelude.{◌≡◌, ◌≢◌, ◌⊎◌, ◌<◌, ◌^◌, ◌++◌, List, length, MatchResult, IfOk, IfErr, OnOk};
+ghost use Rattle.std.specs.Option.{option_to_list};
 ghost use Rattle.plan_types.specs.declared.action.Action.{Action};
 ghost use Rattle.level_book.specs.BookCosts.{names_of};
 ghost use Rattle.action_text.specs.declared.fault.TextFault.{TextFault};
@@ -41,16 +42,27 @@ fn read_lines(alloc: Global, bytes: &[u8], book: &Book) -> Result<Vec<Action>, T
     let mut list = Vec::with_capacity(alloc, room)?;
     let mut cursor = Cursor::new(bytes);
     let mut number = 1;
-    loop {
+    'lines: loop {
         let full = list.len() == MOST_ACTIONS;
-        match line(&mut cursor, book, full) {
-            Ok(Some(action)) => list.push(action)?,
-            Ok(None) => {}
+        let found = match line(&mut cursor, book, full) {
+            Ok(found) => found,
             Err(fault) => return Err(fault.at(number)),
-        }
+        };
+        add(&mut list, found)?;
         if !cursor.next_line() {
             return Ok(list);
         }
         number += 1;
     }
+}
+
+// Adds an action to a list, if there is one.
+fn add(list: &mut Vec<Action>, found: Option<Action>) -> Result<(), TextFault>
+    ensures added { OnOk result (list.new.items ≡ list.old.items ++ option_to_list found) }
+    ensures memory { IfErr result (λ e. e ≡ TextFault.Memory) }
+{
+    if let Some(action) = found {
+        list.push(action)?;
+    }
+    Ok(())
 }

@@ -5,11 +5,11 @@ use Rattle.action_text.specs.Reading.{here_of, reading}
 use Rattle.action_text.proofs.reading.read_lines.Given as goal
 
 -- what is read from here on, behind the list so far, is what is read from the start
-abbrev pub invariant-loop-action : goal.invariant-loop-action
-invariant-loop-action l = record {
+abbrev pub invariant-lines : goal.invariant-lines
+invariant-lines l = record {
   read : here_of (names_of l.book) l.list.items l.number l.cursor ≡ reading (names_of l.book) l.bytes;
   lines : l.number + length l.cursor.later ≡ length (lines l.bytes);
 }
 
-abbrev pub decreases-loop-action : goal.decreases-loop-action
-decreases-loop-action l = length l.cursor.later
+abbrev pub decreases-lines : goal.decreases-lines
+decreases-lines l = length l.cursor.later

@@ -1,0 +1,58 @@
+-- What is read of many lines, one after the other.
+use Rattle.std.proofs.Common.{◌≡◌, ℕ, suc, ◌+◌, ◌≤◌, Bool, true, false, eqb, List, [], ◌∷◌, ◌++◌, length, Option, Result, Ok, Err, refl, sym, ap, ◌∙◌, arith, inl, inr}
+use Rattle.std.specs.Option.{option_to_list}
+use Rattle.plan_types.specs.declared.action.Action.{Action}
+use Rattle.action_text.specs.declared.fault.LineFault.{LineFault}
+use Rattle.action_text.specs.declared.fault.TextFault.{TextFault}
+use Rattle.action_text.specs.ScheduleText.{lines, longer_line}
+use Rattle.action_text.specs.Rest.{Rest}
+use Rattle.action_text.specs.Reading.{◌>>=◌, line_of, fault_at, in_line, has_line, next_line, whole_line, lines_of, here_of, reading}
+use Rattle.action_text.proofs.Steps.{which}
+use Rattle.action_text.proofs.Seen.{lines_are}
+
+-- how a line goes on that was read, or that has a fault
+abbrev go_on : List (List ℕ) → List Action → ℕ → List (List ℕ) → Result (Option Action) LineFault → Result (List Action) TextFault
+go_on names list n later read = in_line n read >>= λ found. lines_of names (list ++ option_to_list found) (n + 1) later
+
+pub here_err : (names : List (List ℕ)) (list : List Action) (n : ℕ) (rest : Rest) (full : Bool) (fault : LineFault) → full ≡ eqb (length list) 16777216 →
+    line_of names full rest ≡ Err fault → here_of names list n rest ≡ Err (fault_at n fault)
+unfolding here_of
+here_err names list n rest full fault is read = ap (λ (b : Bool). go_on names list n rest.later (line_of names b rest)) (sym is) ∙ ap (go_on names list n rest.later) read
+
+pub here_ok : (names : List (List ℕ)) (list more : List Action) (n : ℕ) (rest : Rest) (full : Bool) (found : Option Action) → full ≡ eqb (length list) 16777216 →
+    line_of names full rest ≡ Ok found → more ≡ list ++ option_to_list found → here_of names list n rest ≡ lines_of names more (n + 1) rest.later
+unfolding here_of
+here_ok names list more n rest full found is read added =
+    ap (λ (b : Bool). go_on names list n rest.later (line_of names b rest)) (sym is)
+    ∙ ap (go_on names list n rest.later) read
+    ∙ ap (λ (xs : List Action). lines_of names xs (n + 1) rest.later) (sym added)
+
+pub lines_end : (names : List (List ℕ)) (list : List Action) (n : ℕ) (later : List (List ℕ)) → has_line later ≡ false → lines_of names list n later ≡ Ok list
+unfolding lines_of
+lines_end names list n [] none = refl
+lines_end names list n (line ∷ later) none = absurd cc
+
+pub lines_next : (names : List (List ℕ)) (list : List Action) (n : ℕ) (later : List (List ℕ)) → has_line later ≡ true → here_of names list n (next_line later) ≡ lines_of names list n later
+unfolding here_of lines_of
+lines_next names list n [] some = absurd cc
+lines_next names list n (line ∷ later) some = refl
+
+pub one_line_less : (later : List (List ℕ)) → has_line later ≡ true → length later ≡ suc (length (next_line later).later)
+one_line_less [] some = absurd cc
+one_line_less (line ∷ later) some = refl
+
+length-longer : (b : ℕ) (line : List ℕ) (ls others : List (List ℕ)) → ls ≡ line ∷ others → length (longer_line b ls) ≡ length ls
+length-longer b line [] others is = absurd cc
+length-longer b line (l ∷ ls) others is = refl
+
+pub lines_few : (bs : List ℕ) → length (lines bs) ≤ length bs + 1
+unfolding lines
+lines_few [] = omega arith
+lines_few (b ∷ bs) = elim (which (eqb b 10)) [
+  | inl end ↦ rw end (omega (arith, lines_few bs))
+  | inr more ↦ rw more (omega (arith, lines_few bs, length-longer b _ (lines bs) _ (lines_are bs)))
+]
+
+pub first_line_here : (names : List (List ℕ)) (bs : List ℕ) → here_of names [] 1 (next_line (lines bs)) ≡ reading names bs
+unfolding reading
+first_line_here names bs = lines_next names [] 1 (lines bs) (ap has_line (lines_are bs))
