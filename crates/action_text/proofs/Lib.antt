@@ -3,3 +3,7 @@ pub mod Decimal
 pub mod Seen
 pub mod LineOf
 pub mod ManyLines
+pub mod LevelWords
+pub mod Wants
+pub mod Sayings
+pub mod LineFaults

@@ -1,0 +1,307 @@
+-- A line that is read says its action, and one that isn't has the fault that was met.
+use Rattle.std.proofs.Common.{◌≡◌, ◌≢◌, ◌⊎◌, ℕ, zero, suc, ◌+◌, ◌<◌, ◌≤◌, Bool, true, false, cond, eqb, List, [], ◌∷◌, ◌++◌, length, map, get_or, Option, Some, None, Result, Ok, Err, refl, sym, ap, subst, ◌∙◌, arith, inl, inr, Contains}
+use Rattle.std.specs.Prelude.{codes}
+use Rattle.std.specs.List.{AllByRecursion}
+use Rattle.std.specs.Str.{bytes_eq}
+use Rattle.std.proofs.lemmas.Bool.{eqb-true, eqb-false}
+use Rattle.level_book.specs.Names.{AreNames}
+use Rattle.plan_types.specs.declared.action.Action.{Action}
+use Rattle.action_text.specs.declared.fault.Rule.TheVariants as rule
+use Rattle.action_text.specs.declared.fault.LineFault.{LineFault}
+use Rattle.action_text.specs.declared.words.Kind.{Kind}
+use Rattle.action_text.specs.declared.words.Kind.TheVariants as kind
+use Rattle.action_text.specs.Tokens.{Token, starts_run, tokens}
+use Rattle.action_text.specs.Shapes.{Want, exactly, number, truth, level, target, place, opening, comma, closing, shapes, Fits, FitFront, Expects, Begin}
+use Rattle.action_text.specs.Meaning.{Says, SayNothing, IsPassed}
+use Rattle.action_text.specs.ScheduleText.{texts}
+use Rattle.action_text.specs.Faults.{rule_at, IsUnexpected, IsTooMany, FaultIn, first_column}
+use Rattle.action_text.specs.Rest.{Rest}
+use Rattle.action_text.specs.Reading.{◌>>=◌, kind_of, text_in, column_in, text_at, column_at, behind, take_if, next, end_next, is_nothing, all_of, wants_of, said, arguments_of, profiled, action_of, says_nothing, word_next, line_of, number_of_rule, not_action, whole_line}
+use Rattle.action_text.proofs.Steps.{which, chosen, bind_ok, bind_err, done, failed, ok_is, err_is, not_both}
+use Rattle.action_text.proofs.LevelWords.{same_bytes, bytes_same}
+use Rattle.action_text.proofs.Wants.{test_of, IsReal, IsTaken, IsLeft, next_ok, next_err, passes_fits}
+use Rattle.action_text.proofs.Sayings.{AllPass, AllFit, name_of_kind, said_says, IsRead, says_read, kind_named}
+
+abbrev texts_of : List Token → List (List ℕ)
+texts_of ts = map (λ (t : Token). t.text) ts
+
+-- ---- rows of wants
+
+abbrev AllReal : List Want → Type 0
+AllReal ws = AllByRecursion IsReal ws
+
+-- nothing is left of a line
+ended : (rest : Rest) (ts : List Token) → rest.tokens ≡ ts → end_next rest ≡ Ok [] → ts ≡ []
+unfolding end_next
+ended rest [] is e = refl
+ended rest (t ∷ ts) is e =
+    let some : is_nothing rest.tokens ≡ false = ap is_nothing is in
+    absurd (not_both {A = List (List ℕ)} [] (not_action (column_at rest)) (sym (rw some at e)))
+
+end_ok : (rest : Rest) (xs : List (List ℕ)) → end_next rest ≡ Ok xs → xs ≡ []
+unfolding end_next
+end_ok rest xs e = elim (chosen (is_nothing rest.tokens) (Ok []) (Err (not_action (column_at rest))) (Ok xs) e) [
+  | inl h ↦ sym (ok_is [] xs h.1)
+  | inr h ↦ absurd (not_both xs (not_action (column_at rest)) (sym h.1))
+]
+
+-- all of a row was taken, and nothing is left
+all_passed : (names : List (List ℕ)) (ws : List Want) (rest : Rest) (xs : List (List ℕ)) → AllReal ws → all_of names ws rest ≡ Ok xs → AllPass names ws xs × (texts_of rest.tokens ≡ xs)
+all_passed names [] rest xs real e =
+    let none : xs ≡ [] = end_ok rest xs e in
+    let over : rest.tokens ≡ [] = ended rest rest.tokens refl (e ∙ ap (λ (ys : List (List ℕ)). done LineFault ys) none) in
+    (subst (λ (ys : List (List ℕ)). AllPass names [] ys) (sym none) tt, ap texts_of over ∙ sym none)
+all_passed names (w ∷ ws) rest xs real e =
+    let a = bind_ok (next names w rest) (λ x. all_of names ws x.1 >>= λ ys. Ok (x.0 ∷ ys)) xs e in
+    let b = bind_ok (all_of names ws a.0.1) (λ ys. Ok (a.0.0 ∷ ys)) xs a.2 in
+    let taken = next_ok names w rest a.0 real.0 a.1 in
+    let others = all_passed names ws a.0.1 b.0 real.1 b.1 in
+    let whole : a.0.0 ∷ b.0 ≡ xs = ok_is (a.0.0 ∷ b.0) xs b.2 in
+    (
+      subst (λ (ys : List (List ℕ)). AllPass names (w ∷ ws) ys) whole (taken.passes, others.0),
+      ap texts_of taken.parts ∙ ap (λ (x : List ℕ). x ∷ texts_of a.0.1.tokens) taken.text ∙ ap (λ (ys : List (List ℕ)). a.0.0 ∷ ys) others.1 ∙ whole,
+    )
+
+-- a row isn't taken whole: a token doesn't fit or stands behind it, or the line ends too early
+pub data IsStuck (names : List (List ℕ)) (ws : List Want) (ts : List Token) (end : ℕ) (f : LineFault) : Type 0 where
+  at_token : (before : List Token) (t : Token) (after : List Token) (next : Option Want) → ts ≡ before ++ t ∷ after → FitFront names before ws next →
+    ((other : Option Want) → FitFront names (before ++ t ∷ []) ws other → ⊥) → number_of_rule f.rule ≡ rule_at next t.text → f.column ≡ t.column → IsStuck names ws ts end f
+  at_end : (w : Want) → FitFront names ts ws (Some w) → number_of_rule f.rule ≡ 1 → f.column ≡ end → IsStuck names ws ts end f
+
+left_over : (names : List (List ℕ)) (rest : Rest) (f : LineFault) (ts : List Token) → rest.tokens ≡ ts → end_next rest ≡ Err f → IsStuck names [] ts rest.end f
+unfolding end_next column_at
+left_over names rest f [] is e = absurd (not_both [] f (rw (ap is_nothing is) at e))
+left_over names rest f (t ∷ ts) is e =
+    let some : is_nothing rest.tokens ≡ false = ap is_nothing is in
+    let fault : not_action (column_at rest) ≡ f = err_is (List (List ℕ)) _ f (rw some at e) in
+    let column : column_at rest ≡ t.column = ap (λ (xs : List Token). column_in xs rest.end) is in
+    IsStuck.at_token [] t ts None refl refl (λ other fit. fit) (ap (λ (g : LineFault). number_of_rule g.rule) (sym fault)) (ap (λ (g : LineFault). g.column) (sym fault) ∙ column)
+
+longer_stuck : (names : List (List ℕ)) (w : Want) (ws : List Want) (t : Token) (ts : List Token) (end : ℕ) (f : LineFault) → Fits names w t.text →
+    IsStuck names ws ts end f → IsStuck names (w ∷ ws) (t ∷ ts) end f
+longer_stuck names w ws t ts end f fit (IsStuck.at_token before u after next parts front stops rule column) =
+    IsStuck.at_token (t ∷ before) u after next (ap (λ (xs : List Token). t ∷ xs) parts) (fit, front) (λ other whole. stops other whole.1) rule column
+longer_stuck names w ws t ts end f fit (IsStuck.at_end v front rule column) = IsStuck.at_end v (fit, front) rule column
+
+stuck : (names : List (List ℕ)) (ws : List Want) (rest : Rest) (f : LineFault) → AreNames names → AllReal ws → all_of names ws rest ≡ Err f → IsStuck names ws rest.tokens rest.end f
+stuck names [] rest f are real e = left_over names rest f rest.tokens refl e
+stuck names (w ∷ ws) rest f are real e = elim (bind_err (next names w rest) (λ x. all_of names ws x.1 >>= λ ys. Ok (x.0 ∷ ys)) f e) [
+  | inl first ↦ elim (next_err names w rest f are first) [
+    | IsLeft.nothing none rule column ↦ subst (λ (ts : List Token). IsStuck names (w ∷ ws) ts rest.end f) (sym none) (IsStuck.at_end w refl rule column)
+    | IsLeft.unfit t ts parts unfit rule column ↦
+        subst (λ (xs : List Token). IsStuck names (w ∷ ws) xs rest.end f) (sym parts)
+        (IsStuck.at_token [] t ts (Some w) refl refl (λ other fit. unfit fit.0) rule column)
+  ]
+  | inr later ↦ elim (bind_err (all_of names ws later.0.1) (λ ys. Ok (later.0.0 ∷ ys)) f later.2) [
+    | inl behind_it ↦
+        let taken = next_ok names w rest later.0 real.0 later.1 in
+        let others = stuck names ws later.0.1 f are real.1 behind_it in
+        let fit : Fits names w taken.token.text = subst (λ (x : List ℕ). Fits names w x) (sym taken.text) (passes_fits names w later.0.0 taken.passes) in
+        let same_end : IsStuck names ws later.0.1.tokens rest.end f = subst (λ (k : ℕ). IsStuck names ws later.0.1.tokens k f) taken.end others in
+        subst (λ (xs : List Token). IsStuck names (w ∷ ws) xs rest.end f) (sym taken.parts) (longer_stuck names w ws taken.token later.0.1.tokens rest.end f fit same_end)
+    | inr whole ↦ absurd (not_both _ f whole.2)
+  ]
+]
+
+-- ---- shapes
+
+abbrev pub shape_of : Kind → List Want
+shape_of k = exactly (name_of_kind k) ∷ wants_of k
+
+pub shape_there : (k : Kind) → Contains shapes (shape_of k)
+shape_there kind.Forward = (0, omega arith, refl)
+shape_there kind.Reverse = (1, omega arith, refl)
+shape_there kind.Copy = (2, omega arith, refl)
+shape_there kind.Move = (3, omega arith, refl)
+shape_there kind.EndForward = (4, omega arith, refl)
+shape_there kind.EndReverse = (5, omega arith, refl)
+
+shape_is : (shape : List Want) → Contains shapes shape → (k : Kind) × (shape_of k ≡ shape)
+shape_is shape c = by_place c.0 c.1 c.2
+  where
+    by_place : (i : ℕ) → i < length shapes → get_or shapes i shape ≡ shape → (k : Kind) × (shape_of k ≡ shape)
+    by_place zero within is = (kind.Forward, is)
+    by_place (suc zero) within is = (kind.Reverse, is)
+    by_place (suc (suc zero)) within is = (kind.Copy, is)
+    by_place (suc (suc (suc zero))) within is = (kind.Move, is)
+    by_place (suc (suc (suc (suc zero)))) within is = (kind.EndForward, is)
+    by_place (suc (suc (suc (suc (suc zero))))) within is = (kind.EndReverse, is)
+    by_place (suc (suc (suc (suc (suc (suc i)))))) within is = absurd (omega arith)
+
+-- tokens that begin a line, by the kind that the first of them names
+pub record BeginsAs (names : List (List ℕ)) (t : Token) (ts : List Token) (next : Option Want) : Type 0 where
+  pub kind_is : Kind
+  pub name : t.text ≡ name_of_kind kind_is
+  pub named : kind_of t.text ≡ Some kind_is
+  pub front : FitFront names ts (wants_of kind_is) next
+
+pub begins_as : (names : List (List ℕ)) (t : Token) (ts : List Token) (next : Option Want) → Expects names (t ∷ ts) next → BeginsAs names t ts next
+begins_as names t ts next (shape, there, front) =
+    let s = shape_is shape there in
+    let fit : FitFront names (t ∷ ts) (shape_of s.0) next = subst (λ (ws : List Want). FitFront names (t ∷ ts) ws next) (sym s.1) front in
+    record { kind_is = s.0; name = fit.0; named = ap kind_of fit.0 ∙ kind_named s.0; front = fit.1 }
+
+pub expects_as : (names : List (List ℕ)) (t : Token) (ts : List Token) (next : Option Want) (k : Kind) → t.text ≡ name_of_kind k → FitFront names ts (wants_of k) next → Expects names (t ∷ ts) next
+expects_as names t ts next k name front = (shape_of k, shape_there k, (name, front))
+
+-- the same kind
+same_kind : (names : List (List ℕ)) (t : Token) (ts : List Token) (next : Option Want) (k : Kind) → kind_of t.text ≡ Some k → BeginsAs names t ts next → FitFront names ts (wants_of k) next
+same_kind names t ts next k named b =
+    let same : b.kind_is ≡ k = cc (b.named, named) in
+    subst (λ (x : Kind). FitFront names ts (wants_of x) next) same b.front
+
+kind_name : (text : List ℕ) (k : Kind) → kind_of text ≡ Some k → text ≡ name_of_kind k
+unfolding kind_of
+kind_name text k e = elim (chosen (bytes_eq text (codes "Forward")) (Some kind.Forward) _ (Some k) e) [
+  | inl h ↦ named kind.Forward h.0 h.1
+  | inr a ↦ elim (chosen (bytes_eq text (codes "Reverse")) (Some kind.Reverse) _ (Some k) a.1) [
+    | inl h ↦ named kind.Reverse h.0 h.1
+    | inr b ↦ elim (chosen (bytes_eq text (codes "Copy")) (Some kind.Copy) _ (Some k) b.1) [
+      | inl h ↦ named kind.Copy h.0 h.1
+      | inr d ↦ elim (chosen (bytes_eq text (codes "Move")) (Some kind.Move) _ (Some k) d.1) [
+        | inl h ↦ named kind.Move h.0 h.1
+        | inr f ↦ elim (chosen (bytes_eq text (codes "EndForward")) (Some kind.EndForward) _ (Some k) f.1) [
+          | inl h ↦ named kind.EndForward h.0 h.1
+          | inr g ↦ elim (chosen (bytes_eq text (codes "EndReverse")) (Some kind.EndReverse) _ (Some k) g.1) [
+            | inl h ↦ named kind.EndReverse h.0 h.1
+            | inr h ↦ absurd (cc (h.1))
+          ]
+        ]
+      ]
+    ]
+  ]
+]
+  where
+    named : (j : Kind) → bytes_eq text (name_of_kind j) ≡ true → ◌≡◌ {A = Option Kind} (Some j) (Some k) → text ≡ name_of_kind k
+    named j is same = let kinds : j ≡ k = cc same in same_bytes text (name_of_kind j) is ∙ ap name_of_kind kinds
+
+kind_real : (k : Kind) → AllReal (wants_of k)
+kind_real kind.Forward = (tt, (tt, (tt, (tt, (tt, (tt, (tt, (tt, (tt, (tt, (tt, tt)))))))))))
+kind_real kind.Reverse = (tt, (tt, (tt, (tt, (tt, (tt, (tt, tt)))))))
+kind_real kind.Copy = (tt, (tt, (tt, (tt, (tt, (tt, (tt, tt)))))))
+kind_real kind.Move = (tt, (tt, (tt, (tt, (tt, (tt, (tt, tt)))))))
+kind_real kind.EndForward = (tt, (tt, tt))
+kind_real kind.EndReverse = (tt, (tt, tt))
+
+opens : (names : List (List ℕ)) (k : Kind) → FitFront names [] (wants_of k) (Some opening)
+opens names kind.Forward = refl
+opens names kind.Reverse = refl
+opens names kind.Copy = refl
+opens names kind.Move = refl
+opens names kind.EndForward = refl
+opens names kind.EndReverse = refl
+
+name_runs : (k : Kind) → starts_run (name_of_kind k) ≡ true
+name_runs kind.Forward = refl
+name_runs kind.Reverse = refl
+name_runs kind.Copy = refl
+name_runs kind.Move = refl
+name_runs kind.EndForward = refl
+name_runs kind.EndReverse = refl
+
+-- texts that fit a row whole, as tokens
+pub fit_whole : (names : List (List ℕ)) (ws : List Want) (ts : List Token) (xs : List (List ℕ)) → AllFit names ws xs → texts_of ts ≡ xs → FitFront names ts ws None
+fit_whole names [] [] xs fit is = refl
+fit_whole names [] (t ∷ ts) [] fit is = cc
+fit_whole names [] (t ∷ ts) (x ∷ xs) fit is = absurd fit
+fit_whole names (w ∷ ws) [] [] fit is = absurd fit
+fit_whole names (w ∷ ws) [] (x ∷ xs) fit is = cc
+fit_whole names (w ∷ ws) (t ∷ ts) [] fit is = absurd fit
+fit_whole names (w ∷ ws) (t ∷ ts) (x ∷ xs) fit is =
+    let same : x ≡ t.text = cc is in
+    (subst (λ (y : List ℕ). Fits names w y) same fit.0, fit_whole names ws ts xs fit.1 (cc is))
+
+pass_fit : (names : List (List ℕ)) (ws : List Want) (xs : List (List ℕ)) → AllPass names ws xs → AllFit names ws xs
+pass_fit names [] [] pass = tt
+pass_fit names [] (x ∷ xs) pass = absurd pass
+pass_fit names (w ∷ ws) [] pass = absurd pass
+pass_fit names (w ∷ ws) (x ∷ xs) pass = (passes_fits names w x pass.0, pass_fit names ws xs pass.1)
+
+-- ---- lines
+
+pub nothing_said : (ts : List Token) → says_nothing ts ≡ true → SayNothing ts
+nothing_said [] e = tt
+nothing_said (t ∷ ts) e = same_bytes t.text (codes "#") e
+
+pub something_said : (ts : List Token) → says_nothing ts ≡ false → SayNothing ts → ⊥
+something_said [] e said = cc
+something_said (t ∷ ts) e said = cc (bytes_same t.text (codes "#") said, e)
+
+-- what is read of a line: nothing where it says nothing, and the action that it says
+pub record IsReadLine (names : List (List ℕ)) (line : List ℕ) (found : Option Action) : Type 0 where
+  pub none : found ≡ None → IsPassed line
+  pub some : (a : Action) → found ≡ Some a → Says names (texts line) a
+
+-- a line's fault, where so many actions were read
+abbrev pub IsLineFault : List (List ℕ) → ℕ → List ℕ → LineFault → Type 0
+IsLineFault names done line f = (IsPassed line → ⊥) × FaultIn names done line (number_of_rule f.rule) f.column
+
+not_full : (names : List (List ℕ)) (count : ℕ) (ts : List Token) → eqb count 16777216 ≡ false → (c : ℕ) → IsTooMany names count ts c → ⊥
+not_full names count ts room c many = eqb-false _ _ room many.full
+
+not_named : (names : List (List ℕ)) (count : ℕ) (t : Token) (ts : List Token) → kind_of t.text ≡ None → (c : ℕ) → IsTooMany names count (t ∷ ts) c → ⊥
+not_named names count t ts none c many =
+    let same : many.token ≡ t = cc (many.parts) in
+    let b = begins_as names many.token [] many.name.0 many.name.1 in
+    cc (ap (λ (u : Token). kind_of u.text) same, none, b.named)
+
+no_action : (names : List (List ℕ)) (count : ℕ) (line : List ℕ) (t : Token) (ts : List Token) → tokens 1 line ≡ t ∷ ts → kind_of t.text ≡ None → FaultIn names count line 1 t.column
+no_action names count line t ts parts none =
+    FaultIn.unexpected (λ c many. not_named names count t ts none c (subst (λ (xs : List Token). IsTooMany names count xs c) parts many)) (record {
+      before = [];
+      token = t;
+      after = ts;
+      parts = parts;
+      next = Some (exactly (codes "Forward"));
+      expected = (shape_of kind.Forward, shape_there kind.Forward, refl);
+      stops = λ begin. let b = begins_as names t [] begin.0 begin.1 in cc (b.named, none);
+      rule_is = refl;
+      column_is = refl;
+    })
+
+too_many : (names : List (List ℕ)) (count : ℕ) (line : List ℕ) (t : Token) (ts : List Token) (k : Kind) → tokens 1 line ≡ t ∷ ts → kind_of t.text ≡ Some k → eqb count 16777216 ≡ true → FaultIn names count line 5 t.column
+too_many names count line t ts k parts named full =
+    FaultIn.too_many (record {
+      full = eqb-true _ _ full;
+      token = t;
+      after = ts;
+      parts = parts;
+      name = (Some opening, expects_as names t [] (Some opening) k (kind_name t.text k named) (opens names k));
+      column_is = refl;
+    }) refl
+
+-- a row that isn't taken whole
+stuck_line : (names : List (List ℕ)) (count : ℕ) (line : List ℕ) (t : Token) (ts : List Token) (k : Kind) (f : LineFault) → tokens 1 line ≡ t ∷ ts → kind_of t.text ≡ Some k → eqb count 16777216 ≡ false →
+    IsStuck names (wants_of k) ts (length line + 1) f → FaultIn names count line (number_of_rule f.rule) f.column
+stuck_line names count line t ts k f parts named room (IsStuck.at_token before u after next split front stops rule column) =
+    FaultIn.unexpected (not_full names count (tokens 1 line) room) (record {
+      before = t ∷ before;
+      token = u;
+      after = after;
+      parts = parts ∙ ap (λ (xs : List Token). t ∷ xs) split;
+      next = next;
+      expected = expects_as names t before next k (kind_name t.text k named) front;
+      stops = λ begin. stops begin.0 (same_kind names t (before ++ u ∷ []) begin.0 k named (begins_as names t (before ++ u ∷ []) begin.0 begin.1));
+      rule_is = rule;
+      column_is = column;
+    })
+stuck_line names count line t ts k f parts named room (IsStuck.at_end w front rule column) =
+    FaultIn.ends_early (not_full names count (tokens 1 line) room) w
+    (subst (λ (xs : List Token). Expects names xs (Some w)) (sym parts) (expects_as names t ts (Some w) k (kind_name t.text k named) front)) rule column
+
+-- a whole line that says no action
+no_profile : (names : List (List ℕ)) (count : ℕ) (line : List ℕ) (t : Token) (ts : List Token) (k : Kind) (xs : List (List ℕ)) → AreNames names → tokens 1 line ≡ t ∷ ts → kind_of t.text ≡ Some k →
+    eqb count 16777216 ≡ false → AllPass names (wants_of k) xs → texts_of ts ≡ xs → said names k xs ≡ None → FaultIn names count line 4 t.column
+no_profile names count line t ts k xs are parts named room pass is none =
+    let whole : Expects names (t ∷ ts) None = expects_as names t ts None k (kind_name t.text k named) (fit_whole names (wants_of k) ts xs (pass_fit names (wants_of k) xs pass) is) in
+    FaultIn.profile (not_full names count (tokens 1 line) room)
+    (subst (λ (ys : List Token). Expects names ys None) (sym parts) whole)
+    (λ a says.
+    let r = says_read names (texts line) a are says in
+    let heads : t.text ∷ texts_of ts ≡ name_of_kind r.kind_is ∷ r.others = sym (ap texts_of parts) ∙ r.parts in
+    let name : t.text ≡ name_of_kind r.kind_is = cc heads in
+    let same : k ≡ r.kind_is = cc (named, ap kind_of name, kind_named r.kind_is) in
+    let others : xs ≡ r.others = cc (heads, is) in
+    cc (none, ap (λ (j : Kind). said names j xs) same, ap (said names r.kind_is) others, r.reads))
+    refl (ap first_column (sym parts))
+
