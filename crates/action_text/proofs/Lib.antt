@@ -7,3 +7,5 @@ pub mod LevelWords
 pub mod Wants
 pub mod Sayings
 pub mod LineFaults
+pub mod OneFault
+pub mod Whole

@@ -20,6 +20,7 @@ use Rattle.action_text.specs.Reading.{◌>>=◌, kind_of, text_in, column_in, te
 use Rattle.action_text.proofs.Steps.{which, chosen, bind_ok, bind_err, done, failed, ok_is, err_is, not_both}
 use Rattle.action_text.proofs.LevelWords.{same_bytes, bytes_same}
 use Rattle.action_text.proofs.Wants.{test_of, IsReal, IsTaken, IsLeft, next_ok, next_err, passes_fits}
+use Rattle.action_text.proofs.LineOf.{line_named, line_unnamed}
 use Rattle.action_text.proofs.Sayings.{AllPass, AllFit, name_of_kind, said_says, IsRead, says_read, kind_named}
 
 abbrev texts_of : List Token → List (List ℕ)
@@ -116,7 +117,7 @@ shape_there kind.Move = (3, omega arith, refl)
 shape_there kind.EndForward = (4, omega arith, refl)
 shape_there kind.EndReverse = (5, omega arith, refl)
 
-shape_is : (shape : List Want) → Contains shapes shape → (k : Kind) × (shape_of k ≡ shape)
+pub shape_is : (shape : List Want) → Contains shapes shape → (k : Kind) × (shape_of k ≡ shape)
 shape_is shape c = by_place c.0 c.1 c.2
   where
     by_place : (i : ℕ) → i < length shapes → get_or shapes i shape ≡ shape → (k : Kind) × (shape_of k ≡ shape)
@@ -228,8 +229,9 @@ something_said [] e said = cc
 something_said (t ∷ ts) e said = cc (bytes_same t.text (codes "#") said, e)
 
 -- what is read of a line: nothing where it says nothing, and the action that it says
-pub record IsReadLine (names : List (List ℕ)) (line : List ℕ) (found : Option Action) : Type 0 where
+pub record IsReadLine (names : List (List ℕ)) (count : ℕ) (line : List ℕ) (found : Option Action) : Type 0 where
   pub none : found ≡ None → IsPassed line
+  pub room : found ≢ None → count ≢ 16777216
   pub some : (a : Action) → found ≡ Some a → Says names (texts line) a
 
 -- a line's fault, where so many actions were read
@@ -305,3 +307,98 @@ no_profile names count line t ts k xs are parts named room pass is none =
     cc (none, ap (λ (j : Kind). said names j xs) same, ap (said names r.kind_is) others, r.reads))
     refl (ap first_column (sym parts))
 
+-- ---- what was read of a line
+
+-- what an answer says of a line: its action, or its fault
+abbrev pub IsAnswer : List (List ℕ) → ℕ → List ℕ → Result (Option Action) LineFault → Type 0
+IsAnswer names count line (Ok found) = IsReadLine names count line found
+IsAnswer names count line (Err f) = IsLineFault names count line f
+
+answers : (names : List (List ℕ)) (count : ℕ) (line : List ℕ) (r s : Result (Option Action) LineFault) → r ≡ s → IsAnswer names count line s → IsAnswer names count line r
+answers names count line r s same is = subst (λ (x : Result (Option Action) LineFault). IsAnswer names count line x) (sym same) is
+
+passed_line : (names : List (List ℕ)) (count : ℕ) (line : List ℕ) (found : Option Action) → found ≡ None → IsPassed line → IsReadLine names count line found
+passed_line names count line found none passed = record { none = λ _. passed; room = λ some. absurd (some none); some = λ a is. absurd (cc (none, is)) }
+
+said_line : (names : List (List ℕ)) (count : ℕ) (line : List ℕ) (a : Action) → eqb count 16777216 ≡ false → Says names (texts line) a → IsReadLine names count line (Some a)
+said_line names count line a room says = record {
+  none = λ is. absurd cc;
+  room = λ some. eqb-false _ _ room;
+  some = λ b is. subst (λ (x : Action). Says names (texts line) x) (let same : a ≡ b = cc is in same) says;
+}
+
+-- a line with tokens that says something
+record IsSome (line : List ℕ) (t : Token) (ts : List Token) : Type 0 where
+  parts : tokens 1 line ≡ t ∷ ts
+  some : says_nothing (t ∷ ts) ≡ false
+
+not_passed : (line : List ℕ) (t : Token) (ts : List Token) → IsSome line t ts → IsPassed line → ⊥
+not_passed line t ts is passed = something_said (t ∷ ts) is.some (subst (λ (xs : List Token). SayNothing xs) is.parts passed)
+
+unnamed : (text : List ℕ) → starts_run text ≡ false → (o : Option Kind) → kind_of text ≡ o → kind_of text ≡ None
+unnamed text other None e = e
+unnamed text other (Some k) e = absurd (cc (ap starts_run (kind_name text k e), name_runs k, other))
+
+-- the arguments of a kind were read, or aren't whole
+arguments_answer : (names : List (List ℕ)) (count : ℕ) (line : List ℕ) (t : Token) (ts : List Token) (k : Kind) (rest : Rest) → AreNames names → IsSome line t ts → kind_of t.text ≡ Some k →
+    eqb count 16777216 ≡ false → rest.tokens ≡ ts → rest.end ≡ length line + 1 → (read : Result (List (List ℕ)) LineFault) → all_of names (wants_of k) rest ≡ read →
+    IsAnswer names count line ((read >>= λ xs. Ok (said names k xs)) >>= profiled t.column)
+arguments_answer names count line t ts k rest are is named room tokens_are end_is (Err f) e =
+    let whole = stuck names (wants_of k) rest f are (kind_real k) e in
+    let there : IsStuck names (wants_of k) ts (length line + 1) f =
+        subst (λ (x : ℕ). IsStuck names (wants_of k) ts x f) end_is (subst (λ (xs : List Token). IsStuck names (wants_of k) xs rest.end f) tokens_are whole) in
+    (not_passed line t ts is, stuck_line names count line t ts k f is.parts named room there)
+arguments_answer names count line t ts k rest are is named room tokens_are end_is (Ok xs) e =
+    let p = all_passed names (wants_of k) rest xs (kind_real k) e in
+    let texts_are : texts_of ts ≡ xs = ap texts_of (sym tokens_are) ∙ p.1 in
+    by_said (said names k xs) refl p.0 texts_are
+  where
+    by_said : (o : Option Action) → said names k xs ≡ o → AllPass names (wants_of k) xs → texts_of ts ≡ xs → IsAnswer names count line (profiled t.column o)
+    by_said None none pass texts_are = (not_passed line t ts is, no_profile names count line t ts k xs are is.parts named room pass texts_are none)
+    by_said (Some a) some pass texts_are =
+        let name : t.text ≡ name_of_kind k = kind_name t.text k named in
+        let all : texts line ≡ name_of_kind k ∷ xs = ap texts_of is.parts ∙ ap (λ (x : List ℕ). x ∷ texts_of ts) name ∙ ap (λ (ys : List (List ℕ)). name_of_kind k ∷ ys) texts_are in
+        said_line names count line a room (subst (λ (ys : List (List ℕ)). Says names ys a) (sym all) (said_says names k xs a pass some))
+
+kind_answer : (names : List (List ℕ)) (count : ℕ) (line : List ℕ) (t : Token) (ts : List Token) (rest : Rest) → AreNames names → IsSome line t ts →
+    rest.tokens ≡ ts → rest.end ≡ length line + 1 → (o : Option Kind) → kind_of t.text ≡ o → IsAnswer names count line (action_of names (eqb count 16777216) t.column o rest)
+unfolding arguments_of
+kind_answer names count line t ts rest are is tokens_are end_is None none = (not_passed line t ts is, no_action names count line t ts is.parts none)
+kind_answer names count line t ts rest are is tokens_are end_is (Some k) named = elim (which (eqb count 16777216)) [
+  | inl full ↦ rw full (not_passed line t ts is, too_many names count line t ts k is.parts named full)
+  | inr room ↦ rw room (arguments_answer names count line t ts k rest are is named room tokens_are end_is (all_of names (wants_of k) rest) refl)
+]
+
+some_answer : (names : List (List ℕ)) (count : ℕ) (line : List ℕ) (later : List (List ℕ)) (t : Token) (ts : List Token) → AreNames names → IsSome line t ts →
+    IsAnswer names count line (line_of names (eqb count 16777216) (whole_line line later))
+unfolding text_at column_at
+some_answer names count line later t ts are is =
+    let rest = whole_line line later in
+    let some : says_nothing rest.tokens ≡ false = ap says_nothing is.parts ∙ is.some in
+    let text : text_at rest ≡ t.text = ap text_in is.parts in
+    let column : column_at rest ≡ t.column = ap (λ (xs : List Token). column_in xs rest.end) is.parts in
+    elim (which (starts_run t.text)) [
+      | inl run ↦
+          let tokens_are : (behind rest).tokens ≡ ts = rw is.parts refl in
+          answers names count line _ (action_of names (eqb count 16777216) t.column (kind_of t.text) (behind rest))
+          (line_named names (eqb count 16777216) rest rest (behind rest) t.text t.column some refl (ap starts_run text ∙ run, sym text, sym column, refl))
+          (kind_answer names count line t ts (behind rest) are is tokens_are refl (kind_of t.text) refl)
+      | inr other ↦
+          answers names count line _ (Err (not_action t.column))
+          (line_unnamed names (eqb count 16777216) rest rest (not_action t.column) some refl (ap starts_run text ∙ other, ap not_action (sym column)))
+          (not_passed line t ts is, no_action names count line t ts is.parts (unnamed t.text other (kind_of t.text) refl))
+    ]
+
+nothing_answer : (names : List (List ℕ)) (count : ℕ) (line : List ℕ) (later : List (List ℕ)) → says_nothing (tokens 1 line) ≡ true → IsAnswer names count line (line_of names (eqb count 16777216) (whole_line line later))
+unfolding line_of
+nothing_answer names count line later nothing = rw nothing (passed_line names count line None refl (nothing_said (tokens 1 line) nothing))
+
+pub line_answer : (names : List (List ℕ)) (count : ℕ) (line : List ℕ) (later : List (List ℕ)) → AreNames names → IsAnswer names count line (line_of names (eqb count 16777216) (whole_line line later))
+line_answer names count line later are = by_tokens (tokens 1 line) refl
+  where
+    by_tokens : (ts : List Token) → tokens 1 line ≡ ts → IsAnswer names count line (line_of names (eqb count 16777216) (whole_line line later))
+    by_tokens [] parts = nothing_answer names count line later (ap says_nothing parts)
+    by_tokens (t ∷ ts) parts = elim (which (says_nothing (t ∷ ts))) [
+      | inl nothing ↦ nothing_answer names count line later (ap says_nothing parts ∙ nothing)
+      | inr some ↦ some_answer names count line later t ts are (record { parts = parts; some = some })
+    ]
