@@ -9,3 +9,4 @@ pub mod Sayings
 pub mod LineFaults
 pub mod OneFault
 pub mod Whole
+pub mod Spelled
