@@ -6,6 +6,8 @@ use Rattle.std.specs.Str.{bytes_eq}
 use Rattle.std.proofs.lemmas.Bool.Decides.{nat_tests}
 use Rattle.std.proofs.lemmas.Slice.Eq.{bytes_eq-Decides}
 use Rattle.std.proofs.lemmas.Iterator.Adapters.{position_from-zero}
+use Rattle.std.proofs.lemmas.List.{length-map}
+use Rattle.level_book.specs.BookCosts.{BookCosts, names_of}
 use Rattle.level_book.specs.Names.{is_name, is_spelled, is_name_byte, AreNames}
 use Rattle.action_text.specs.Tokens.{is_run_byte, starts_run}
 use Rattle.action_text.specs.Reading.{level_of}
@@ -126,3 +128,7 @@ at_contained names text c = (c.0, there names c.0 c.1 c.2)
     there [] k within is = absurd (omega arith)
     there (name ∷ names) zero within is = ap Some is
     there (name ∷ names) (suc k) within is = there names k (omega arith) is
+
+-- a level of a book has a name
+pub is_level : (book : BookCosts) (k : ℕ) → k < length book.levels → k < length (names_of book)
+is_level book k within = rw length-map within

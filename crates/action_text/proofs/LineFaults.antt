@@ -57,8 +57,7 @@ all_passed names (w ∷ ws) rest xs real e =
     let b = bind_ok (all_of names ws a.0.1) (λ ys. Ok (a.0.0 ∷ ys)) xs a.2 in
     let taken = next_ok names w rest a.0 real.0 a.1 in
     let others = all_passed names ws a.0.1 b.0 real.1 b.1 in
-    let whole : a.0.0 ∷ b.0 ≡ xs = ok_is (a.0.0 ∷ b.0) xs b.2 in
-    (
+    let whole : a.0.0 ∷ b.0 ≡ xs = ok_is (a.0.0 ∷ b.0) xs b.2 in (
       subst (λ (ys : List (List ℕ)). AllPass names (w ∷ ws) ys) whole (taken.passes, others.0),
       ap texts_of taken.parts ∙ ap (λ (x : List ℕ). x ∷ texts_of a.0.1.tokens) taken.text ∙ ap (λ (ys : List (List ℕ)). a.0.0 ∷ ys) others.1 ∙ whole,
     )
@@ -66,7 +65,7 @@ all_passed names (w ∷ ws) rest xs real e =
 -- a row isn't taken whole: a token doesn't fit or stands behind it, or the line ends too early
 pub data IsStuck (names : List (List ℕ)) (ws : List Want) (ts : List Token) (end : ℕ) (f : LineFault) : Type 0 where
   at_token : (before : List Token) (t : Token) (after : List Token) (next : Option Want) → ts ≡ before ++ t ∷ after → FitFront names before ws next →
-    ((other : Option Want) → FitFront names (before ++ t ∷ []) ws other → ⊥) → number_of_rule f.rule ≡ rule_at next t.text → f.column ≡ t.column → IsStuck names ws ts end f
+      ((other : Option Want) → FitFront names (before ++ t ∷ []) ws other → ⊥) → number_of_rule f.rule ≡ rule_at next t.text → f.column ≡ t.column → IsStuck names ws ts end f
   at_end : (w : Want) → FitFront names ts ws (Some w) → number_of_rule f.rule ≡ 1 → f.column ≡ end → IsStuck names ws ts end f
 
 left_over : (names : List (List ℕ)) (rest : Rest) (f : LineFault) (ts : List Token) → rest.tokens ≡ ts → end_next rest ≡ Err f → IsStuck names [] ts rest.end f
@@ -346,7 +345,7 @@ arguments_answer : (names : List (List ℕ)) (count : ℕ) (line : List ℕ) (t 
 arguments_answer names count line t ts k rest are is named room tokens_are end_is (Err f) e =
     let whole = stuck names (wants_of k) rest f are (kind_real k) e in
     let there : IsStuck names (wants_of k) ts (length line + 1) f =
-        subst (λ (x : ℕ). IsStuck names (wants_of k) ts x f) end_is (subst (λ (xs : List Token). IsStuck names (wants_of k) xs rest.end f) tokens_are whole) in
+    subst (λ (x : ℕ). IsStuck names (wants_of k) ts x f) end_is (subst (λ (xs : List Token). IsStuck names (wants_of k) xs rest.end f) tokens_are whole) in
     (not_passed line t ts is, stuck_line names count line t ts k f is.parts named room there)
 arguments_answer names count line t ts k rest are is named room tokens_are end_is (Ok xs) e =
     let p = all_passed names (wants_of k) rest xs (kind_real k) e in

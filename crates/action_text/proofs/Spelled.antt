@@ -150,21 +150,25 @@ copy_texts names head n k d run low are level dest =
 pub canonical_says : (names : List (List ℕ)) (a : Action) → AreNames names → HasSpelling names a → Says names (texts (canonical names a)) a
 canonical_says names (Forward n m Nothing) are (low, high, keeps) =
     let ends : TextsAre (codes "False, False, NONE)") (codes "False" ∷ codes "," ∷ codes "False" ∷ codes "," ∷ codes "NONE" ∷ codes ")" ∷ []) =
-        argument (codes "False") (codes "False, NONE)") _ false_word (argument (codes "False") (codes "NONE)") _ false_word (last_one (codes "NONE") (word (codes "NONE") refl refl))) in
+    argument (codes "False") (codes "False, NONE)") _ false_word (argument (codes "False") (codes "NONE)") _ false_word (last_one (codes "NONE") (word (codes "NONE") refl refl))) in
     (low, high, inl (forward_texts n m (codes "False, False, NONE)") _ low high ends 1))
 canonical_says names (Forward n m (Store k)) are (low, high, keeps) =
     let name = name_of names k in
     let same : canonical names (Forward n m (Store k)) ≡ two_numbers (codes "Forward(") n m (44 ∷ 32 ∷ (codes "True, False, " ++ (name ++ codes ")"))) =
-        ap (two_numbers (codes "Forward(") n m) (append_assoc (codes ", True, False, ") name (codes ")")) in
+    ap (two_numbers (codes "Forward(") n m) (append_assoc (codes ", True, False, ") name (codes ")")) in
     (low, high, name, level_at names k keeps, texts_along _ _ _ same (forward_texts n m _ _ low high (store_texts name (level_run names k are keeps))) 1)
 canonical_says names (Forward n m Tape) are (low, high, keeps) =
     let ends : TextsAre (codes "False, True, WORK)") (codes "False" ∷ codes "," ∷ codes "True" ∷ codes "," ∷ codes "WORK" ∷ codes ")" ∷ []) =
-        argument (codes "False") (codes "True, WORK)") _ false_word (argument (codes "True") (codes "WORK)") _ true_word (last_one (codes "WORK") (word (codes "WORK") refl refl))) in
+    argument (codes "False") (codes "True, WORK)") _ false_word (argument (codes "True") (codes "WORK)") _ true_word (last_one (codes "WORK") (word (codes "WORK") refl refl))) in
     (low, high, keeps, forward_texts n m (codes "False, True, WORK)") _ low high ends 1)
 canonical_says names (Reverse n m) are (low, high, one) =
-    let same = regroup_two (codes "Reverse(") (decimal n) (codes ", ") (decimal m) (codes ", True)") in
-    (low, high, one, texts_along (canonical names (Reverse n m)) (codes "Reverse" ++ 40 ∷ (decimal n ++ 44 ∷ 32 ∷ (decimal m ++ 44 ∷ 32 ∷ codes "True)"))) _ same
-    (opened (codes "Reverse") _ _ (word (codes "Reverse") refl refl) (argument (decimal n) _ _ (decimal_is_run n low) (argument (decimal m) _ _ (decimal_is_run m high) (last_one (codes "True") true_word)))) 1)
+    let same = regroup_two (codes "Reverse(") (decimal n) (codes ", ") (decimal m) (codes ", True)") in (
+      low,
+      high,
+      one,
+      texts_along (canonical names (Reverse n m)) (codes "Reverse" ++ 40 ∷ (decimal n ++ 44 ∷ 32 ∷ (decimal m ++ 44 ∷ 32 ∷ codes "True)"))) _ same
+          (opened (codes "Reverse") _ _ (word (codes "Reverse") refl refl) (argument (decimal n) _ _ (decimal_is_run n low) (argument (decimal m) _ _ (decimal_is_run m high) (last_one (codes "True") true_word)))) 1,
+    )
 canonical_says names (Copy n k d) are (low, level, dest) =
     (low, name_of names k, level_at names k level, dest_text names d, dest_named names d dest, copy_texts names (codes "Copy") n k d (word (codes "Copy") refl refl) low are level dest 1)
 canonical_says names (Move n k d) are (low, level, dest) =
@@ -257,7 +261,7 @@ certificate_passed names (t ∷ ts) all =
     let line : List ℕ = 35 ∷ 33 ∷ t in
     let rest : List ℕ = flat_map certificate_line ts in
     let first : lines ((line ++ 10 ∷ []) ++ rest) ≡ line ∷ lines rest =
-        ap lines (append_assoc line (10 ∷ []) rest) ∙ line_first line rest (refl, (refl, one_end t all.0)) in
+    ap lines (append_assoc line (10 ∷ []) rest) ∙ line_first line rest (refl, (refl, one_end t all.0)) in
     subst (λ (ls : List (List ℕ)). LinesSay names ls []) (sym first) (comment_passed t, certificate_passed names ts all.1)
 
 canonical_lines : (names : List (List ℕ)) (list : List Action) (rest : List ℕ) → AreNames names → AllByRecursion (HasSpelling names) list → LinesSay names (lines rest) [] → LinesSay names (lines (text_of names list ++ rest)) list
@@ -265,9 +269,9 @@ canonical_lines names [] rest are spells passed = passed
 canonical_lines names (a ∷ list) rest are spells passed =
     let line : List ℕ = canonical names a in
     let parts : ((line ++ 10 ∷ []) ++ text_of names list) ++ rest ≡ line ++ 10 ∷ (text_of names list ++ rest) =
-        append_assoc (line ++ 10 ∷ []) (text_of names list) rest ∙ append_assoc line (10 ∷ []) (text_of names list ++ rest) in
+    append_assoc (line ++ 10 ∷ []) (text_of names list) rest ∙ append_assoc line (10 ∷ []) (text_of names list ++ rest) in
     let first : lines (text_of names (a ∷ list) ++ rest) ≡ line ∷ lines (text_of names list ++ rest) =
-        ap lines parts ∙ line_first line (text_of names list ++ rest) (endless names a are spells.0) in
+    ap lines parts ∙ line_first line (text_of names list ++ rest) (endless names a are spells.0) in
     subst (λ (ls : List (List ℕ)). LinesSay names ls (a ∷ list)) (sym first) (inr (canonical_says names a are spells.0, canonical_lines names list rest are spells.1 passed))
 
 pub canonical_read : CanonicalIsRead

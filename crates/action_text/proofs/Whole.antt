@@ -97,7 +97,7 @@ same_fault names bytes r l c s m d are f g = elim (places f.before f.here f.afte
       let says : LinesSay names g.before f.done = subst (λ (ls : List (List ℕ)). LinesSay names ls f.done) before f.says in
       let done_is : f.done ≡ g.done = one_list names g.before f.done g.done are says g.says in
       let fault : FaultIn names (length g.done) g.here r c =
-          subst (λ (n : ℕ). FaultIn names n g.here r c) (ap length done_is) (subst (λ (x : List ℕ). FaultIn names (length f.done) x r c) here f.fault) in
+      subst (λ (n : ℕ). FaultIn names n g.here r c) (ap length done_is) (subst (λ (x : List ℕ). FaultIn names (length f.done) x r c) here f.fault) in
       let same = one_fault names (length g.done) g.here r c s d fault g.fault in
       let line : l ≡ m = f.line_is ∙ ap (λ (ls : List (List ℕ)). length ls + 1) before ∙ sym g.line_is in
       ap (λ (x : ℕ). At x l c) same.rules ∙ ap (λ (x : ℕ). At s x c) line ∙ ap (λ (x : ℕ). At s m x) same.columns

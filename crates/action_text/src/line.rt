@@ -13,7 +13,11 @@ use plan_types::{Action, Keep};
 
 // The action that the line says, or none, where it says nothing; full says that no more actions may come.
 #[tactic(auto, unfolding(crate::specs::Reading::line_of))]
-pub(crate) fn line(cursor: &mut Cursor, book: &Book, full: bool) -> Result<Option<Action>, LineFault>
+pub(crate) fn line(
+    cursor: &mut Cursor,
+    book: &Book,
+    full: bool,
+) -> Result<Option<Action>, LineFault>
     ensures value { Gives (λ found. found) result (line_of (names_of book.now) full cursor.old) }
     ensures later { OnOk result (cursor.new.later ≡ cursor.old.later) }
 {

@@ -1,6 +1,5 @@
 // A number in decimal digits.
 ghost use Rattle.std.specs.Prelude.{◌≡◌, ◌≤◌, IfSome};
-
 ghost use Rattle.action_text.specs.Reading.{GivesSome, digits_at, number_at, number_of};
 
 use plan_types::MOST_STEPS;

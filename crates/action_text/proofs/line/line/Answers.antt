@@ -28,9 +28,9 @@ returns-in_err-action-clause-value c =
     let p = err_from_is_err_and c.from_residual-in_err-action.result c.from_residual-in_err-action.ensures.1 in
     let some : says_nothing c.args.cursor.now.tokens ≡ false = sym c.says_nothing.ensures.value ∙ c.if-says_nothing.false in
     rw (p.1, p.2) (
-      line_named (names_of c.args.book.now) c.args.full c.args.cursor.now c.says_nothing.new.self c.word.new.self c.in_ok-name.name.text.now c.in_ok-name.name.column some c.says_nothing.ensures.stays c.in_ok-name.ensures.word
-      ∙ action_some (names_of c.args.book.now) c.in_ok-name.name.column c.word.new.self _ c.in-Some.kind c.args.full (sym c.kind_of.ensures ∙ c.in-Some.is) c.if-full.false
-      ∙ ap (λ r. r >>= profiled c.in_ok-name.name.column) c.in_err-action.ensures.value)
+    line_named (names_of c.args.book.now) c.args.full c.args.cursor.now c.says_nothing.new.self c.word.new.self c.in_ok-name.name.text.now c.in_ok-name.name.column some c.says_nothing.ensures.stays c.in_ok-name.ensures.word
+    ∙ action_some (names_of c.args.book.now) c.in_ok-name.name.column c.word.new.self _ c.in-Some.kind c.args.full (sym c.kind_of.ensures ∙ c.in-Some.is) c.if-full.false
+    ∙ ap (λ r. r >>= profiled c.in_ok-name.name.column) c.in_err-action.ensures.value)
 
 pub returns-in_default-2-clause-value : goal.returns-in_default-2-clause-value
 returns-in_default-2-clause-value c =

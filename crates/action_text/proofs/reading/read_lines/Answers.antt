@@ -23,8 +23,8 @@ returns-in-Err c =
     let names = names_of c.args.book.now in
     let len : c.len-full.result ≡ length c.lines.list.items = omega (arith, c.len-full.ensures, c.lines.list.ok.0) in
     rw c.at.ensures (
-      sym c.lines.invariant.read
-      ∙ here_err names c.lines.list.items c.lines.number c.lines.cursor (eqb c.len-full.result 16777216) c.in-Err.fault (ap (λ (k : ℕ). eqb k 16777216) len) c.in-Err.ensures.value)
+    sym c.lines.invariant.read
+    ∙ here_err names c.lines.list.items c.lines.number c.lines.cursor (eqb c.len-full.result 16777216) c.in-Err.fault (ap (λ (k : ℕ). eqb k 16777216) len) c.in-Err.ensures.value)
 
 pub returns-then-not-next_line : goal.returns-then-not-next_line
 returns-then-not-next_line c =

@@ -13,8 +13,7 @@ column_of-column-requires c =
 pub returns-then-length-eq0-clause-fault : goal.returns-then-length-eq0-clause-fault
 returns-then-length-eq0-clause-fault c =
     let w = c.after_blanks-rest.result.now in
-    let at = at_token c.self.inside.start c.self.inside.rest.now w c.args.self.now c.self.invariant.0 c.after_blanks-rest.ensures c.self.view_is in
-    (
+    let at = at_token c.self.inside.start c.self.inside.rest.now w c.args.self.now c.self.invariant.0 c.after_blanks-rest.ensures c.self.view_is in (
       no_word_there c.self.inside.start w c.args.self.now at (sym c.length_of_run-length.ensures.value ∙ c.if-length-eq0.true),
       ap not_action (c.column_of-column.ensures ∙ sym (column_there c.self.inside.start w c.args.self.now at)),
     )
@@ -30,8 +29,7 @@ returns-clause-word c =
     let n = c.length_of_run-length.ensures.value in
     let at = at_token c.self.inside.start c.self.inside.rest.now w c.args.self.now c.self.invariant.0 c.after_blanks-rest.ensures c.self.view_is in
     let some : 0 < run_length w = omega (arith, n, c.if-length-eq0.false) in
-    let there = word_there c.self.inside.start w c.args.self.now at some in
-    (
+    let there = word_there c.self.inside.start w c.args.self.now at some in (
       there.2,
       c.split_at.ensures.front ∙ ap (λ (k : ℕ). take k w) n ∙ sym there.0,
       c.column_of-column.ensures ∙ sym (column_there c.self.inside.start w c.args.self.now at),
