@@ -1,27 +1,26 @@
 -- A line that is read says its action, and one that isn't has the fault that was met.
-use Rattle.std.proofs.Common.{◌≡◌, ◌≢◌, ◌⊎◌, ℕ, zero, suc, ◌+◌, ◌<◌, ◌≤◌, Bool, true, false, cond, eqb, List, [], ◌∷◌, ◌++◌, length, map, get_or, Option, Some, None, Result, Ok, Err, refl, sym, ap, subst, ◌∙◌, arith, inl, inr, Contains}
+use Rattle.std.proofs.Common.{◌≡◌, ◌≢◌, ℕ, zero, suc, ◌+◌, ◌<◌, true, false, eqb, List, [], ◌∷◌, ◌++◌, length, map, get_or, Option, Some, None, Result, Ok, Err, refl, sym, ap, subst, ◌∙◌, arith, inl, inr, Contains}
 use Rattle.std.specs.Prelude.{codes}
 use Rattle.std.specs.List.{AllByRecursion}
 use Rattle.std.specs.Str.{bytes_eq}
 use Rattle.std.proofs.lemmas.Bool.{eqb-true, eqb-false}
 use Rattle.level_book.specs.Names.{AreNames}
 use Rattle.plan_types.specs.declared.action.Action.{Action}
-use Rattle.action_text.specs.declared.fault.Rule.TheVariants as rule
 use Rattle.action_text.specs.declared.fault.LineFault.{LineFault}
 use Rattle.action_text.specs.declared.words.Kind.{Kind}
 use Rattle.action_text.specs.declared.words.Kind.TheVariants as kind
 use Rattle.action_text.specs.Tokens.{Token, starts_run, tokens}
-use Rattle.action_text.specs.Shapes.{Want, exactly, number, truth, level, target, place, opening, comma, closing, shapes, Fits, FitFront, Expects, Begin}
+use Rattle.action_text.specs.Shapes.{Want, exactly, opening, shapes, Fits, FitFront, Expects}
 use Rattle.action_text.specs.Meaning.{Says, SayNothing, IsPassed}
 use Rattle.action_text.specs.ScheduleText.{texts}
-use Rattle.action_text.specs.Faults.{rule_at, IsUnexpected, IsTooMany, FaultIn, first_column}
+use Rattle.action_text.specs.Faults.{rule_at, IsTooMany, FaultIn, first_column}
 use Rattle.action_text.specs.Rest.{Rest}
-use Rattle.action_text.specs.Reading.{◌>>=◌, kind_of, text_in, column_in, text_at, column_at, behind, take_if, next, end_next, is_nothing, all_of, wants_of, said, arguments_of, profiled, action_of, says_nothing, word_next, line_of, number_of_rule, not_action, whole_line}
-use Rattle.action_text.proofs.Steps.{which, chosen, bind_ok, bind_err, done, failed, ok_is, err_is, not_both}
+use Rattle.action_text.specs.Reading.{◌>>=◌, kind_of, text_in, column_in, text_at, column_at, behind, next, end_next, is_nothing, all_of, wants_of, said, arguments_of, profiled, action_of, says_nothing, line_of, number_of_rule, not_action, whole_line}
+use Rattle.action_text.proofs.Steps.{which, chosen, bind_ok, bind_err, done, ok_is, err_is, not_both}
 use Rattle.action_text.proofs.LevelWords.{same_bytes, bytes_same}
-use Rattle.action_text.proofs.Wants.{test_of, IsReal, IsTaken, IsLeft, next_ok, next_err, passes_fits}
+use Rattle.action_text.proofs.Wants.{IsReal, IsLeft, next_ok, next_err, passes_fits}
 use Rattle.action_text.proofs.LineOf.{line_named, line_unnamed}
-use Rattle.action_text.proofs.Sayings.{AllPass, AllFit, name_of_kind, said_says, IsRead, says_read, kind_named}
+use Rattle.action_text.proofs.Sayings.{AllPass, AllFit, name_of_kind, said_says, says_read, kind_named}
 
 abbrev texts_of : List Token → List (List ℕ)
 texts_of ts = map (λ (t : Token). t.text) ts

@@ -6,7 +6,7 @@ use Rattle.action_text.specs.declared.fault.LineFault.{LineFault}
 use Rattle.action_text.specs.declared.fault.TextFault.{TextFault}
 use Rattle.action_text.specs.ScheduleText.{lines, longer_line}
 use Rattle.action_text.specs.Rest.{Rest}
-use Rattle.action_text.specs.Reading.{◌>>=◌, line_of, fault_at, in_line, has_line, next_line, whole_line, lines_of, here_of, reading}
+use Rattle.action_text.specs.Reading.{◌>>=◌, line_of, fault_at, in_line, has_line, next_line, lines_of, here_of, reading}
 use Rattle.action_text.proofs.Steps.{which}
 use Rattle.action_text.proofs.Seen.{lines_are}
 

@@ -1,17 +1,16 @@
 -- A line says one action at most, or has one fault, and not both.
-use Rattle.std.proofs.Common.{◌≡◌, ◌≢◌, ◌⊎◌, ℕ, zero, suc, ◌+◌, ◌≤◌, Bool, true, false, List, [], ◌∷◌, ◌++◌, length, map, Option, Some, None, refl, sym, ap, subst, ◌∙◌, arith, inl, inr, append_assoc}
+use Rattle.std.proofs.Common.{◌≡◌, ℕ, List, [], ◌∷◌, ◌++◌, map, Option, Some, None, refl, sym, ap, subst, ◌∙◌, append_assoc}
 use Rattle.std.specs.Prelude.{codes}
 use Rattle.level_book.specs.Names.{AreNames}
 use Rattle.plan_types.specs.declared.action.Action.{Action}
-use Rattle.action_text.specs.Tokens.{Token, starts_run, tokens}
-use Rattle.action_text.specs.Shapes.{Want, exactly, Fits, FitFront, Expects, Begin}
+use Rattle.action_text.specs.Tokens.{Token, tokens}
+use Rattle.action_text.specs.Shapes.{Want, FitFront, Expects, Begin}
 use Rattle.action_text.specs.Meaning.{Says, SayNothing, IsPassed}
 use Rattle.action_text.specs.ScheduleText.{texts}
-use Rattle.action_text.specs.Faults.{rule_at, IsUnexpected, IsTooMany, FaultIn, first_column}
+use Rattle.action_text.specs.Faults.{rule_at, IsUnexpected, IsTooMany, FaultIn}
 use Rattle.action_text.proofs.Sayings.{IsRead, says_read, name_of_kind, kind_named}
-use Rattle.action_text.proofs.LineFaults.{BeginsAs, begins_as, expects_as, shape_of, shape_is, fit_whole}
+use Rattle.action_text.proofs.LineFaults.{begins_as, expects_as, shape_of, shape_is, fit_whole}
 use Rattle.action_text.specs.declared.words.Kind.{Kind}
-use Rattle.action_text.specs.declared.words.Kind.TheVariants as kind
 use Rattle.action_text.specs.Reading.{kind_of, wants_of}
 
 -- what fits a row goes on in one way

@@ -1,6 +1,6 @@
 -- A line's arguments are read as an action exactly where its texts say it.
-use Rattle.std.proofs.Common.{◌≡◌, ◌≢◌, ◌⊎◌, ℕ, ◌+◌, ◌≤◌, Bool, true, false, cond, eqb, ◌&&◌, List, [], ◌∷◌, Option, Some, None, slice_get, refl, sym, ap, subst, ◌∙◌, arith, inl, inr}
-use Rattle.std.specs.Prelude.{codes, decimal, unwrap_or}
+use Rattle.std.proofs.Common.{◌≡◌, ◌⊎◌, ℕ, ◌+◌, ◌≤◌, Bool, true, false, eqb, List, [], ◌∷◌, Some, slice_get, refl, sym, ap, subst, ◌∙◌, inl, inr}
+use Rattle.std.specs.Prelude.{codes, decimal}
 use Rattle.std.proofs.lemmas.Bool.{eqb-true, eq-eqb}
 use Rattle.level_book.specs.Names.{AreNames}
 use Rattle.plan_types.specs.declared.action.Keep.TheVariants.{Nothing, Store, Tape}
@@ -12,13 +12,13 @@ use Rattle.action_text.specs.declared.words.Place.{Place}
 use Rattle.action_text.specs.declared.words.Place.TheVariants as at
 use Rattle.action_text.specs.declared.words.Kind.{Kind}
 use Rattle.action_text.specs.declared.words.Kind.TheVariants as kind
-use Rattle.action_text.specs.Shapes.{Want, exactly, number, truth, level, target, place, opening, comma, closing, Fits}
+use Rattle.action_text.specs.Shapes.{Want, target, place, opening, closing, Fits}
 use Rattle.action_text.specs.Meaning.{call, forward_call, NamesDest, Says}
-use Rattle.action_text.specs.Reading.{number_of, truth_of, level_of, target_of, place_of, kind_of, wants_of, forward_said, reverse_said, said}
-use Rattle.action_text.proofs.Steps.{which, both}
+use Rattle.action_text.specs.Reading.{kind_of, wants_of, forward_said, reverse_said, said}
+use Rattle.action_text.proofs.Steps.{which}
 use Rattle.action_text.proofs.Decimal.{number_is, decimal_is_number}
 use Rattle.action_text.proofs.LevelWords.{level_is, level_found, contains_at}
-use Rattle.action_text.proofs.Wants.{test_of, IsTarget, IsPlace, number_passed, truth_passed, level_passed, target_passed, place_passed, exactly_passed, truth_is, target_is, place_is, target_found, place_found, passes_fits}
+use Rattle.action_text.proofs.Wants.{test_of, IsTarget, IsPlace, number_passed, truth_passed, level_passed, target_passed, place_passed, exactly_passed, truth_is, target_is, place_is, target_found, place_found}
 
 -- texts pass the tests of wants, one by one
 abbrev pub AllPass : List (List ℕ) → List Want → List (List ℕ) → Type 0

@@ -1,13 +1,13 @@
 -- What a cursor sees of bytes: the next token and its place, and what is seen behind it.
-use Rattle.std.proofs.Common.{◌≡◌, ◌≢◌, ℕ, zero, suc, ◌+◌, ◌-◌, ◌<◌, ◌≤◌, Bool, true, false, cond, eqb, ◌&&◌, ◌||◌, List, [], ◌∷◌, length, take, drop, Option, Some, None, Ok, Err, refl, sym, ◌∙◌, ap, subst, arith, inl, inr, add-one, get_or}
+use Rattle.std.proofs.Common.{◌≡◌, ℕ, zero, suc, ◌+◌, ◌-◌, ◌<◌, ◌≤◌, true, false, eqb, ◌&&◌, List, [], ◌∷◌, length, take, drop, Some, None, Ok, Err, refl, sym, ◌∙◌, ap, subst, arith, inl, inr, get_or}
 use Rattle.std.specs.Str.{bytes_eq}
-use Rattle.std.proofs.lemmas.Bool.{eqb-true, eqb-false, ne_eqb, eq-eqb}
+use Rattle.std.proofs.lemmas.Bool.{eqb-true, eq-eqb}
 use Rattle.std.proofs.lemmas.Bool.Decides.{nat_tests}
 use Rattle.action_text.specs.Tokens.{Token, is_blank, is_run_byte, starts_run, longer, tokens}
 use Rattle.action_text.specs.ScheduleText.{lines, longer_line}
 use Rattle.action_text.specs.Rest.{Rest, first_line, later_lines, seen_from, seen}
 use Rattle.action_text.specs.Bytes.{without_blanks, behind_line, past, ends_line, begins_nothing, run_length}
-use Rattle.action_text.specs.Reading.{text_at, column_at, behind, mark_next, end_next, not_action, has_line, next_line, says_nothing, is_nothing, whole_line}
+use Rattle.action_text.specs.Reading.{text_at, column_at, behind, mark_next, end_next, not_action, has_line, next_line, says_nothing, is_nothing}
 use Rattle.action_text.proofs.Steps.{which}
 
 -- ---- bytes

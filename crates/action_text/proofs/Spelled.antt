@@ -1,21 +1,20 @@
 -- The canonical text of a list is read as that list.
-use Rattle.std.proofs.Common.{◌≡◌, ◌≢◌, ◌⊎◌, ℕ, zero, suc, ◌+◌, ◌<◌, ◌≤◌, Bool, true, false, cond, eqb, not, ◌&&◌, List, [], ◌∷◌, ◌++◌, length, map, Option, Some, None, slice_get, slice_index_or, refl, sym, ap, subst, ◌∙◌, arith, inl, inr, append_assoc}
+use Rattle.std.proofs.Common.{◌≡◌, ℕ, zero, suc, ◌+◌, ◌≤◌, Bool, true, false, eqb, not, ◌&&◌, List, [], ◌∷◌, ◌++◌, map, Some, slice_get, refl, sym, ap, subst, ◌∙◌, arith, inl, inr, append_assoc}
 use Rattle.std.specs.Prelude.{codes, decimal}
 use Rattle.std.specs.List.{AllByRecursion, list_all, flat_map}
 use Rattle.std.proofs.lemmas.Bool.{ne_eqb}
 use Rattle.level_book.specs.Names.{AreNames}
-use Rattle.plan_types.specs.declared.action.Keep.{Keep}
 use Rattle.plan_types.specs.declared.action.Keep.TheVariants.{Nothing, Store, Tape}
 use Rattle.plan_types.specs.declared.action.Dest.{Dest}
 use Rattle.plan_types.specs.declared.action.Dest.TheVariants.{Work, Level}
 use Rattle.plan_types.specs.declared.action.Action.{Action}
 use Rattle.plan_types.specs.declared.action.Action.TheVariants.{Forward, Reverse, Copy, Move, EndForward, EndReverse}
 use Rattle.action_text.specs.Tokens.{Token, is_blank, is_run_byte, starts_run, longer, tokens}
-use Rattle.action_text.specs.Meaning.{call, forward_call, NamesDest, Says, IsPassed}
-use Rattle.action_text.specs.ScheduleText.{lines, longer_line, texts, LinesSay, IsSchedule}
-use Rattle.action_text.specs.Canonical.{two_numbers, one_number, name_of, keep_text, dest_text, copy_text, canonical, IsLevelOf, IsDestOf, CanKeep, HasSpelling, text_of}
+use Rattle.action_text.specs.Meaning.{call, NamesDest, Says, IsPassed}
+use Rattle.action_text.specs.ScheduleText.{lines, longer_line, texts, LinesSay}
+use Rattle.action_text.specs.Canonical.{two_numbers, one_number, name_of, keep_text, dest_text, copy_text, canonical, IsLevelOf, IsDestOf, HasSpelling, text_of}
 use Rattle.action_text.specs.Laws.{certificate_line, HasOneEnd, CanonicalIsRead, OneSpelling}
-use Rattle.action_text.proofs.Steps.{which, both}
+use Rattle.action_text.proofs.Steps.{both}
 use Rattle.action_text.proofs.Decimal.{IsRun, decimal_is_run}
 use Rattle.action_text.proofs.Seen.{run_is_no_blank, run_is_no_end}
 use Rattle.action_text.proofs.LevelWords.{level_is_name, name_is_run}

@@ -1,7 +1,6 @@
 -- What is taken from the front of a line fits what is wanted, and what isn't taken doesn't.
-use Rattle.std.proofs.Common.{◌≡◌, ◌≢◌, ◌⊎◌, ℕ, ◌≤◌, Bool, true, false, cond, ◌&&◌, List, [], ◌∷◌, ◌++◌, length, map, Option, Some, None, is_some, Result, Ok, Err, slice_get, refl, sym, ap, subst, ◌∙◌, arith, inl, inr, Contains}
-use Rattle.std.specs.Prelude.{codes, decimal, IsTrue}
-use Rattle.std.specs.List.{AllByRecursion}
+use Rattle.std.proofs.Common.{◌≡◌, ◌⊎◌, ℕ, Bool, true, false, cond, ◌&&◌, List, [], ◌∷◌, Option, Some, None, is_some, Ok, Err, slice_get, refl, sym, ap, subst, ◌∙◌, inl, inr}
+use Rattle.std.specs.Prelude.{codes}
 use Rattle.std.specs.Str.{bytes_eq}
 use Rattle.level_book.specs.Names.{AreNames}
 use Rattle.plan_types.specs.declared.action.Dest.{Dest}
@@ -12,11 +11,11 @@ use Rattle.action_text.specs.declared.fault.LineFault.{LineFault}
 use Rattle.action_text.specs.declared.words.Place.{Place}
 use Rattle.action_text.specs.declared.words.Place.TheVariants as at
 use Rattle.action_text.specs.Tokens.{Token, starts_run, starts_with_digit}
-use Rattle.action_text.specs.Shapes.{Want, exactly, number, truth, level, target, place, Fits, FitFront}
+use Rattle.action_text.specs.Shapes.{Want, exactly, number, truth, level, target, place, Fits}
 use Rattle.action_text.specs.Faults.{rule_at}
 use Rattle.action_text.specs.Rest.{Rest}
-use Rattle.action_text.specs.Reading.{◌>>=◌, number_of, truth_of, level_of, target_of, place_of, level_or, text_in, column_in, text_at, column_at, behind, take_if, number_rule, level_rule, next, number_next, truth_next, level_next, target_next, place_next, mark_next, end_next, all_of, number_of_rule, not_action}
-use Rattle.action_text.proofs.Steps.{which, both, chosen, bind_ok, bind_err, ok_is, err_is, not_both}
+use Rattle.action_text.specs.Reading.{number_of, truth_of, level_of, target_of, place_of, level_or, text_in, column_in, text_at, column_at, behind, take_if, number_rule, level_rule, next, number_next, truth_next, level_next, target_next, place_next, mark_next, number_of_rule}
+use Rattle.action_text.proofs.Steps.{which, both, chosen, ok_is, err_is, not_both}
 use Rattle.action_text.proofs.Decimal.{number_is, decimal_is_number, decimal_is_run}
 use Rattle.action_text.proofs.LevelWords.{same_bytes, bytes_same, level_is, level_found, level_is_name, name_is_run, no_level, contains_at, at_contained}
 

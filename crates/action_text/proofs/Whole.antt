@@ -1,5 +1,5 @@
 -- A whole text: what it says, or its first fault, and what was read of it.
-use Rattle.std.proofs.Common.{◌≡◌, ◌≢◌, ◌⊎◌, ℕ, suc, ◌+◌, ◌<◌, ◌≤◌, Bool, true, false, eqb, List, [], ◌∷◌, ◌++◌, length, Option, Some, None, Result, Ok, Err, refl, sym, ap, subst, ◌∙◌, arith, inl, inr, append_assoc, length-append}
+use Rattle.std.proofs.Common.{◌≡◌, ◌≢◌, ◌⊎◌, ℕ, ◌+◌, ◌≤◌, eqb, List, [], ◌∷◌, ◌++◌, length, Option, Some, None, Result, Ok, Err, refl, sym, ap, subst, ◌∙◌, arith, inl, inr, append_assoc, length-append}
 use Rattle.std.specs.Prelude.{MatchResult, IfOk, IfErr}
 use Rattle.std.specs.Option.{option_to_list}
 use Rattle.std.proofs.lemmas.List.{append-nil}
@@ -14,10 +14,10 @@ use Rattle.action_text.specs.ScheduleText.{lines, texts, LinesSay, IsSchedule}
 use Rattle.action_text.specs.Faults.{FaultIn, FirstFault, HasFirstFault}
 use Rattle.action_text.specs.Laws.{OneSchedule, OneFault, SchedulesHaveNoFault, ScheduleOrFault}
 use Rattle.action_text.specs.Reading.{◌>>=◌, Fails, GivesUnlessMemory, line_of, number_of_rule, fault_at, in_line, whole_line, lines_of, reading}
-use Rattle.action_text.proofs.Steps.{which, bind_ok, bind_err, done, failed, ok_is, err_is, not_both}
+use Rattle.action_text.proofs.Steps.{done}
 use Rattle.action_text.proofs.Sayings.{one_action}
 use Rattle.action_text.proofs.LineFaults.{IsReadLine, IsLineFault, IsAnswer, line_answer}
-use Rattle.action_text.proofs.OneFault.{Places, places, SamePlace, one_fault, said_no_fault, said_not_passed}
+use Rattle.action_text.proofs.OneFault.{Places, places, one_fault, said_no_fault, said_not_passed}
 
 -- ---- lines say one list
 

@@ -1,5 +1,5 @@
 -- The first line with a fault, and its place. The rules are 1 NotAction, 2 Number, 3 Level, 4 Profile, 5 TooMany.
-use Rattle.std.specs.Prelude.{◌≡◌, ◌≤◌, ◌+◌, ℕ, List, [], ◌∷◌, ◌++◌, map, length, Option, Some, None, if◌then◌else◌}
+use Rattle.std.specs.Prelude.{◌≡◌, ◌≤◌, ◌+◌, ℕ, List, [], ◌∷◌, ◌++◌, length, Option, Some, None, if◌then◌else◌}
 use Rattle.plan_types.specs.declared.action.Action.{Action}
 use Rattle.action_text.specs.declared.fault.TextFault.{TextFault}
 use Rattle.action_text.specs.declared.fault.TextFault.TheVariants.{At, Memory}
@@ -44,16 +44,26 @@ abbrev pub first_column : List Token → ℕ
 first_column [] = 0
 first_column (t ∷ ts) = t.column
 
+-- rule 5 doesn't apply to the line
+abbrev pub HasRoom : List (List ℕ) → ℕ → List ℕ → Type 0
+HasRoom names done line = (column : ℕ) → IsTooMany names done (tokens 1 line) column → ⊥
+
+-- the line says no action
+abbrev pub SaysNoAction : List (List ℕ) → List ℕ → Type 0
+SaysNoAction names line = (a : Action) → Says names (texts line) a → ⊥
+
 -- the fault of a line where so many actions stand before it
 pub data FaultIn (names : List (List ℕ)) (done : ℕ) (line : List ℕ) (rule column : ℕ) : Type 0 where
   -- rule 5, which is tested before the others
   too_many : IsTooMany names done (tokens 1 line) column → rule ≡ 5 → FaultIn names done line rule column
   -- rules 1 to 3: a token that doesn't fit, also one behind a whole line
-  unexpected : ((c : ℕ) → IsTooMany names done (tokens 1 line) c → ⊥) → IsUnexpected names (tokens 1 line) rule column → FaultIn names done line rule column
+  unexpected : HasRoom names done line → IsUnexpected names (tokens 1 line) rule column → FaultIn names done line rule column
   -- rule 1: the line ends too early; the place is one past its bytes
-  ends_early : ((c : ℕ) → IsTooMany names done (tokens 1 line) c → ⊥) → (next : Want) → Expects names (tokens 1 line) (Some next) → rule ≡ 1 → column ≡ length line + 1 → FaultIn names done line rule column
+  ends_early : HasRoom names done line → (next : Want) → Expects names (tokens 1 line) (Some next) →
+      rule ≡ 1 → column ≡ length line + 1 → FaultIn names done line rule column
   -- rule 4: the line is whole and says no action; the place is its first token
-  profile : ((c : ℕ) → IsTooMany names done (tokens 1 line) c → ⊥) → Expects names (tokens 1 line) None → ((a : Action) → Says names (texts line) a → ⊥) → rule ≡ 4 → column ≡ first_column (tokens 1 line) → FaultIn names done line rule column
+  profile : HasRoom names done line → Expects names (tokens 1 line) None → SaysNoAction names line →
+      rule ≡ 4 → column ≡ first_column (tokens 1 line) → FaultIn names done line rule column
 
 -- the first fault of the bytes: the lines before one say a list that isn't too long, and it has a fault; they count from 1
 pub record FirstFault (names : List (List ℕ)) (bytes : List ℕ) (rule line column : ℕ) : Type 0 where

@@ -1,6 +1,6 @@
 -- No public clause cites this file. What the reader computes, as functions on lists: the tokens that are left of a line, and
 -- what is taken from their front, or the fault that is met. The laws tie it to the definitions that clauses cite.
-use Rattle.std.specs.Prelude.{◌≡◌, ◌+◌, ◌-◌, ◌*◌, ◌==◌, ◌++◌, ◌&&◌, ℕ, zero, suc, Bool, true, false, List, [], ◌∷◌, length, drop, Option, Some, None, Result, Ok, Err, nat_lt, is_some, unwrap_or, slice_index_or, position, codes, if◌then◌else◌}
+use Rattle.std.specs.Prelude.{◌≡◌, ◌+◌, ◌-◌, ◌*◌, ◌==◌, ◌++◌, ◌&&◌, ℕ, Bool, true, false, List, [], ◌∷◌, length, Option, Some, None, Result, Ok, Err, nat_lt, is_some, unwrap_or, slice_index_or, position, codes, if◌then◌else◌}
 use Rattle.std.specs.Char.{is_ascii_digit}
 use Rattle.std.specs.Option.{option_to_list}
 use Rattle.std.specs.Str.{bytes_eq}
@@ -18,7 +18,7 @@ use Rattle.action_text.specs.declared.words.Place.{Place}
 use Rattle.action_text.specs.declared.words.Place.TheVariants as at
 use Rattle.action_text.specs.declared.words.Kind.{Kind}
 use Rattle.action_text.specs.declared.words.Kind.TheVariants as kind
-use Rattle.action_text.specs.Tokens.{Token, is_blank, is_run_byte, starts_run, starts_with_digit, tokens}
+use Rattle.action_text.specs.Tokens.{Token, starts_run, starts_with_digit, tokens}
 use Rattle.action_text.specs.Shapes.{Want, exactly, number, truth, level, target, place, opening, comma, closing}
 use Rattle.action_text.specs.ScheduleText.{lines}
 use Rattle.action_text.specs.Rest.{Rest}

@@ -57,7 +57,9 @@ impl<'a> Cursor<'a> {
     // Goes past the next token, which is to be this byte.
     pub(crate) fn mark(&mut self, byte: u8) -> Result<(), LineFault>
         requires { (is_blank byte ≡ false) × (is_run_byte byte ≡ false) × (byte ≢ 10) }
-        ensures value { MatchResult result (λ _. mark_next (byte ∷ []) self.old ≡ Ok (text_at self.old, self.new)) (λ e. mark_next (byte ∷ []) self.old ≡ Err e) }
+        ensures value { MatchResult result
+            (λ _. mark_next (byte ∷ []) self.old ≡ Ok (text_at self.old, self.new))
+            (λ e. mark_next (byte ∷ []) self.old ≡ Err e) }
         ensures later { OnOk result (self.new.later ≡ self.old.later) }
     {
         let rest = after_blanks(self.rest);
@@ -77,7 +79,8 @@ impl<'a> Cursor<'a> {
     pub(crate) fn word(&mut self) -> Result<Word<'a>, LineFault>
         ensures word { IfOk result (λ word. (starts_run (text_at self.old) ≡ true) × (word.text.now ≡ text_at self.old)
             × (word.column ≡ column_at self.old) × (self.new ≡ behind self.old)) }
-        ensures fault { IfErr result (λ e. (starts_run (text_at self.old) ≡ false) × (e ≡ not_action (column_at self.old))) }
+        ensures fault { IfErr result (λ e. (starts_run (text_at self.old) ≡ false)
+            × (e ≡ not_action (column_at self.old))) }
     {
         let rest = after_blanks(self.rest);
         let column = column_of(self.start, rest);
@@ -95,7 +98,9 @@ impl<'a> Cursor<'a> {
 
     // Sees that nothing is left of the line.
     pub(crate) fn end(&mut self) -> Result<(), LineFault>
-        ensures value { MatchResult result (λ _. end_next self.old ≡ Ok []) (λ e. end_next self.old ≡ Err e) }
+        ensures value { MatchResult result
+            (λ _. end_next self.old ≡ Ok [])
+            (λ e. end_next self.old ≡ Err e) }
         ensures stays { self.new ≡ self.old }
     {
         self.rest = after_blanks(self.rest);

@@ -13,7 +13,10 @@ use plan_types::Dest;
 // A number.
 #[tactic(auto, unfolding(crate::specs::Reading::number_next))]
 pub(crate) fn next_number(cursor: &mut Cursor) -> Result<u32, LineFault>
-    ensures value { MatchResult result (λ x. (number_next cursor.old ≡ Ok (text_at cursor.old, cursor.new)) × (number_of (text_at cursor.old) ≡ Some x)) (λ e. number_next cursor.old ≡ Err e) }
+    ensures value { MatchResult result
+        (λ x. (number_next cursor.old ≡ Ok (text_at cursor.old, cursor.new))
+        × (number_of (text_at cursor.old) ≡ Some x))
+        (λ e. number_next cursor.old ≡ Err e) }
     ensures later { OnOk result (cursor.new.later ≡ cursor.old.later) }
     ensures small { IfOk result (λ n. n ≤ 1000000) }
 {
@@ -27,7 +30,10 @@ pub(crate) fn next_number(cursor: &mut Cursor) -> Result<u32, LineFault>
 // A truth.
 #[tactic(auto, unfolding(crate::specs::Reading::truth_next))]
 pub(crate) fn next_truth(cursor: &mut Cursor) -> Result<bool, LineFault>
-    ensures value { MatchResult result (λ x. (truth_next cursor.old ≡ Ok (text_at cursor.old, cursor.new)) × (truth_of (text_at cursor.old) ≡ Some x)) (λ e. truth_next cursor.old ≡ Err e) }
+    ensures value { MatchResult result
+        (λ x. (truth_next cursor.old ≡ Ok (text_at cursor.old, cursor.new))
+        × (truth_of (text_at cursor.old) ≡ Some x))
+        (λ e. truth_next cursor.old ≡ Err e) }
     ensures later { OnOk result (cursor.new.later ≡ cursor.old.later) }
 {
     let word = cursor.word()?;
@@ -40,7 +46,10 @@ pub(crate) fn next_truth(cursor: &mut Cursor) -> Result<bool, LineFault>
 // A level.
 #[tactic(auto, unfolding(crate::specs::Reading::level_next))]
 pub(crate) fn next_level(cursor: &mut Cursor, book: &Book) -> Result<u8, LineFault>
-    ensures value { MatchResult result (λ x. (level_next (names_of book.now) cursor.old ≡ Ok (text_at cursor.old, cursor.new)) × (level_of (names_of book.now) (text_at cursor.old) ≡ Some x)) (λ e. level_next (names_of book.now) cursor.old ≡ Err e) }
+    ensures value { MatchResult result
+        (λ x. (level_next (names_of book.now) cursor.old ≡ Ok (text_at cursor.old, cursor.new))
+        × (level_of (names_of book.now) (text_at cursor.old) ≡ Some x))
+        (λ e. level_next (names_of book.now) cursor.old ≡ Err e) }
     ensures later { OnOk result (cursor.new.later ≡ cursor.old.later) }
 {
     let word = cursor.word()?;
@@ -53,7 +62,10 @@ pub(crate) fn next_level(cursor: &mut Cursor, book: &Book) -> Result<u8, LineFau
 // A level or the work state.
 #[tactic(auto, unfolding(crate::specs::Reading::target_next))]
 pub(crate) fn next_target(cursor: &mut Cursor, book: &Book) -> Result<Dest, LineFault>
-    ensures value { MatchResult result (λ x. (target_next (names_of book.now) cursor.old ≡ Ok (text_at cursor.old, cursor.new)) × (target_of (names_of book.now) (text_at cursor.old) ≡ Some x)) (λ e. target_next (names_of book.now) cursor.old ≡ Err e) }
+    ensures value { MatchResult result
+        (λ x. (target_next (names_of book.now) cursor.old ≡ Ok (text_at cursor.old, cursor.new))
+        × (target_of (names_of book.now) (text_at cursor.old) ≡ Some x))
+        (λ e. target_next (names_of book.now) cursor.old ≡ Err e) }
     ensures later { OnOk result (cursor.new.later ≡ cursor.old.later) }
 {
     let word = cursor.word()?;
@@ -66,7 +78,10 @@ pub(crate) fn next_target(cursor: &mut Cursor, book: &Book) -> Result<Dest, Line
 // A level, the work state or none.
 #[tactic(auto, unfolding(crate::specs::Reading::place_next))]
 pub(crate) fn next_place(cursor: &mut Cursor, book: &Book) -> Result<Place, LineFault>
-    ensures value { MatchResult result (λ x. (place_next (names_of book.now) cursor.old ≡ Ok (text_at cursor.old, cursor.new)) × (place_of (names_of book.now) (text_at cursor.old) ≡ Some x)) (λ e. place_next (names_of book.now) cursor.old ≡ Err e) }
+    ensures value { MatchResult result
+        (λ x. (place_next (names_of book.now) cursor.old ≡ Ok (text_at cursor.old, cursor.new))
+        × (place_of (names_of book.now) (text_at cursor.old) ≡ Some x))
+        (λ e. place_next (names_of book.now) cursor.old ≡ Err e) }
     ensures later { OnOk result (cursor.new.later ≡ cursor.old.later) }
 {
     let word = cursor.word()?;

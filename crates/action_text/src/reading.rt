@@ -23,11 +23,13 @@ pub fn read_actions(alloc: Global, bytes: &[u8], book: &Book) -> Result<Vec<Acti
     requires { length bytes.now < 2 ^ 31 }
     // What is read is said so, and what is said so is read, unless memory runs out.
     ensures found { IfOk result (λ list. IsSchedule (names_of book.now) bytes.now list.items) }
-    ensures only { (list : List Action) → IsSchedule (names_of book.now) bytes.now list → MatchResult result (λ v. v.items ≡ list) (λ e. e ≡ TextFault.Memory) }
+    ensures only { (list : List Action) → IsSchedule (names_of book.now) bytes.now list →
+        MatchResult result (λ v. v.items ≡ list) (λ e. e ≡ TextFault.Memory) }
 
     // What is refused has that fault first, and what has a fault is refused for it, unless memory runs out.
     ensures refused { IfErr result (λ e. e ≢ TextFault.Memory → HasFirstFault (names_of book.now) bytes.now e) }
-    ensures first { (e : TextFault) → HasFirstFault (names_of book.now) bytes.now e → MatchResult result (λ _. ⊥) (λ answer. (answer ≡ e) ⊎ (answer ≡ TextFault.Memory)) }
+    ensures first { (e : TextFault) → HasFirstFault (names_of book.now) bytes.now e →
+        MatchResult result (λ _. ⊥) (λ answer. (answer ≡ e) ⊎ (answer ≡ TextFault.Memory)) }
 {
     book.has_names();
     read_lines(alloc, bytes, book)

@@ -1,4 +1,4 @@
-use Rattle.std.proofs.Common.{sym, ◌∙◌, refl, arith, add-one, length}
+use Rattle.std.proofs.Common.{sym, ◌∙◌, refl, arith, add-one}
 use Rattle.action_text.proofs.Seen.{run_step, run_ends, run_past}
 use Rattle.action_text.proofs.cursor.length_of_run.Goals as goal
 

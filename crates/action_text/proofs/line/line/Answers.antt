@@ -1,7 +1,7 @@
-use Rattle.std.proofs.Common.{◌≡◌, false, Some, None, sym, ap, ◌∙◌, refl}
+use Rattle.std.proofs.Common.{◌≡◌, false, sym, ap, ◌∙◌, refl}
 use Rattle.std.proofs.lemmas.Result.{err_from_is_err_and}
 use Rattle.level_book.specs.BookCosts.{names_of}
-use Rattle.action_text.specs.Reading.{◌>>=◌, says_nothing, kind_of, action_of, profiled}
+use Rattle.action_text.specs.Reading.{◌>>=◌, says_nothing, kind_of, profiled}
 use Rattle.action_text.proofs.LineOf.{line_unnamed, line_named, action_none, action_some}
 use Rattle.action_text.proofs.line.line.Goals as goal
 

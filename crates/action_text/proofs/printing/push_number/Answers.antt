@@ -1,4 +1,4 @@
-use Rattle.std.proofs.Common.{ap, length, arith, length-append, ◌∙◌, ◌≤◌}
+use Rattle.std.proofs.Common.{ap, length, arith, length-append, ◌≤◌}
 use Rattle.std.specs.Prelude.{decimal}
 use Rattle.std.proofs.lemmas.Fmt.{length-decimal-le}
 use Rattle.action_text.proofs.printing.push_number.Goals as goal

@@ -1,4 +1,4 @@
-use Rattle.std.proofs.Common.{◌≡◌, ◌<◌, ◌≤◌, true, false, Ok, Err, length, sym, ap, ◌∙◌, refl, arith, List, ℕ}
+use Rattle.std.proofs.Common.{sym, arith}
 use Rattle.action_text.proofs.Seen.{behind_line_within, goes_on, goes_nowhere}
 use Rattle.action_text.proofs.cursor.Cursor.next_line.Goals as goal
 

@@ -1,4 +1,4 @@
-use Rattle.std.proofs.Common.{◌≡◌, ◌<◌, ◌≤◌, true, false, Ok, Err, length, sym, ap, ◌∙◌, refl, arith, List, ℕ}
+use Rattle.std.proofs.Common.{◌∙◌}
 use Rattle.action_text.proofs.Seen.{at_token, nothing_there}
 use Rattle.action_text.proofs.cursor.Cursor.says_nothing.Goals as goal
 

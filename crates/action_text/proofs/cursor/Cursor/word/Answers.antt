@@ -1,4 +1,4 @@
-use Rattle.std.proofs.Common.{◌≡◌, ◌<◌, ◌≤◌, length, take, drop, sym, ap, ◌∙◌, refl, arith, List, ℕ, subst}
+use Rattle.std.proofs.Common.{◌<◌, take, drop, sym, ap, ◌∙◌, arith, ℕ}
 use Rattle.action_text.specs.Rest.{seen}
 use Rattle.action_text.specs.Bytes.{run_length}
 use Rattle.action_text.specs.Reading.{not_action}
