@@ -19,8 +19,8 @@ const LINE: usize = 365;
 
 // A page for words, and sixteen for the stack.
 const MAPPED: [u32; 17] = [
-    0x10, 0xbfff0, 0xbfff1, 0xbfff2, 0xbfff3, 0xbfff4, 0xbfff5, 0xbfff6, 0xbfff7, 0xbfff8,
-    0xbfff9, 0xbfffa, 0xbfffb, 0xbfffc, 0xbfffd, 0xbfffe, 0xbffff,
+    0x10, 0xbfff0, 0xbfff1, 0xbfff2, 0xbfff3, 0xbfff4, 0xbfff5, 0xbfff6, 0xbfff7, 0xbfff8, 0xbfff9,
+    0xbfffa, 0xbfffb, 0xbfffc, 0xbfffd, 0xbfffe, 0xbffff,
 ];
 
 // The state in which the four words stand from 0x10000 on, and the first is next.
@@ -120,7 +120,13 @@ fn performed<L: Ledger>(
     let mut steps = Steps::<L>::new(blank);
     let mut faults = Vec::new(alloc);
     let mut writer = LineWriter::new(out);
-    let mut session = Session::begin(alloc, start(alloc)?, Journal::none(alloc), 4, Book::plain(2))?;
+    let mut session = Session::begin(
+        alloc,
+        start(alloc)?,
+        Journal::none(alloc),
+        4,
+        Book::plain(2),
+    )?;
     for action in LIST.iter() {
         if let Ok(()) = session.config().judge(action) {
             match session.perform(action, &mut keepers, &mut writer, &mut steps) {

@@ -1,0 +1,11 @@
+pub mod Lists
+pub mod Once
+pub mod Spanning
+pub mod Crossing
+pub mod Before
+pub mod Loads
+pub mod Filling
+pub mod Files
+pub mod Raws
+pub mod Starting
+pub mod Existing

@@ -1,0 +1,182 @@
+// The start state of a program.
+ghost use Rattle.std.specs.Prelude.{◌≡◌, ◌≢◌, ◌⊎◌, ◌↔◌, ◌+◌, ◌/◌, ◌%◌, ◌^◌, ◌≤◌, ◌<◌, ℕ, List, length, vec_len, map, Contains, MatchResult, IfOk, IfErr, OnOk, IsTrue};
+ghost use Rattle.std.specs.List.{All};
+ghost use Rattle.rv_pages.specs.Memory.{IsMapped};
+ghost use Rattle.rv_machine.specs.MachineState.{MachineState};
+ghost use Rattle.elf_load.specs.Program.{stack_start, AreMapped, with_pieces, start_at};
+ghost use Rattle.elf_load.specs.Raw.{IsRawProgram};
+ghost use Rattle.elf_load.specs.Elf.{IsProgram};
+ghost use Rattle.elf_load.specs.Faults.{FirstFault, FirstRawFault};
+ghost use Rattle.elf_load.specs.Reading.{segment_at, piece_in, AreApart, IsPagesFault};
+ghost use Rattle.elf_load.specs.Spans.{pages_from};
+
+use crate::apart::{by_address, first_overlap};
+use crate::fault::ElfFault;
+use crate::header::read_header;
+use crate::pages::{Span, page_count, page_numbers, spans_of};
+use crate::segment::{Segment, read_segments};
+use rv_machine::{State, Status};
+use rv_pages::Pages;
+use std::alloc::Global;
+
+// The bytes of a page, and the most pages that are mapped.
+const PAGE: u32 = 4096;
+
+const MOST_PAGES: u64 = 4096;
+
+// Where raw words stand.
+const RAW: u32 = 0x10000;
+
+// The stack pointer x2 at the start, 16 bytes below the end of the stack.
+const STACK_POINTER: u32 = 0xbfff_fff0;
+
+/// The start state of an ELF file, with a stack of so many pages.
+pub fn load(alloc: Global, file: &[u8], stack: u32) -> Result<State, ElfFault>
+    requires { (1 ≤ stack) × (stack ≤ 1024) }
+
+    // What is loaded is a program's start state, and a program is loaded, unless memory runs out.
+    ensures found { IfOk result (IsProgram file.now stack) }
+    ensures only { (s : MachineState) → IsProgram file.now stack s → MatchResult result (λ state. state ≡ s) (λ fault. fault ≡ ElfFault.Memory) }
+
+    // What is refused has that fault first, and what has a fault is refused for it, unless memory runs out.
+    ensures refused { IfErr result (λ fault. fault ≢ ElfFault.Memory → FirstFault file.now stack fault) }
+    ensures first { (fault : ElfFault) → FirstFault file.now stack fault → MatchResult result (λ _. ⊥) (λ answer. (answer ≡ fault) ⊎ (answer ≡ ElfFault.Memory)) }
+{
+    load_file(alloc, file, stack)
+}
+
+/// The start state of raw words, with a stack of so many pages.
+pub fn load_raw(alloc: Global, bytes: &[u8], stack: u32) -> Result<State, ElfFault>
+    requires { (1 ≤ stack) × (stack ≤ 1024) }
+
+    // What is loaded is a program's start state, and a program is loaded, unless memory runs out.
+    ensures found { IfOk result (IsRawProgram bytes.now stack) }
+    ensures only { (s : MachineState) → IsRawProgram bytes.now stack s → MatchResult result (λ state. state ≡ s) (λ fault. fault ≡ ElfFault.Memory) }
+
+    // What is refused has that fault first, and what has a fault is refused for it, unless memory runs out.
+    ensures refused { IfErr result (λ fault. fault ≢ ElfFault.Memory → FirstRawFault bytes.now stack fault) }
+    ensures first { (fault : ElfFault) → FirstRawFault bytes.now stack fault → MatchResult result (λ _. ⊥) (λ answer. (answer ≡ fault) ⊎ (answer ≡ ElfFault.Memory)) }
+{
+    load_words(alloc, bytes, stack)
+}
+
+fn load_file(alloc: Global, file: &[u8], stack: u32) -> Result<State, ElfFault>
+    requires { stack ≤ 1024 }
+    ensures found { IfOk result (IsProgram file.now stack) }
+    ensures refused { IfErr result (λ fault. (fault ≡ ElfFault.Memory) ⊎ FirstFault file.now stack fault) }
+{
+    let header = read_header(file)?;
+    let segments = read_segments(alloc, file, &header, stack)?;
+    let numbers = mapped_pages(alloc, &segments, stack)?;
+    if !is_entry(header.entry, &numbers) {
+        return Err(ElfFault::Entry(header.entry));
+    }
+    let Ok(mut pages) = Pages::map(alloc, &numbers) else {
+        return Err(ElfFault::Memory);
+    };
+    fill(&mut pages, file, &segments);
+    Ok(start(header.entry, pages))
+}
+
+// Whether an address is that of a word in one of the pages with these numbers.
+fn is_entry(entry: u32, numbers: &[u32]) -> bool
+    ensures { IsTrue result ↔ (entry % 4 ≡ 0) × Contains numbers.now (entry / 4096) }
+{
+    entry % 4 == 0 && numbers.contains(&(entry / PAGE))
+}
+
+// The numbers of the pages that segments map, and of those of the stack, if the segments share no address and there are no
+// more than 4,096 pages.
+fn mapped_pages(alloc: Global, segments: &[Segment], stack: u32) -> Result<Vec<u32>, ElfFault>
+    requires some { All (λ (s : Segment). 0 < s.memory_size) segments.now }
+    requires below { All (λ (s : Segment). s.address + s.memory_size ≤ stack_start stack) segments.now }
+    requires differ { (a b : ℕ) → a < b → b < length segments.now → (segment_at segments.now a).index < (segment_at segments.now b).index }
+    requires stack { stack ≤ 1024 }
+    ensures apart { OnOk result (AreApart segments.now) }
+    ensures mapped { IfOk result (λ v. (file : List ℕ) → AreMapped (map (piece_in file) segments.now) stack v.items) }
+    ensures few { IfOk result (λ v. vec_len v ≤ 4096) }
+    ensures low { IfOk result (λ v. All (λ number. number < 2 ^ 20) v.items) }
+    ensures refused { IfErr result (IsPagesFault segments.now stack) }
+{
+    let Ok(sorted) = by_address(alloc, segments) else {
+        return Err(ElfFault::Memory);
+    };
+    if let Some((a, b)) = first_overlap(segments, &sorted) {
+        return Err(ElfFault::Overlap(segments[a].index, segments[b].index));
+    }
+    let Ok(spans) = spans_of(alloc, &sorted, stack) else {
+        return Err(ElfFault::Memory);
+    };
+    list_pages(alloc, &spans)
+}
+
+// The numbers of the pages of runs, if there are no more than 4,096.
+fn list_pages(alloc: Global, spans: &[Span]) -> Result<Vec<u32>, ElfFault>
+    requires bound { All (λ (s : Span). s.last < 2 ^ 63) spans.now }
+    requires low { length (pages_from 0 spans.now) ≤ 4096 → All (λ (s : Span). s.last < 2 ^ 20) spans.now }
+    ensures numbers { IfOk result (λ v. v.items ≡ pages_from 0 spans.now) }
+    ensures few { OnOk result (length (pages_from 0 spans.now) ≤ 4096) }
+    ensures refused { IfErr result (λ fault. (fault ≡ ElfFault.Memory) ⊎ ((fault ≡ ElfFault.TooLarge (length (pages_from 0 spans.now))) × (4096 < length (pages_from 0 spans.now)))) }
+{
+    let count = page_count(spans);
+    if count > MOST_PAGES {
+        return Err(ElfFault::TooLarge(count));
+    }
+    match page_numbers(alloc, spans) {
+        Ok(numbers) => Ok(numbers),
+        Err(_) => Err(ElfFault::Memory),
+    }
+}
+
+// Puts the bytes of the segments into memory.
+fn fill(pages: &mut Pages, file: &[u8], segments: &[Segment])
+    requires inside { All (λ (s : Segment). s.offset + s.file_size ≤ length file.now) segments.now }
+    requires mapped { All (λ (s : Segment). IsMapped pages.old s.address s.file_size) segments.now }
+    ensures { pages.new ≡ with_pieces pages.old (map (piece_in file.now) segments.now) }
+{
+    for segment in segments {
+        let start = segment.offset as usize;
+        pages.store_bytes(
+            segment.address,
+            &file[start..start + segment.file_size as usize],
+        );
+    }
+}
+
+fn load_words(alloc: Global, bytes: &[u8], stack: u32) -> Result<State, ElfFault>
+    requires { stack ≤ 1024 }
+    ensures found { IfOk result (IsRawProgram bytes.now stack) }
+    ensures refused { IfErr result (λ fault. (fault ≡ ElfFault.Memory) ⊎ FirstRawFault bytes.now stack fault) }
+{
+    if bytes.is_empty() || bytes.len() % 4 != 0 {
+        return Err(ElfFault::RawLength(bytes.len() as u64));
+    }
+    let spans = [
+        Span::of_bytes(RAW as u64, bytes.len() as u64),
+        Span::of_stack(stack),
+    ];
+    let numbers = list_pages(alloc, &spans)?;
+    let Ok(mut pages) = Pages::map(alloc, &numbers) else {
+        return Err(ElfFault::Memory);
+    };
+    pages.store_bytes(RAW, bytes);
+    Ok(start(RAW, pages))
+}
+
+// The state in which the word at an address is next, over memory.
+fn start(entry: u32, pages: Pages) -> State
+    requires { entry % 4 ≡ 0 }
+    ensures { result ≡ start_at entry pages }
+{
+    let mut x = [0; 32];
+    x[2] = STACK_POINTER;
+    State {
+        pc: entry,
+        x,
+        status: Status::Running,
+        item: 0,
+        offset: 0,
+        written: 0,
+        pages,
+    }
+}
