@@ -4,16 +4,17 @@ use Rattle.std.specs.List.{AllByRecursion}
 use Rattle.keepers.specs.Told.{Files}
 use Rattle.reversal.specs.declared.ended.Ended.{Ended}
 use Rattle.reversal.specs.declared.bounds.Bounded.{Bounded}
-use Rattle.reversal.specs.Ending.{no_request, no_memory, not_built, invalid}
-use Rattle.reversal.specs.Request.{Request, run, Says}
+use Rattle.reversal.specs.Ending.{no_request, no_memory, too_long as longer}
+use Rattle.reversal.specs.Request.{Request, Says}
 use Rattle.reversal.specs.Bounds.{numbers, IsWithin, RefusesFirst, RefusesWords, Asks}
 use Rattle.reversal.specs.Inputs.{Input, inputs_of, FailsAtInput}
 use Rattle.reversal.specs.InputReading.{all, too_long, Reads, Stops}
 use Rattle.reversal.specs.Deeds.{Job, deeds, Moment, Halts}
 use Rattle.reversal.specs.JobReading.{Works}
 use Rattle.reversal.specs.Decision.{Decision, refuse, accept, DecidesBytes, Comes, EndsBy}
-use Rattle.reversal.proofs.OneReading.{one_request}
-use Rattle.reversal.proofs.Deciding.{read_decides, long_decides, refuse_by}
+use Rattle.reversal.proofs.Requests.{one_request}
+use Rattle.reversal.proofs.Refused.{IsRefusing, refusing_at}
+use Rattle.reversal.proofs.Deciding.{read_decides, long_decides, refuse_by, decided_refusal}
 
 -- ---- words and numbers
 
@@ -28,10 +29,10 @@ one_refusal (n ∷ ns) e f h g = elim h [
   | inr x ↦ elim g [ inl y ↦ absurd (y.0 x.0) | inr y ↦ one_refusal ns e f x.1 y.1 ]
 ]
 
--- the first number outside its bounds is a form that isn't built
-refuses_unbuilt : (ns : List Bounded) (e : Ended) → RefusesFirst ns e → e.status ≡ 18
-refuses_unbuilt [] e h = absurd h
-refuses_unbuilt (n ∷ ns) e h = elim h [ inl x ↦ ap (λ (y : Ended). y.status) x.1 | inr y ↦ refuses_unbuilt ns e y.1 ]
+-- a number outside its bounds has a status of its own
+pub refuses_number : (ns : List Bounded) (e : Ended) → RefusesFirst ns e → e.status ≡ 10
+refuses_number [] e h = absurd h
+refuses_number (n ∷ ns) e h = elim h [ inl x ↦ ap (λ (y : Ended). y.status) x.1 | inr y ↦ refuses_number ns e y.1 ]
 
 -- a request that is refused by a number isn't asked for
 pub not_asked : (words : List (List ℕ)) (q r : Request) (e : Ended) → Says words q → RefusesFirst (numbers q) e → Asks words r → ⊥
@@ -54,30 +55,30 @@ refused_so words q e f says refuses other = elim other [
 ]
 
 pub refused_not_two : (q : Request) (e : Ended) → RefusesFirst (numbers q) e → e.status ≡ 2 → ⊥
-refused_not_two q e h two = let unbuilt = refuses_unbuilt (numbers q) e h in absurd (omega (arith, unbuilt, two))
+refused_not_two q e h two = let is = refuses_number (numbers q) e h in absurd (omega (arith, is, two))
 
 pub refused_alone : (words : List (List ℕ)) (e f : Ended) → ((r : Request) → Says words r → ⊥) → e ≡ no_request → RefusesWords words f → e ≡ f
 refused_alone words e f none is other = elim other [ inl x ↦ is ∙ sym x.1 | inr some ↦ absurd (none some.0 some.1) ]
 
 -- ---- what a decision is come to by
 
-pub comes_by : (r : Request) (told : Option Files) (before after : List (List ℕ)) (bytes : List (List ℕ)) (slots : List ℕ) (d : Decision) → Reads (inputs_of r) told before after (all bytes) → DecidesBytes r bytes slots d →
+pub comes_by : (r : Request) (told : Option Files) (before after : List (List ℕ)) (bytes : List (List ℕ)) (slots : List ℕ) (d : Decision) → Reads (inputs_of r.command) told before after (all bytes) → DecidesBytes r.options r.command bytes slots d →
     Comes r told before after slots d
 comes_by r told before after bytes slots d reads decides = record {
   given = reads.given;
   as_told = reads.as_told;
-  decides = read_decides 1 (inputs_of r) reads.given bytes d (λ b. DecidesBytes r b slots d) reads.reads decides;
+  decides = read_decides 1 (inputs_of r.command) reads.given bytes d (λ b. DecidesBytes r.options r.command b slots d) reads.reads decides;
   asked = reads.asked;
 }
 
-comes_long : (r : Request) (told : Option Files) (before after : List (List ℕ)) (place : ℕ) (slots : List ℕ) (e : Ended) → Reads (inputs_of r) told before after (too_long place) → e ≡ not_built place →
+comes_long : (r : Request) (told : Option Files) (before after : List (List ℕ)) (place limit : ℕ) (slots : List ℕ) (e : Ended) → Reads (inputs_of r.command) told before after (too_long place limit) → e ≡ longer place limit →
     Comes r told before after slots (refuse e)
-comes_long r told before after place slots e reads is =
+comes_long r told before after place limit slots e reads is =
     let P : Decision → Type 0 = λ d. Comes r told before after slots d in
-    subst P (sym (refuse_by e (not_built place) is)) (record {
+    subst P (sym (refuse_by e (longer place limit) is)) (record {
       given = reads.given;
       as_told = reads.as_told;
-      decides = long_decides 1 (inputs_of r) reads.given place (λ b. DecidesBytes r b slots (refuse (not_built place))) reads.reads;
+      decides = long_decides 1 (inputs_of r.command) reads.given place limit (λ b. DecidesBytes r.options r.command b slots (refuse (longer place limit))) reads.reads;
       asked = reads.asked;
     })
 
@@ -86,76 +87,37 @@ comes_of words q r told before after slots d says other h = let P : Request → 
 
 -- ---- why a call was refused before its job
 
--- a decision to refuse has a status of its own
-pub record IsRefusal (e : Ended) : Type 0 where
-  pub not_words : e.status ≢ 2
-  pub not_input : e.status ≢ 3
-  pub not_sink : e.status ≢ 14
-  pub not_memory : e.status ≢ 17
-
-refusal_by : (e : Ended) (status : ℕ) → e.status ≡ status → (status ≡ 8) ⊎ (status ≡ 18) → IsRefusal e
-refusal_by e status is which = elim which [
-  | inl eight ↦ record { not_words = λ x. absurd (omega (arith, x, is, eight)); not_input = λ x. absurd (omega (arith, x, is, eight)); not_sink = λ x. absurd (omega (arith, x, is, eight)); not_memory = λ x. absurd (omega (arith, x, is, eight)) }
-  | inr unbuilt ↦ record { not_words = λ x. absurd (omega (arith, x, is, unbuilt)); not_input = λ x. absurd (omega (arith, x, is, unbuilt)); not_sink = λ x. absurd (omega (arith, x, is, unbuilt)); not_memory = λ x. absurd (omega (arith, x, is, unbuilt)) }
-]
-
-abbrev ended_or : Ended → Decision → Ended
-ended_or e (refuse f) = f
-ended_or e (accept j) = e
-
-is_refusal : (e f : Ended) (status : ℕ) → refuse e ≡ refuse f → f.status ≡ status → (status ≡ 8) ⊎ (status ≡ 18) → IsRefusal e
-is_refusal e f status same is which = refusal_by e status (ap (λ (x : Ended). x.status) (ap (ended_or e) same) ∙ is) which
-
-refuse_accept : (e : Ended) (j : Job) → refuse e ≡ accept j → ⊥
-refuse_accept e j h = let P : Decision → Type 0 = λ d. elim d as (λ _. Type 0) [ refuse x ↦ Unit {0} | accept x ↦ ⊥ ] in subst P h tt
-
-pub decided_refusal : (r : Request) (bytes : List (List ℕ)) (slots : List ℕ) (e : Ended) → DecidesBytes r bytes slots (refuse e) → IsRefusal e
-decided_refusal (run r) (program ∷ book ∷ schedule ∷ []) slots e h = elim h [
-  | inl n ↦ is_refusal e (not_built 2) 18 n.1 refl (inr refl)
-  | inr room ↦ elim room.2 [
-    | inl n ↦ is_refusal e (not_built 1) 18 n.1 refl (inr refl)
-    | inr built ↦ elim built.1 [
-      | inl n ↦ is_refusal e (not_built 3) 18 n.1 refl (inr refl)
-      | inr list ↦ elim list.2 [
-        | inl n ↦ is_refusal e (invalid n.0 n.2 n.1) 8 n.5 refl (inl refl)
-        | inr y ↦ absurd (refuse_accept e _ y.1)
-      ]
-    ]
-  ]
-]
-decided_refusal (run r) other slots e h = absurd h
-
 -- why no job was come to: an input can't be read, memory ran out, or the call is refused by a decision
 abbrev pub Refused : Request → Option Files → Ended → List (List ℕ) → List (List ℕ) → Type 0
 Refused r told e before after =
-    FailsAtInput (inputs_of r) told e before after
+    FailsAtInput (inputs_of r.command) told e before after
     ⊎ (e ≡ no_memory)
     ⊎ ((e.status ≢ 3) × (e.status ≢ 17) × (e.status ≢ 2) × (e.status ≢ 14) × ((slots : List ℕ) → Comes r told before after slots (refuse e)))
 
-pub stops_refused : (r : Request) (told : Option Files) (e : Ended) (before after : List (List ℕ)) → Stops (inputs_of r) told e before after → Refused r told e before after
+pub stops_refused : (r : Request) (told : Option Files) (e : Ended) (before after : List (List ℕ)) → Stops (inputs_of r.command) told e before after → Refused r told e before after
 stops_refused r told e before after stops = elim stops [
   | inl input ↦ inl input
   | inr more ↦ elim more [
     | inl memory ↦ inr (inl memory)
     | inr long ↦
-        let is = refusal_by e 18 (ap (λ (x : Ended). x.status) long.1) (inr refl) in
-        inr (inr (is.not_input, is.not_memory, is.not_words, is.not_sink, λ slots. comes_long r told before after long.0 slots e long.2 long.1))
+        let is = refusing_at e 10 (ap (λ (x : Ended). x.status) long.2) (omega arith) (omega arith) in
+        inr (inr (is.not_input, is.not_memory, is.not_words, is.not_sink, λ slots. comes_long r told before after long.0 long.1 slots e long.3 long.2))
   ]
 ]
 
-pub decides_refused : (r : Request) (told : Option Files) (e : Ended) (before after : List (List ℕ)) (bytes : List (List ℕ)) → Reads (inputs_of r) told before after (all bytes) →
-    (e ≡ no_memory) ⊎ ((slots : List ℕ) → DecidesBytes r bytes slots (refuse e)) → Refused r told e before after
+pub decides_refused : (r : Request) (told : Option Files) (e : Ended) (before after : List (List ℕ)) (bytes : List (List ℕ)) → Reads (inputs_of r.command) told before after (all bytes) →
+    (e ≡ no_memory) ⊎ ((slots : List ℕ) → DecidesBytes r.options r.command bytes slots (refuse e)) → Refused r told e before after
 decides_refused r told e before after bytes reads h = elim h [
   | inl memory ↦ inr (inl memory)
   | inr decides ↦
-      let is = decided_refusal r bytes [] e (decides []) in
+      let is = decided_refusal r.options r.command bytes [] e (decides []) in
       inr (inr (is.not_input, is.not_memory, is.not_words, is.not_sink, λ slots. comes_by r told before after bytes slots (refuse e) reads (decides slots)))
 ]
 
-pub no_input_fault : (r : Request) (e : Ended) (bytes : List (List ℕ)) → (e ≡ no_memory) ⊎ ((slots : List ℕ) → DecidesBytes r bytes slots (refuse e)) → e.status ≢ 3
+pub no_input_fault : (r : Request) (e : Ended) (bytes : List (List ℕ)) → (e ≡ no_memory) ⊎ ((slots : List ℕ) → DecidesBytes r.options r.command bytes slots (refuse e)) → e.status ≢ 3
 no_input_fault r e bytes h three = elim h [
   | inl memory ↦ let status = ap (λ (x : Ended). x.status) memory in absurd (omega (arith, status, three))
-  | inr decides ↦ (decided_refusal r bytes [] e (decides [])).not_input three
+  | inr decides ↦ (decided_refusal r.options r.command bytes [] e (decides [])).not_input three
 ]
 
 pub if_error : {A : Type 0} (r : Result A Ended) (P Q : Ended → Type 0) → ((e : Ended) → P e → Q e) → IfErr r P → IfErr r Q
@@ -172,7 +134,7 @@ if_okay (Err e) P Q f h = tt
 pub ends_not : (job : Job) (e : Ended) (old new : Moment) → EndsBy (accept job) e old new → (e.status ≢ 17) × (e.status ≢ 2) × (e.status ≢ 3)
 ends_not job e old new h = elim h [
   | inl x ↦ let status = ap (λ (y : Ended). y.status) x.0 in (λ s. absurd (omega (arith, status, s)), λ s. absurd (omega (arith, status, s)), λ s. absurd (omega (arith, status, s)))
-  | inr x ↦ let status = ap (λ (y : Ended). y.status) x.0 in (λ s. absurd (omega (arith, status, s)), λ s. absurd (omega (arith, status, s)), λ s. absurd (omega (arith, status, s)))
+  | inr x ↦ let status = ap (λ (y : Ended). y.status) x.1 in (λ s. absurd (omega (arith, status, s)), λ s. absurd (omega (arith, status, s)), λ s. absurd (omega (arith, status, s)))
 ]
 
 pub works_ends : (job : Job) (e : Ended) (old new : Moment) → Works job e old new → e.status ≢ 17 → EndsBy (accept job) e old new

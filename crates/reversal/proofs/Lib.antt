@@ -1,15 +1,13 @@
 pub mod Steps
 pub mod Decimal
 pub mod Texts
-pub mod Lines
-pub mod Schedules
-pub mod Books
 pub mod Requests
+pub mod Refusing
 pub mod Lists
 pub mod Taking
 pub mod OnTheWay
 pub mod Doing
 pub mod Performing
-pub mod OneReading
+pub mod Refused
 pub mod Deciding
 pub mod Answering

@@ -1,17 +1,17 @@
 -- Inputs that are taken one after the other.
-use Rattle.std.proofs.Common.{◌≡◌, inl, inr, ℕ, zero, suc, ◌+◌, ◌-◌, ◌<◌, ◌≤◌, ◌++◌, cond, List, [], ◌∷◌, length, map, take, drop, replicate, append-nil, append_assoc, Option, None, Some, IsSomeAnd, refl, sym, ◌∙◌, ap, subst, arith, slice_get, get_or}
+use Rattle.std.proofs.Common.{◌≡◌, inl, inr, ℕ, zero, suc, ◌+◌, ◌-◌, ◌<◌, ◌≤◌, ◌++◌, Bool, true, false, cond, nat_le, List, [], ◌∷◌, length, map, take, drop, replicate, append-nil, append_assoc, Option, None, Some, IsSomeAnd, refl, sym, ◌∙◌, ap, subst, arith, slice_get, get_or}
 use Rattle.std.specs.FinMap as finmap
 use Rattle.std.specs.List.{AllByRecursion}
-use Rattle.std.proofs.lemmas.Bool.{le-leb, lt-leb}
+use Rattle.std.proofs.lemmas.Bool.{le-leb, lt-leb, leb-true}
 use Rattle.std.proofs.lemmas.Option.{slice_get-get_or}
 use Rattle.std.proofs.lemmas.List.{length-replicate}
 use Rattle.keepers.specs.Told.{Files, WhereTold}
 use Rattle.schedule_rules.proofs.Judging.{take_one_more}
 use Rattle.reversal.specs.declared.ended.Ended.{Ended}
 use Rattle.reversal.specs.declared.inputs.Input as in_memory
-use Rattle.reversal.specs.Ending.{unreadable, not_built}
+use Rattle.reversal.specs.Ending.{unreadable, too_long as longer}
 use Rattle.reversal.specs.Inputs.{Input, names, contents, asked_count, AreThere}
-use Rattle.reversal.specs.InputReading.{input_of, Reading, all, too_long, not_there, with_front, reading, Reads, Stops}
+use Rattle.reversal.specs.InputReading.{input_of, Reading, all, too_long, not_there, AreWithinLimits, with_front, reading, Reads, Stops}
 use Rattle.reversal.proofs.Lists.{get_map, drop_at}
 
 -- ---- what is told
@@ -28,15 +28,15 @@ told_both (Some x) P Q R f h g = f x h g
 
 pub front_twice : (xs ys : List (List ℕ)) (r : Reading) → with_front xs (with_front ys r) ≡ with_front (xs ++ ys) r
 front_twice xs ys (all bytes) = ap all (sym (append_assoc xs ys bytes))
-front_twice xs ys (too_long place) = refl
+front_twice xs ys (too_long place limit) = refl
 front_twice xs ys (not_there place) = refl
 
 reads_one : (place : ℕ) (i : Input) (is : List Input) (bytes : List ℕ) (given : List (Option (List ℕ))) → length bytes ≤ i.limit →
     reading place (i ∷ is) (Some bytes ∷ given) ≡ with_front (bytes ∷ []) (reading (place + 1) is given)
-reads_one place i is bytes given fits = ap (λ b. cond b (with_front (bytes ∷ []) (reading (place + 1) is given)) (too_long place)) (le-leb (length bytes) i.limit fits)
+reads_one place i is bytes given fits = ap (λ b. cond b (with_front (bytes ∷ []) (reading (place + 1) is given)) (too_long place i.limit)) (le-leb (length bytes) i.limit fits)
 
-reads_long : (place : ℕ) (i : Input) (is : List Input) (bytes : List ℕ) (given : List (Option (List ℕ))) → i.limit < length bytes → reading place (i ∷ is) (Some bytes ∷ given) ≡ too_long place
-reads_long place i is bytes given long = ap (λ b. cond b (with_front (bytes ∷ []) (reading (place + 1) is given)) (too_long place)) (lt-leb (length bytes) i.limit long)
+reads_long : (place : ℕ) (i : Input) (is : List Input) (bytes : List ℕ) (given : List (Option (List ℕ))) → i.limit < length bytes → reading place (i ∷ is) (Some bytes ∷ given) ≡ too_long place i.limit
+reads_long place i is bytes given long = ap (λ b. cond b (with_front (bytes ∷ []) (reading (place + 1) is given)) (too_long place i.limit)) (lt-leb (length bytes) i.limit long)
 
 asks_one : (i : Input) (is : List Input) (bytes : List ℕ) (given : List (Option (List ℕ))) → length bytes ≤ i.limit → asked_count (i ∷ is) (Some bytes ∷ given) ≡ 1 + asked_count is given
 asks_one i is bytes given fits = ap (λ b. 1 + cond b (asked_count is given) 0) (le-leb (length bytes) i.limit fits)
@@ -62,7 +62,7 @@ none_so_far is told = record {
   where
     front_none : (r : Reading) → r ≡ with_front [] r
     front_none (all bytes) = refl
-    front_none (too_long place) = refl
+    front_none (too_long place limit) = refl
     front_none (not_there place) = refl
 
     told_same : (told : Option Files) (is : List Input) → WhereTold told (λ files. contents files is ≡ contents files is)
@@ -127,20 +127,21 @@ all_were_read is told read i before after s none whole asked =
 
 -- one is too long
 pub one_was_too_long : (is : List Input) (told : Option Files) (read : List (List ℕ)) (i : ℕ) (x : Input) (bytes : List ℕ) (e : Ended) (before after : List (List ℕ)) → SoFar is told read i → slice_get is i ≡ Some x → x.limit < length bytes →
-    WhereTold told (λ files. finmap.get files x.name ≡ Some bytes) → e ≡ not_built (i + 1) → after ≡ before ++ take (i + 1) (names is) → Stops is told e before after
+    WhereTold told (λ files. finmap.get files x.name ≡ Some bytes) → e ≡ longer (i + 1) x.limit → after ≡ before ++ take (i + 1) (names is) → Stops is told e before after
 one_was_too_long is told read i x bytes e before after s at long is_there ends asked =
     let behind = drop_at is i x at in
     let rest = remaining told (drop (i + 1) is) in
     let given = map (λ (b : List ℕ). Some b) read ++ Some bytes ∷ rest.0 in
     inr (inr (
       i + 1,
+      x.limit,
       ends,
       record {
         given = given;
         as_told = told_so told _ _ (λ files h. h) (told_long told (map (λ (b : List ℕ). Some b) read) is (drop i is) (drop (i + 1) is) x bytes rest.0 behind s.as_told is_there rest.1);
         reads =
             s.reads (Some bytes ∷ rest.0) ∙ ap (λ l. with_front read (reading (1 + i) l (Some bytes ∷ rest.0))) behind
-            ∙ ap (with_front read) (reads_long (1 + i) x (drop (i + 1) is) bytes rest.0 long) ∙ ap too_long (let n : 1 + i ≡ i + 1 = omega arith in n);
+            ∙ ap (with_front read) (reads_long (1 + i) x (drop (i + 1) is) bytes rest.0 long) ∙ ap (λ k. too_long k x.limit) (let n : 1 + i ≡ i + 1 = omega arith in n);
         asked =
             let count : asked_count is given ≡ i + 1 =
             let all_before = s.asks (Some bytes ∷ rest.0) ∙ ap (λ l. i + asked_count l (Some bytes ∷ rest.0)) behind in
@@ -209,3 +210,29 @@ wanted_at wanted i = get_or wanted i (record { name = record { ref_ptr = (0, 0);
 
 pub at_wanted : (wanted : List in_memory.Input) (i : ℕ) → i < length wanted → slice_get (map input_of wanted) i ≡ Some (input_of (wanted_at wanted i))
 at_wanted wanted i within = get_map input_of wanted i (wanted_at wanted i) (slice_get-get_or wanted i _ within)
+
+-- ---- how much was read
+
+abbrev if_all : Reading → (List (List ℕ) → Type 0) → Type 0
+if_all (all bytes) P = P bytes
+if_all (too_long place limit) P = Unit {0}
+if_all (not_there place) P = Unit {0}
+
+within_front : (i : Input) (is : List Input) (b : List ℕ) (r : Reading) → length b ≤ i.limit → if_all r (AreWithinLimits is) → if_all (with_front (b ∷ []) r) (AreWithinLimits (i ∷ is))
+within_front i is b (all bytes) fits h = (fits, h)
+within_front i is b (too_long place limit) fits h = tt
+within_front i is b (not_there place) fits h = tt
+
+within_or_long : (i : Input) (is : List Input) (b : List ℕ) (place : ℕ) (r : Reading) (t : Bool) → nat_le (length b) i.limit ≡ t → if_all r (AreWithinLimits is) → if_all (cond t (with_front (b ∷ []) r) (too_long place i.limit)) (AreWithinLimits (i ∷ is))
+within_or_long i is b place r true e h = within_front i is b r (leb-true _ _ e) h
+within_or_long i is b place r false e h = tt
+
+all_within : (is : List Input) (place : ℕ) (given : List (Option (List ℕ))) → if_all (reading place is given) (AreWithinLimits is)
+all_within [] place given = tt
+all_within (i ∷ is) place [] = tt
+all_within (i ∷ is) place (None ∷ given) = tt
+all_within (i ∷ is) place (Some b ∷ given) = within_or_long i is b place (reading (place + 1) is given) (nat_le (length b) i.limit) refl (all_within is (place + 1) given)
+
+-- what was read is as much as was wanted, each within its limit
+pub read_within : (is : List Input) (given : List (Option (List ℕ))) (bytes : List (List ℕ)) → reading 1 is given ≡ all bytes → AreWithinLimits is bytes
+read_within is given bytes e = let P : Reading → Type 0 = λ r. if_all r (AreWithinLimits is) in subst P e (all_within is 1 given)

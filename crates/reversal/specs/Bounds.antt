@@ -1,21 +1,35 @@
 -- The numbers of a request and their bounds. They are tested before an input is asked for.
-use Rattle.std.specs.Prelude.{◌≡◌, ◌⊎◌, ℕ, ◌≤◌, List, [], ◌∷◌}
-use Rattle.std.specs.List.{AllByRecursion}
+use Rattle.std.specs.Prelude.{◌≡◌, ◌⊎◌, ℕ, ◌≤◌, ◌++◌, List, [], ◌∷◌, nat_lt, if◌then◌else◌}
+use Rattle.std.specs.List.{AllByRecursion, flat_map}
 use Rattle.reversal.specs.declared.ended.Ended.{Ended}
 use Rattle.reversal.specs.declared.bounds.Bounded.{Bounded}
-use Rattle.reversal.specs.Request.{Request, run, Says}
-use Rattle.reversal.specs.Ending.{no_request, not_built}
+use Rattle.reversal.specs.declared.options.Choice.{Choice}
+use Rattle.reversal.specs.declared.options.Choice.TheVariants.{Raw, Stack}
+use Rattle.reversal.specs.Request.{Command, run, check, Request, Says}
+use Rattle.reversal.specs.Ending.{no_request, out_of_range}
 
--- the numbers of a request with their bounds, in the order in which they are tested
+-- A number with the rule that gives its bounds: 1 is the number of steps, 4 the number of the stack's pages.
+abbrev pub steps_bound : ℕ → Bounded
+steps_bound steps = record { number = steps; least = 0; greatest = 1000000; rule = 1 }
+
+abbrev pub option_numbers : Choice → List Bounded
+option_numbers Raw = []
+option_numbers (Stack pages) = record { number = pages; least = 1; greatest = 1024; rule = 4 } ∷ []
+
+abbrev pub command_numbers : Command → List Bounded
+command_numbers (run c) = steps_bound c.steps ∷ []
+command_numbers (check c) = steps_bound c.steps ∷ []
+
+-- the numbers of a request, in the order of the words, which is that in which they are tested
 abbrev pub numbers : Request → List Bounded
-numbers (run r) = record { number = r.steps; least = 0; greatest = 1000000 } ∷ []
+numbers r = flat_map option_numbers r.options ++ command_numbers r.command
 
 abbrev pub IsWithin : Bounded → Type 0
 IsWithin n = (n.least ≤ n.number) × (n.number ≤ n.greatest)
 
--- how a call ends whose first number outside its bounds is this one
+-- how a call ends whose first number outside its bounds is this one: with the number, the bound that it passes, and the rule
 abbrev pub out_of_bounds : Bounded → Ended
-out_of_bounds n = not_built 0
+out_of_bounds n = out_of_range n.number (if nat_lt n.number n.least then n.least else n.greatest) n.rule
 
 -- the ending for the first of the numbers that is outside its bounds
 abbrev pub RefusesFirst : List Bounded → Ended → Type 0

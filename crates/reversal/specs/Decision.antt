@@ -1,20 +1,30 @@
 -- What is decided of a request by its inputs: the call is refused with one ending, or one job is to be done. `Decides`
 -- reads like the table of the order of refusals: the first line that isn't met decides, and the last line is the job.
-use Rattle.std.specs.Prelude.{◌≡◌, ◌⊎◌, ℕ, ◌+◌, ◌≤◌, ◌++◌, List, [], ◌∷◌, length, take, Option, Some}
+use Rattle.std.specs.Prelude.{◌≡◌, ◌⊎◌, ℕ, ◌+◌, ◌≤◌, ◌++◌, Bool, true, false, List, [], ◌∷◌, length, take, codes, decimal, Option, None, Some}
 use Rattle.plan_types.specs.declared.action.Action.{Action}
 use Rattle.level_book.specs.declared.book.Slots.{Slots}
-use Rattle.level_book.specs.BookCosts.{slots_of, plain}
+use Rattle.level_book.specs.declared.fault.BookFault.{BookFault}
+use Rattle.level_book.specs.BookCosts.{BookCosts, slots_of, names_of}
+use Rattle.level_book.specs.BookFaults.{IsBookText, IsRefused}
 use Rattle.level_book.specs.Valid.{Valid, BrokenAt}
+use Rattle.action_text.specs.declared.fault.TextFault.{TextFault}
+use Rattle.action_text.specs.ScheduleText.{IsSchedule}
+use Rattle.action_text.specs.Faults.{HasFirstFault}
+use Rattle.input_journal.specs.declared.fault.JournalFault.{JournalFault}
+use Rattle.input_journal.specs.Form.{IsJournal}
+use Rattle.input_journal.specs.Faults.{FirstFault as JournalFirst}
 use Rattle.keepers.specs.Told.{Files, WhereTold}
-use Rattle.rv_machine.specs.States.{raw_start}
+use Rattle.rv_machine.specs.MachineState.{MachineState}
+use Rattle.elf_load.specs.declared.fault.ElfFault.{ElfFault}
+use Rattle.elf_load.specs.Elf.{IsProgram}
+use Rattle.elf_load.specs.Raw.{IsRawProgram}
+use Rattle.elf_load.specs.Faults.{FirstFault as ProgramFirst, FirstRawFault}
 use Rattle.reversal.specs.declared.ended.Ended.{Ended}
-use Rattle.reversal.specs.Ending.{done, stopped, unreadable, not_built, invalid}
-use Rattle.reversal.specs.Request.{Request, run}
+use Rattle.reversal.specs.declared.options.Choice.{Choice}
+use Rattle.reversal.specs.Ending.{done, stopped, unreadable, too_long, bad_program, bad_journal, bad_book, bad_text, invalid}
+use Rattle.reversal.specs.Request.{says_raw, stack_pages, Run, Check, Command, run, check, Request}
 use Rattle.reversal.specs.Inputs.{Input, inputs_of, names, contents, asked_count}
-use Rattle.reversal.specs.BookForm.{IsPlainBook}
-use Rattle.reversal.specs.ProgramForm.{IsProgram}
-use Rattle.reversal.specs.ScheduleForm.{IsSchedule}
-use Rattle.reversal.specs.Deeds.{Job, perform, deeds, Moment, Done, DidUntil}
+use Rattle.reversal.specs.Deeds.{Job, perform, write, deeds, shown_place, Moment, Done, DidUntil}
 
 pub data Decision : Type 0 where
   refuse : Ended → Decision
@@ -26,9 +36,9 @@ pub data Decision : Type 0 where
 abbrev pub Need : Type 0 → Ended → Decision → Type 0 → Type 0
 Need Holds e d below = ((Holds → ⊥) × (d ≡ refuse e)) ⊎ (Holds × below)
 
--- the bytes say something, of which the lines below decide, or they say nothing and the call is refused so
-abbrev pub Read : {A : Type 0} → (A → Type 0) → Ended → Decision → (A → Type 0) → Type 0
-Read {A} IsText e d below = (((x : A) → IsText x → ⊥) × (d ≡ refuse e)) ⊎ ((x : A) × IsText x × below x)
+-- the bytes say something, of which the lines below decide, or they have a fault, and the call is refused by it
+abbrev pub Read : {A F : Type 0} → (A → Type 0) → (F → Type 0) → (F → Ended) → Decision → (A → Type 0) → Type 0
+Read {A} {F} IsText HasFault ended d below = ((fault : F) × HasFault fault × (d ≡ refuse (ended fault))) ⊎ ((x : A) × IsText x × below x)
 
 -- the list is valid and the lines below decide, or it is refused where it is first broken
 abbrev pub Judge : ℕ → List Slots → List Action → Decision → Type 0 → Type 0
@@ -41,25 +51,65 @@ Judge steps slots list d below =
 abbrev pub Take : ℕ → List Input → List (Option (List ℕ)) → Decision → (List (List ℕ) → Type 0) → Type 0
 Take place [] given d below = below []
 Take place (i ∷ is) (Some bytes ∷ given) d below =
-    Need (length bytes ≤ i.limit) (not_built place) d (Take (place + 1) is given d (λ others. below (bytes ∷ others)))
+    Need (length bytes ≤ i.limit) (too_long place i.limit) d (Take (place + 1) is given d (λ others. below (bytes ∷ others)))
 Take place (i ∷ is) given d below = d ≡ refuse (unreadable place)
+
+-- ---- what bytes say, and which fault they have that say nothing
+
+-- want of memory is no fault of the bytes
+abbrev pub HasBookFault : List ℕ → BookFault → Type 0
+HasBookFault bytes fault = IsRefused bytes fault × (fault ≡ BookFault.Memory → ⊥)
+
+-- the start state of a program, which is raw words or an ELF file
+abbrev pub IsStartOf : Bool → ℕ → List ℕ → MachineState → Type 0
+IsStartOf true stack bytes = IsRawProgram bytes stack
+IsStartOf false stack bytes = IsProgram bytes stack
+
+abbrev pub HasProgramFault : Bool → ℕ → List ℕ → ElfFault → Type 0
+HasProgramFault true stack bytes = FirstRawFault bytes stack
+HasProgramFault false stack bytes = ProgramFirst bytes stack
+
+-- the items of the recorded input; none where there is no journal
+abbrev pub AreItemsOf : Option (List ℕ) → List (List ℕ) → Type 0
+AreItemsOf None items = items ≡ []
+AreItemsOf (Some bytes) items = IsJournal bytes items
+
+abbrev pub HasJournalFault : Option (List ℕ) → JournalFault → Type 0
+HasJournalFault None fault = ⊥
+HasJournalFault (Some bytes) fault = JournalFirst bytes fault
 
 -- ---- the tables, a command each
 
+-- a run, by the bytes of its inputs
+abbrev pub DecidesRun : List Choice → ℕ → List ℕ → Option (List ℕ) → List ℕ → List ℕ → Decision → Type 0
+DecidesRun options steps program journal book schedule d =
+    Read (IsBookText book) (HasBookFault book) bad_book d (λ (b : BookCosts).
+    Read (IsStartOf (says_raw options) (stack_pages options) program) (HasProgramFault (says_raw options) (stack_pages options) program) bad_program d (λ start.
+    Read (AreItemsOf journal) (HasJournalFault journal) bad_journal d (λ items.
+    Read (IsSchedule (names_of b) schedule) (HasFirstFault (names_of b) schedule) bad_text d (λ list.
+    Judge steps (slots_of b) list d
+    (d ≡ accept (perform start items steps list))))))
+
+-- the judgement of a schedule
+abbrev pub DecidesCheck : ℕ → List ℕ → List ℕ → Decision → Type 0
+DecidesCheck steps book schedule d =
+    Read (IsBookText book) (HasBookFault book) bad_book d (λ (b : BookCosts).
+    Read (IsSchedule (names_of b) schedule) (HasFirstFault (names_of b) schedule) bad_text d (λ list.
+    Judge steps (slots_of b) list d
+    (d ≡ accept (write (codes "valid " ++ decimal (length list) ++ codes "\n")))))
+
 -- What a request comes to by the bytes of its inputs, in the order of the words, and by the slots of the keepers, which
 -- no command looks at so far.
-abbrev pub DecidesBytes : Request → List (List ℕ) → List ℕ → Decision → Type 0
-DecidesBytes (run r) (program ∷ book ∷ schedule ∷ []) slots d =
-    Read (IsPlainBook book) (not_built 2) d (λ room.
-    Need (IsProgram program) (not_built 1) d
-    (Read (IsSchedule schedule) (not_built 3) d (λ list.
-    Judge r.steps (slots_of (plain room)) list d
-    (d ≡ accept (perform (raw_start program) [] r.steps list)))))
-DecidesBytes (run r) _ slots d = ⊥
+abbrev pub DecidesBytes : List Choice → Command → List (List ℕ) → List ℕ → Decision → Type 0
+DecidesBytes options (run c) (program ∷ book ∷ schedule ∷ []) slots d = DecidesRun options c.steps program None book schedule d
+DecidesBytes options (run c) (program ∷ journal ∷ book ∷ schedule ∷ []) slots d = DecidesRun options c.steps program (Some journal) book schedule d
+DecidesBytes options (run c) _ slots d = ⊥
+DecidesBytes options (check c) (book ∷ schedule ∷ []) slots d = DecidesCheck c.steps book schedule d
+DecidesBytes options (check c) _ slots d = ⊥
 
 -- and by what is there under their names
 abbrev pub Decides : Request → List (Option (List ℕ)) → List ℕ → Decision → Type 0
-Decides r given slots d = Take 1 (inputs_of r) given d (λ bytes. DecidesBytes r bytes slots d)
+Decides r given slots d = Take 1 (inputs_of r.command) given d (λ bytes. DecidesBytes r.options r.command bytes slots d)
 
 -- ---- what a call comes to
 
@@ -67,15 +117,15 @@ Decides r given slots d = Take 1 (inputs_of r) given d (λ bytes. DecidesBytes r
 -- something. The inputs were asked for these names, up to the first that isn't there or is too long.
 pub record Comes (r : Request) (told : Option Files) (before after : List (List ℕ)) (slots : List ℕ) (d : Decision) : Type 0 where
   pub given : List (Option (List ℕ))
-  pub as_told : WhereTold told (λ files. given ≡ contents files (inputs_of r))
+  pub as_told : WhereTold told (λ files. given ≡ contents files (inputs_of r.command))
   pub decides : Decides r given slots d
-  pub asked : after ≡ before ++ take (asked_count (inputs_of r) given) (names (inputs_of r))
+  pub asked : after ≡ before ++ take (asked_count (inputs_of r.command) given) (names (inputs_of r.command))
 
 -- how a call ends by a decision, and what it leaves: by the refusal's own ending, or by that of a job that was done, or
 -- that stopped where the sink failed
 abbrev pub EndsBy : Decision → Ended → Moment → Moment → Type 0
 EndsBy (refuse refusal) e old new = e ≡ refusal
-EndsBy (accept job) e old new = ((e ≡ done) × Done job old new) ⊎ ((e ≡ stopped e.place) × DidUntil (deeds job) e.place old new)
+EndsBy (accept job) e old new = ((e ≡ done) × Done job old new) ⊎ ((place : ℕ) × (e ≡ stopped (shown_place job place)) × DidUntil (deeds job) place old new)
 
 -- the statuses of a call that may have come to its job; at any other it was refused
 abbrev pub IsOfJob : ℕ → Type 0

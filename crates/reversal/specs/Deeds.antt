@@ -1,6 +1,6 @@
 -- What a job does, piece by piece: a list of deeds. Every command is such a list, so that one definition says what a call
 -- did that was done, that stopped at a write that failed, or that ran out of memory.
-use Rattle.std.specs.Prelude.{◌≡◌, ℕ, ◌+◌, ◌-◌, ◌<◌, ◌++◌, Bool, true, List, length, take, map, sum_by, slice_get, Option, Some}
+use Rattle.std.specs.Prelude.{◌≡◌, ℕ, ◌+◌, ◌-◌, ◌<◌, ◌++◌, Bool, true, false, List, [], ◌∷◌, length, take, map, sum_by, slice_get, Option, Some}
 use Rattle.std.specs.List.{flat_map}
 use Rattle.plan_types.specs.declared.action.Action.{Action}
 use Rattle.level_book.specs.CostFold.{steps_of, forward}
@@ -11,11 +11,13 @@ use Rattle.reverse_runner.specs.Handed.{handed_by}
 use Rattle.reverse_runner.specs.Performed.{keeps_copy}
 use Rattle.reversal.specs.Output.{line_of, lines_down, Adds}
 
--- What is to be done of a call that isn't refused. A command that is added is a case here, and in the three definitions
--- below: its deeds, its output and its steps.
+-- What is to be done of a call that isn't refused. A command that is added is a case here, and in the four definitions
+-- below: its deeds, how their places are shown, its output and its steps.
 pub data Job : Type 0 where
   -- the actions of a list over the run from a state, with recorded input and a number of steps
   perform : MachineState → List (List ℕ) → ℕ → List Action → Job
+  -- a text, in one piece
+  write : List ℕ → Job
 
 -- a deed: what it writes, in as many writes as there are pieces; its machine steps; and whether it keeps a state, which takes memory
 pub record Deed : Type 0 where
@@ -33,14 +35,22 @@ deed_of first journal steps action = record {
 
 abbrev pub deeds : Job → List Deed
 deeds (perform first journal steps list) = map (deed_of first journal steps) list
+deeds (write text) = record { pieces = text ∷ []; steps = 0; keeps = false } ∷ []
+
+-- The place of a deed as an ending has it: the number of the action. A text has no actions, and its place is 0.
+abbrev pub shown_place : Job → ℕ → ℕ
+shown_place (perform first journal steps list) place = place
+shown_place (write text) place = 0
 
 -- What a job that is done writes in all, and how many steps it takes: for a performed list the lines of the states from
 -- the last to the first, each once, and the list's forward steps.
 abbrev pub output : Job → List ℕ
 output (perform first journal steps list) = lines_down first journal steps
+output (write text) = text
 
 abbrev pub steps_taken : Job → ℕ
 steps_taken (perform first journal steps list) = forward list
+steps_taken (write text) = 0
 
 -- ---- what was done
 

@@ -1,10 +1,22 @@
 -- How a call may end, and what it writes of that.
 use Rattle.std.specs.Prelude.{ℕ, ◌==◌, ◌++◌, if◌then◌else◌, List, [], codes, decimal}
+use Rattle.level_book.specs.declared.fault.BookFault.{BookFault}
+use Rattle.level_book.specs.declared.fault.BookFault.TheVariants as book
+use Rattle.action_text.specs.declared.fault.TextFault.{TextFault}
+use Rattle.action_text.specs.declared.fault.TextFault.TheVariants as text
+use Rattle.input_journal.specs.declared.fault.JournalFault.{JournalFault}
+use Rattle.input_journal.specs.declared.fault.JournalFault.TheVariants as journal
+use Rattle.elf_load.specs.declared.fault.ElfFault.{ElfFault}
+use Rattle.elf_load.specs.declared.fault.ElfFault.TheVariants as program
 use Rattle.reversal.specs.declared.ended.Ended.{Ended}
+
+-- an ending by its status and its three numbers
+abbrev pub ended_by : ℕ → ℕ → ℕ → ℕ → Ended
+ended_by status place more rule = record { status = status; place = place; more = more; rule = rule }
 
 -- an ending that has a status and a place alone
 abbrev pub ended_at : ℕ → ℕ → Ended
-ended_at status place = record { status = status; place = place; more = 0; rule = 0 }
+ended_at status place = ended_by status place 0 0
 
 -- the job was done
 abbrev pub done : Ended
@@ -18,32 +30,79 @@ no_request = ended_at 2 0
 abbrev pub unreadable : ℕ → Ended
 unreadable place = ended_at 3 place
 
--- the list is first broken at this place, by this rule; the level is that of rule 4
-abbrev pub invalid : ℕ → ℕ → ℕ → Ended
-invalid place level rule = record { status = 8; place = place; more = level; rule = rule }
-
--- the sink failed in the deed at this place
-abbrev pub stopped : ℕ → Ended
-stopped place = ended_at 14 place
-
 -- memory ran out
 abbrev pub no_memory : Ended
 no_memory = ended_at 17 0
 
--- a form that isn't built: 0 of a number, 1 of the program, 2 of the book, 3 of the schedule
-abbrev pub not_built : ℕ → Ended
-not_built place = ended_at 18 place
+-- the bytes of the program are none, by this rule
+abbrev pub bad_program : ElfFault → Ended
+bad_program program.NotElf = ended_by 4 0 0 1
+bad_program program.Class = ended_by 4 0 0 2
+bad_program program.Kind = ended_by 4 0 0 3
+bad_program program.Machine = ended_by 4 0 0 4
+bad_program program.Headers = ended_by 4 0 0 5
+bad_program (program.Segment i) = ended_by 4 i 0 6
+bad_program (program.Overlap i j) = ended_by 4 i j 7
+bad_program (program.TooLarge pages) = ended_by 4 pages 0 8
+bad_program (program.Entry at) = ended_by 4 at 0 9
+bad_program program.Memory = no_memory
+bad_program (program.RawLength length) = ended_by 4 length 0 11
+
+-- the bytes of the recorded input are no journal; the place is the offset of the fault
+abbrev pub bad_journal : JournalFault → Ended
+bad_journal journal.Magic = ended_by 5 0 0 1
+bad_journal journal.Version = ended_by 5 4 0 2
+bad_journal (journal.Truncated at) = ended_by 5 at 0 3
+bad_journal (journal.TooLong at) = ended_by 5 at 0 4
+bad_journal (journal.Trailing at) = ended_by 5 at 0 5
+bad_journal journal.Memory = no_memory
+
+-- the bytes of the book are none; the place is the number that the fault carries
+abbrev pub bad_book : BookFault → Ended
+bad_book book.NotJson = ended_by 6 0 0 1
+bad_book (book.Shape field) = ended_by 6 field 0 2
+bad_book (book.Levels count) = ended_by 6 count 0 3
+bad_book (book.Name level) = ended_by 6 level 0 4
+bad_book (book.CostRange level) = ended_by 6 level 0 5
+bad_book (book.SlotRange level) = ended_by 6 level 0 6
+bad_book (book.CostOrder level) = ended_by 6 level 0 7
+bad_book book.Memory = no_memory
+
+-- the bytes of the schedule are none; its line and its column
+abbrev pub bad_text : TextFault → Ended
+bad_text (text.At rule line column) = ended_by 7 line column rule
+bad_text text.Memory = no_memory
+
+-- the list is first broken at this place, by this rule; the level is that of rule 4
+abbrev pub invalid : ℕ → ℕ → ℕ → Ended
+invalid place level rule = ended_by 8 place level rule
+
+-- a number is out of range; the bound that it passes, and the rule that gives the bound
+abbrev pub out_of_range : ℕ → ℕ → ℕ → Ended
+out_of_range number bound rule = ended_by 10 number bound rule
+
+-- the input with this number is longer than its limit: rule 8
+abbrev pub too_long : ℕ → ℕ → Ended
+too_long place limit = out_of_range place limit 8
+
+-- the sink failed in the deed at this place
+abbrev pub stopped : ℕ → Ended
+stopped place = ended_at 14 place
 
 -- the name of a status
 abbrev pub status_name : ℕ → List ℕ
 status_name status =
     if status == 2 then codes "Words"
     else (if status == 3 then codes "Input"
+    else (if status == 4 then codes "Program"
+    else (if status == 5 then codes "Journal"
+    else (if status == 6 then codes "Book"
+    else (if status == 7 then codes "Text"
     else (if status == 8 then codes "Invalid"
+    else (if status == 10 then codes "Limit"
     else (if status == 14 then codes "Sink"
     else (if status == 17 then codes "Memory"
-    else (if status == 18 then codes "NotBuilt"
-    else codes "Done")))))
+    else codes "Done")))))))))
 
 -- the text of an ending: its status with the name, and its three numbers; nothing for status 0
 abbrev pub text_of_ended : Ended → List ℕ

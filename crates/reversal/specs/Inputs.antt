@@ -1,10 +1,10 @@
--- The inputs of a request, and what is there under their names.
-use Rattle.std.specs.Prelude.{◌≡◌, ℕ, ◌+◌, ◌-◌, ◌<◌, ◌≤◌, ◌++◌, List, [], ◌∷◌, length, map, take, nat_le, if◌then◌else◌, Option, Some, IsSomeAnd}
+-- The inputs of a command, and what is there under their names.
+use Rattle.std.specs.Prelude.{◌≡◌, ℕ, ◌+◌, ◌-◌, ◌<◌, ◌≤◌, ◌++◌, List, [], ◌∷◌, length, map, take, nat_le, if◌then◌else◌, Option, None, Some, IsSomeAnd}
 use Rattle.std.specs.List.{AllByRecursion}
 use Rattle.std.specs.FinMap as finmap
 use Rattle.keepers.specs.Told.{Files, WhereTold}
 use Rattle.reversal.specs.declared.ended.Ended.{Ended}
-use Rattle.reversal.specs.Request.{Request, run}
+use Rattle.reversal.specs.Request.{Run, Command, run, check, Request}
 use Rattle.reversal.specs.Ending.{unreadable}
 
 -- an input by its name, and how many bytes it may have
@@ -12,13 +12,28 @@ pub record Input : Type 0 where
   pub name : List ℕ
   pub limit : ℕ
 
--- the inputs of a request, in the order of the words
-abbrev pub inputs_of : Request → List Input
-inputs_of (run r) =
-    record { name = r.program; limit = 33554432 }
-    ∷ record { name = r.book; limit = 65536 }
-    ∷ record { name = r.schedule; limit = 536870912 }
-    ∷ []
+-- each kind of input, with its limit
+abbrev pub program_input : List ℕ → Input
+program_input name = record { name = name; limit = 33554432 }
+
+abbrev pub journal_input : List ℕ → Input
+journal_input name = record { name = name; limit = 67108864 }
+
+abbrev pub book_input : List ℕ → Input
+book_input name = record { name = name; limit = 65536 }
+
+abbrev pub schedule_input : List ℕ → Input
+schedule_input name = record { name = name; limit = 536870912 }
+
+-- the inputs of a run; without a name for recorded input none is read
+abbrev pub run_inputs : Option (List ℕ) → Run → List Input
+run_inputs None c = program_input c.program ∷ book_input c.book ∷ schedule_input c.schedule ∷ []
+run_inputs (Some journal) c = program_input c.program ∷ journal_input journal ∷ book_input c.book ∷ schedule_input c.schedule ∷ []
+
+-- the inputs of a command, in the order of the words
+abbrev pub inputs_of : Command → List Input
+inputs_of (run c) = run_inputs c.journal c
+inputs_of (check c) = book_input c.book ∷ schedule_input c.schedule ∷ []
 
 abbrev pub names : List Input → List (List ℕ)
 names is = map (λ i. i.name) is

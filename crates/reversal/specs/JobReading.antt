@@ -4,14 +4,15 @@ use Rattle.level_book.specs.BookCosts.{slots_of}
 use Rattle.level_book.specs.Valid.{Valid}
 use Rattle.reversal.specs.declared.ended.Ended.{Ended}
 use Rattle.reversal.specs.declared.job.Job as in_memory
-use Rattle.reversal.specs.declared.job.Job.TheVariants.{Perform}
+use Rattle.reversal.specs.declared.job.Job.TheVariants.{Perform, Write}
 use Rattle.reversal.specs.declared.job.Performance.{Performance}
-use Rattle.reversal.specs.Deeds.{Job, perform, deeds, Moment, Halts}
+use Rattle.reversal.specs.Deeds.{Job, perform, write, deeds, Moment, Halts}
 use Rattle.reversal.specs.Decision.{accept, EndsBy}
 use Rattle.reversal.specs.Ending.{no_memory}
 
 abbrev pub job_of : in_memory.Job → Job
 job_of (Perform p) = perform p.start p.journal p.steps p.list.items
+job_of (Write text) = write text
 
 -- a list that is performed is valid
 pub record IsPerformable (p : Performance) : Type 0 where
@@ -20,6 +21,11 @@ pub record IsPerformable (p : Performance) : Type 0 where
 
 abbrev pub CanBeDone : in_memory.Job → Type 0
 CanBeDone (Perform p) = IsPerformable p
+CanBeDone (Write text) = Unit {0}
+
+-- why bytes aren't read: they have a fault, by which the call ends, or memory ran out
+abbrev pub IsRefusal : {F : Type 0} → (F → Type 0) → (F → Ended) → Ended → Type 0
+IsRefusal {F} HasFault ended e = (e ≡ no_memory) ⊎ ((fault : F) × HasFault fault × (e ≡ ended fault))
 
 -- a job that was begun was done, stopped at the sink, or wanted memory
 abbrev pub Works : Job → Ended → Moment → Moment → Type 0

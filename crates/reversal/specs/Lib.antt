@@ -1,16 +1,11 @@
 pub mod Request
 pub mod Bounds
 pub mod Inputs
-pub mod BookForm
-pub mod ProgramForm
-pub mod ScheduleForm
 pub mod Decision
 pub mod Deeds
 pub mod Output
 pub mod Ending
 pub mod Reading
-pub mod LineReading
-pub mod BookReading
 pub mod RequestReading
 pub mod InputReading
 pub mod JobReading

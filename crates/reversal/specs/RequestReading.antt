@@ -1,26 +1,95 @@
--- No public clause cites this file. What the reader of words asks of them, in its order, and the request that one in
+-- No public clause cites this file. What the reader of words computes, as functions on lists, and the request that one in
 -- memory is.
-use Rattle.std.specs.Prelude.{◌≡◌, ℕ, List, [], length, codes, slice_index_or}
+use Rattle.std.specs.Prelude.{ℕ, ◌==◌, ◌++◌, Bool, not, ◌&&◌, if◌then◌else◌, List, [], ◌∷◌, length, codes, Option, None, Some}
+use Rattle.std.specs.List.{list_any}
+use Rattle.std.specs.Option.{option_map}
+use Rattle.std.specs.Str.{bytes_eq}
+use Rattle.reversal.specs.declared.options.Choice.{Choice}
+use Rattle.reversal.specs.declared.options.Choice.TheVariants.{Raw, Stack}
+use Rattle.reversal.specs.declared.request.Run as run_in_memory
+use Rattle.reversal.specs.declared.request.Check as check_in_memory
+use Rattle.reversal.specs.declared.request.Command as command_in_memory
+use Rattle.reversal.specs.declared.request.Command.TheVariants as the_command
 use Rattle.reversal.specs.declared.request.Request as in_memory
-use Rattle.reversal.specs.declared.request.Request.TheVariants.{Run}
-use Rattle.reversal.specs.declared.request.RunRequest as run_in_memory
-use Rattle.reversal.specs.Request.{RunRequest, Request, run, IsName, IsScheduleName}
+use Rattle.reversal.specs.Reading.{◌>>=◌, with_or, after_of, number_at}
+use Rattle.reversal.specs.Request.{is_raw, is_stack, Run, Check, Command, run, check, Request}
 
--- there are seven words, and three of them are always the same
-pub record HasFixedWords (words : List (List ℕ)) : Type 0 where
-  pub seven : length words ≡ 7
-  pub raw : slice_index_or words 0 [] ≡ codes "--raw"
-  pub run : slice_index_or words 1 [] ≡ codes "run"
-  pub no_input : slice_index_or words 3 [] ≡ codes "-"
+-- ---- options
 
--- the names may stand in a request
-pub record AreNames (program book schedule : List ℕ) : Type 0 where
-  pub program_named : IsName program
-  pub book_named : IsName book
-  pub schedule_named : IsScheduleName schedule
+-- the number that a whole word is
+unfoldable pub number_of : List ℕ → Option ℕ
+number_of word = number_at 18446744073709551615 word >>= λ read. if length read.1 == 0 then Some read.0 else None
 
-abbrev pub run_of : run_in_memory.RunRequest → RunRequest
-run_of r = record { program = r.program.now; book = r.book.now; schedule = r.schedule.now; steps = r.steps }
+-- the option that a word is
+unfoldable pub choice_of : List ℕ → Option Choice
+choice_of word =
+    if bytes_eq word (codes "--raw") then Some Raw
+    else (after_of (codes "--stack=") word >>= λ rest. number_of rest >>= λ pages. Some (Stack pages))
+
+-- whether an option of the same kind is among these
+abbrev pub is_chosen : Choice → List Choice → Bool
+is_chosen Raw options = list_any is_raw options
+is_chosen (Stack pages) options = list_any is_stack options
+
+-- the option that a word is beside those that were read
+unfoldable pub next_choice : List Choice → List ℕ → Option Choice
+next_choice seen word = choice_of word >>= λ choice. if is_chosen choice seen then None else Some choice
+
+-- and the words behind it
+abbrev pub first_choice : List Choice → List (List ℕ) → Option (Choice × List (List ℕ))
+first_choice seen [] = None
+first_choice seen (word ∷ words) = next_choice seen word >>= λ choice. Some (choice, words)
+
+-- the options that were read and those at the front of the words, and the words behind them
+unfoldable pub options_from : List Choice → List (List ℕ) → List Choice × List (List ℕ)
+options_from seen [] = (seen, [])
+options_from seen (word ∷ words) = with_or (next_choice seen word) (λ choice. options_from (seen ++ choice ∷ []) words) (seen, word ∷ words)
+
+-- ---- commands
+
+abbrev pub is_name : List ℕ → Bool
+is_name word = not (length word == 0)
+
+abbrev pub is_schedule_name : List ℕ → Bool
+is_schedule_name word = is_name word && not (bytes_eq word (codes "@revolve"))
+
+-- the name that a word is, but for the word that stands for none
+abbrev pub name_or_none : List ℕ → Option (List ℕ)
+name_or_none word = if bytes_eq word (codes "-") then None else Some word
+
+unfoldable pub run_of : List ℕ → List ℕ → List ℕ → List ℕ → List ℕ → Option Run
+run_of program journal book schedule steps =
+    if is_name program && is_name journal && is_name book && is_schedule_name schedule
+    then (number_of steps >>= λ n. Some (record { program = program; journal = name_or_none journal; book = book; schedule = schedule; steps = n }))
+    else None
+
+unfoldable pub check_of : List ℕ → List ℕ → List ℕ → Option Check
+check_of book schedule steps =
+    if is_name book && is_schedule_name schedule then (number_of steps >>= λ n. Some (record { book = book; schedule = schedule; steps = n })) else None
+
+unfoldable pub command_of : List (List ℕ) → Option Command
+command_of (name ∷ program ∷ journal ∷ book ∷ schedule ∷ steps ∷ []) =
+    if bytes_eq name (codes "run") then (run_of program journal book schedule steps >>= λ c. Some (run c)) else None
+command_of (name ∷ book ∷ schedule ∷ steps ∷ []) =
+    if bytes_eq name (codes "check") then (check_of book schedule steps >>= λ c. Some (check c)) else None
+command_of _ = None
+
+-- the request that the words say
+unfoldable pub request_read : List (List ℕ) → Option Request
+request_read words =
+    command_of (options_from [] words).1 >>= λ command. Some (record { options = (options_from [] words).0; command = command })
+
+-- ---- in memory
+
+abbrev pub as_run : run_in_memory.Run → Run
+as_run c = record { program = c.program.now; journal = option_map (λ name. name.now) c.journal; book = c.book.now; schedule = c.schedule.now; steps = c.steps }
+
+abbrev pub as_check : check_in_memory.Check → Check
+as_check c = record { book = c.book.now; schedule = c.schedule.now; steps = c.steps }
+
+abbrev pub as_command : command_in_memory.Command → Command
+as_command (the_command.Run c) = run (as_run c)
+as_command (the_command.Check c) = check (as_check c)
 
 abbrev pub request_of : in_memory.Request → Request
-request_of (Run r) = run (run_of r)
+request_of r = record { options = r.options; command = as_command r.command }

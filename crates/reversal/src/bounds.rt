@@ -1,16 +1,17 @@
 // The numbers of a request, and their bounds.
-ghost use Rattle.std.specs.Prelude.{◌↔◌, MatchOption, IsTrue};
+ghost use Rattle.std.specs.Prelude.{◌≡◌, ◌↔◌, MatchOption, IsTrue};
 ghost use Rattle.std.specs.List.{AllByRecursion};
-ghost use Rattle.reversal.specs.Bounds.{IsWithin, RefusesFirst};
+ghost use Rattle.reversal.specs.Bounds.{IsWithin, out_of_bounds, RefusesFirst};
 
 use crate::ended::Ended;
 
-/// A number of a request, with the least and the greatest that are accepted.
+/// A number of a request, with the least and the greatest that are accepted, and the number of the rule that says so.
 #[derive(Clone, Copy, Debug)]
 pub struct Bounded {
     pub number: u64,
     pub least: u64,
     pub greatest: u64,
+    pub rule: u16,
 }
 
 impl Bounded {
@@ -18,6 +19,18 @@ impl Bounded {
         ensures { IsTrue result ↔ IsWithin self.now }
     {
         self.least <= self.number && self.number <= self.greatest
+    }
+
+    // How a call ends that is refused for this number.
+    fn refusal(&self) -> Ended
+        ensures { result ≡ out_of_bounds self.now }
+    {
+        let passed = if self.number < self.least {
+            self.least
+        } else {
+            self.greatest
+        };
+        Ended::out_of_range(self.number, passed, self.rule)
     }
 }
 
@@ -27,7 +40,7 @@ pub fn first_outside(numbers: &[Bounded]) -> Option<Ended>
 {
     for bounded in numbers {
         if !bounded.is_within() {
-            return Some(Ended::not_built(0));
+            return Some(bounded.refusal());
         }
     }
     None

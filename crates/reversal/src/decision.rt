@@ -1,85 +1,191 @@
 // What a request comes to by its inputs: a job, or a refusal.
-ghost use Rattle.std.specs.Prelude.{◌≡◌, ◌⊎◌, ℕ, ◌≤◌, List, [], ◌∷◌, length, map, IfOk, IfErr, OnOk};
+ghost use Rattle.std.specs.Prelude.{◌≡◌, ◌⊎◌, ℕ, ◌≤◌, ◌++◌, List, [], ◌∷◌, length, map, codes, decimal, IfOk, IfErr, OnOk};
+ghost use Rattle.std.specs.Option.{option_copied};
 ghost use Rattle.std.specs.List.{AllByRecursion};
-ghost use Rattle.level_book.specs.BookCosts.{slots_of};
+ghost use Rattle.level_book.specs.BookCosts.{slots_of, names_of};
+ghost use Rattle.level_book.specs.BookFaults.{IsBookText};
 ghost use Rattle.level_book.specs.Valid.{Valid, BrokenAt};
+ghost use Rattle.action_text.specs.ScheduleText.{IsSchedule};
+ghost use Rattle.action_text.specs.Faults.{HasFirstFault};
+ghost use Rattle.reversal.specs.declared.options.Choice.{Choice};
 ghost use Rattle.reversal.specs.Bounds.{numbers, IsWithin};
-ghost use Rattle.reversal.specs.Decision.{accept, refuse, DecidesBytes};
-ghost use Rattle.reversal.specs.Ending.{no_memory, invalid};
+ghost use Rattle.reversal.specs.Decision.{accept, refuse, HasBookFault, IsStartOf, HasProgramFault, AreItemsOf, HasJournalFault, DecidesRun, DecidesCheck, DecidesBytes};
+ghost use Rattle.reversal.specs.Ending.{no_memory, bad_program, bad_journal, bad_book, bad_text, invalid};
 ghost use Rattle.reversal.specs.Inputs.{inputs_of};
-ghost use Rattle.reversal.specs.JobReading.{job_of, CanBeDone};
-ghost use Rattle.reversal.specs.Request.{run};
-ghost use Rattle.reversal.specs.RequestReading.{request_of, run_of};
+ghost use Rattle.reversal.specs.InputReading.{AreWithinLimits};
+ghost use Rattle.reversal.specs.JobReading.{job_of, CanBeDone, IsRefusal};
+ghost use Rattle.reversal.specs.Request.{run as run_command, check as check_command, says_raw, stack_pages};
+ghost use Rattle.reversal.specs.RequestReading.{request_of, as_run, as_check};
 
-use crate::book_form::plain_slots;
 use crate::ended::Ended;
 use crate::job::{Job, Performance};
-use crate::program_form::is_program;
-use crate::request::{Request, RunRequest};
-use crate::schedule_form::read_schedule;
-use input_journal::Journal;
-use level_book::Book;
-use plan_types::Action;
-use rv_machine::load_raw;
+use crate::options::Options;
+use crate::request::{Check, Command, Request, Run};
+use action_text::read_actions;
+use elf_load::{load, load_raw};
+use input_journal::{Journal, read_journal};
+use level_book::{Book, read_book};
+use plan_types::{Action, Line};
+use rv_machine::State;
 use schedule_rules::{Verdict, check};
 use std::alloc::Global;
 
 /// What a request, whose numbers are within their bounds, comes to by the bytes of its inputs.
 pub fn decide(alloc: Global, request: &Request<'_>, bytes: &[Vec<u8>]) -> Result<Job, Ended>
     requires numbers { AllByRecursion IsWithin (numbers (request_of request.now)) }
-    requires inputs { length bytes.now ≡ length (inputs_of (request_of request.now)) }
-    ensures accepted { IfOk result (λ job. (slots : List ℕ) → DecidesBytes (request_of request.now) (map (λ b. b.items) bytes.now) slots (accept (job_of job))) }
+    requires inputs { AreWithinLimits (inputs_of (request_of request.now).command) (map (λ b. b.items) bytes.now) }
+    ensures accepted { IfOk result (λ job. (slots : List ℕ) → DecidesBytes (request_of request.now).options (request_of request.now).command (map (λ b. b.items) bytes.now) slots (accept (job_of job))) }
     ensures can_be_done { IfOk result CanBeDone }
-    ensures refused { IfErr result (λ e. (e ≡ no_memory) ⊎ ((slots : List ℕ) → DecidesBytes (request_of request.now) (map (λ b. b.items) bytes.now) slots (refuse e))) }
+    ensures refused { IfErr result (λ e. (e ≡ no_memory) ⊎ ((slots : List ℕ) → DecidesBytes (request_of request.now).options (request_of request.now).command (map (λ b. b.items) bytes.now) slots (refuse e))) }
 {
-    match request {
-        Request::Run(run) => decide_run(alloc, run, bytes),
+    match &request.command {
+        Command::Run(run) => decide_run(alloc, &request.options, run, bytes),
+        Command::Check(check) => decide_check(alloc, check, bytes),
     }
 }
 
-// The same for a run, by the bytes of its program, its book and its schedule.
-fn decide_run(alloc: Global, request: &RunRequest<'_>, bytes: &[Vec<u8>]) -> Result<Job, Ended>
-    requires steps { request.now.steps ≤ 1000000 }
-    requires three { length bytes.now ≡ 3 }
-    ensures accepted { IfOk result (λ job. (slots : List ℕ) → DecidesBytes (run (run_of request.now)) (map (λ b. b.items) bytes.now) slots (accept (job_of job))) }
+// The same for a run, by the bytes of its inputs.
+fn decide_run(
+    alloc: Global,
+    options: &Options,
+    run: &Run<'_>,
+    bytes: &[Vec<u8>],
+) -> Result<Job, Ended>
+    requires stack { (1 ≤ stack_pages options.now) × (stack_pages options.now ≤ 1024) }
+    requires steps { run.now.steps ≤ 1000000 }
+    requires inputs { AreWithinLimits (inputs_of (run_command (as_run run.now))) (map (λ b. b.items) bytes.now) }
+    ensures accepted { IfOk result (λ job. (slots : List ℕ) → DecidesBytes options.now (run_command (as_run run.now)) (map (λ b. b.items) bytes.now) slots (accept (job_of job))) }
     ensures can_be_done { IfOk result CanBeDone }
-    ensures refused { IfErr result (λ e. (e ≡ no_memory) ⊎ ((slots : List ℕ) → DecidesBytes (run (run_of request.now)) (map (λ b. b.items) bytes.now) slots (refuse e))) }
+    ensures refused { IfErr result (λ e. (e ≡ no_memory) ⊎ ((slots : List ℕ) → DecidesBytes options.now (run_command (as_run run.now)) (map (λ b. b.items) bytes.now) slots (refuse e))) }
 {
-    let [program, book, schedule] = bytes else {
-        unreachable!()
-    };
-    decide_texts(alloc, request, program, book, schedule)
+    let steps = run.steps as u32;
+    match bytes {
+        [program, book, schedule] => {
+            decide_texts(alloc, options, steps, program, None, book, schedule)
+        }
+        [program, journal, book, schedule] => {
+            decide_texts(
+                alloc,
+                options,
+                steps,
+                program,
+                Some(journal),
+                book,
+                schedule,
+            )
+        }
+        _ => unreachable!(),
+    }
 }
 
 fn decide_texts(
     alloc: Global,
-    request: &RunRequest<'_>,
+    options: &Options,
+    steps: u32,
     program: &[u8],
+    journal: Option<&[u8]>,
     book: &[u8],
     schedule: &[u8],
 ) -> Result<Job, Ended>
-    requires { request.now.steps ≤ 1000000 }
-    ensures accepted { IfOk result (λ job. (slots : List ℕ) → DecidesBytes (run (run_of request.now)) (program.now ∷ book.now ∷ schedule.now ∷ []) slots (accept (job_of job))) }
+    requires stack { (1 ≤ stack_pages options.now) × (stack_pages options.now ≤ 1024) }
+    requires steps { steps ≤ 1000000 }
+    requires short { length schedule.now ≤ 536870912 }
+    ensures accepted { IfOk result (λ job. DecidesRun options.now steps program.now (option_copied journal.entry) book.now schedule.now (accept (job_of job))) }
     ensures can_be_done { IfOk result CanBeDone }
-    ensures refused { IfErr result (λ e. (e ≡ no_memory) ⊎ ((slots : List ℕ) → DecidesBytes (run (run_of request.now)) (program.now ∷ book.now ∷ schedule.now ∷ []) slots (refuse e))) }
+    ensures refused { IfErr result (λ e. (e ≡ no_memory) ⊎ DecidesRun options.now steps program.now (option_copied journal.entry) book.now schedule.now (refuse e)) }
 {
-    let steps = request.steps as u32;
-    let Some(room) = plain_slots(book) else {
-        return Err(Ended::not_built(2));
-    };
-    if !is_program(program) {
-        return Err(Ended::not_built(1));
-    }
-    let list = read_schedule(alloc, schedule)?;
-    let book = Book::plain(room);
+    let book = book_in(alloc, book)?;
+    let start = start_of(alloc, options, program)?;
+    let journal = journal_in(alloc, journal)?;
+    let list = list_in(alloc, schedule, &book)?;
     judge(alloc, &list, steps, &book)?;
     Ok(Job::Perform(Performance {
-        start: load_raw(alloc, program)?,
-        journal: Journal::none(alloc),
+        start,
+        journal,
         steps,
         book,
         list,
     }))
+}
+
+// The same for the judgement of a schedule.
+fn decide_check(alloc: Global, check: &Check<'_>, bytes: &[Vec<u8>]) -> Result<Job, Ended>
+    requires steps { check.now.steps ≤ 1000000 }
+    requires inputs { AreWithinLimits (inputs_of (check_command (as_check check.now))) (map (λ b. b.items) bytes.now) }
+    ensures accepted { IfOk result (λ job. (slots : List ℕ) → (options : List Choice) → DecidesBytes options (check_command (as_check check.now)) (map (λ b. b.items) bytes.now) slots (accept (job_of job))) }
+    ensures can_be_done { IfOk result CanBeDone }
+    ensures refused { IfErr result (λ e. (e ≡ no_memory) ⊎ ((slots : List ℕ) → (options : List Choice) → DecidesBytes options (check_command (as_check check.now)) (map (λ b. b.items) bytes.now) slots (refuse e))) }
+{
+    let [book, schedule] = bytes else {
+        unreachable!()
+    };
+    judge_texts(alloc, check.steps as u32, book, schedule)
+}
+
+fn judge_texts(alloc: Global, steps: u32, book: &[u8], schedule: &[u8]) -> Result<Job, Ended>
+    requires steps { steps ≤ 1000000 }
+    requires short { length schedule.now ≤ 536870912 }
+    ensures accepted { IfOk result (λ job. DecidesCheck steps book.now schedule.now (accept (job_of job))) }
+    ensures can_be_done { IfOk result CanBeDone }
+    ensures refused { IfErr result (λ e. (e ≡ no_memory) ⊎ DecidesCheck steps book.now schedule.now (refuse e)) }
+{
+    let book = book_in(alloc, book)?;
+    let list = list_in(alloc, schedule, &book)?;
+    judge(alloc, &list, steps, &book)?;
+    Ok(Job::Write(valid_line(list.len())))
+}
+
+// What is written of a valid list of so many actions.
+fn valid_line(count: usize) -> Line
+    ensures { result ≡ codes "valid " ++ decimal count ++ codes "\n" }
+{
+    let mut line = Line::new();
+    line.push(b"valid ");
+    line.push_decimal(count as u64);
+    line.push(b"\n");
+    line
+}
+
+// The book that bytes say.
+fn book_in(alloc: Global, bytes: &[u8]) -> Result<Book, Ended>
+    ensures found { IfOk result (IsBookText bytes.now) }
+    ensures refused { IfErr result (IsRefusal (HasBookFault bytes.now) bad_book) }
+{
+    Ok(read_book(alloc, bytes)?)
+}
+
+// The start state of a program.
+fn start_of(alloc: Global, options: &Options, bytes: &[u8]) -> Result<State, Ended>
+    requires { (1 ≤ stack_pages options.now) × (stack_pages options.now ≤ 1024) }
+    ensures found { IfOk result (IsStartOf (says_raw options.now) (stack_pages options.now) bytes.now) }
+    ensures refused { IfErr result (IsRefusal (HasProgramFault (says_raw options.now) (stack_pages options.now) bytes.now) bad_program) }
+{
+    let stack = options.stack_pages() as u32;
+    if options.says_raw() {
+        Ok(load_raw(alloc, bytes, stack)?)
+    } else {
+        Ok(load(alloc, bytes, stack)?)
+    }
+}
+
+// The recorded input; none where there is no journal.
+fn journal_in(alloc: Global, bytes: Option<&[u8]>) -> Result<Journal, Ended>
+    ensures found { IfOk result (AreItemsOf (option_copied bytes.entry)) }
+    ensures refused { IfErr result (IsRefusal (HasJournalFault (option_copied bytes.entry)) bad_journal) }
+{
+    match bytes {
+        Some(bytes) => Ok(read_journal(alloc, bytes)?),
+        None => Ok(Journal::none(alloc)),
+    }
+}
+
+// The list that the bytes of a schedule say over the levels of a book.
+fn list_in(alloc: Global, bytes: &[u8], book: &Book) -> Result<Vec<Action>, Ended>
+    requires { length bytes.now ≤ 536870912 }
+    ensures found { IfOk result (λ list. IsSchedule (names_of book.now) bytes.now list.items) }
+    ensures refused { IfErr result (IsRefusal (HasFirstFault (names_of book.now) bytes.now) bad_text) }
+{
+    Ok(read_actions(alloc, bytes, book)?)
 }
 
 // Judges a list.

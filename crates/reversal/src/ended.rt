@@ -1,34 +1,46 @@
 // How a call ended.
 ghost use Rattle.std.specs.Prelude.{◌≡◌, ◌+◌, ◌≤◌, ◌++◌, length, codes, decimal};
-ghost use Rattle.reversal.specs.Ending.{ended_at, done, no_request, unreadable, invalid, stopped, no_memory, not_built, text_of_ended, status_name};
+ghost use Rattle.reversal.specs.Ending.{ended_by, ended_at, done, no_request, unreadable, invalid, out_of_range, too_long, stopped, no_memory, text_of_ended, status_name};
 
+use action_text::TextFault;
+use elf_load::ElfFault;
+use input_journal::JournalFault;
+use level_book::BookFault;
 use plan_types::Line;
 use std::alloc::{AllocError, AllocFailed};
 
 /// How a call ended. In the endings of the top call, numbers that a status doesn't name are 0.
 #[derive(Clone, Copy, Debug, PartialEq, Eq)]
 pub struct Ended {
-    /// 0 Done, 2 Words, 3 Input, 8 Invalid, 14 Sink, 17 Memory, 18 NotBuilt.
+    /// 0 Done, 2 Words, 3 Input, 4 Program, 5 Journal, 6 Book, 7 Text, 8 Invalid, 10 Limit, 14 Sink, 17 Memory.
     pub status: u8,
-    /// The number of the input for 3, the action for 8 and 14, the form for 18.
+    /// The number of the input for 3; what the fault names for 4 and 6; the fault's place in bytes for 5; the line for 7;
+    /// the action for 8 and 14; the number, or that of the input, for 10.
     pub place: u64,
-    /// The level for rule 4 of status 8.
+    /// The second segment for rule 7 of status 4, the column for 7, the level for rule 4 of status 8, the passed bound for 10.
     pub more: u64,
-    /// The rule for status 8.
+    /// The rule for 4 to 8 and 10.
     pub rule: u16,
 }
 
 impl Ended {
-    // An ending that has a status and a place alone.
-    fn at(status: u8, place: u64) -> Ended
-        ensures { result ≡ ended_at status place }
+    // An ending by its status and its three numbers.
+    fn by(status: u8, place: u64, more: u64, rule: u16) -> Ended
+        ensures { result ≡ ended_by status place more rule }
     {
         Ended {
             status,
             place,
-            more: 0,
-            rule: 0,
+            more,
+            rule,
         }
+    }
+
+    // An ending that has a status and a place alone.
+    fn at(status: u8, place: u64) -> Ended
+        ensures { result ≡ ended_at status place }
+    {
+        Ended::by(status, place, 0, 0)
     }
 
     /// The job was done.
@@ -56,12 +68,21 @@ impl Ended {
     pub(crate) fn invalid(place: u64, level: u8, rule: u8) -> Ended
         ensures { result ≡ invalid place level rule }
     {
-        Ended {
-            status: 8,
-            place,
-            more: level as u64,
-            rule: rule as u16,
-        }
+        Ended::by(8, place, level as u64, rule as u16)
+    }
+
+    /// A number passes this bound, which the rule gives.
+    pub(crate) fn out_of_range(number: u64, bound: u64, rule: u16) -> Ended
+        ensures { result ≡ out_of_range number bound rule }
+    {
+        Ended::by(10, number, bound, rule)
+    }
+
+    /// The input with this number is longer than its limit.
+    pub(crate) fn too_long(place: u64, limit: u32) -> Ended
+        ensures { result ≡ too_long place limit }
+    {
+        Ended::out_of_range(place, limit as u64, 8)
     }
 
     /// The sink failed in the deed at this place.
@@ -76,13 +97,6 @@ impl Ended {
         ensures { result ≡ no_memory }
     {
         Ended::at(17, 0)
-    }
-
-    /// A form isn't built.
-    pub(crate) fn not_built(place: u64) -> Ended
-        ensures { result ≡ not_built place }
-    {
-        Ended::at(18, place)
     }
 }
 
@@ -103,6 +117,79 @@ impl<T: Drop> From<AllocFailed<T>> for Ended {
 
     fn from(_e: AllocFailed<T>) -> Ended {
         Ended::no_memory()
+    }
+}
+
+impl From<ElfFault> for Ended {
+    ghost use Rattle.reversal.specs.Ending.{bad_program};
+
+    ghost from_gives = { λ fault e. e ≡ bad_program fault };
+
+    fn from(fault: ElfFault) -> Ended {
+        match fault {
+            ElfFault::NotElf => Ended::by(4, 0, 0, 1),
+            ElfFault::Class => Ended::by(4, 0, 0, 2),
+            ElfFault::Kind => Ended::by(4, 0, 0, 3),
+            ElfFault::Machine => Ended::by(4, 0, 0, 4),
+            ElfFault::Headers => Ended::by(4, 0, 0, 5),
+            ElfFault::Segment(i) => Ended::by(4, i as u64, 0, 6),
+            ElfFault::Overlap(i, j) => Ended::by(4, i as u64, j as u64, 7),
+            ElfFault::TooLarge(pages) => Ended::by(4, pages, 0, 8),
+            ElfFault::Entry(at) => Ended::by(4, at as u64, 0, 9),
+            ElfFault::Memory => Ended::no_memory(),
+            ElfFault::RawLength(length) => Ended::by(4, length, 0, 11),
+        }
+    }
+}
+
+impl From<JournalFault> for Ended {
+    ghost use Rattle.reversal.specs.Ending.{bad_journal};
+
+    ghost from_gives = { λ fault e. e ≡ bad_journal fault };
+
+    fn from(fault: JournalFault) -> Ended {
+        match fault {
+            JournalFault::Magic => Ended::by(5, 0, 0, 1),
+            JournalFault::Version => Ended::by(5, 4, 0, 2),
+            JournalFault::Truncated(at) => Ended::by(5, at, 0, 3),
+            JournalFault::TooLong(at) => Ended::by(5, at, 0, 4),
+            JournalFault::Trailing(at) => Ended::by(5, at, 0, 5),
+            JournalFault::Memory => Ended::no_memory(),
+        }
+    }
+}
+
+impl From<BookFault> for Ended {
+    ghost use Rattle.reversal.specs.Ending.{bad_book};
+
+    ghost from_gives = { λ fault e. e ≡ bad_book fault };
+
+    fn from(fault: BookFault) -> Ended {
+        match fault {
+            BookFault::NotJson => Ended::by(6, 0, 0, 1),
+            BookFault::Shape(field) => Ended::by(6, field as u64, 0, 2),
+            BookFault::Levels(count) => Ended::by(6, count as u64, 0, 3),
+            BookFault::Name(level) => Ended::by(6, level as u64, 0, 4),
+            BookFault::CostRange(level) => Ended::by(6, level as u64, 0, 5),
+            BookFault::SlotRange(level) => Ended::by(6, level as u64, 0, 6),
+            BookFault::CostOrder(level) => Ended::by(6, level as u64, 0, 7),
+            BookFault::Memory => Ended::no_memory(),
+        }
+    }
+}
+
+impl From<TextFault> for Ended {
+    ghost use Rattle.reversal.specs.Ending.{bad_text};
+
+    ghost from_gives = { λ fault e. e ≡ bad_text fault };
+
+    fn from(fault: TextFault) -> Ended {
+        match fault {
+            TextFault::At { rule, line, column } => {
+                Ended::by(7, line as u64, column as u64, rule as u16)
+            }
+            TextFault::Memory => Ended::no_memory(),
+        }
     }
 }
 
@@ -142,10 +229,14 @@ fn name_of(status: u8) -> &'static [u8]
     match status {
         2 => b"Words",
         3 => b"Input",
+        4 => b"Program",
+        5 => b"Journal",
+        6 => b"Book",
+        7 => b"Text",
         8 => b"Invalid",
+        10 => b"Limit",
         14 => b"Sink",
         17 => b"Memory",
-        18 => b"NotBuilt",
         _ => b"Done",
     }
 }

@@ -3,17 +3,20 @@ ghost use Rattle.std.specs.Prelude.{◌≡◌, ◌≢◌, ℕ, ◌+◌, ◌<◌,
 ghost use Rattle.std.specs.FinMap as finmap;
 ghost use Rattle.keepers.specs.Counts.{Rose};
 ghost use Rattle.keepers.specs.Told.{WhereTold};
-ghost use Rattle.reversal.specs.Inputs.{inputs_of, names};
+ghost use Rattle.reversal.specs.Inputs.{program_input, journal_input, book_input, schedule_input, inputs_of, names};
 ghost use Rattle.reversal.specs.InputReading.{input_of, all, Reads, Stops};
-ghost use Rattle.reversal.specs.RequestReading.{request_of};
+ghost use Rattle.reversal.specs.Request.{run as run_command};
+ghost use Rattle.reversal.specs.RequestReading.{as_run, as_command};
 
 use crate::ended::Ended;
-use crate::request::Request;
+use crate::request::{Command, Run};
 use keepers::{InputFault, Inputs, Whole};
 use std::alloc::Global;
 
 // The limits of the inputs, in bytes.
 const PROGRAM_LIMIT: u32 = 33_554_432;
+
+const JOURNAL_LIMIT: u32 = 67_108_864;
 
 const BOOK_LIMIT: u32 = 65_536;
 
@@ -33,39 +36,88 @@ enum Refusal {
     Memory,
 }
 
-/// Reads the inputs of a request in the order of the words. One that can't be read, or is longer than its limit, is
+// An input of each kind.
+fn program_input(name: &[u8]) -> Input<'_>
+    ensures { input_of result ≡ program_input name.now }
+{
+    Input {
+        name,
+        limit: PROGRAM_LIMIT,
+    }
+}
+
+fn journal_input(name: &[u8]) -> Input<'_>
+    ensures { input_of result ≡ journal_input name.now }
+{
+    Input {
+        name,
+        limit: JOURNAL_LIMIT,
+    }
+}
+
+fn book_input(name: &[u8]) -> Input<'_>
+    ensures { input_of result ≡ book_input name.now }
+{
+    Input {
+        name,
+        limit: BOOK_LIMIT,
+    }
+}
+
+fn schedule_input(name: &[u8]) -> Input<'_>
+    ensures { input_of result ≡ schedule_input name.now }
+{
+    Input {
+        name,
+        limit: SCHEDULE_LIMIT,
+    }
+}
+
+/// Reads the inputs of a command in the order of the words. One that can't be read, or is longer than its limit, is
 /// refused before the next is asked for.
 pub fn read_inputs<I: Inputs>(
     alloc: Global,
-    request: &Request<'_>,
+    command: &Command<'_>,
     inputs: &mut I,
 ) -> Result<Vec<Vec<u8>>, Ended>
-    ensures read { IfOk result (λ v. Reads (inputs_of (request_of request.now)) (I.told inputs.old) (I.asked inputs.old) (I.asked inputs.new) (all (map (λ bytes. bytes.items) v.items))) }
-    ensures stops { IfErr result (λ e. Stops (inputs_of (request_of request.now)) (I.told inputs.old) e (I.asked inputs.old) (I.asked inputs.new)) }
-    ensures asked { (k : ℕ) × (I.asked inputs.new ≡ I.asked inputs.old ++ take k (names (inputs_of (request_of request.now)))) }
+    ensures read { IfOk result (λ v. Reads (inputs_of (as_command command.now)) (I.told inputs.old) (I.asked inputs.old) (I.asked inputs.new) (all (map (λ bytes. bytes.items) v.items))) }
+    ensures stops { IfErr result (λ e. Stops (inputs_of (as_command command.now)) (I.told inputs.old) e (I.asked inputs.old) (I.asked inputs.new)) }
+    ensures asked { (k : ℕ) × (I.asked inputs.new ≡ I.asked inputs.old ++ take k (names (inputs_of (as_command command.now)))) }
     ensures quiet { IfOk result (λ _. I.fault_count inputs.new ≡ I.fault_count inputs.old) }
     ensures cause { IfErr result (λ e. e.status ≡ 3 → Rose (I.fault_count inputs.old) (I.fault_count inputs.new)) }
     ensures no_cause { IfErr result (λ e. e.status ≢ 3 → I.fault_count inputs.new ≡ I.fault_count inputs.old) }
 {
-    match request {
-        Request::Run(run) => read_all(
-            alloc,
-            &[
-                Input {
-                    name: run.program,
-                    limit: PROGRAM_LIMIT,
-                },
-                Input {
-                    name: run.book,
-                    limit: BOOK_LIMIT,
-                },
-                Input {
-                    name: run.schedule,
-                    limit: SCHEDULE_LIMIT,
-                },
-            ],
-            inputs,
-        ),
+    match command {
+        Command::Run(run) => read_run_inputs(alloc, run, inputs),
+        Command::Check(check) => {
+            let wanted = [book_input(check.book), schedule_input(check.schedule)];
+            read_all(alloc, &wanted, inputs)
+        }
+    }
+}
+
+// The same for a run.
+fn read_run_inputs<I: Inputs>(
+    alloc: Global,
+    run: &Run<'_>,
+    inputs: &mut I,
+) -> Result<Vec<Vec<u8>>, Ended>
+    ensures read { IfOk result (λ v. Reads (inputs_of (run_command (as_run run.now))) (I.told inputs.old) (I.asked inputs.old) (I.asked inputs.new) (all (map (λ bytes. bytes.items) v.items))) }
+    ensures stops { IfErr result (λ e. Stops (inputs_of (run_command (as_run run.now))) (I.told inputs.old) e (I.asked inputs.old) (I.asked inputs.new)) }
+    ensures asked { (k : ℕ) × (I.asked inputs.new ≡ I.asked inputs.old ++ take k (names (inputs_of (run_command (as_run run.now))))) }
+    ensures quiet { IfOk result (λ _. I.fault_count inputs.new ≡ I.fault_count inputs.old) }
+    ensures cause { IfErr result (λ e. e.status ≡ 3 → Rose (I.fault_count inputs.old) (I.fault_count inputs.new)) }
+    ensures no_cause { IfErr result (λ e. e.status ≢ 3 → I.fault_count inputs.new ≡ I.fault_count inputs.old) }
+{
+    let program = program_input(run.program);
+    let book = book_input(run.book);
+    let schedule = schedule_input(run.schedule);
+    match run.journal {
+        Some(name) => {
+            let wanted = [program, journal_input(name), book, schedule];
+            read_all(alloc, &wanted, inputs)
+        }
+        None => read_all(alloc, &[program, book, schedule], inputs),
     }
 }
 
@@ -87,7 +139,7 @@ fn read_all<I: Inputs>(
         match read_input(alloc, input, inputs) {
             Ok(bytes) => read.push(bytes)?,
             Err(Refusal::Failed) => return Err(Ended::unreadable(i as u64 + 1)),
-            Err(Refusal::TooLong) => return Err(Ended::not_built(i as u64 + 1)),
+            Err(Refusal::TooLong) => return Err(Ended::too_long(i as u64 + 1, input.limit)),
             Err(Refusal::Memory) => return Err(Ended::no_memory()),
         }
     }

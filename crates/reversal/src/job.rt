@@ -1,10 +1,11 @@
 // What is to be done of a call that isn't refused.
-ghost use Rattle.std.specs.Prelude.{◌≡◌, ◌≢◌, ◌⊎◌, ◌≤◌};
+ghost use Rattle.std.specs.Prelude.{◌≡◌, ◌≢◌, ◌⊎◌, ◌≤◌, ℕ};
 ghost use Rattle.keepers.specs.Counts.{Rose};
 ghost use Rattle.level_book.specs.BookCosts.{slots_of};
 ghost use Rattle.level_book.specs.Valid.{Valid};
 ghost use Rattle.reverse_runner.specs.Standing.{begun};
-ghost use Rattle.reversal.specs.Deeds.{perform};
+ghost use Rattle.reversal.specs.Deeds.{perform, write};
+ghost use Rattle.reversal.specs.Decision.{accept, EndsBy};
 ghost use Rattle.reversal.specs.Ending.{no_memory};
 ghost use Rattle.reversal.specs.JobReading.{job_of, IsPerformable, CanBeDone, Works};
 
@@ -12,7 +13,7 @@ use crate::ended::Ended;
 use input_journal::Journal;
 use keepers::{Keeper, Sink};
 use level_book::Book;
-use plan_types::Action;
+use plan_types::{Action, Line};
 use reverse_runner::{LineWriter, RunFault, Session};
 use rv_machine::{State, Steps};
 use std::alloc::Global;
@@ -23,6 +24,8 @@ use std::sync::ledger::Ledger;
 pub enum Job {
     /// To perform the actions of a list over a run.
     Perform(Performance),
+    /// To write a text in one piece.
+    Write(Line),
 }
 
 /// A list of actions, and the run that it is performed over: its first state, the recorded input, the number of steps and
@@ -55,6 +58,7 @@ impl Job {
     {
         match self {
             Job::Perform(performance) => performance.perform(alloc, keepers, out, counter),
+            Job::Write(text) => write_text(&text, out),
         }
     }
 }
@@ -87,6 +91,20 @@ impl Performance {
             Err(_) => Ended::no_memory(),
             Ok(mut session) => perform_all(&mut session, &list, keepers, out, counter),
         }
+    }
+}
+
+// Writes a text in one piece.
+fn write_text<O: Sink>(text: &Line, out: &mut O) -> Ended
+    ensures works { (steps : ℕ) → EndsBy (accept (write text.now)) result
+        (record { told = O.told out.old; calls = O.call_count out.old; steps = steps })
+        (record { told = O.told out.new; calls = O.call_count out.new; steps = steps }) }
+    ensures quiet { result.status ≢ 14 → O.fault_count out.new ≡ O.fault_count out.old }
+    ensures cause { result.status ≡ 14 → Rose (O.fault_count out.old) (O.fault_count out.new) }
+{
+    match out.write(text.bytes()) {
+        Ok(()) => Ended::done(),
+        Err(_) => Ended::stopped(0),
     }
 }
 

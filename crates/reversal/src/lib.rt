@@ -4,7 +4,6 @@
 //! `Decision` (what that comes to), `Deeds` (what is done). Readers know nothing of runs, and the run nothing of text.
 #![tactic(auto)]
 
-mod book_form;
 mod bounds;
 mod decision;
 mod ended;
@@ -12,9 +11,8 @@ mod inputs;
 mod job;
 pub mod laws;
 mod number;
-mod program_form;
+mod options;
 mod request;
-mod schedule_form;
 #[cfg(test)]
 mod tests;
 mod text;

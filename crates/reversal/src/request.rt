@@ -1,33 +1,72 @@
 // What the words ask for: options and a command, as a value that borrows the names.
-ghost use Rattle.std.specs.Prelude.{◌≡◌, ◌≢◌, ℕ, ◌<◌, ◌^◌, ◌↔◌, [], length, map, IsTrue, IfSome, IfNone, MatchOption, codes, decimal, slice_index_or};
-ghost use Rattle.std.specs.List.{AllByRecursion};
+ghost use Rattle.std.specs.Prelude.{◌≡◌, ◌↔◌, map, IfSome, IfNone, MatchOption, option_map};
+ghost use Rattle.std.specs.List.{AllByRecursion, flat_map};
 ghost use Rattle.reversal.specs.Request.{Request as ARequest, Says};
-ghost use Rattle.reversal.specs.Bounds.{numbers, IsWithin, RefusesFirst};
-ghost use Rattle.reversal.specs.RequestReading.{HasFixedWords, AreNames, request_of};
+ghost use Rattle.reversal.specs.Bounds.{numbers, option_numbers, command_numbers, IsWithin, RefusesFirst};
+ghost use Rattle.reversal.specs.Reading.{Gives};
+ghost use Rattle.reversal.specs.RequestReading.{is_name, is_schedule_name, name_or_none, run_of, check_of, command_of, request_read, as_run, as_check, as_command, request_of};
 
 use crate::bounds::{Bounded, first_outside};
 use crate::ended::Ended;
-use crate::number::decimal_at;
+use crate::options::{Choice, Options, number_in, read_options};
 use plan_types::MOST_STEPS;
 
 /// What the words ask for.
-#[derive(Clone, Copy, Debug)]
-pub enum Request<'a> {
-    /// To run a program backward.
-    Run(RunRequest<'a>),
+#[derive(Debug, Drop)]
+pub struct Request<'a> {
+    pub options: Options,
+    pub command: Command<'a>,
 }
 
-/// To run a program backward: the names of the inputs, and the number of steps.
+/// A command, with the names of its inputs and its numbers.
 #[derive(Clone, Copy, Debug)]
-pub struct RunRequest<'a> {
-    /// The name of the program.
+pub enum Command<'a> {
+    /// To run a program backward.
+    Run(Run<'a>),
+    /// To judge a schedule.
+    Check(Check<'a>),
+}
+
+/// To run a program backward by a schedule, over so many steps. Without a journal there is no recorded input.
+#[derive(Clone, Copy, Debug)]
+pub struct Run<'a> {
     pub program: &'a [u8],
-    /// The name of the book.
+    pub journal: Option<&'a [u8]>,
     pub book: &'a [u8],
-    /// The name of the schedule.
     pub schedule: &'a [u8],
-    /// The number of steps.
     pub steps: u64,
+}
+
+/// To judge a schedule for a book and so many steps.
+#[derive(Clone, Copy, Debug)]
+pub struct Check<'a> {
+    pub book: &'a [u8],
+    pub schedule: &'a [u8],
+    pub steps: u64,
+}
+
+// The bounds of the number of the stack's pages.
+fn stack_bound(pages: u64) -> Bounded
+    ensures { result ≡ record { number = pages; least = 1; greatest = 1024; rule = 4 } }
+{
+    Bounded {
+        number: pages,
+        least: 1,
+        greatest: 1024,
+        rule: 4,
+    }
+}
+
+// The bounds of the number of steps.
+fn steps_bound(steps: u64) -> Bounded
+    ensures { result ≡ record { number = steps; least = 0; greatest = 1000000; rule = 1 } }
+{
+    Bounded {
+        number: steps,
+        least: 0,
+        greatest: MOST_STEPS as u64,
+        rule: 1,
+    }
 }
 
 impl Request<'_> {
@@ -35,59 +74,116 @@ impl Request<'_> {
     pub fn refusal(&self) -> Option<Ended>
         ensures { MatchOption result (AllByRecursion IsWithin (numbers (request_of self.now))) (RefusesFirst (numbers (request_of self.now))) }
     {
-        match self {
-            Request::Run(run) => first_outside(&[Bounded {
-                number: run.steps,
-                least: 0,
-                greatest: MOST_STEPS as u64,
-            }]),
+        match options_refusal(self.options.all()) {
+            Some(refusal) => Some(refusal),
+            None => self.command.refusal(),
         }
     }
 }
 
-// The word with this index.
-fn word(list: &[Vec<u8>], index: usize) -> &[u8]
-    requires { index < length list.now }
-    ensures { result.now ≡ slice_index_or (map (λ w. w.items) list.now) index [] }
+// The same for the numbers of options.
+fn options_refusal(options: &[Choice]) -> Option<Ended>
+    ensures { MatchOption result (AllByRecursion IsWithin (flat_map option_numbers options.now)) (RefusesFirst (flat_map option_numbers options.now)) }
 {
-    &list[index]
+    for choice in options {
+        if let Choice::Stack(pages) = choice
+            && let Some(refusal) = first_outside(&[stack_bound(*pages)])
+        {
+            return Some(refusal);
+        }
+    }
+    None
 }
 
-// The number that a whole word is.
-fn number_in(word: &[u8]) -> Option<u64>
-    ensures found { IfSome result (λ n. (n < 2 ^ 64) × (word.now ≡ decimal n)) }
-    ensures none { IfNone result ((n : ℕ) → n < 2 ^ 64 → word.now ≡ decimal n → ⊥) }
-{
-    let (n, rest) = decimal_at(word, u64::MAX)?;
-    if rest.is_empty() { Some(n) } else { None }
+impl Command<'_> {
+    // The same for the numbers of a command.
+    fn refusal(&self) -> Option<Ended>
+        ensures { MatchOption result (AllByRecursion IsWithin (command_numbers (as_command self.now))) (RefusesFirst (command_numbers (as_command self.now))) }
+    {
+        match self {
+            Command::Run(run) => first_outside(&[steps_bound(run.steps)]),
+            Command::Check(check) => first_outside(&[steps_bound(check.steps)]),
+        }
+    }
 }
 
-// Whether the word with this index is this text.
-fn is_word(list: &[Vec<u8>], index: usize, text: &[u8]) -> bool
-    requires { index < length list.now }
-    ensures { IsTrue result ↔ (slice_index_or (map (λ w. w.items) list.now) index [] ≡ text.now) }
+// Whether a word may name a schedule.
+fn is_schedule_name(word: &[u8]) -> bool
+    ensures { result ≡ is_schedule_name word.now }
 {
-    word(list, index) == text
+    !word.is_empty() && word != b"@revolve".as_slice()
 }
 
-// Whether the words that every request has stand in their places.
-fn has_fixed_words(list: &[Vec<u8>]) -> bool
-    ensures { IsTrue result ↔ HasFixedWords (map (λ w. w.items) list.now) }
+// The name that a word is, but for the word that stands for none.
+fn name_or_none(word: &[u8]) -> Option<&[u8]>
+    ensures { option_map (λ name. name.now) result ≡ name_or_none word.now }
 {
-    list.len() == 7
-        && is_word(list, 0, b"--raw")
-        && is_word(list, 1, b"run")
-        && is_word(list, 3, b"-")
+    if word == b"-".as_slice() {
+        None
+    } else {
+        Some(word)
+    }
 }
 
-// Whether these are names that a request takes.
-fn are_names(program: &[u8], book: &[u8], schedule: &[u8]) -> bool
-    ensures { IsTrue result ↔ AreNames program.now book.now schedule.now }
+#[tactic(auto, unfolding(crate::specs::RequestReading::run_of))]
+fn read_run<'a>(
+    program: &'a [u8],
+    journal: &'a [u8],
+    book: &'a [u8],
+    schedule: &'a [u8],
+    steps: &[u8],
+) -> Option<Run<'a>>
+    ensures { Gives as_run result (run_of program.now journal.now book.now schedule.now steps.now) }
 {
-    !program.is_empty()
+    let are_names = !program.is_empty()
+        && !journal.is_empty()
         && !book.is_empty()
-        && !schedule.is_empty()
-        && schedule != b"@revolve".as_slice()
+        && is_schedule_name(schedule);
+    if !are_names {
+        return None;
+    }
+    let steps = number_in(steps)?;
+    Some(Run {
+        program,
+        journal: name_or_none(journal),
+        book,
+        schedule,
+        steps,
+    })
+}
+
+#[tactic(auto, unfolding(crate::specs::RequestReading::check_of))]
+fn read_check<'a>(book: &'a [u8], schedule: &'a [u8], steps: &[u8]) -> Option<Check<'a>>
+    ensures { Gives as_check result (check_of book.now schedule.now steps.now) }
+{
+    let are_names = !book.is_empty() && is_schedule_name(schedule);
+    if !are_names {
+        return None;
+    }
+    let steps = number_in(steps)?;
+    Some(Check {
+        book,
+        schedule,
+        steps,
+    })
+}
+
+// The command that the words behind the options are.
+#[tactic(auto, unfolding(crate::specs::RequestReading::command_of))]
+fn read_command(words: &[Vec<u8>]) -> Option<Command<'_>>
+    ensures { Gives as_command result (command_of (map (λ w. w.items) words.now)) }
+{
+    match words {
+        [name, program, journal, book, schedule, steps] if name.as_slice() == b"run".as_slice() => {
+            let run = read_run(program, journal, book, schedule, steps)?;
+            Some(Command::Run(run))
+        }
+        [name, book, schedule, steps] if name.as_slice() == b"check".as_slice() => {
+            let check = read_check(book, schedule, steps)?;
+            Some(Command::Check(check))
+        }
+        _ => None,
+    }
 }
 
 /// The request that the words say, if they say one.
@@ -95,72 +191,14 @@ pub fn read_request(list: &[Vec<u8>]) -> Option<Request<'_>>
     ensures found { IfSome result (λ r. Says (map (λ w. w.items) list.now) (request_of r)) }
     ensures none { IfNone result ((r : ARequest) → Says (map (λ w. w.items) list.now) r → ⊥) }
 {
-    if !has_fixed_words(list) {
-        return None;
-    }
-    let program = word(list, 2);
-    let book = word(list, 4);
-    let schedule = word(list, 5);
-    if !are_names(program, book, schedule) {
-        return None;
-    }
-    let steps = number_in(word(list, 6))?;
-    Some(Request::Run(RunRequest {
-        program,
-        book,
-        schedule,
-        steps,
-    }))
+    request_in(list)
 }
 
-#[cfg(test)]
-mod tests {
-    use super::*;
-    use std::alloc::{AllocError, Global};
-    use std::test::Fail;
-
-    // The words of a line, with commas between them.
-    fn words_of(alloc: Global, line: &str) -> Result<Vec<Vec<u8>>, AllocError> {
-        let mut list = Vec::new(alloc);
-        for word in line.split(',') {
-            list.push(Vec::from_slice(alloc, word.as_bytes())?)?;
-        }
-        Ok(list)
-    }
-
-    #[test]
-    fn seven_words_are_a_request(rt: HostRuntime) -> Result<(), Fail> {
-        let list = words_of(rt.alloc(), "--raw,run,p,-,book,a list,18446744073709551615")?;
-        let Request::Run(run) = read_request(&list).ok_or("the words are a request")?;
-        assert_eq!(rt; run.program, b"p".as_slice());
-        assert_eq!(rt; run.book, b"book".as_slice());
-        assert_eq!(rt; run.schedule, b"a list".as_slice());
-        assert_eq!(rt; run.steps, u64::MAX);
-        Ok(())
-    }
-
-    #[test]
-    fn other_words_are_refused(rt: HostRuntime) -> Result<(), Fail> {
-        assert!(rt; read_request(&[]).is_none());
-        let lines = [
-            "--raw,run,p,-,book,list",
-            "--raw,run,p,-,book,list,4,5",
-            "--Raw,run,p,-,book,list,4",
-            "--raw,check,p,-,book,list,4",
-            "--raw,run,,-,book,list,4",
-            "--raw,run,p,inputs,book,list,4",
-            "--raw,run,p,-,,list,4",
-            "--raw,run,p,-,book,,4",
-            "--raw,run,p,-,book,@revolve,4",
-            "--raw,run,p,-,book,list,04",
-            "--raw,run,p,-,book,list,+4",
-            "--raw,run,p,-,book,list,4 ",
-            "--raw,run,p,-,book,list,18446744073709551616",
-        ];
-        for line in lines {
-            let list = words_of(rt.alloc(), line)?;
-            assert!(rt; read_request(&list).is_none(), "at {line}");
-        }
-        Ok(())
-    }
+#[tactic(auto, unfolding(crate::specs::RequestReading::request_read))]
+fn request_in(list: &[Vec<u8>]) -> Option<Request<'_>>
+    ensures { Gives request_of result (request_read (map (λ w. w.items) list.now)) }
+{
+    let (options, words) = read_options(list);
+    let command = read_command(words)?;
+    Some(Request { options, command })
 }

@@ -1,5 +1,5 @@
-// Runs of the top call over inputs, keepers and a sink in memory. The lines stand here as a program in another language
-// gave them, which shares nothing with this one.
+// Calls over inputs, keepers and a sink in memory. The lines stand here as a program in another language gave them, which
+// shares nothing with this one.
 ghost use Rattle.std.specs.Prelude.{◌≡◌, ◌<◌, ◌≤◌};
 
 use crate::ended::{Ended, ended_text};
@@ -106,71 +106,56 @@ const PAST_THE_PAGE: [&[u8]; 2] = [
     b"1025 00011000 00000000 bffffff0 00000000 00000000 00000400 00000000 00000000 00000000 00000000 00000000 00000000 00000000 00000000 00000000 00000000 00000000 00000000 00000000 00000000 00000000 00000000 00000000 00000000 00000000 00000000 00000000 00000000 00000000 00000000 00000000 00000000 trap:1 0:0 0 31ab188173d65186c07f55a1d7df4c9e81dd022f6cfb56e9de26d78cd9da72f1\n",
 ];
 
-// One run: the bytes of its three inputs, and the word for the number of steps.
-#[derive(Clone, Copy)]
-struct Given<'a> {
-    program: &'a [u8],
-    book: &'a [u8],
-    schedule: &'a [u8],
-    steps: &'a [u8],
+// The counter program as a compiler writes it: it counts the bytes of its input in the word at 0x11000, and exits.
+const COUNTER: &[u8] =
+    b"\x7f\x45\x4c\x46\x01\x01\x01\x00\x00\x00\x00\x00\x00\x00\x00\x00\x02\x00\xf3\x00\x00\x00\x00\x00\x00\x00\x01\x00\x34\x00\x00\x00\x00\x00\x00\x00\x00\x00\x00\x00\x00\x00\x20\x00\x02\x00\x00\x00\x00\x00\x00\x00\x01\x00\x00\x00\x74\x00\x00\x00\x00\x00\x01\x00\x00\x00\x00\x00\x34\x00\x00\x00\x34\x00\x00\x00\x00\x00\x00\x00\x00\x00\x00\x00\x01\x00\x00\x00\xa8\x00\x00\x00\x00\x10\x01\x00\x00\x00\x00\x00\x00\x00\x00\x00\x08\x00\x00\x00\x00\x00\x00\x00\x00\x00\x00\x00\x37\x14\x01\x00\x13\x05\x00\x00\x93\x05\x44\x00\x13\x06\x10\x00\x93\x08\xf0\x03\x73\x00\x00\x00\x63\x0a\x05\x00\x83\x22\x04\x00\x93\x82\x12\x00\x23\x20\x54\x00\x6f\xf0\xdf\xfd\x93\x08\xd0\x05\x73\x00\x00\x00";
+
+// One item of recorded input, with the bytes 61 62.
+const TWO_BYTES: &[u8] = b"RVJL\x01\0\0\0\x01\0\0\0\x02\0\0\0ab";
+
+// The counter program after twelve steps over these two bytes, and after nine steps without input.
+const COUNTED_ONE: &[u8] =
+    b"12 00010008 00000000 bffffff0 00000000 00000000 00000001 00000000 00000000 00011000 00000000 00000000 00011004 00000001 00000000 00000000 00000000 00000000 0000003f 00000000 00000000 00000000 00000000 00000000 00000000 00000000 00000000 00000000 00000000 00000000 00000000 00000000 00000000 run 0:1 0 ff6b9b820b4d7280032f8ee05bc2672c83b82679129bf0cbd61e9d701377de74\n";
+
+const COUNTED_NONE: &[u8] =
+    b"9 00010030 00000000 bffffff0 00000000 00000000 00000000 00000000 00000000 00011000 00000000 00000000 00011004 00000001 00000000 00000000 00000000 00000000 0000005d 00000000 00000000 00000000 00000000 00000000 00000000 00000000 00000000 00000000 00000000 00000000 00000000 00000000 00000000 exit:0 0:0 0 834dc06362f081d963953ad21d91478f2f028f04e4d36ff09f19a3fa0782c51f\n";
+
+// LUI x5, 0xbfff0; SW x0, 0(x5): a store to the first page of a stack of sixteen.
+const STORE_ON_STACK: &[u8] = b"\xb7\x02\xff\xbf\x23\xa0\x02\x00";
+
+const AFTER_STORE_ON_STACK: &[u8] =
+    b"2 00010008 00000000 bffffff0 00000000 00000000 bfff0000 00000000 00000000 00000000 00000000 00000000 00000000 00000000 00000000 00000000 00000000 00000000 00000000 00000000 00000000 00000000 00000000 00000000 00000000 00000000 00000000 00000000 00000000 00000000 00000000 00000000 00000000 run 0:0 0 015f09b3c59555c516407bc417f2f1e56e598acad220f4433b1016b732ac4434\n";
+
+const AFTER_STORE_BELOW_STACK: &[u8] =
+    b"2 00010004 00000000 bffffff0 00000000 00000000 bfff0000 00000000 00000000 00000000 00000000 00000000 00000000 00000000 00000000 00000000 00000000 00000000 00000000 00000000 00000000 00000000 00000000 00000000 00000000 00000000 00000000 00000000 00000000 00000000 00000000 00000000 00000000 trap:7 0:0 0 4b919ada3d7f4404198bf57e1068859d0fc2252260362d7a5f43c38267574028\n";
+
+const TWO_LEVELS: &[u8] =
+    b"{\"forward\":1,\"reverse\":1,\"levels\":[{\"name\":\"RAM\",\"slots\":1,\"write\":0,\"read\":0},{\"name\":\"DISK\",\"slots\":1,\"write\":2,\"read\":1}]}";
+
+const FALLING_COSTS: &[u8] =
+    b"{\"forward\":1,\"reverse\":1,\"levels\":[{\"name\":\"RAM\",\"slots\":1,\"write\":2,\"read\":0},{\"name\":\"DISK\",\"slots\":1,\"write\":1,\"read\":1}]}";
+
+// A name and the bytes of an input.
+type Named<'a> = (&'a [u8], &'a [u8]);
+
+fn file(alloc: Global, name: &[u8], bytes: &[u8]) -> Result<(Vec<u8>, Vec<u8>), AllocError> {
+    let name = Vec::from_slice(alloc, name)?;
+    Ok((name, Vec::from_slice(alloc, bytes)?))
 }
 
-impl<'a> Given<'a> {
-    fn program(self, program: &'a [u8]) -> Given<'a> {
-        Given { program, ..self }
-    }
-
-    fn book(self, book: &'a [u8]) -> Given<'a> {
-        Given { book, ..self }
-    }
-
-    fn schedule(self, schedule: &'a [u8]) -> Given<'a> {
-        Given { schedule, ..self }
-    }
-
-    fn steps(self, steps: &'a [u8]) -> Given<'a> {
-        Given { steps, ..self }
-    }
-}
-
-// The four words for four steps over two slots.
-const FOUR_STEPS_GIVEN: Given<'static> = Given {
-    program: FOUR_WORDS,
-    book: TWO_SLOTS,
-    schedule: FOUR_STEPS_TWO_SLOTS,
-    steps: b"4",
-};
-
-// The inputs of a run, under the names that `words_for` has.
-fn inputs_of(alloc: Global, given: &Given<'_>) -> Result<MemoryInputs, AllocError> {
+fn inputs_of(alloc: Global, files: &[Named<'_>]) -> Result<MemoryInputs, AllocError> {
     let mut list = Vec::new(alloc);
-    list.push((
-        Vec::from_slice(alloc, b"program")?,
-        Vec::from_slice(alloc, given.program)?,
-    ))?;
-    list.push((
-        Vec::from_slice(alloc, b"book")?,
-        Vec::from_slice(alloc, given.book)?,
-    ))?;
-    list.push((
-        Vec::from_slice(alloc, b"schedule")?,
-        Vec::from_slice(alloc, given.schedule)?,
-    ))?;
+    for (name, bytes) in files {
+        list.push(file(alloc, name, bytes)?)?;
+    }
     Ok(MemoryInputs::new(alloc, list))
 }
 
-fn words_for(alloc: Global, program: &[u8], steps: &[u8]) -> Result<Words, AllocError> {
+// The words of a line, with a space between them.
+fn words_of(alloc: Global, line: &str) -> Result<Words, AllocError> {
     let mut list = Vec::new(alloc);
-    for word in [
-        b"--raw".as_slice(),
-        b"run",
-        program,
-        b"-",
-        b"book",
-        b"schedule",
-        steps,
-    ] {
-        list.push(Vec::from_slice(alloc, word)?)?;
+    for word in line.split(' ') {
+        list.push(Vec::from_slice(alloc, word.as_bytes())?)?;
     }
     Ok(Words { list })
 }
@@ -195,9 +180,14 @@ fn ended(alloc: Global, words: &Words, inputs: &mut MemoryInputs, out: &mut Memo
     called::<Brand>(alloc, words, inputs, out, Blank::new(1))
 }
 
-fn run(alloc: Global, given: &Given<'_>, out: &mut MemorySink) -> Result<Ended, AllocError> {
-    let words = words_for(alloc, b"program", given.steps)?;
-    let mut inputs = inputs_of(alloc, given)?;
+fn call(
+    alloc: Global,
+    line: &str,
+    files: &[Named<'_>],
+    out: &mut MemorySink,
+) -> Result<Ended, AllocError> {
+    let words = words_of(alloc, line)?;
+    let mut inputs = inputs_of(alloc, files)?;
     Ok(ended(alloc, &words, &mut inputs, out))
 }
 
@@ -208,29 +198,6 @@ fn joined(alloc: Global, lines: &[&[u8]], count: usize) -> Result<Vec<u8>, Alloc
         all.extend_from_slice(line)?;
     }
     Ok(all)
-}
-
-#[test]
-fn four_steps_with_two_slots_write_five_lines(rt: HostRuntime) -> Result<(), Fail> {
-    let given = FOUR_STEPS_GIVEN;
-    let mut out = MemorySink::new(rt.alloc(), 4096)?;
-    assert_eq!(rt; run(rt.alloc(), &given, &mut out)?.status, 0);
-    assert_eq!(rt; out.bytes(), joined(rt.alloc(), &FOUR_STEPS, 5)?.as_slice());
-    Ok(())
-}
-
-#[test]
-fn a_state_kept_once_and_loaded_often_gives_every_line(rt: HostRuntime) -> Result<(), Fail> {
-    let given = Given {
-        program: b"\x93\x02\xf0\xff3\x83R\x00\x13\x80r\x00\x93C\xf3\xff3\x04p@",
-        book: ONE_SLOT,
-        schedule: SIX_STEPS_ONE_SLOT,
-        steps: b"6",
-    };
-    let mut out = MemorySink::new(rt.alloc(), 4096)?;
-    assert_eq!(rt; run(rt.alloc(), &given, &mut out)?.status, 0);
-    assert_eq!(rt; out.bytes(), joined(rt.alloc(), &SIX_STEPS, 7)?.as_slice());
-    Ok(())
 }
 
 // A list for `last` + 1 steps that keeps the start alone, where `last` is 1 or more.
@@ -269,48 +236,81 @@ fn start_kept_list(alloc: Global, last: u32) -> Result<String, AllocError>
     Ok(text)
 }
 
+// The inputs of a run of the four words.
+const FOUR: [Named<'static>; 3] = [
+    (b"program", FOUR_WORDS),
+    (b"book", TWO_SLOTS),
+    (b"schedule", FOUR_STEPS_TWO_SLOTS),
+];
+
+#[test]
+fn four_steps_with_two_slots_write_five_lines(rt: HostRuntime) -> Result<(), Fail> {
+    let lines = joined(rt.alloc(), &FOUR_STEPS, 5)?;
+    for line in [
+        "--raw run program - book schedule 4",
+        "--stack=16 --raw run program - book schedule 4",
+        "--raw --stack=1 run program - book schedule 4",
+    ] {
+        let mut out = MemorySink::new(rt.alloc(), 4096)?;
+        assert_eq!(rt; call(rt.alloc(), line, &FOUR, &mut out)?.status, 0);
+        assert_eq!(rt; out.bytes(), lines.as_slice());
+    }
+    Ok(())
+}
+
+// Adds with sums that wrap and a destination x0, and then the zeros of its page.
+const SIX_WORDS: &[u8] = b"\x93\x02\xf0\xff3\x83R\x00\x13\x80r\x00\x93C\xf3\xff3\x04p@";
+
+#[test]
+fn a_state_kept_once_and_loaded_often_gives_every_line(rt: HostRuntime) -> Result<(), Fail> {
+    let files: [Named<'_>; 3] = [
+        (b"program", SIX_WORDS),
+        (b"book", ONE_SLOT),
+        (b"schedule", SIX_STEPS_ONE_SLOT),
+    ];
+    let mut out = MemorySink::new(rt.alloc(), 4096)?;
+    let line = "--raw run program - book schedule 6";
+    assert_eq!(rt; call(rt.alloc(), line, &files, &mut out)?.status, 0);
+    assert_eq!(rt; out.bytes(), joined(rt.alloc(), &SIX_STEPS, 7)?.as_slice());
+    Ok(())
+}
+
+// The last state of a run that has one slot, in which the list keeps the start alone, is this one.
+fn ends_in(
+    rt: &impl Abort,
+    alloc: Global,
+    options: &str,
+    program: &[u8],
+    journal: &[u8],
+    steps: u32,
+    line: &[u8],
+) -> Result<(), Fail>
+    requires { (2 ≤ steps) × (steps < 1000000) }
+{
+    let name = if journal.is_empty() { "-" } else { "journal" };
+    let words = format!(in alloc; "{options}run program {name} book schedule {steps}")?;
+    let words = words_of(alloc, words.as_str())?;
+    let schedule = start_kept_list(alloc, steps - 1)?;
+    let mut list = Vec::new(alloc);
+    list.push(file(alloc, b"program", program)?)?;
+    list.push(file(alloc, b"journal", journal)?)?;
+    list.push(file(alloc, b"book", ONE_SLOT)?)?;
+    list.push(file(alloc, b"schedule", schedule.as_bytes())?)?;
+    let mut inputs = MemoryInputs::new(alloc, list);
+    let mut out = MemorySink::new(alloc, 400_000)?;
+    assert_eq!(rt; ended(alloc, &words, &mut inputs, &mut out).status, 0);
+    assert!(rt; out.bytes().starts_with(line), "the first line");
+    Ok(())
+}
+
 #[test]
 fn a_program_that_runs_past_its_page_is_trapped(rt: HostRuntime) -> Result<(), Fail> {
     let mut program = Vec::new(rt.alloc());
     for _ in 0..1024u32 {
         program.extend_from_slice(b"\x93\x82\x12\x00")?;
     }
-    let schedule = start_kept_list(rt.alloc(), 1025)?;
-    let given = Given {
-        program: &program,
-        book: ONE_SLOT,
-        schedule: schedule.as_bytes(),
-        steps: b"1026",
-    };
-    let mut out = MemorySink::new(rt.alloc(), 400_000)?;
-    assert_eq!(rt; run(rt.alloc(), &given, &mut out)?.status, 0);
-    assert!(rt;
-        out.bytes()
-            .starts_with(joined(rt.alloc(), &PAST_THE_PAGE, 2)?.as_slice()),
-        "the last two states"
-    );
-    Ok(())
-}
-
-// The last state of a run that has one slot is this one.
-fn ends_in(
-    rt: &impl Abort,
-    alloc: Global,
-    program: &[u8],
-    steps: &[u8],
-    schedule: &[u8],
-    line: &[u8],
-) -> Result<(), Fail> {
-    let given = Given {
-        program,
-        book: ONE_SLOT,
-        schedule,
-        steps,
-    };
-    let mut out = MemorySink::new(alloc, 4096)?;
-    assert_eq!(rt; run(alloc, &given, &mut out)?.status, 0);
-    assert!(rt; out.bytes().starts_with(line));
-    Ok(())
+    let last = joined(rt.alloc(), &PAST_THE_PAGE, 2)?;
+    ends_in(&rt, rt.alloc(), "--raw ", &program, b"", 1026, &last)
 }
 
 // LUI x5, 0x10; ADDI x5, x5, 2; JALR x0, 3(x5).
@@ -319,48 +319,17 @@ const JUMP_TO_AN_ODD_ADDRESS: &[u8] = b"\xb7\x02\x01\x00\x93\x82\x22\x00\x67\x80
 const AFTER_THE_JUMP: &[u8] =
     b"3 00010004 00000000 bffffff0 00000000 00000000 00010002 00000000 00000000 00000000 00000000 00000000 00000000 00000000 00000000 00000000 00000000 00000000 00000000 00000000 00000000 00000000 00000000 00000000 00000000 00000000 00000000 00000000 00000000 00000000 00000000 00000000 00000000 run 0:0 0 a981b8be2788cc98e9bacbb80750f3d617b6a1d173887978ba4f71db6d18de68\n";
 
-#[test]
-fn a_jump_clears_bit_0_of_its_address(rt: HostRuntime) -> Result<(), Fail> {
-    let list = start_kept_list(rt.alloc(), 2)?;
-    ends_in(
-        &rt,
-        rt.alloc(),
-        JUMP_TO_AN_ODD_ADDRESS,
-        b"3",
-        list.as_bytes(),
-        AFTER_THE_JUMP,
-    )
-}
-
 // LUI x5, 0x80000; SRAI x6, x5, 4.
 const SHIFT_OF_THE_SIGN: &[u8] = b"\xb7\x02\x00\x80\x13\xd3\x42\x40";
 
 const AFTER_THE_SHIFT: &[u8] =
     b"2 00010008 00000000 bffffff0 00000000 00000000 80000000 f8000000 00000000 00000000 00000000 00000000 00000000 00000000 00000000 00000000 00000000 00000000 00000000 00000000 00000000 00000000 00000000 00000000 00000000 00000000 00000000 00000000 00000000 00000000 00000000 00000000 00000000 run 0:0 0 ebbb3007680df2bf48a55add92a448e79285edeef71c4bcf8213cf7b02bb11f8\n";
 
-#[test]
-fn a_shift_to_the_right_brings_the_sign_in(rt: HostRuntime) -> Result<(), Fail> {
-    let list = start_kept_list(rt.alloc(), 1)?;
-    ends_in(
-        &rt,
-        rt.alloc(),
-        SHIFT_OF_THE_SIGN,
-        b"2",
-        list.as_bytes(),
-        AFTER_THE_SHIFT,
-    )
-}
-
 // SW x0, 0(x0).
 const STORE_AT_0: &[u8] = b"\x23\x20\x00\x00";
 
 const AFTER_THE_STORE: &[u8] =
     b"1 00010000 00000000 bffffff0 00000000 00000000 00000000 00000000 00000000 00000000 00000000 00000000 00000000 00000000 00000000 00000000 00000000 00000000 00000000 00000000 00000000 00000000 00000000 00000000 00000000 00000000 00000000 00000000 00000000 00000000 00000000 00000000 00000000 trap:7 0:0 0 a2952a1c28689d181c1d2adefeee9762cd0670623fa9b20936b67094fcf90c9a\n";
-
-#[test]
-fn a_store_where_nothing_is_mapped_traps(rt: HostRuntime) -> Result<(), Fail> {
-    ends_in(&rt, rt.alloc(), STORE_AT_0, b"1", ONE_STEP, AFTER_THE_STORE)
-}
 
 // JAL x1, 6.
 const JUMP_BY_6: &[u8] = b"\xef\x00\x60\x00";
@@ -369,57 +338,178 @@ const AFTER_THE_JUMP_BY_6: &[u8] =
     b"1 00010000 00000000 bffffff0 00000000 00000000 00000000 00000000 00000000 00000000 00000000 00000000 00000000 00000000 00000000 00000000 00000000 00000000 00000000 00000000 00000000 00000000 00000000 00000000 00000000 00000000 00000000 00000000 00000000 00000000 00000000 00000000 00000000 trap:0 0:0 0 eae7f1b795a0fb2b8c5fdf940daa47d7f3c9b0532bb006de84259b6b77c1deb6\n";
 
 #[test]
-fn a_jump_that_is_not_aligned_traps(rt: HostRuntime) -> Result<(), Fail> {
-    ends_in(
-        &rt,
-        rt.alloc(),
-        JUMP_BY_6,
-        b"1",
-        ONE_STEP,
-        AFTER_THE_JUMP_BY_6,
-    )
+fn shifts_and_jumps_do_what_their_words_say(rt: HostRuntime) -> Result<(), Fail> {
+    let alloc = rt.alloc();
+    let jump = JUMP_TO_AN_ODD_ADDRESS;
+    ends_in(&rt, alloc, "--raw ", jump, b"", 3, AFTER_THE_JUMP)?;
+    let shift = SHIFT_OF_THE_SIGN;
+    ends_in(&rt, alloc, "--raw ", shift, b"", 2, AFTER_THE_SHIFT)
+}
+
+#[test]
+fn a_stack_has_as_many_pages_as_are_asked_for(rt: HostRuntime) -> Result<(), Fail> {
+    let alloc = rt.alloc();
+    let store = STORE_ON_STACK;
+    ends_in(&rt, alloc, "--raw ", store, b"", 2, AFTER_STORE_ON_STACK)?;
+    let options = "--stack=15 --raw ";
+    ends_in(&rt, alloc, options, store, b"", 2, AFTER_STORE_BELOW_STACK)
+}
+
+#[test]
+fn a_compiled_program_reads_its_recorded_input(rt: HostRuntime) -> Result<(), Fail> {
+    let alloc = rt.alloc();
+    ends_in(&rt, alloc, "", COUNTER, TWO_BYTES, 12, COUNTED_ONE)?;
+    ends_in(&rt, alloc, "", COUNTER, b"", 9, COUNTED_NONE)
+}
+
+#[test]
+fn stores_and_jumps_that_cannot_be_are_traps(rt: HostRuntime) -> Result<(), Fail> {
+    for (program, line) in [
+        (STORE_AT_0, AFTER_THE_STORE),
+        (JUMP_BY_6, AFTER_THE_JUMP_BY_6),
+    ] {
+        let files: [Named<'_>; 3] = [
+            (b"program", program),
+            (b"book", NO_SLOT),
+            (b"schedule", ONE_STEP),
+        ];
+        let mut out = MemorySink::new(rt.alloc(), 4096)?;
+        let words = "--raw run program - book schedule 1";
+        assert_eq!(rt; call(rt.alloc(), words, &files, &mut out)?.status, 0);
+        assert!(rt; out.bytes().starts_with(line));
+    }
+    Ok(())
 }
 
 #[test]
 fn no_steps_write_the_start_and_one_step_needs_no_slot(rt: HostRuntime) -> Result<(), Fail> {
-    let none = Given {
-        program: FOUR_WORDS,
-        book: NO_SLOT,
-        schedule: NO_STEPS,
-        steps: b"0",
-    };
-    let mut out = MemorySink::new(rt.alloc(), 4096)?;
-    assert_eq!(rt; run(rt.alloc(), &none, &mut out)?.status, 0);
-    assert_eq!(rt; out.bytes(), FOUR_STEPS[4]);
-    let one = Given {
-        program: FOUR_WORDS,
-        book: NO_SLOT,
-        schedule: ONE_STEP,
-        steps: b"1",
-    };
-    let mut out = MemorySink::new(rt.alloc(), 4096)?;
-    assert_eq!(rt; run(rt.alloc(), &one, &mut out)?.status, 0);
-    assert_eq!(rt;
-        out.bytes(),
-        joined(rt.alloc(), &FOUR_STEPS[3..], 2)?.as_slice()
-    );
+    let table: [(&str, &[u8], usize); 2] = [
+        ("--raw run program - book schedule 0", NO_STEPS, 4),
+        ("--raw run program - book schedule 1", ONE_STEP, 3),
+    ];
+    for (line, schedule, first) in table {
+        let files: [Named<'_>; 3] = [
+            (b"program", FOUR_WORDS),
+            (b"book", NO_SLOT),
+            (b"schedule", schedule),
+        ];
+        let mut out = MemorySink::new(rt.alloc(), 4096)?;
+        assert_eq!(rt; call(rt.alloc(), line, &files, &mut out)?.status, 0);
+        assert!(rt; first < FOUR_STEPS.len());
+        let lines = joined(rt.alloc(), &FOUR_STEPS[first..], 2)?;
+        assert_eq!(rt; out.bytes(), lines.as_slice());
+    }
     Ok(())
 }
 
 #[test]
 fn a_sink_that_fails_keeps_the_lines_before(rt: HostRuntime) -> Result<(), Fail> {
-    let given = FOUR_STEPS_GIVEN;
     // The actions that hand out a state, in the order of the list.
     for (lines, place) in [4u64, 5, 9, 12, 15].iter().enumerate() {
         let failing = vec![in rt.alloc(); lines as u64 + 1]?;
         let mut out = MemorySink::new(rt.alloc(), 4096)?.failing(failing);
-        let ended = run(rt.alloc(), &given, &mut out)?;
+        let line = "--raw run program - book schedule 4";
+        let ended = call(rt.alloc(), line, &FOUR, &mut out)?;
         assert_eq!(rt; ended.status, 14);
         assert_eq!(rt; ended.place, *place);
         assert_eq!(rt;
             out.bytes(),
             joined(rt.alloc(), &FOUR_STEPS, lines)?.as_slice()
         );
+    }
+    Ok(())
+}
+
+// A valid list that moves an image when it is no more needed.
+const STALE_MOVE: &[u8] = b"# moves image 1 late
+Forward(0, 1, True, False, RAM)
+Forward(1, 2, True, False, RAM)
+EndForward()
+Copy(1, RAM, WORK)
+Forward(1, 2, False, True, WORK)
+Reverse(2, 1, True)
+Move(1, RAM, WORK)
+Move(0, RAM, WORK)
+
+Forward( 0 ,1,False, True,\tWORK )
+Reverse(1, 0, True)
+EndReverse()";
+
+#[test]
+fn a_valid_list_is_counted(rt: HostRuntime) -> Result<(), Fail> {
+    let table: [(&str, &[u8], &[u8]); 3] = [
+        ("check book schedule 0", NO_STEPS, b"valid 2\n"),
+        ("check book schedule 2", STALE_MOVE, b"valid 11\n"),
+        (
+            "--stack=7 --raw check book schedule 4",
+            FOUR_STEPS_TWO_SLOTS,
+            b"valid 16\n",
+        ),
+    ];
+    for (line, schedule, text) in table {
+        let files: [Named<'_>; 2] = [(b"book", TWO_SLOTS), (b"schedule", schedule)];
+        let mut out = MemorySink::new(rt.alloc(), 4096)?;
+        assert_eq!(rt; call(rt.alloc(), line, &files, &mut out)?.status, 0);
+        assert_eq!(rt; out.bytes(), text);
+        let mut full = MemorySink::new(rt.alloc(), 3)?;
+        let ended = call(rt.alloc(), line, &files, &mut full)?;
+        assert_eq!(rt; (ended.status, ended.place), (14, 0));
+    }
+    Ok(())
+}
+
+// A call ends with this text behind the name of the program, and nothing is written.
+fn ends(
+    rt: &impl Abort,
+    alloc: Global,
+    line: &str,
+    files: &[Named<'_>],
+    text: &[u8],
+) -> Result<(), Fail> {
+    let mut out = MemorySink::new(alloc, 4096)?;
+    let mut ending = Line::new();
+    ended_text(&call(alloc, line, files, &mut out)?, &mut ending);
+    assert_eq!(rt; ending.bytes().strip_prefix(b"reversal: "), Some(text));
+    assert!(rt; out.bytes().is_empty(), "a refusal writes nothing");
+    Ok(())
+}
+
+#[test]
+fn a_schedule_is_refused_at_its_first_fault(rt: HostRuntime) -> Result<(), Fail> {
+    let table: [(&str, &[u8], &[u8], &[u8]); 9] = [
+        (
+            "check b s 2",
+            TWO_LEVELS,
+            b"Copy(0, RAM, DISK) x",
+            b"7 Text 1 20 1",
+        ),
+        (
+            "check b s 3",
+            ONE_SLOT,
+            b"Forward(0, 3, False, True, WORK)",
+            b"7 Text 1 1 4",
+        ),
+        (
+            "check b s 3",
+            ONE_SLOT,
+            b"Forward(0, 1000001, False, False, NONE)",
+            b"7 Text 1 12 2",
+        ),
+        (
+            "check b s 3",
+            ONE_SLOT,
+            b"EndForward()\nCopy(0, TAPE, WORK)",
+            b"7 Text 2 9 3",
+        ),
+        ("check b s 0", NO_SLOT, b"", b"8 Invalid 1 0 16"),
+        ("check b s 3", ONE_SLOT, FULL_LEVEL, b"8 Invalid 2 0 4"),
+        ("check b s 1", ONE_SLOT, EARLY_REVERSE, b"8 Invalid 2 0 12"),
+        ("check b s 2", NO_SLOT, ELSEWHERE, b"8 Invalid 5 0 1"),
+        ("check b s 2", FALLING_COSTS, b"x", b"6 Book 1 0 7"),
+    ];
+    for (line, book, schedule, text) in table {
+        let files: [Named<'_>; 2] = [(b"b", book), (b"s", schedule)];
+        ends(&rt, rt.alloc(), line, &files, text)?;
     }
     Ok(())
 }
@@ -442,58 +532,101 @@ const EARLY_REVERSE: &[u8] = b"Forward(0, 1, False, True, WORK)
 Reverse(1, 0, True)
 ";
 
-const HALF_LINE: &[u8] = b"Forward(0, 1)\n";
+// A journal that is cut in the number of its items.
+const CUT_JOURNAL: &[u8] = b"RVJL\x01\0\0\0\0\0\0";
 
-// The first of the four words, and a part of the next.
-const HALF_WORD: &[u8] = b"\x13\x05\x70\x00\x93\x02";
-
-// A run ends with this text behind the name of the program, and nothing is written.
-fn ends(rt: &impl Abort, alloc: Global, given: Given<'_>, text: &[u8]) -> Result<(), Fail> {
-    let mut out = MemorySink::new(alloc, 4096)?;
-    let mut line = Line::new();
-    ended_text(&run(alloc, &given, &mut out)?, &mut line);
-    assert_eq!(rt; line.bytes().strip_prefix(b"reversal: "), Some(text));
-    assert!(rt; out.bytes().is_empty(), "a refusal writes nothing");
+#[test]
+fn a_program_and_its_input_are_refused_by_their_rule(rt: HostRuntime) -> Result<(), Fail> {
+    let table: [(&str, &[u8], &[u8]); 6] = [
+        (
+            "run program - book schedule 4",
+            &COUNTER[..51],
+            b"4 Program 0 0 1",
+        ),
+        (
+            "run program - book schedule 4",
+            FOUR_WORDS,
+            b"4 Program 0 0 1",
+        ),
+        (
+            "--raw run program - book schedule 4",
+            b"",
+            b"4 Program 0 0 11",
+        ),
+        (
+            "--raw run program - book schedule 4",
+            &FOUR_WORDS[..6],
+            b"4 Program 6 0 11",
+        ),
+        (
+            "--raw run program cut book schedule 4",
+            FOUR_WORDS,
+            b"5 Journal 8 0 3",
+        ),
+        (
+            "--raw run program book book schedule 4",
+            FOUR_WORDS,
+            b"5 Journal 0 0 1",
+        ),
+    ];
+    for (line, program, text) in table {
+        let files: [Named<'_>; 4] = [
+            (b"program", program),
+            (b"cut", CUT_JOURNAL),
+            (b"book", TWO_SLOTS),
+            (b"schedule", FOUR_STEPS_TWO_SLOTS),
+        ];
+        ends(&rt, rt.alloc(), line, &files, text)?;
+    }
     Ok(())
 }
 
 #[test]
-fn a_form_that_is_not_built_is_named(rt: HostRuntime) -> Result<(), Fail> {
-    let good = FOUR_STEPS_GIVEN;
-    let alloc = rt.alloc();
-    ends(&rt, alloc, good.program(HALF_WORD), b"18 NotBuilt 1 0 0")?;
-    ends(&rt, alloc, good.book(b"{}"), b"18 NotBuilt 2 0 0")?;
-    ends(&rt, alloc, good.schedule(HALF_LINE), b"18 NotBuilt 3 0 0")?;
-    ends(&rt, alloc, good.steps(b"1000001"), b"18 NotBuilt 0 0 0")
-}
-
-#[test]
-fn a_list_that_breaks_a_rule_is_refused_at_its_place(rt: HostRuntime) -> Result<(), Fail> {
-    let given = FOUR_STEPS_GIVEN;
-    let full = given.book(ONE_SLOT).schedule(FULL_LEVEL).steps(b"3");
-    let early = given.book(ONE_SLOT).schedule(EARLY_REVERSE).steps(b"1");
-    let elsewhere = given.book(NO_SLOT).schedule(ELSEWHERE).steps(b"2");
-    ends(&rt, rt.alloc(), elsewhere, b"8 Invalid 5 0 1")?;
-    ends(&rt, rt.alloc(), full, b"8 Invalid 2 0 4")?;
-    ends(&rt, rt.alloc(), early, b"8 Invalid 2 0 12")
+fn words_and_numbers_are_refused_before_an_input_is_read(rt: HostRuntime) -> Result<(), Fail> {
+    let table: [(&str, &[u8]); 12] = [
+        ("check b s 1000001", b"10 Limit 1000001 1000000 1"),
+        ("--stack=0 run p - b s 1000001", b"10 Limit 0 1 4"),
+        ("--stack=1025 check b s 0", b"10 Limit 1025 1024 4"),
+        ("--raw --raw check b s 0", b"2 Words 0 0 0"),
+        ("--stack=1 --stack=1 check b s 0", b"2 Words 0 0 0"),
+        ("--stack=01 check b s 0", b"2 Words 0 0 0"),
+        ("check --raw b s 0", b"2 Words 0 0 0"),
+        ("check b s 04", b"2 Words 0 0 0"),
+        ("check b  0", b"2 Words 0 0 0"),
+        ("run p - b @revolve 4", b"2 Words 0 0 0"),
+        ("run p - b s 18446744073709551616", b"2 Words 0 0 0"),
+        ("plan revolve b 4", b"2 Words 0 0 0"),
+    ];
+    for (line, text) in table {
+        ends(&rt, rt.alloc(), line, &[], text)?;
+    }
+    Ok(())
 }
 
 #[test]
 fn an_input_that_cannot_be_read_is_named_by_its_number(rt: HostRuntime) -> Result<(), Fail> {
-    let given = FOUR_STEPS_GIVEN;
-    let mut out = MemorySink::new(rt.alloc(), 4096)?;
-    let mut line = Line::new();
-    let words = words_for(rt.alloc(), b"another", b"4")?;
-    let mut inputs = inputs_of(rt.alloc(), &given)?;
-    ended_text(&ended(rt.alloc(), &words, &mut inputs, &mut out), &mut line);
-    assert_eq!(rt; line.bytes(), b"reversal: 3 Input 1 0 0".as_slice());
-    let words = words_for(rt.alloc(), b"program", b"4")?;
+    let alloc = rt.alloc();
+    ends(
+        &rt,
+        alloc,
+        "--raw run another - book schedule 4",
+        &FOUR,
+        b"3 Input 1 0 0",
+    )?;
+    ends(
+        &rt,
+        alloc,
+        "--raw run program none book schedule 4",
+        &FOUR,
+        b"3 Input 2 0 0",
+    )?;
+    let mut out = MemorySink::new(alloc, 4096)?;
+    let words = words_of(alloc, "--raw run program - book schedule 4")?;
     for number in [1u64, 2, 3] {
-        let failing = vec![in rt.alloc(); number]?;
-        let mut inputs = inputs_of(rt.alloc(), &given)?.failing(failing);
-        let ended = ended(rt.alloc(), &words, &mut inputs, &mut out);
-        assert_eq!(rt; ended.status, 3);
-        assert_eq!(rt; ended.place, number);
+        let failing = vec![in alloc; number]?;
+        let mut inputs = inputs_of(alloc, &FOUR)?.failing(failing);
+        let ended = ended(alloc, &words, &mut inputs, &mut out);
+        assert_eq!(rt; (ended.status, ended.place), (3, number));
         assert_eq!(rt; inputs.faults(), 1);
     }
     assert!(rt; out.bytes().is_empty(), "a refusal writes nothing");
@@ -501,7 +634,21 @@ fn an_input_that_cannot_be_read_is_named_by_its_number(rt: HostRuntime) -> Resul
 }
 
 #[test]
-fn other_words_are_not_the_command(rt: HostRuntime) -> Result<(), Fail> {
-    let given = FOUR_STEPS_GIVEN.steps(b"04");
-    ends(&rt, rt.alloc(), given, b"2 Words 0 0 0")
+fn an_input_that_is_too_long_is_named_with_its_limit(rt: HostRuntime) -> Result<(), Fail> {
+    let long = vec![in rt.alloc(); b' '; 65_537]?;
+    let files: [Named<'_>; 2] = [(b"p", FOUR_WORDS), (b"b", &long)];
+    ends(
+        &rt,
+        rt.alloc(),
+        "run p - b s 4",
+        &files,
+        b"10 Limit 2 65536 8",
+    )?;
+    ends(
+        &rt,
+        rt.alloc(),
+        "check b s 4",
+        &files,
+        b"10 Limit 1 65536 8",
+    )
 }

@@ -39,10 +39,10 @@ pub fn reversal<I: Inputs, K: Keeper, O: Sink, L: Ledger>(
     ensures unread { (e : Ended) → RefusesWords (words_of words.now) e → (result ≡ e) × (inputs.new ≡ inputs.old) }
 
     // The names asked for are the first few of the request's inputs, perhaps none, in the order of the words.
-    ensures asked { (r : ARequest) → Asks (words_of words.now) r → (k : ℕ) × (I.asked inputs.new ≡ I.asked inputs.old ++ take k (names (inputs_of r))) }
+    ensures asked { (r : ARequest) → Asks (words_of words.now) r → (k : ℕ) × (I.asked inputs.new ≡ I.asked inputs.old ++ take k (names (inputs_of r.command))) }
 
     // Status 3 names the input that can't be read. Up to its end, the inputs' count of faults rises exactly there.
-    ensures input { (r : ARequest) → Asks (words_of words.now) r → result.status ≡ 3 → FailsAtInput (inputs_of r) (I.told inputs.old) result (I.asked inputs.old) (I.asked inputs.new) }
+    ensures input { (r : ARequest) → Asks (words_of words.now) r → result.status ≡ 3 → FailsAtInput (inputs_of r.command) (I.told inputs.old) result (I.asked inputs.old) (I.asked inputs.new) }
     ensures input_cause { result.status ≡ 3 → Rose (I.fault_count inputs.old) (I.fault_count inputs.new) }
     ensures input_quiet { result.status ≢ 3 → I.fault_count inputs.new ≡ I.fault_count inputs.old }
 
@@ -86,14 +86,14 @@ fn prepared<I: Inputs>(alloc: Global, request: &Request<'_>, inputs: &mut I) -> 
     requires { AllByRecursion IsWithin (numbers (request_of request.now)) }
     ensures comes { IfOk result (λ job. (slots : List ℕ) → Comes (request_of request.now) (I.told inputs.old) (I.asked inputs.old) (I.asked inputs.new) slots (accept (job_of job))) }
     ensures can_be_done { IfOk result CanBeDone }
-    ensures refused { IfErr result (λ e. FailsAtInput (inputs_of (request_of request.now)) (I.told inputs.old) e (I.asked inputs.old) (I.asked inputs.new)
+    ensures refused { IfErr result (λ e. FailsAtInput (inputs_of (request_of request.now).command) (I.told inputs.old) e (I.asked inputs.old) (I.asked inputs.new)
         ⊎ (e ≡ no_memory)
         ⊎ ((e.status ≢ 3) × (e.status ≢ 17) × (e.status ≢ 2) × (e.status ≢ 14) × ((slots : List ℕ) → Comes (request_of request.now) (I.told inputs.old) (I.asked inputs.old) (I.asked inputs.new) slots (refuse e)))) }
-    ensures asked { (k : ℕ) × (I.asked inputs.new ≡ I.asked inputs.old ++ take k (names (inputs_of (request_of request.now)))) }
+    ensures asked { (k : ℕ) × (I.asked inputs.new ≡ I.asked inputs.old ++ take k (names (inputs_of (request_of request.now).command))) }
     ensures quiet { IfOk result (λ _. I.fault_count inputs.new ≡ I.fault_count inputs.old) }
     ensures cause { IfErr result (λ e. e.status ≡ 3 → Rose (I.fault_count inputs.old) (I.fault_count inputs.new)) }
     ensures no_cause { IfErr result (λ e. e.status ≢ 3 → I.fault_count inputs.new ≡ I.fault_count inputs.old) }
 {
-    let bytes = read_inputs(alloc, request, inputs)?;
+    let bytes = read_inputs(alloc, &request.command, inputs)?;
     decide(alloc, request, &bytes)
 }

@@ -8,17 +8,17 @@ use Rattle.reversal.proofs.Lists.{drop_at}
 use Rattle.reversal.proofs.bounds.first_outside.Goals as goal
 
 abbrev number_at : List Bounded → ℕ → Bounded
-number_at numbers i = get_or numbers i (record { number = 0; least = 0; greatest = 0 })
+number_at numbers i = get_or numbers i (record { number = 0; least = 0; greatest = 0; rule = 0 })
 
 behind : (numbers : List Bounded) (i : ℕ) → i < length numbers → drop i numbers ≡ number_at numbers i ∷ drop (i + 1) numbers
-behind numbers i within = drop_at numbers i (number_at numbers i) (slice_get-get_or numbers i (record { number = 0; least = 0; greatest = 0 }) within)
+behind numbers i within = drop_at numbers i (number_at numbers i) (slice_get-get_or numbers i (record { number = 0; least = 0; greatest = 0; rule = 0 }) within)
 
 pub returns-then-not-is_within : goal.returns-then-not-is_within
 returns-then-not-is_within c =
-    let P : List Bounded → Type 0 = λ l. RefusesFirst l c.not_built.result in
-    c.loop-bounded.invariant.first c.not_built.result
+    let P : List Bounded → Type 0 = λ l. RefusesFirst l c.refusal.result in
+    c.loop-bounded.invariant.first c.refusal.result
     (subst P (sym (behind c.args.numbers.now c.loop-bounded.bounded-index c.loop-bounded-test.true))
-    (inl (λ within. false≢true (c.if-not-is_within.ensures.1 within), c.not_built.ensures)))
+    (inl (λ within. false≢true (c.if-not-is_within.ensures.1 within), c.refusal.ensures)))
 
 pub loop-bounded-preserved : goal.loop-bounded-preserved
 loop-bounded-preserved c =

@@ -1,51 +1,58 @@
-use Rattle.std.proofs.Common.{◌≡◌, ◌∙◌, inl, inr, List, Err, refl, sym, ap, subst}
-use Rattle.std.proofs.lemmas.Bool.{false≢true}
+use Rattle.std.proofs.Common.{◌≡◌, List, subst, sym}
+use Rattle.std.specs.Option.{option_copied}
 use Rattle.plan_types.specs.declared.action.Action.{Action}
-use Rattle.level_book.specs.BookCosts.{BookCosts, slots_of, plain}
+use Rattle.level_book.specs.BookCosts.{slots_of, names_of}
 use Rattle.level_book.specs.Valid.{Valid}
+use Rattle.action_text.specs.Faults.{HasFirstFault}
 use Rattle.reversal.specs.declared.ended.Ended.{Ended}
-use Rattle.reversal.specs.Deeds.{perform}
-use Rattle.reversal.specs.RequestReading.{run_of}
-use Rattle.reversal.proofs.Deciding.{unread_schedule, no_program, no_schedule, no_valid_list, valid_list, on_error, IsBroken}
+use Rattle.reversal.specs.Ending.{bad_program, bad_journal, bad_book, bad_text}
+use Rattle.reversal.specs.Request.{says_raw, stack_pages}
+use Rattle.reversal.specs.Decision.{HasBookFault, HasProgramFault, HasJournalFault}
+use Rattle.reversal.specs.JobReading.{IsRefusal}
+use Rattle.reversal.proofs.Deciding.{on_error, IsBroken, run_by_book, run_by_program, run_by_journal, run_by_text, run_by_rules, run_accepted}
 use Rattle.reversal.proofs.decision.decide_texts.Goals as goal
 
-pub returns-then-not-is_program-clause-refused : goal.returns-then-not-is_program-clause-refused
-returns-then-not-is_program-clause-refused c = inr (λ slots.
-    no_program (run_of c.args.request.now) c.args.program.now c.args.book.now c.args.schedule.now slots c.in-Some.room _ c.in-Some.ensures.found
-    (λ is_program. false≢true (c.if-not-is_program.ensures.1 is_program)) c.not_built-then-not-is_program.ensures)
+pub returns-in_err-book-clause-refused : goal.returns-in_err-book-clause-refused
+returns-in_err-book-clause-refused c =
+    on_error c.from_residual.result _ _ c.from_residual.ensures.1 (λ e gives.
+    let same : c.in_err-book.field-0.0 ≡ e = cc in
+    let P : Ended → Type 0 = λ x. IsRefusal (HasBookFault c.args.book.now) bad_book x in
+    run_by_book c.args.options.now c.args.steps c.args.program.now (option_copied c.args.journal) c.args.book.now c.args.schedule.now e (subst P same c.in_err-book.ensures.refused))
+
+pub returns-in_err-start-clause-refused : goal.returns-in_err-start-clause-refused
+returns-in_err-start-clause-refused c =
+    on_error c.from_residual-in_err-start.result _ _ c.from_residual-in_err-start.ensures.1 (λ e gives.
+    let same : c.in_err-start.field-0.0 ≡ e = cc in
+    let P : Ended → Type 0 = λ x. IsRefusal (HasProgramFault (says_raw c.args.options.now) (stack_pages c.args.options.now) c.args.program.now) bad_program x in
+    run_by_program c.args.options.now c.args.steps c.args.program.now (option_copied c.args.journal) c.args.book.now c.args.schedule.now e c.in_ok-book.book c.in_ok-book.ensures.found (subst P same c.in_err-start.ensures.refused))
+
+pub returns-in_err-journal-clause-refused : goal.returns-in_err-journal-clause-refused
+returns-in_err-journal-clause-refused c =
+    on_error c.from_residual-in_err-journal.result _ _ c.from_residual-in_err-journal.ensures.1 (λ e gives.
+    let same : c.in_err-journal.field-0.0 ≡ e = cc in
+    let P : Ended → Type 0 = λ x. IsRefusal (HasJournalFault (option_copied c.args.journal)) bad_journal x in
+    run_by_journal c.args.options.now c.args.steps c.args.program.now (option_copied c.args.journal) c.args.book.now c.args.schedule.now e c.in_ok-book.book c.in_ok-start.start c.in_ok-book.ensures.found c.in_ok-start.ensures.found (subst P same c.in_err-journal.ensures.refused))
 
 pub returns-in_err-list-clause-refused : goal.returns-in_err-list-clause-refused
-returns-in_err-list-clause-refused c = on_error c.from_residual.result _ _ c.from_residual.ensures.1 (λ e gives.
-    elim (unread_schedule c.in_err-list.field-0.0 c.args.schedule.now e gives (λ is. c.in_err-list.ensures.refused (ap (λ f. Err f) is))) [
-      | inl memory ↦ inl memory
-      | inr none ↦ inr (λ slots.
-          no_schedule (run_of c.args.request.now) c.args.program.now c.args.book.now c.args.schedule.now slots c.in-Some.room e c.in-Some.ensures.found (c.if-not-is_program.ensures.0 refl) none.1 none.0)
-    ])
+returns-in_err-list-clause-refused c =
+    on_error c.from_residual-in_err-list.result _ _ c.from_residual-in_err-list.ensures.1 (λ e gives.
+    let same : c.in_err-list.field-0.0 ≡ e = cc in
+    let P : Ended → Type 0 = λ x. IsRefusal (HasFirstFault (names_of c.in_ok-book.book) c.args.schedule.now) bad_text x in
+    run_by_text c.args.options.now c.args.steps c.args.program.now (option_copied c.args.journal) c.args.book.now c.args.schedule.now e c.in_ok-book.book c.in_ok-start.start c.in_ok-journal.journal c.in_ok-book.ensures.found c.in_ok-start.ensures.found c.in_ok-journal.ensures.found (subst P same c.in_err-list.ensures.refused))
 
 pub returns-in_err-judge-clause-refused : goal.returns-in_err-judge-clause-refused
-returns-in_err-judge-clause-refused c = on_error c.from_residual-in_err-judge.result _ _ c.from_residual-in_err-judge.ensures.1 (λ e gives.
-    let fault = c.in_err-judge.field-0.0 in
-    let same : fault ≡ e = cc in
-    let r = run_of c.args.request.now in
-    let room = c.in-Some.room in
-    let list = c.in_ok-list.list.items in
-    elim c.in_err-judge.ensures.broken [
-      | inl memory ↦ inl (sym same ∙ memory)
-      | inr broken ↦ inr (λ slots.
-          let B : BookCosts → Type 0 = λ b. IsBroken r.steps (slots_of b) c.deref.result.now fault in
-          let L : List Action → Type 0 = λ l. IsBroken r.steps (slots_of (plain room)) l fault in
-          let E : Ended → Type 0 = λ x. IsBroken r.steps (slots_of (plain room)) list x in
-          no_valid_list r c.args.program.now c.args.book.now c.args.schedule.now slots room list e c.in-Some.ensures.found (c.if-not-is_program.ensures.0 refl) c.in_ok-list.ensures.found
-          (subst E same (subst L c.deref.ensures.value (subst B c.plain-book.ensures broken))))
-    ])
+returns-in_err-judge-clause-refused c =
+    on_error c.from_residual-in_err-judge.result _ _ c.from_residual-in_err-judge.ensures.1 (λ e gives.
+    let same : c.in_err-judge.field-0.0 ≡ e = cc in
+    let slots = slots_of c.in_ok-book.book in
+    let L : List Action → Type 0 = λ l. IsBroken c.args.steps slots l c.in_err-judge.field-0.0 in
+    let P : Ended → Type 0 = λ x. IsBroken c.args.steps slots c.in_ok-list.list.items x in
+    run_by_rules c.args.options.now c.args.steps c.args.program.now (option_copied c.args.journal) c.args.book.now c.args.schedule.now e c.in_ok-book.book c.in_ok-start.start c.in_ok-journal.journal c.in_ok-list.list.items c.in_ok-book.ensures.found c.in_ok-start.ensures.found c.in_ok-journal.ensures.found c.in_ok-list.ensures.found
+    (subst P same (subst L c.deref.ensures.value c.in_err-judge.ensures.broken)))
 
 pub returns-clause-accepted : goal.returns-clause-accepted
-returns-clause-accepted c slots =
-    let r = run_of c.args.request.now in
-    let room = c.in-Some.room in
-    let list = c.in_ok-list.list.items in
-    let B : BookCosts → Type 0 = λ b. Valid r.steps (slots_of b) c.deref.result.now in
-    let L : List Action → Type 0 = λ l. Valid r.steps (slots_of (plain room)) l in
-    valid_list r c.args.program.now c.args.book.now c.args.schedule.now slots room list _ c.in-Some.ensures.found (c.if-not-is_program.ensures.0 refl) c.in_ok-list.ensures.found
-    (subst L c.deref.ensures.value (subst B c.plain-book.ensures c.in_ok-judge.ensures.valid))
-    (λ i. perform (c.in_ok-load_raw.ensures i) (c.none.ensures i) r.steps list)
+returns-clause-accepted c =
+    let slots = slots_of c.in_ok-book.book in
+    let L : List Action → Type 0 = λ l. Valid c.args.steps slots l in
+    run_accepted c.args.options.now c.args.steps c.args.program.now (option_copied c.args.journal) c.args.book.now c.args.schedule.now c.in_ok-book.book c.in_ok-start.start c.in_ok-journal.journal c.in_ok-list.list.items
+    c.in_ok-book.ensures.found c.in_ok-start.ensures.found c.in_ok-journal.ensures.found c.in_ok-list.ensures.found (subst L c.deref.ensures.value c.in_ok-judge.ensures.valid)

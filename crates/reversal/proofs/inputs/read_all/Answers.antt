@@ -57,7 +57,7 @@ returns-in-Err-TooLong-clause-stops g c =
     let at = at_wanted wanted i c.loop-i-test.true in
     let longer = c.in-Err-TooLong.ensures.longer (ap (λ e. Err e) c.in-Err-TooLong.field-0-is) in
     let W : Option Files → Type 0 = λ t. WhereTold t (λ files. finmap.get files x.name.now ≡ Some longer.0) in
-    one_was_too_long is _ _ i (input_of x) longer.0 _ _ _ inv.so_far at longer.1 (subst W inv.same longer.2) c.not_built.ensures
+    one_was_too_long is _ _ i (input_of x) longer.0 _ _ _ inv.so_far at longer.1 (subst W inv.same longer.2) c.too_long.ensures
     (asked_more is i (input_of x) _ _ _ at inv.asked (c.read_input.ensures.asks (λ e. absurd (cc (c.in-Err-TooLong.is, c.in-Err-TooLong.field-0-is, e)))))
 
 pub returns-in-Err-Failed-clause-stops : goal.returns-in-Err-Failed-clause-stops

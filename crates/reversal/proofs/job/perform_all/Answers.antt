@@ -87,6 +87,7 @@ returns-in-Err-Visitor-clause-works g c =
     let part = missed_on g.O.Sink.told g.O.Sink.call_count first session.journal session.situation.steps session.situation.slots list i before a c.loop-i.writer c.perform.new.visitor on rule_is misses in
     let P : g.row.O.Denot → Type 0 = λ o. DidUntil (map deed list) ended.place (seen g.O.Sink.told g.O.Sink.call_count c.args.out.now c.args.counter.now) (seen g.O.Sink.told g.O.Sink.call_count o c.perform.new.steps) in
     inl (inr (
+      ended.place,
       c.stopped.ensures ∙ ap (λ k. record c.stopped.result { status = 14; place = k; more = 0; rule = 0 }) (sym place),
       subst P (sym last)
           (did_until (map deed list) i ended.place (deed a) part.piece _ _ _ (get_map deed list i a at) place part.next so_far.did part.added part.called c.in-Err-Visitor.ensures.refused.1),

@@ -1,6 +1,8 @@
-use Rattle.std.proofs.Common.{rules}
-use Rattle.reversal.proofs.Requests.{is_said}
+use Rattle.reversal.proofs.Requests.{found_said, none_said}
 use Rattle.reversal.proofs.request.read_request.Goals as goal
 
 pub returns-clause-found : goal.returns-clause-found
-returns-clause-found c = is_said _ c.word-program.result.now c.word-book.result.now c.word-schedule.result.now c.in_ok-steps.steps (search rules) c.word-program.ensures c.word-book.ensures c.word-schedule.ensures (search rules) (search rules) (search rules)
+returns-clause-found c = found_said _ c.request_in.result c.request_in.ensures
+
+pub returns-clause-none : goal.returns-clause-none
+returns-clause-none c = none_said _ c.request_in.result c.request_in.ensures

@@ -15,7 +15,7 @@ returns-clause-comes g c =
     let told = g.I.Inputs.told c.args.inputs.now in
     let before = g.I.Inputs.asked c.args.inputs.now in
     let after = g.I.Inputs.asked c.read_inputs.new.inputs in
-    let R : List (Vec ℕ Global) → Type 0 = λ l. Reads (inputs_of r) told before after (all (map (λ b. b.items) l)) in
+    let R : List (Vec ℕ Global) → Type 0 = λ l. Reads (inputs_of r.command) told before after (all (map (λ b. b.items) l)) in
     let reads = subst R (sym c.deref.ensures.value) c.in_ok-bytes.ensures.read in
     if_okay c.decide.result _ _ (λ job decides slots. comes_by r told before after (map (λ b. b.items) c.deref.result.now) slots (accept (job_of job)) reads (decides slots)) c.decide.ensures.accepted
 
@@ -25,7 +25,7 @@ returns-clause-refused g c =
     let told = g.I.Inputs.told c.args.inputs.now in
     let before = g.I.Inputs.asked c.args.inputs.now in
     let after = g.I.Inputs.asked c.read_inputs.new.inputs in
-    let R : List (Vec ℕ Global) → Type 0 = λ l. Reads (inputs_of r) told before after (all (map (λ b. b.items) l)) in
+    let R : List (Vec ℕ Global) → Type 0 = λ l. Reads (inputs_of r.command) told before after (all (map (λ b. b.items) l)) in
     let reads = subst R (sym c.deref.ensures.value) c.in_ok-bytes.ensures.read in
     if_error c.decide.result _ _ (λ e h. decides_refused r told e before after (map (λ b. b.items) c.deref.result.now) reads h) c.decide.ensures.refused
 
@@ -41,5 +41,5 @@ returns-in_err-bytes-clause-refused g c =
     let after = g.I.Inputs.asked c.read_inputs.new.inputs in
     on_error c.from_residual.result _ _ c.from_residual.ensures.1 (λ e gives.
     let same : c.in_err-bytes.field-0.0 ≡ e = cc in
-    let S : Ended → Type 0 = λ x. Stops (inputs_of r) told x before after in
+    let S : Ended → Type 0 = λ x. Stops (inputs_of r.command) told x before after in
     stops_refused r told e before after (subst S same c.in_err-bytes.ensures.stops))

@@ -1,12 +1,13 @@
 use Rattle.std.proofs.Common.{◌≡◌, inl, inr, ℕ, map, take, ◌++◌, refl, ap, subst, arith}
 use Rattle.reversal.specs.declared.ended.Ended.{Ended}
 use Rattle.reversal.specs.Request.{Request, Says, words_of}
+use Rattle.reversal.specs.Bounds.{numbers}
 use Rattle.reversal.specs.Inputs.{inputs_of, names, FailsAtInput}
 use Rattle.reversal.specs.RequestReading.{request_of}
 use Rattle.reversal.specs.Decision.{accept, refuse}
 use Rattle.reversal.specs.JobReading.{job_of}
-use Rattle.reversal.proofs.OneReading.{one_request}
-use Rattle.reversal.proofs.Answering.{not_asked, not_refused, refused_so, refused_not_two, comes_of, works_ends, works_halts, works_not, not_at_input}
+use Rattle.reversal.proofs.Requests.{one_request}
+use Rattle.reversal.proofs.Answering.{refuses_number, not_asked, not_refused, refused_so, refused_not_two, comes_of, works_ends, works_halts, works_not, not_at_input}
 use Rattle.reversal.proofs.top.reversal.Given.{Over}
 use Rattle.reversal.proofs.top.reversal.Goals as goal
 
@@ -31,6 +32,18 @@ returns-in-Some-refusal-clause-input g c r asks = absurd (not_asked (words_of c.
 pub returns-in-Some-refusal-clause-decided : goal.returns-in-Some-refusal-clause-decided
 returns-in-Some-refusal-clause-decided g c r asks = absurd (not_asked (words_of c.args.words.now) (request_of c.in-Some.request) r c.in-Some-refusal.refusal (said_outside g c) c.in-Some-refusal.ensures asks)
 
+refused_status : (g : Over) (c : goal.In-Some-refusal g) → c.in-Some-refusal.refusal.status ≡ 10
+refused_status g c = refuses_number (numbers (request_of c.in-Some.request)) c.in-Some-refusal.refusal c.in-Some-refusal.ensures
+
+pub returns-in-Some-refusal-clause-input_cause : goal.returns-in-Some-refusal-clause-input_cause
+returns-in-Some-refusal-clause-input_cause g c three = let is = refused_status g c in absurd (omega (arith, is, three))
+
+pub returns-in-Some-refusal-clause-memory : goal.returns-in-Some-refusal-clause-memory
+returns-in-Some-refusal-clause-memory g c memory = let is = refused_status g c in absurd (omega (arith, is, memory))
+
+pub returns-in-Some-refusal-clause-sink_cause : goal.returns-in-Some-refusal-clause-sink_cause
+returns-in-Some-refusal-clause-sink_cause g c sink = let is = refused_status g c in absurd (omega (arith, is, sink))
+
 -- ---- a job was come to
 
 said_job : (g : Over) (c : goal.After-work g) → Says (words_of c.args.words.now) (request_of c.in-Some.request)
@@ -50,7 +63,7 @@ returns-in-Ok-clause-unread g c e refuses = absurd (not_refused (words_of c.args
 
 pub returns-in-Ok-clause-asked : goal.returns-in-Ok-clause-asked
 returns-in-Ok-clause-asked g c r asks =
-    let P : Request → Type 0 = λ x. (k : ℕ) × (g.I.Inputs.asked c.prepared.new.inputs ≡ g.I.Inputs.asked c.args.inputs.now ++ take k (names (inputs_of x))) in
+    let P : Request → Type 0 = λ x. (k : ℕ) × (g.I.Inputs.asked c.prepared.new.inputs ≡ g.I.Inputs.asked c.args.inputs.now ++ take k (names (inputs_of x.command))) in
     subst P (one_request (words_of c.args.words.now) (request_of c.in-Some.request) r (said_job g c) asks.says) c.prepared.ensures.asked
 
 pub returns-in-Ok-clause-decided : goal.returns-in-Ok-clause-decided
@@ -101,13 +114,13 @@ returns-in-Err-clause-unread g c e refuses = absurd (not_refused (words_of c.arg
 
 pub returns-in-Err-clause-asked : goal.returns-in-Err-clause-asked
 returns-in-Err-clause-asked g c r asks =
-    let P : Request → Type 0 = λ x. (k : ℕ) × (g.I.Inputs.asked c.prepared.new.inputs ≡ g.I.Inputs.asked c.args.inputs.now ++ take k (names (inputs_of x))) in
+    let P : Request → Type 0 = λ x. (k : ℕ) × (g.I.Inputs.asked c.prepared.new.inputs ≡ g.I.Inputs.asked c.args.inputs.now ++ take k (names (inputs_of x.command))) in
     subst P (one_request (words_of c.args.words.now) (request_of c.in-Some.request) r (said_refusal g c) asks.says) c.prepared.ensures.asked
 
 pub returns-in-Err-clause-input : goal.returns-in-Err-clause-input
 returns-in-Err-clause-input g c r asks three =
     let told = g.I.Inputs.told c.args.inputs.now in
-    let P : Request → Type 0 = λ x. FailsAtInput (inputs_of x) told c.in-Err.refusal (g.I.Inputs.asked c.args.inputs.now) (g.I.Inputs.asked c.prepared.new.inputs) in
+    let P : Request → Type 0 = λ x. FailsAtInput (inputs_of x.command) told c.in-Err.refusal (g.I.Inputs.asked c.args.inputs.now) (g.I.Inputs.asked c.prepared.new.inputs) in
     elim c.in-Err.ensures.refused [
       | inl input ↦ subst P (one_request (words_of c.args.words.now) (request_of c.in-Some.request) r (said_refusal g c) asks.says) input
       | inr more ↦ elim more [

@@ -1,0 +1,164 @@
+-- The endings that a decision refuses with, and what a text of each kind says: one thing, or one fault.
+use Rattle.std.proofs.Common.{◌≡◌, ◌≢◌, ◌⊎◌, inl, inr, ℕ, ◌<◌, Bool, true, false, List, Option, None, Some, refl, sym, ◌∙◌, ap, subst, arith}
+use Rattle.std.proofs.lemmas.Bool.{cases_order}
+use Rattle.std.proofs.lemmas.Option.{same_Some}
+use Rattle.plan_types.specs.declared.action.Action.{Action}
+use Rattle.level_book.specs.declared.fault.BookFault.{BookFault}
+use Rattle.level_book.specs.declared.fault.BookFault.TheVariants as book
+use Rattle.level_book.specs.BookCosts.{BookCosts, names_of}
+use Rattle.level_book.specs.BookFaults.{IsBookText}
+use Rattle.level_book.proofs.OneBook.{one_text, not_refused, one_fault as one_book_fault, text_names}
+use Rattle.input_journal.proofs.Unique.{one_spelling, one_fault, no_fault}
+use Rattle.action_text.specs.declared.fault.TextFault.{TextFault}
+use Rattle.action_text.specs.declared.fault.TextFault.TheVariants as text
+use Rattle.action_text.specs.ScheduleText.{IsSchedule}
+use Rattle.action_text.specs.Faults.{HasFirstFault}
+use Rattle.action_text.proofs.Whole.{one_schedule, one_first_fault, schedule_faultless}
+use Rattle.input_journal.specs.declared.fault.JournalFault.{JournalFault}
+use Rattle.input_journal.specs.declared.fault.JournalFault.TheVariants as journal
+use Rattle.elf_load.specs.declared.fault.ElfFault.{ElfFault}
+use Rattle.elf_load.specs.declared.fault.ElfFault.TheVariants as program
+use Rattle.elf_load.specs.Faults.{number_of}
+use Rattle.elf_load.proofs.Once.{one_start, one_fault as one_file_fault, programs_have_no_fault, one_raw_start, one_raw_fault, raw_programs_have_no_fault}
+use Rattle.rv_machine.specs.MachineState.{MachineState}
+use Rattle.reversal.specs.declared.ended.Ended.{Ended}
+use Rattle.reversal.specs.Ending.{bad_program, bad_journal, bad_book, bad_text}
+use Rattle.reversal.specs.JobReading.{IsRefusal}
+use Rattle.reversal.specs.Decision.{HasBookFault, IsStartOf, HasProgramFault, AreItemsOf, HasJournalFault}
+
+-- a decision to refuse has a status of its own
+pub record IsRefusing (e : Ended) : Type 0 where
+  pub not_words : e.status ≢ 2
+  pub not_input : e.status ≢ 3
+  pub not_sink : e.status ≢ 14
+  pub not_memory : e.status ≢ 17
+
+pub refusing_at : (e : Ended) (status : ℕ) → e.status ≡ status → 3 < status → status < 14 → IsRefusing e
+refusing_at e status is above below = record {
+  not_words = λ x. absurd (omega (arith, x, is, above, below));
+  not_input = λ x. absurd (omega (arith, x, is, above, below));
+  not_sink = λ x. absurd (omega (arith, x, is, above, below));
+  not_memory = λ x. absurd (omega (arith, x, is, above, below));
+}
+
+-- ---- faults end a call by a status of theirs
+
+pub program_refuses : (f : ElfFault) → (f ≡ program.Memory → ⊥) → IsRefusing (bad_program f)
+program_refuses program.Memory h = absurd (h refl)
+program_refuses program.NotElf h = refusing_at _ 4 refl (omega arith) (omega arith)
+program_refuses program.Class h = refusing_at _ 4 refl (omega arith) (omega arith)
+program_refuses program.Kind h = refusing_at _ 4 refl (omega arith) (omega arith)
+program_refuses program.Machine h = refusing_at _ 4 refl (omega arith) (omega arith)
+program_refuses program.Headers h = refusing_at _ 4 refl (omega arith) (omega arith)
+program_refuses (program.Segment i) h = refusing_at _ 4 refl (omega arith) (omega arith)
+program_refuses (program.Overlap i j) h = refusing_at _ 4 refl (omega arith) (omega arith)
+program_refuses (program.TooLarge n) h = refusing_at _ 4 refl (omega arith) (omega arith)
+program_refuses (program.Entry at) h = refusing_at _ 4 refl (omega arith) (omega arith)
+program_refuses (program.RawLength n) h = refusing_at _ 4 refl (omega arith) (omega arith)
+
+pub journal_refuses : (f : JournalFault) → (f ≡ journal.Memory → ⊥) → IsRefusing (bad_journal f)
+journal_refuses journal.Memory h = absurd (h refl)
+journal_refuses journal.Magic h = refusing_at _ 5 refl (omega arith) (omega arith)
+journal_refuses journal.Version h = refusing_at _ 5 refl (omega arith) (omega arith)
+journal_refuses (journal.Truncated at) h = refusing_at _ 5 refl (omega arith) (omega arith)
+journal_refuses (journal.TooLong at) h = refusing_at _ 5 refl (omega arith) (omega arith)
+journal_refuses (journal.Trailing at) h = refusing_at _ 5 refl (omega arith) (omega arith)
+
+pub book_refuses : (f : BookFault) → (f ≡ book.Memory → ⊥) → IsRefusing (bad_book f)
+book_refuses book.Memory h = absurd (h refl)
+book_refuses book.NotJson h = refusing_at _ 6 refl (omega arith) (omega arith)
+book_refuses (book.Shape n) h = refusing_at _ 6 refl (omega arith) (omega arith)
+book_refuses (book.Levels n) h = refusing_at _ 6 refl (omega arith) (omega arith)
+book_refuses (book.Name n) h = refusing_at _ 6 refl (omega arith) (omega arith)
+book_refuses (book.CostRange n) h = refusing_at _ 6 refl (omega arith) (omega arith)
+book_refuses (book.SlotRange n) h = refusing_at _ 6 refl (omega arith) (omega arith)
+book_refuses (book.CostOrder n) h = refusing_at _ 6 refl (omega arith) (omega arith)
+
+pub text_refuses : (f : TextFault) → (f ≡ text.Memory → ⊥) → IsRefusing (bad_text f)
+text_refuses text.Memory h = absurd (h refl)
+text_refuses (text.At rule line column) h = refusing_at _ 7 refl (omega arith) (omega arith)
+
+-- ---- want of memory is no fault of the bytes
+
+pub program_fault_is_other : (raw : Bool) (stack : ℕ) (bytes : List ℕ) (f : ElfFault) → HasProgramFault raw stack bytes f → f ≡ program.Memory → ⊥
+program_fault_is_other true stack bytes f h e = let P : ElfFault → Type 0 = λ x. HasProgramFault true stack bytes x in subst P e h
+program_fault_is_other false stack bytes f h e = let P : ElfFault → Type 0 = λ x. HasProgramFault false stack bytes x in (subst P e h).missed
+
+pub journal_fault_is_other : (bytes : Option (List ℕ)) (f : JournalFault) → HasJournalFault bytes f → f ≡ journal.Memory → ⊥
+journal_fault_is_other None f h e = absurd h
+journal_fault_is_other (Some bytes) f h e = let P : JournalFault → Type 0 = λ x. HasJournalFault (Some bytes) x in subst P e h
+
+pub text_fault_is_other : (names : List (List ℕ)) (bytes : List ℕ) (f : TextFault) → HasFirstFault names bytes f → f ≡ text.Memory → ⊥
+text_fault_is_other names bytes f h e = let P : TextFault → Type 0 = λ x. HasFirstFault names bytes x in subst P e h
+
+-- a file that isn't loaded has a fault, or memory ran out
+memory_by_number : (f : ElfFault) → number_of f ≡ 10 → f ≡ program.Memory
+memory_by_number program.Memory e = refl
+memory_by_number f e = absurd (omega (arith, e))
+
+pub file_refused : (stack : ℕ) (bytes : List ℕ) (f : ElfFault) (e : Ended) → (f ≢ program.Memory → HasProgramFault false stack bytes f) → e ≡ bad_program f → IsRefusal (HasProgramFault false stack bytes) bad_program e
+file_refused stack bytes f e h is =
+    elim (cases_order (number_of f) 10) [
+      | inl ten ↦ inl (is ∙ ap bad_program (memory_by_number f ten))
+      | inr other ↦ inr (f, h (λ memory. let ten : number_of f ≡ 10 = ap number_of memory in elim other [ inl less ↦ absurd (omega (arith, ten, less)) | inr more ↦ absurd (omega (arith, ten, more)) ]), is)
+    ]
+
+-- ---- bytes say one thing at most, or have one fault, and not both
+
+-- what is said is one
+abbrev pub IsOne : {A : Type 0} → (A → Type 0) → Type 0
+IsOne {A} P = (x y : A) → P x → P y → x ≡ y
+
+-- what is said has no fault
+abbrev pub Excludes : {A F : Type 0} → (A → Type 0) → (F → Type 0) → Type 0
+Excludes {A} {F} IsText HasFault = (x : A) (f : F) → IsText x → HasFault f → ⊥
+
+-- books
+
+pub book_one : (bytes : List ℕ) → IsOne (IsBookText bytes)
+book_one bytes a b h g = one_text bytes a b h g
+
+pub book_fault_one : (bytes : List ℕ) → IsOne (HasBookFault bytes)
+book_fault_one bytes a b h g = one_book_fault bytes a b h.0 g.0 h.1 g.1
+
+pub book_excludes : (bytes : List ℕ) → Excludes (IsBookText bytes) (HasBookFault bytes)
+book_excludes bytes b f h g = g.1 (not_refused bytes b f h g.0)
+
+-- programs
+
+pub start_one : (raw : Bool) (stack : ℕ) (bytes : List ℕ) → IsOne (IsStartOf raw stack bytes)
+start_one true stack bytes a b h g = one_raw_start bytes stack a b h g
+start_one false stack bytes a b h g = one_start bytes stack a b h g
+
+pub program_fault_one : (raw : Bool) (stack : ℕ) (bytes : List ℕ) → IsOne (HasProgramFault raw stack bytes)
+program_fault_one true stack bytes a b h g = one_raw_fault bytes stack a b h g
+program_fault_one false stack bytes a b h g = one_file_fault bytes stack a b h g
+
+pub start_excludes : (raw : Bool) (stack : ℕ) (bytes : List ℕ) → Excludes (IsStartOf raw stack bytes) (HasProgramFault raw stack bytes)
+start_excludes true stack bytes s f h g = raw_programs_have_no_fault bytes stack s f h g
+start_excludes false stack bytes s f h g = programs_have_no_fault bytes stack s f h g
+
+-- recorded input
+
+pub items_one : (bytes : Option (List ℕ)) → IsOne (AreItemsOf bytes)
+items_one None a b h g = h ∙ sym g
+items_one (Some bytes) a b h g = one_spelling bytes a b h g
+
+pub journal_fault_one : (bytes : Option (List ℕ)) → IsOne (HasJournalFault bytes)
+journal_fault_one None a b h g = absurd h
+journal_fault_one (Some bytes) a b h g = one_fault bytes a b h g
+
+pub items_exclude : (bytes : Option (List ℕ)) → Excludes (AreItemsOf bytes) (HasJournalFault bytes)
+items_exclude None items f h g = g
+items_exclude (Some bytes) items f h g = no_fault bytes items f h g
+
+-- schedules, over the levels of a book
+
+pub list_one : (text : List ℕ) (b : BookCosts) (bytes : List ℕ) → IsBookText text b → IsOne (IsSchedule (names_of b) bytes)
+list_one text b bytes is x y h g = one_schedule (names_of b) (text_names text b is) bytes x y h g
+
+pub text_fault_one : (text : List ℕ) (b : BookCosts) (bytes : List ℕ) → IsBookText text b → IsOne (HasFirstFault (names_of b) bytes)
+text_fault_one text b bytes is x y h g = one_first_fault (names_of b) (text_names text b is) bytes x y h g
+
+pub list_excludes : (text : List ℕ) (b : BookCosts) (bytes : List ℕ) → IsBookText text b → Excludes (IsSchedule (names_of b) bytes) (HasFirstFault (names_of b) bytes)
+list_excludes text b bytes is list f h g = schedule_faultless (names_of b) (text_names text b is) bytes list f h g

@@ -1,0 +1,39 @@
+-- Numbers of a request that are tested one after the other.
+use Rattle.std.proofs.Common.{◌≡◌, ℕ, ◌≤◌, ◌++◌, inl, inr, List, [], ◌∷◌, Option, Some, None, arith}
+use Rattle.std.specs.Option.{MatchOption}
+use Rattle.std.specs.List.{AllByRecursion, flat_map}
+use Rattle.reversal.specs.declared.ended.Ended.{Ended}
+use Rattle.reversal.specs.declared.bounds.Bounded.{Bounded}
+use Rattle.reversal.specs.declared.options.Choice.{Choice}
+use Rattle.reversal.specs.declared.options.Choice.TheVariants.{Raw, Stack}
+use Rattle.reversal.specs.Request.{stack_pages}
+use Rattle.reversal.specs.Bounds.{option_numbers, IsWithin, RefusesFirst}
+use Rattle.reversal.proofs.Requests.{all_both}
+
+pub first_front : (xs ys : List Bounded) (e : Ended) → RefusesFirst xs e → RefusesFirst (xs ++ ys) e
+first_front [] ys e h = absurd h
+first_front (x ∷ xs) ys e (inl h) = inl h
+first_front (x ∷ xs) ys e (inr h) = inr (h.0, first_front xs ys e h.1)
+
+first_behind : (xs ys : List Bounded) (e : Ended) → AllByRecursion IsWithin xs → RefusesFirst ys e → RefusesFirst (xs ++ ys) e
+first_behind [] ys e h g = g
+first_behind (x ∷ xs) ys e h g = inr (h.0, first_behind xs ys e h.1 g)
+
+pub both_tested : (xs ys : List Bounded) (o : Option Ended) → AllByRecursion IsWithin xs → MatchOption o (AllByRecursion IsWithin ys) (RefusesFirst ys) → MatchOption o (AllByRecursion IsWithin (xs ++ ys)) (RefusesFirst (xs ++ ys))
+both_tested xs ys None h g = all_both IsWithin xs ys h g
+both_tested xs ys (Some e) h g = first_behind xs ys e h g
+
+-- the numbers of one list, and those of the other
+pub all_front : (xs ys : List Bounded) → AllByRecursion IsWithin (xs ++ ys) → AllByRecursion IsWithin xs
+all_front [] ys h = tt
+all_front (x ∷ xs) ys h = (h.0, all_front xs ys h.1)
+
+pub all_after : (xs ys : List Bounded) → AllByRecursion IsWithin (xs ++ ys) → AllByRecursion IsWithin ys
+all_after [] ys h = h
+all_after (x ∷ xs) ys h = all_after xs ys h.1
+
+-- the stack has as many pages as its bounds allow
+pub stack_within : (options : List Choice) → AllByRecursion IsWithin (flat_map option_numbers options) → (1 ≤ stack_pages options) × (stack_pages options ≤ 1024)
+stack_within [] h = (omega arith, omega arith)
+stack_within (Raw ∷ options) h = stack_within options h
+stack_within (Stack pages ∷ options) h = h.0
