@@ -35,7 +35,7 @@ returns-clause-ok g c =
     let less = pairs_less prints places c.args.n in
     let long = length-set c.self.inside.free.items c.self.inside.count c.kept-kept.result.slot in
     let changed : ◌≡◌ {A = ShelfState} (record { pairs = pairs_in prints (set places c.args.n 0); room = length (set c.self.inside.free.items c.self.inside.count c.kept-kept.result.slot) }) (without_pair (record { pairs = pairs_in prints places; room = length c.self.inside.free.items }) c.args.n) =
-      λ i. record { pairs = less i; room = long i } in
+    λ i. record { pairs = less i; room = long i } in
     changed ∙ ap (λ (s : ShelfState). without_pair s c.args.n) c.self.view_is
 
 pub returns-clause-freed : goal.returns-clause-freed

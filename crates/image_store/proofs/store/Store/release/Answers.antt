@@ -10,4 +10,4 @@ returns-clause-ok g c =
     let new = level_set c.self.inside.shelves.items _ c.release.new.self c.args.level c.self.view_is c.requires.level in
     let P : ShelfState → ShelfState → Type 0 = λ s t. OnOk c.release.result (t ≡ without_pair s c.args.n) in
     subst (λ (s : ShelfState). P s (level_of (set c.self.inside.shelves.items c.args.level c.release.new.self) c.args.level)) (sym is)
-        (subst (λ (t : ShelfState). P c.index_mut.result.now t) (sym new) c.release.ensures.ok)
+    (subst (λ (t : ShelfState). P c.index_mut.result.now t) (sym new) c.release.ensures.ok)
