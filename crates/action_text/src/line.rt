@@ -1,5 +1,5 @@
 // A line of a schedule, with a function for each kind of action.
-ghost use Rattle.std.specs.Prelude.{◌≡◌, ◌≤◌, OnOk};
+ghost use Rattle.std.specs.Prelude.{◌≡◌, ◌≤◌, [], OnOk};
 ghost use Rattle.level_book.specs.BookCosts.{names_of};
 ghost use Rattle.action_text.specs.declared.words.Kind.TheVariants as kinds;
 ghost use Rattle.action_text.specs.Reading.{Gives, arguments_of, forward_said, reverse_said, line_of};
@@ -47,17 +47,18 @@ pub(crate) fn line(
 }
 
 // The action of this kind that the rest of the line says, or none, where its profile is none.
+#[tactic(auto, unfolding(crate::specs::Reading::arguments_of))]
 fn arguments(kind: Kind, cursor: &mut Cursor, book: &Book) -> Result<Option<Action>, LineFault>
     ensures value { Gives (λ found. found) result (arguments_of (names_of book.now) kind cursor.old) }
     ensures later { OnOk result (cursor.new.later ≡ cursor.old.later) }
 {
     match kind {
         Kind::Forward => forward(cursor, book),
-        Kind::Reverse => reverse(cursor, book),
+        Kind::Reverse => reverse(cursor),
         Kind::Copy => copy(cursor, book),
         Kind::Move => move_(cursor, book),
-        Kind::EndForward => end_forward(cursor, book),
-        Kind::EndReverse => end_reverse(cursor, book),
+        Kind::EndForward => end_forward(cursor),
+        Kind::EndReverse => end_reverse(cursor),
     }
 }
 
@@ -98,8 +99,8 @@ fn forward_said(from: u32, to: u32, state: bool, tape: bool, place: Place) -> Op
 
 // The arguments of a Reverse.
 #[tactic(auto, unfolding(crate::specs::Reading::arguments_of))]
-fn reverse(cursor: &mut Cursor, book: &Book) -> Result<Option<Action>, LineFault>
-    ensures value { Gives (λ found. found) result (arguments_of (names_of book.now) kinds.Reverse cursor.old) }
+fn reverse(cursor: &mut Cursor) -> Result<Option<Action>, LineFault>
+    ensures value { Gives (λ found. found) result (arguments_of [] kinds.Reverse cursor.old) }
     ensures later { OnOk result (cursor.new.later ≡ cursor.old.later) }
 {
     cursor.mark(b'(')?;
@@ -161,8 +162,8 @@ fn move_(cursor: &mut Cursor, book: &Book) -> Result<Option<Action>, LineFault>
 
 // The brackets of an EndForward.
 #[tactic(auto, unfolding(crate::specs::Reading::arguments_of))]
-fn end_forward(cursor: &mut Cursor, book: &Book) -> Result<Option<Action>, LineFault>
-    ensures value { Gives (λ found. found) result (arguments_of (names_of book.now) kinds.EndForward cursor.old) }
+fn end_forward(cursor: &mut Cursor) -> Result<Option<Action>, LineFault>
+    ensures value { Gives (λ found. found) result (arguments_of [] kinds.EndForward cursor.old) }
     ensures later { OnOk result (cursor.new.later ≡ cursor.old.later) }
 {
     cursor.mark(b'(')?;
@@ -173,8 +174,8 @@ fn end_forward(cursor: &mut Cursor, book: &Book) -> Result<Option<Action>, LineF
 
 // The brackets of an EndReverse.
 #[tactic(auto, unfolding(crate::specs::Reading::arguments_of))]
-fn end_reverse(cursor: &mut Cursor, book: &Book) -> Result<Option<Action>, LineFault>
-    ensures value { Gives (λ found. found) result (arguments_of (names_of book.now) kinds.EndReverse cursor.old) }
+fn end_reverse(cursor: &mut Cursor) -> Result<Option<Action>, LineFault>
+    ensures value { Gives (λ found. found) result (arguments_of [] kinds.EndReverse cursor.old) }
     ensures later { OnOk result (cursor.new.later ≡ cursor.old.later) }
 {
     cursor.mark(b'(')?;
