@@ -334,7 +334,7 @@ module _ (file : List ℕ) (stack : ℕ) (header : Header) (h : IsHeaderOf file 
       ]
 
 pub start_or_fault : StartOrFault
-start_or_fault file stack small =
+start_or_fault file stack =
     elim (magic_cases file) [
       | inr g ↦ inr (NotElf, record { before = before_magic file stack; missed = g })
       | inl magic ↦ elim (class_cases file) [
@@ -362,7 +362,7 @@ words_cases bytes =
     ]
 
 pub raw_start_or_fault : RawStartOrFault
-raw_start_or_fault bytes stack small =
+raw_start_or_fault bytes stack =
     let pages : List ℕ = listed (raw_pieces bytes) stack in
     let mapped = are_listed (raw_pieces bytes) stack in
     elim (words_cases bytes) [

@@ -63,7 +63,7 @@ low_page file stack page fit m =
     ]
 
 pub starts_are_states : StartsAreStates
-starts_are_states file stack s few small h =
+starts_are_states file stack s small h =
     let pages : List ℕ = h.start.pages in
     let segments : List Segment = segments_of file (loads file) in
     let low : All (λ page. page < 2 ^ 20) pages = all_members (λ page. page < 2 ^ 20) pages (λ page c. low_page file stack page h.fit ((h.start.mapped.each page).0 c)) in

@@ -18,15 +18,15 @@ OneFault = (file : List ℕ) (stack : ℕ) (a b : ElfFault) → FirstFault file 
 abbrev pub ProgramsHaveNoFault : Type 0
 ProgramsHaveNoFault = (file : List ℕ) (stack : ℕ) (s : MachineState) (fault : ElfFault) → IsProgram file stack s → FirstFault file stack fault → ⊥
 
--- every file of bytes has a start state or a first fault
+-- every file has a start state or a first fault
 abbrev pub StartOrFault : Type 0
 StartOrFault =
-    (file : List ℕ) (stack : ℕ) → stack ≤ 1024 →
+    (file : List ℕ) (stack : ℕ) →
     ((s : MachineState) × IsProgram file stack s) ⊎ ((fault : ElfFault) × FirstFault file stack fault)
 
 -- the start state of a file of bytes is a state that a machine can be in
 abbrev pub StartsAreStates : Type 0
-StartsAreStates = (file : List ℕ) (stack : ℕ) (s : MachineState) → stack ≤ 1024 → All (λ b. b < 256) file → IsProgram file stack s → IsMachineState s
+StartsAreStates = (file : List ℕ) (stack : ℕ) (s : MachineState) → All (λ b. b < 256) file → IsProgram file stack s → IsMachineState s
 
 -- the same of raw words
 abbrev pub OneRawStart : Type 0
@@ -40,7 +40,7 @@ RawProgramsHaveNoFault = (bytes : List ℕ) (stack : ℕ) (s : MachineState) (fa
 
 abbrev pub RawStartOrFault : Type 0
 RawStartOrFault =
-    (bytes : List ℕ) (stack : ℕ) → stack ≤ 1024 →
+    (bytes : List ℕ) (stack : ℕ) →
     ((s : MachineState) × IsRawProgram bytes stack s) ⊎ ((fault : ElfFault) × FirstRawFault bytes stack fault)
 
 abbrev pub RawStartsAreStates : Type 0

@@ -30,9 +30,12 @@ const RAW: u32 = 0x10000;
 // The stack pointer x2 at the start, 16 bytes below the end of the stack.
 const STACK_POINTER: u32 = 0xbfff_fff0;
 
-/// The start state of an ELF file, with a stack of so many pages.
+/// The start state of an ELF file (Tool Interface Standard, Executable and Linking Format 1.2), with a stack of so many pages
+/// below 0xC0000000. It refuses what isn't an executable file of 32 bits for RISC-V whose load segments fit, lie apart and
+/// need at most 4,096 pages with the stack's. Section headers, flags and alignments aren't looked at.
 pub fn load(alloc: Global, file: &[u8], stack: u32) -> Result<State, ElfFault>
-    requires { (1 ≤ stack) × (stack ≤ 1024) }
+    requires some { 1 ≤ stack }
+    requires few { stack ≤ 1024 }
 
     // What is loaded is a program's start state, and a program is loaded, unless memory runs out.
     ensures found { IfOk result (IsProgram file.now stack) }
@@ -45,9 +48,11 @@ pub fn load(alloc: Global, file: &[u8], stack: u32) -> Result<State, ElfFault>
     load_file(alloc, file, stack)
 }
 
-/// The start state of raw words, with a stack of so many pages.
+/// The start state of raw words, which stand from 0x10000 on, with a stack of so many pages below 0xC0000000. It refuses bytes
+/// that are no whole words, and those that need more than 4,096 pages with the stack's.
 pub fn load_raw(alloc: Global, bytes: &[u8], stack: u32) -> Result<State, ElfFault>
-    requires { (1 ≤ stack) × (stack ≤ 1024) }
+    requires some { 1 ≤ stack }
+    requires few { stack ≤ 1024 }
 
     // What is loaded is a program's start state, and a program is loaded, unless memory runs out.
     ensures found { IfOk result (IsRawProgram bytes.now stack) }
