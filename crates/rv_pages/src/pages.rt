@@ -308,7 +308,8 @@ impl Pages {
 
     /// The index of the page with this number, in constant time, if it is mapped.
     pub fn index_of(&self, number: u32) -> Option<u32>
-        ensures { IsPlaceOf (page_numbers self.now) number result }
+        ensures place { IsPlaceOf (page_numbers self.now) number result }
+        ensures few { IfSome result (λ index. index < 4096) }
     {
         let tables = &self.tables;
         if number >= NUMBERS {

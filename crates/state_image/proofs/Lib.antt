@@ -1,3 +1,9 @@
 pub mod Room
 pub mod Stored
+pub mod Finding
+pub mod Right
+pub mod Clearing
+pub mod Members
+pub mod Spelled
+pub mod Images
 pub mod Telling

@@ -145,12 +145,12 @@ memory_tells m k p q numbers h =
     p.made ∙ same_pages (page_bytes m) (page_bytes k) pages bytes ∙ ap (of_pages (page_bytes k)) numbers ∙ sym q.made
 
 -- a status by its numbers
-kind_below : (a : Status) → status_kind a < 2 ^ 32
+pub kind_below : (a : Status) → status_kind a < 2 ^ 32
 kind_below Running = omega arith
 kind_below (Exited code) = omega arith
 kind_below (Trapped cause) = omega arith
 
-value_below : (a : Status) → IsStatus a → status_value a < 2 ^ 32
+pub value_below : (a : Status) → IsStatus a → status_value a < 2 ^ 32
 value_below Running h = omega arith
 value_below (Exited code) h = omega (arith, h)
 value_below (Trapped cause) h = omega (arith, cause_below cause h)

@@ -13,10 +13,10 @@ use rv_pages::Pages;
 use sha2::{Digest, Sha256};
 
 // The version of the form.
-const VERSION: u32 = 1;
+pub(crate) const VERSION: u32 = 1;
 
 // As many pages as may be mapped.
-const MAX_PAGES: usize = 4096;
+pub(crate) const MAX_PAGES: usize = 4096;
 
 /// The SHA-256 of a state's image.
 pub(crate) fn image_digest(state: &State) -> [u8; 32]
@@ -59,7 +59,7 @@ fn feed_registers(hasher: &mut Sha256, x: &[u32; 32])
 }
 
 // The kind of a status, and the number that goes with it.
-fn status_numbers(status: Status) -> (u32, u32)
+pub(crate) fn status_numbers(status: Status) -> (u32, u32)
     ensures kind { result.0 ≡ status_kind status }
     ensures value { result.1 ≡ status_value status }
 {
@@ -71,7 +71,7 @@ fn status_numbers(status: Status) -> (u32, u32)
 }
 
 // Marks the pages that are stored by their indices, and counts them. Pages that were never written aren't looked at.
-fn mark_stored(pages: &Pages, stored: &mut [bool]) -> u32
+pub(crate) fn mark_stored(pages: &Pages, stored: &mut [bool]) -> u32
     requires room { length stored.old ≡ 4096 }
     requires unmarked { (k : ℕ) → slice_index_or stored.old k false ≡ false }
     ensures count { result ≡ length (pages_stored pages.now) }
@@ -106,7 +106,7 @@ fn feed_pages(hasher: &mut Sha256, pages: &Pages, stored: &[bool])
 }
 
 // Whether all bytes are 0. It reads them all, many at a time, which is faster than to stop at the first other one.
-fn is_zero(bytes: &[u8]) -> bool
+pub(crate) fn is_zero(bytes: &[u8]) -> bool
     ensures { result ≡ list_all (λ b. b == 0) bytes.now }
 {
     let mut seen = 0;

@@ -2,8 +2,17 @@
 //! on it. `specs/Image.antt` says which bytes an image has, `specs/Line.antt` which a line has.
 #![tactic(auto)]
 
+mod decoding;
+mod encoding;
+mod fault;
+mod form;
 mod image;
+#[cfg(test)]
+mod image_tests;
 pub mod laws;
 mod text;
 
+pub use crate::decoding::decode_image;
+pub use crate::encoding::{encode_image, max_image};
+pub use crate::fault::ImageFault;
 pub use crate::text::state_line;

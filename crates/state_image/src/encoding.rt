@@ -1,0 +1,108 @@
+// The image of a state, as bytes in memory.
+ghost use Rattle.std.specs.Prelude.{◌≡◌, ◌+◌, ◌*◌, ◌≤◌, ◌++◌, false, length, drop, slice_index_or};
+ghost use Rattle.std.specs.List.{flat_map};
+ghost use Rattle.std.specs.Int.{to_le_bytes, w32};
+ghost use Rattle.std.specs.Vec.{vec_len, vec_capacity};
+ghost use Rattle.rv_pages.specs.Memory.{page_numbers};
+ghost use Rattle.state_image.specs.Marked.{MarksStored};
+ghost use Rattle.state_image.specs.Image.{image, header, pages_stored, page_field};
+
+use crate::image::{MAX_PAGES, VERSION, mark_stored, status_numbers};
+use rv_machine::State;
+use rv_pages::Pages;
+
+// The bytes of an image before its pages, and those of a page with its number.
+const HEADER: u32 = 164;
+
+const PAGE_FIELD: u32 = 4100;
+
+/// The most bytes that an image of a state with these mapped pages has.
+pub fn max_image(state: &State) -> u32
+    ensures { result ≡ 164 + 4100 * length (page_numbers state.now.memory) }
+{
+    HEADER + PAGE_FIELD * state.pages.count()
+}
+
+/// Writes the image of a state into memory that is reserved for it, in place of what was there. It takes no memory.
+pub fn encode_image(state: &State, into: &mut Vec<u8>)
+    requires { 164 + 4100 * length (page_numbers state.now.memory) ≤ vec_capacity into.old }
+    ensures image { into.new.items ≡ image state.now }
+    ensures reserved { vec_capacity into.old ≤ vec_capacity into.new }
+{
+    let mut stored = [false; MAX_PAGES];
+    let count = mark_stored(&state.pages, &mut stored);
+    push_header(state, count, into);
+    push_pages(&state.pages, &stored, into);
+}
+
+// Writes all of the image before its pages, of which so many are stored.
+fn push_header(state: &State, stored: u32, into: &mut Vec<u8>)
+    requires stored { stored ≡ length (pages_stored state.now.memory) }
+    requires room { 164 ≤ vec_capacity into.old }
+    ensures items { into.new.items ≡ header state.now }
+    ensures len { vec_len into.new ≡ 164 }
+    ensures reserved { vec_capacity into.old ≤ vec_capacity into.new }
+{
+    into.clear();
+    push(into, b"RVST");
+    push_word(into, VERSION);
+    push_word(into, state.pc);
+    push_registers(into, &state.x);
+    let (kind, value) = status_numbers(state.status);
+    push_word(into, kind);
+    push_word(into, value);
+    push_word(into, state.item);
+    push_word(into, state.offset);
+    push(into, &state.written.to_le_bytes());
+    push_word(into, stored);
+}
+
+// Writes x1 to x31.
+fn push_registers(into: &mut Vec<u8>, x: &[u32; 32])
+    requires { vec_len into.old + 124 ≤ vec_capacity into.old }
+    ensures items { into.new.items ≡ into.old.items ++ flat_map (to_le_bytes w32) (drop 1 x.now) }
+    ensures len { vec_len into.new ≡ vec_len into.old + 124 }
+    ensures reserved { vec_capacity into.old ≤ vec_capacity into.new }
+{
+    for word in &x[1..] {
+        push_word(into, *word);
+    }
+}
+
+// Writes the pages that are stored.
+fn push_pages(pages: &Pages, stored: &[bool], into: &mut Vec<u8>)
+    requires stored { length stored.now ≡ 4096 }
+    requires marked { MarksStored pages.now stored.now }
+    requires room { vec_len into.old + 4100 * length (page_numbers pages.now) ≤ vec_capacity into.old }
+    ensures items { into.new.items ≡ into.old.items ++ flat_map (page_field pages.now) (pages_stored pages.now) }
+    ensures reserved { vec_capacity into.old ≤ vec_capacity into.new }
+{
+    let mut from = 0;
+    while let Some(index) = pages.next_touched(from) {
+        if stored[index as usize] {
+            push_word(into, pages.number(index));
+            push(into, pages.page(index));
+        }
+        from = index + 1;
+    }
+}
+
+// Writes a number, the lowest byte first.
+fn push_word(into: &mut Vec<u8>, word: u32)
+    requires { vec_len into.old + 4 ≤ vec_capacity into.old }
+    ensures items { into.new.items ≡ into.old.items ++ to_le_bytes w32 word }
+    ensures len { vec_len into.new ≡ vec_len into.old + 4 }
+    ensures reserved { vec_capacity into.old ≤ vec_capacity into.new }
+{
+    push(into, &word.to_le_bytes());
+}
+
+// Writes bytes for which there is room.
+fn push(into: &mut Vec<u8>, piece: &[u8])
+    requires { vec_len into.old + length piece.now ≤ vec_capacity into.old }
+    ensures items { into.new.items ≡ into.old.items ++ piece.now }
+    ensures len { vec_len into.new ≡ vec_len into.old + length piece.now }
+    ensures reserved { vec_capacity into.old ≤ vec_capacity into.new }
+{
+    into.extend_from_slice(piece).unwrap();
+}
