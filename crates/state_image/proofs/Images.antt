@@ -1,20 +1,19 @@
 -- Nothing is wrong with the image of a state that a machine can be in.
-use Rattle.std.proofs.Common.{◌≡◌, ◌==◌, ℕ, zero, suc, ◌+◌, ◌-◌, ◌*◌, ◌%◌, ◌<◌, ◌≤◌, ◌^◌, Bool, true, false, cond, not, ◌||◌, nat_lt, nat_le, nat_eq, codes, None, List, [], ◌∷◌, ◌++◌, length, get_or, take, drop, map, find, filter, inl, inr, ⊎_elim, refl, sym, ap, ◌∙◌, subst, append_assoc, arith}
+use Rattle.std.proofs.Common.{◌≡◌, ◌==◌, ℕ, zero, suc, ◌+◌, ◌-◌, ◌*◌, ◌%◌, ◌<◌, ◌≤◌, ◌^◌, Bool, true, false, cond, not, ◌||◌, nat_lt, nat_le, codes, None, List, [], ◌∷◌, ◌++◌, length, get_or, take, drop, filter, inl, inr, ⊎_elim, refl, sym, ap, ◌∙◌, subst, arith}
 use Rattle.std.proofs.lemmas.Bool.{lt-ltb}
-use Rattle.std.proofs.lemmas.List.{get_or-drop, length-append, length-take-le, length-drop, take_all, take_at, drop_at, drop-append-le, take-append-le, drop-drop}
+use Rattle.std.proofs.lemmas.List.{length-append, length-drop, take_at, drop_at, drop-append-le, take-append-le, drop-drop}
 use Rattle.std.proofs.Math.Seq.{drop-cons, drop-nil}
 use Rattle.std.proofs.lemmas.List.Elements.{All-filter, filter_passes}
 use Rattle.std.proofs.lemmas.List.Kept.{IsStrictlyIncreasing-filter}
 use Rattle.std.proofs.lemmas.Nat.{from_le_bytes-to_le_bytes_4}
 use Rattle.std.specs.Int.{to_le_bytes, from_le_bytes, w32, w64}
 use Rattle.std.specs.List.{All, AllByRecursion, flat_map, list_all, list_any}
-use Rattle.std.specs.List.Sorted.{IsStrictlyIncreasing}
-use Rattle.rv_pages.specs.Memory.{Memory, page_numbers, page_bytes, IsPage, IsMemory}
+use Rattle.rv_pages.specs.Memory.{page_numbers, page_bytes, IsPage}
 use Rattle.rv_machine.specs.declared.status.Status.{Status}
 use Rattle.rv_machine.specs.declared.status.Status.TheVariants.{Running, Exited, Trapped}
 use Rattle.rv_machine.specs.MachineState.{MachineState, IsStatus, IsMachineState}
 use Rattle.state_image.specs.Image.{image, header, pages_stored, page_field, is_stored, status_kind, status_value}
-use Rattle.state_image.specs.ImageForm.{part, number_at, is_value, page_count, page_start, page_number, page_part, rises, first_wrong, first_unmapped, numbers_in}
+use Rattle.state_image.specs.ImageForm.{part, number_at, is_value, page_count, page_start, page_number, page_part, rises, first_unmapped}
 use Rattle.state_image.specs.Decoded.{IsRight, IsRightPage}
 use Rattle.state_image.proofs.Telling.{kind_below, value_below}
 use Rattle.state_image.proofs.Finding.{none_first, listed}
@@ -42,14 +41,14 @@ words_length (x ∷ xs) = (let rest = words_length xs in omega (arith, rest, len
 -- ---- fields of one size
 
 module _ (f : ℕ → List ℕ) (size : ℕ) where
-  abbrev Sized : List ℕ → Type 0
+  abbrev pub Sized : List ℕ → Type 0
   Sized ns = AllByRecursion (λ n. length (f n) ≡ size) ns
 
-  fields_length : (ns : List ℕ) → Sized ns → length (flat_map f ns) ≡ size * length ns
+  pub fields_length : (ns : List ℕ) → Sized ns → length (flat_map f ns) ≡ size * length ns
   fields_length [] h = omega arith
   fields_length (n ∷ ns) h = (let first = h.0 in let rest = fields_length ns h.1 in let more : size * suc (length ns) ≡ size + size * length ns = omega arith in omega (arith, first, rest, more, length-append (f n) (flat_map f ns)))
 
-  drop_fields : (ns : List ℕ) (k : ℕ) → Sized ns → drop (size * k) (flat_map f ns) ≡ flat_map f (drop k ns)
+  pub drop_fields : (ns : List ℕ) (k : ℕ) → Sized ns → drop (size * k) (flat_map f ns) ≡ flat_map f (drop k ns)
   drop_fields ns zero h = (let none : size * 0 ≡ 0 = omega arith in ap (λ d. drop d (flat_map f ns)) none)
   drop_fields [] (suc k) h = drop-nil (size * suc k)
   drop_fields (n ∷ ns) (suc k) h =

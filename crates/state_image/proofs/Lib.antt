@@ -6,4 +6,5 @@ pub mod Clearing
 pub mod Members
 pub mod Spelled
 pub mod Images
+pub mod Made
 pub mod Telling

@@ -1,8 +1,8 @@
 -- Bytes of which no field is wrong.
-use Rattle.std.proofs.Common.{◌≡◌, ◌==◌, ℕ, zero, suc, ◌+◌, ◌-◌, ◌*◌, ◌%◌, ◌<◌, ◌≤◌, Bool, true, false, not, cond, ◌&&◌, ◌||◌, nat_lt, nat_le, nat_eq, codes, List, [], ◌∷◌, ◌++◌, length, map, find, Option, Some, None, refl, sym, ap, ◌∙◌, subst, arith}
-use Rattle.std.proofs.lemmas.Bool.{cases_lt, eqb-true, eq-eqb, ne_eqb, ltb-true, ltb-false, lt-ltb, le-ltb}
-use Rattle.std.specs.List.{list_all, range_with_len, starts_with}
-use Rattle.state_image.specs.ImageForm.{Field, is_value, is_wrong, magic, version, pc, registers, kind, value, item, offset, written, count, header_fields, page, page_start, page_number, page_part, page_count, number_at, rises, start_or, trailing, first_wrong, fields}
+use Rattle.std.proofs.Common.{◌≡◌, ◌==◌, ℕ, zero, suc, ◌+◌, ◌-◌, ◌%◌, ◌<◌, ◌≤◌, Bool, true, false, not, cond, ◌&&◌, ◌||◌, nat_lt, nat_le, List, ◌∷◌, length, map, find, Option, Some, None, refl, sym, ap, ◌∙◌, subst, arith}
+use Rattle.std.proofs.lemmas.Bool.{eqb-true, eq-eqb, ne_eqb, ltb-true, ltb-false, lt-ltb, le-ltb}
+use Rattle.std.specs.List.{list_all, range_with_len}
+use Rattle.state_image.specs.ImageForm.{Field, is_wrong, magic, version, pc, registers, kind, value, item, offset, written, count, page, page_start, page_number, page_part, page_count, number_at, rises, start_or, trailing, first_wrong, fields}
 use Rattle.state_image.specs.Decoded.{IsRightPage, IsRight}
 use Rattle.state_image.proofs.Finding.{none_trails, each_right, pages_right}
 

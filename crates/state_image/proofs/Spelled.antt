@@ -1,5 +1,5 @@
 -- The image of a state is the bytes that the state was taken from.
-use Rattle.std.proofs.Common.{◌≡◌, ◌==◌, ℕ, zero, suc, ◌+◌, ◌-◌, ◌*◌, ◌%◌, ◌<◌, ◌≤◌, ◌^◌, Bool, true, false, not, nat_eq, codes, List, [], ◌∷◌, ◌++◌, length, get_or, take, drop, map, filter, Contains, inl, inr, refl, sym, ap, ◌∙◌, subst, append_assoc, arith}
+use Rattle.std.proofs.Common.{◌≡◌, ◌==◌, ℕ, zero, suc, ◌+◌, ◌*◌, ◌<◌, ◌≤◌, Bool, true, false, not, codes, List, [], ◌∷◌, ◌++◌, length, get_or, take, drop, map, inl, inr, refl, sym, ap, ◌∙◌, subst, arith}
 use Rattle.std.proofs.lemmas.Bool.{cases_lt}
 use Rattle.std.proofs.lemmas.List.{get_or-take, get_or-drop, get_or_past, length-take, length-take-le, length-drop, length-map, take_all, take-append-drop, drop-drop}
 use Rattle.std.proofs.lemmas.List.FromFn.{length-range_with_len}
@@ -7,12 +7,12 @@ use Rattle.std.proofs.lemmas.Slice.Eq.{bytes_eq-Decides}
 use Rattle.std.proofs.Math.Seq.{take-add}
 use Rattle.std.proofs.lemmas.Nat.{le_bytes_4, le_bytes_8}
 use Rattle.std.specs.Int.{to_le_bytes, from_le_bytes, w32, w64}
-use Rattle.std.specs.List.{flat_map, list_all, starts_with, range_with_len}
+use Rattle.std.specs.List.{flat_map, list_all, range_with_len}
 use Rattle.rv_pages.specs.Memory.{Memory, page_numbers, page_bytes, IsMemory, IsZeroPage}
 use Rattle.rv_machine.specs.MachineState.{MachineState}
 use Rattle.state_image.specs.Image.{image, header, pages_stored, page_field, is_stored, status_kind, status_value}
 use Rattle.state_image.specs.ImageForm.{part, number_at, page_count, page_start, page_number, page_part, numbers_in}
-use Rattle.state_image.specs.Decoded.{IsRight, IsUnnamed, AreMapped, IsStateOf}
+use Rattle.state_image.specs.Decoded.{IsRight, AreMapped, IsStateOf}
 use Rattle.state_image.proofs.Right.{apart}
 use Rattle.state_image.proofs.Stored.{zero_not_stored}
 use Rattle.state_image.proofs.Members.{Mem, filter_is, up_increasing, mem_contained, place_of, mem_from, from_mem, decided, up_from}
@@ -21,13 +21,13 @@ abbrev pub IsBytes : List ℕ → Type 0
 IsBytes bytes = (i : ℕ) → get_or bytes i 0 < 256
 
 module _ (bytes : List ℕ) (small : IsBytes bytes) where
-  part_small : (at n i : ℕ) → get_or (part bytes at n) i 0 < 256
+  pub part_small : (at n i : ℕ) → get_or (part bytes at n) i 0 < 256
   part_small at n i = elim (cases_lt i n) [
     | inl low ↦ rw (get_or-take n (drop at bytes) i 0 low) (rw get_or-drop (small (at + i)))
     | inr past ↦ rw (get_or_past (part bytes at n) i 0 (omega (arith, past, length-take n (drop at bytes)))) (omega arith)
   ]
 
-  part_long : (at n : ℕ) → at + n ≤ length bytes → length (part bytes at n) ≡ n
+  pub part_long : (at n : ℕ) → at + n ≤ length bytes → length (part bytes at n) ≡ n
   part_long at n fits = length-take-le n (drop at bytes) (omega (arith, fits, length-drop at bytes))
 
   -- a number is spelled as it stood

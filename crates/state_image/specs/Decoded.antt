@@ -3,7 +3,7 @@ use Rattle.std.specs.Prelude.{◌≡◌, ◌≢◌, ◌==◌, ℕ, ◌+◌, ◌*
 use Rattle.std.specs.List.{list_all, starts_with}
 use Rattle.std.specs.Int.{from_le_bytes, w64}
 use Rattle.rv_pages.specs.Memory.{Memory, page_numbers, page_bytes, IsZeroPage}
-use Rattle.rv_machine.specs.MachineState.{MachineState, IsStatus}
+use Rattle.rv_machine.specs.MachineState.{MachineState}
 use Rattle.state_image.specs.Image.{status_kind, status_value}
 use Rattle.state_image.specs.ImageForm.{part, number_at, is_value, page_count, page_start, page_number, page_part, rises}
 

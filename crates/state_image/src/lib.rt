@@ -7,6 +7,7 @@ mod encoding;
 mod fault;
 mod form;
 mod image;
+pub mod image_laws;
 #[cfg(test)]
 mod image_tests;
 pub mod laws;

@@ -1,4 +1,4 @@
-use Rattle.std.proofs.Common.{◌≡◌, ℕ, ◌+◌, ◌<◌, ◌≤◌, List, length, get_or, false, ap, sym, ◌∙◌, arith}
+use Rattle.std.proofs.Common.{ℕ, ◌<◌, List, length, ap, ◌∙◌, arith}
 use Rattle.rv_pages.specs.Memory.{page_numbers}
 use Rattle.state_image.proofs.Clearing.{passed, cleared, kept}
 use Rattle.state_image.proofs.decoding.clear_unnamed.Goals as goal

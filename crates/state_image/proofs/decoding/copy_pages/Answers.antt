@@ -1,4 +1,4 @@
-use Rattle.std.proofs.Common.{◌≡◌, ℕ, ◌+◌, ◌-◌, ◌<◌, List, length, take, drop, get_or, Some, Contains, ap, sym, subst, ◌∙◌, arith}
+use Rattle.std.proofs.Common.{◌≡◌, ℕ, ◌+◌, ◌-◌, ◌<◌, List, take, drop, get_or, Some, Contains, ap, sym, subst, ◌∙◌, arith}
 use Rattle.rv_pages.specs.Memory.{page_numbers, page_bytes, IsPlaceOf}
 use Rattle.state_image.specs.ImageForm.{number_at, page_number, page_part, page_count}
 use Rattle.state_image.proofs.Clearing.{has_place, copied_more}

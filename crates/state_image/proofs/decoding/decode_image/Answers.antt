@@ -1,8 +1,8 @@
-use Rattle.std.proofs.Common.{◌≡◌, ℕ, List, Some, None, Ok, Err, refl, sym, ap, subst, ◌∙◌, arith}
+use Rattle.std.proofs.Common.{◌≡◌, ℕ, List, Some, None, refl, sym, subst, ◌∙◌, arith}
 use Rattle.rv_pages.specs.Memory.{page_numbers}
 use Rattle.rv_machine.specs.MachineState.{MachineState, IsMachineState}
 use Rattle.state_image.specs.Image.{image}
-use Rattle.state_image.specs.ImageForm.{first_wrong, first_unmapped}
+use Rattle.state_image.specs.ImageForm.{first_unmapped}
 use Rattle.state_image.specs.Decoded.{AreMapped, MarksNamed, IsRight}
 use Rattle.state_image.proofs.Stored.{no_marks}
 use Rattle.state_image.proofs.Right.{is_right, none_wrong}

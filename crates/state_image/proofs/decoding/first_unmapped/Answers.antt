@@ -1,4 +1,4 @@
-use Rattle.std.proofs.Common.{◌≡◌, ◌==◌, ℕ, ◌+◌, ◌<◌, true, false, not, List, length, get_or, Some, Contains, ap, sym, subst, ◌∙◌, below_more, arith}
+use Rattle.std.proofs.Common.{◌≡◌, ◌==◌, ℕ, ◌<◌, true, false, not, List, length, get_or, Some, Contains, ap, sym, ◌∙◌, below_more, arith}
 use Rattle.std.proofs.lemmas.List.{length-set, get_or_default}
 use Rattle.std.specs.List.{list_any}
 use Rattle.rv_pages.specs.Memory.{page_numbers}

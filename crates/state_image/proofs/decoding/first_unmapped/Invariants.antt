@@ -1,4 +1,4 @@
-use Rattle.std.proofs.Common.{◌≡◌, ℕ, ◌<◌, true, false, length, get_or, Contains}
+use Rattle.std.proofs.Common.{◌≡◌, ℕ, ◌<◌, length, Contains}
 use Rattle.rv_pages.specs.Memory.{page_numbers}
 use Rattle.state_image.specs.ImageForm.{page_number}
 use Rattle.state_image.specs.Decoded.{MarksNamed}

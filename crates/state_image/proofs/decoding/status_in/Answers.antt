@@ -1,4 +1,4 @@
-use Rattle.std.proofs.Common.{◌≡◌, ◌<◌, ℕ, true, subst, sym, arith}
+use Rattle.std.proofs.Common.{◌≡◌, true, subst, sym, arith}
 use Rattle.rv_machine.specs.declared.status.Status.TheVariants.{Trapped}
 use Rattle.rv_machine.specs.MachineState.{IsStatus}
 use Rattle.rv_machine.proofs.Causes.{cause_below}

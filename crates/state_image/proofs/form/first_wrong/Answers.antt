@@ -1,4 +1,4 @@
-use Rattle.std.proofs.Common.{◌≡◌, ◌<◌, ℕ, false, find, map, Some, None, sym, ◌∙◌, ap, below_more, arith}
+use Rattle.std.proofs.Common.{◌≡◌, ◌<◌, false, map, Some, sym, ◌∙◌, ap, below_more, arith}
 use Rattle.std.specs.List.{range_with_len}
 use Rattle.state_image.specs.ImageForm.{is_wrong, start_or, trailing, header_fields, page, page_start, page_count}
 use Rattle.state_image.proofs.Finding.{start_some, find_later, first_page, pages_right, trailing_some, trailing_none}
