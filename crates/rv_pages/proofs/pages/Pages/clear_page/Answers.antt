@@ -1,7 +1,7 @@
-use Rattle.std.proofs.Common.{◌≤◌, ◌≡◌, ◌≢◌, ◌+◌, ◌-◌, ◌*◌, ◌<◌, ◌/◌, ℕ, List, refl, ap, sym, subst, ◌∙◌, length, get_or, take, drop, arith}
+use Rattle.std.proofs.Common.{◌≤◌, ◌≡◌, ◌+◌, ◌-◌, ◌*◌, ◌<◌, ℕ, List, refl, ap, sym, subst, ◌∙◌, length, get_or, take, drop, arith}
 use Rattle.std.proofs.lemmas.List.{length-take, length-drop}
 use Rattle.std.specs.List.{All}
-use Rattle.rv_pages.specs.Memory.{Memory, page_numbers, page_bytes}
+use Rattle.rv_pages.specs.Memory.{page_numbers, page_bytes}
 use Rattle.rv_pages.specs.Kept.{memory_kept, AreKept, ArePages}
 use Rattle.rv_pages.proofs.Written.{kept_written, length_written}
 use Rattle.rv_pages.proofs.Changed.{written_items, pages_cleared, outside_page}

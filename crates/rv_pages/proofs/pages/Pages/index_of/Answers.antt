@@ -1,5 +1,5 @@
-use Rattle.std.proofs.Common.{◌≡◌, ◌<◌, ◌≤◌, ◌^◌, ℕ, List, length, get_or, Some, None, sym, subst, ap, arith}
-use Rattle.rv_pages.specs.Memory.{page_numbers, IsPlaceOf}
+use Rattle.std.proofs.Common.{◌<◌, ◌^◌, ℕ, List, length, get_or, Some, None, sym, subst, arith}
+use Rattle.rv_pages.specs.Memory.{IsPlaceOf}
 use Rattle.rv_pages.proofs.Numbers.{seen_numbers}
 use Rattle.rv_pages.proofs.pages.Pages.index_of.Goals as goal
 
