@@ -61,13 +61,13 @@ stays pairs n m kept within at = elim (after_change pairs n m None kept within a
 pub own_less : (pairs : List (Option Kept)) (n : ℕ) → n < length pairs → HaveOwnSlots pairs → HaveOwnSlots (set pairs n None)
 own_less pairs n within own a b ka kb at_a at_b e = own a b ka kb (stays pairs n a ka within at_a).1 (stays pairs n b kb within at_b).1 e
 
-held_more : (pairs : List (Option Kept)) (n : ℕ) (kept : Kept) → n < length pairs → pair_at pairs n ≡ None → held (set pairs n (Some kept)) ≡ held pairs + 1
+pub held_more : (pairs : List (Option Kept)) (n : ℕ) (kept : Kept) → n < length pairs → pair_at pairs n ≡ None → held (set pairs n (Some kept)) ≡ held pairs + 1
 held_more pairs n kept within none =
     let step = sum_by-set one_if pairs n (Some kept) None within in
     let at : one_if (get_or pairs n None) ≡ 0 = ap one_if none in
     omega (arith, step, at)
 
-held_less : (pairs : List (Option Kept)) (n : ℕ) (kept : Kept) → n < length pairs → pair_at pairs n ≡ Some kept → held (set pairs n None) + 1 ≡ held pairs
+pub held_less : (pairs : List (Option Kept)) (n : ℕ) (kept : Kept) → n < length pairs → pair_at pairs n ≡ Some kept → held (set pairs n None) + 1 ≡ held pairs
 held_less pairs n kept within some =
     let step = sum_by-set one_if pairs n None None within in
     let at : one_if (get_or pairs n None) ≡ 1 = ap one_if some in

@@ -161,6 +161,7 @@ impl Shelf {
         requires slots { self.now.room ≤ K.slot_count keeper.old }
         ensures ok { OnOk result ((kept : Kept) → pair_at self.now.pairs n ≡ Some kept →
             IsGot kept (K.told keeper.old) into.new.items × (vec_len into.new ≤ kept.length) × (sha256 into.new.items ≡ kept.digest)) }
+        ensures short { OnOk result (vec_len into.new < 2 ^ 32) }
         ensures damaged { (put got : List ℕ) → result ≡ Err (StoreFault.Damaged put got) → (kept : Kept) → pair_at self.now.pairs n ≡ Some kept →
             IsGot kept (K.told keeper.old) into.new.items × (put ≡ kept.digest) × (got ≡ sha256 into.new.items) × (got ≢ put) }
         ensures stands { (bytes : Images) → LevelStands self.now (K.told keeper.old) bytes → OnOk result (finmap.get bytes n ≡ Some into.new.items) }

@@ -96,6 +96,7 @@ impl Store {
         requires slots { (level_of self.now level).room ≤ K.slot_count keeper.old }
         ensures ok { OnOk result ((kept : Kept) → kept_at self.now level n ≡ Some kept →
             IsGot kept (K.told keeper.old) into.new.items × (vec_len into.new ≤ kept.length) × (sha256 into.new.items ≡ kept.digest)) }
+        ensures short { OnOk result (vec_len into.new < 2 ^ 32) }
         ensures damaged { (put got : List ℕ) → result ≡ Err (StoreFault.Damaged put got) → (kept : Kept) → kept_at self.now level n ≡ Some kept →
             IsGot kept (K.told keeper.old) into.new.items × (put ≡ kept.digest) × (got ≡ sha256 into.new.items) × (got ≢ put) }
         ensures stands { (bytes : Images) → LevelStands (level_of self.now level) (K.told keeper.old) bytes → OnOk result (finmap.get bytes n ≡ Some into.new.items) }

@@ -18,7 +18,8 @@ const PAGE_FIELD: u32 = 4100;
 
 /// The most bytes that an image of a state with these mapped pages has.
 pub fn max_image(state: &State) -> u32
-    ensures { result ≡ 164 + 4100 * length (page_numbers state.now.memory) }
+    ensures value { result ≡ 164 + 4100 * length (page_numbers state.now.memory) }
+    ensures most { result ≤ 16793764 }
 {
     HEADER + PAGE_FIELD * state.pages.count()
 }
@@ -27,6 +28,7 @@ pub fn max_image(state: &State) -> u32
 pub fn encode_image(state: &State, into: &mut Vec<u8>)
     requires { 164 + 4100 * length (page_numbers state.now.memory) ≤ vec_capacity into.old }
     ensures image { into.new.items ≡ image state.now }
+    ensures short { vec_len into.new ≤ 164 + 4100 * length (page_numbers state.now.memory) }
     ensures reserved { vec_capacity into.old ≤ vec_capacity into.new }
 {
     let mut stored = [false; MAX_PAGES];
@@ -75,6 +77,7 @@ fn push_pages(pages: &Pages, stored: &[bool], into: &mut Vec<u8>)
     requires marked { MarksStored pages.now stored.now }
     requires room { vec_len into.old + 4100 * length (page_numbers pages.now) ≤ vec_capacity into.old }
     ensures items { into.new.items ≡ into.old.items ++ flat_map (page_field pages.now) (pages_stored pages.now) }
+    ensures len { vec_len into.new ≤ vec_len into.old + 4100 * length (page_numbers pages.now) }
     ensures reserved { vec_capacity into.old ≤ vec_capacity into.new }
 {
     let mut from = 0;

@@ -35,6 +35,7 @@ loop-index-preserved c =
             few = omega (arith, next.few);
             items = items;
             room = omega (arith, next.index.0, below, whole, c.loop-index.invariant.room);
+            len = omega (arith, next.index.0, whole, c.loop-index.invariant.len);
             reserved = omega (arith, c.loop-index.invariant.reserved);
           })
       | else-stored-index w ↦
@@ -44,6 +45,7 @@ loop-index-preserved c =
             few = omega (arith, next.few);
             items = before ∙ ap (λ (xs : List ℕ). c.args.into.now.items ++ flat_map (page_field m) xs) (left_out p ns i below skip);
             room = omega (arith, next.index.0, below, c.loop-index.invariant.room);
+            len = omega (arith, next.index.0, c.loop-index.invariant.len);
             reserved = c.loop-index.invariant.reserved;
           })
     ]

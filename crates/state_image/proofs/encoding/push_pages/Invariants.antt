@@ -11,6 +11,7 @@ invariant-loop-index l = record {
   few : l.from ≤ 4096;
   items : l.into.items ≡ l.initial.into.items ++ flat_map (page_field l.pages) (filter (is_stored l.pages) (take l.from (page_numbers l.pages)));
   room : vec_len l.into + 4100 * (length (page_numbers l.pages) - l.from) ≤ vec_capacity l.into;
+  len : vec_len l.into ≤ vec_len l.initial.into + 4100 * l.from;
   reserved : vec_capacity l.initial.into ≤ vec_capacity l.into;
 }
 
