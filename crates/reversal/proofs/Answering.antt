@@ -1,5 +1,5 @@
 -- From what the steps of the top call answer to what it promises.
-use Rattle.std.proofs.Common.{◌≡◌, ◌≢◌, ◌⊎◌, inl, inr, ℕ, List, [], ◌∷◌, Option, Result, Ok, Err, IfOk, IfErr, refl, sym, ◌∙◌, ap, subst, arith}
+use Rattle.std.proofs.Common.{◌≡◌, ◌≢◌, ◌⊎◌, ◌<◌, inl, inr, ℕ, List, [], ◌∷◌, Option, Result, Ok, Err, IfOk, IfErr, sym, ◌∙◌, ap, subst, arith}
 use Rattle.std.specs.List.{AllByRecursion}
 use Rattle.keepers.specs.Told.{Files}
 use Rattle.reversal.specs.declared.ended.Ended.{Ended}
@@ -9,11 +9,11 @@ use Rattle.reversal.specs.Request.{Request, Says}
 use Rattle.reversal.specs.Bounds.{numbers, IsWithin, RefusesFirst, RefusesWords, Asks}
 use Rattle.reversal.specs.Inputs.{Input, inputs_of, FailsAtInput}
 use Rattle.reversal.specs.InputReading.{all, too_long, Reads, Stops}
-use Rattle.reversal.specs.Deeds.{Job, deeds, Moment, Halts}
+use Rattle.reversal.specs.Deeds.{Job, Shown, Moment, HaltsShowing}
 use Rattle.reversal.specs.JobReading.{Works}
-use Rattle.reversal.specs.Decision.{Decision, refuse, accept, DecidesBytes, Comes, EndsBy}
+use Rattle.reversal.specs.Decision.{Decision, refuse, accept, DecidesBytes, Comes, Ends, EndsBy}
 use Rattle.reversal.proofs.Requests.{one_request}
-use Rattle.reversal.proofs.Refused.{IsRefusing, refusing_at}
+use Rattle.reversal.proofs.Refused.{refusing_at}
 use Rattle.reversal.proofs.Deciding.{read_decides, long_decides, refuse_by, decided_refusal}
 
 -- ---- words and numbers
@@ -88,36 +88,36 @@ comes_of words q r told before after slots d says other h = let P : Request → 
 -- ---- why a call was refused before its job
 
 -- why no job was come to: an input can't be read, memory ran out, or the call is refused by a decision
-abbrev pub Refused : Request → Option Files → Ended → List (List ℕ) → List (List ℕ) → Type 0
-Refused r told e before after =
+abbrev pub Refused : Request → Option Files → Ended → List (List ℕ) → List (List ℕ) → List ℕ → Type 0
+Refused r told e before after slots =
     FailsAtInput (inputs_of r.command) told e before after
     ⊎ (e ≡ no_memory)
-    ⊎ ((e.status ≢ 3) × (e.status ≢ 17) × (e.status ≢ 2) × (e.status ≢ 14) × ((slots : List ℕ) → Comes r told before after slots (refuse e)))
+    ⊎ ((e.status ≢ 3) × (e.status ≢ 17) × (e.status ≢ 2) × (e.status ≢ 12) × (e.status ≢ 14) × Comes r told before after slots (refuse e))
 
-pub stops_refused : (r : Request) (told : Option Files) (e : Ended) (before after : List (List ℕ)) → Stops (inputs_of r.command) told e before after → Refused r told e before after
-stops_refused r told e before after stops = elim stops [
+pub stops_refused : (r : Request) (told : Option Files) (e : Ended) (before after : List (List ℕ)) (slots : List ℕ) → Stops (inputs_of r.command) told e before after → Refused r told e before after slots
+stops_refused r told e before after slots stops = elim stops [
   | inl input ↦ inl input
   | inr more ↦ elim more [
     | inl memory ↦ inr (inl memory)
     | inr long ↦
         let is = refusing_at e 10 (ap (λ (x : Ended). x.status) long.2) (omega arith) (omega arith) in
-        inr (inr (is.not_input, is.not_memory, is.not_words, is.not_sink, λ slots. comes_long r told before after long.0 long.1 slots e long.3 long.2))
+        inr (inr (is.not_input, is.not_memory, is.not_words, is.not_keeper, is.not_sink, comes_long r told before after long.0 long.1 slots e long.3 long.2))
   ]
 ]
 
-pub decides_refused : (r : Request) (told : Option Files) (e : Ended) (before after : List (List ℕ)) (bytes : List (List ℕ)) → Reads (inputs_of r.command) told before after (all bytes) →
-    (e ≡ no_memory) ⊎ ((slots : List ℕ) → DecidesBytes r.options r.command bytes slots (refuse e)) → Refused r told e before after
-decides_refused r told e before after bytes reads h = elim h [
+pub decides_refused : (r : Request) (told : Option Files) (e : Ended) (before after : List (List ℕ)) (bytes : List (List ℕ)) (slots : List ℕ) → Reads (inputs_of r.command) told before after (all bytes) →
+    (e ≡ no_memory) ⊎ DecidesBytes r.options r.command bytes slots (refuse e) → Refused r told e before after slots
+decides_refused r told e before after bytes slots reads h = elim h [
   | inl memory ↦ inr (inl memory)
   | inr decides ↦
-      let is = decided_refusal r.options r.command bytes [] e (decides []) in
-      inr (inr (is.not_input, is.not_memory, is.not_words, is.not_sink, λ slots. comes_by r told before after bytes slots (refuse e) reads (decides slots)))
+      let is = decided_refusal r.options r.command bytes slots e decides in
+      inr (inr (is.not_input, is.not_memory, is.not_words, is.not_keeper, is.not_sink, comes_by r told before after bytes slots (refuse e) reads decides))
 ]
 
-pub no_input_fault : (r : Request) (e : Ended) (bytes : List (List ℕ)) → (e ≡ no_memory) ⊎ ((slots : List ℕ) → DecidesBytes r.options r.command bytes slots (refuse e)) → e.status ≢ 3
-no_input_fault r e bytes h three = elim h [
+pub no_input_fault : (r : Request) (e : Ended) (bytes : List (List ℕ)) (slots : List ℕ) → (e ≡ no_memory) ⊎ DecidesBytes r.options r.command bytes slots (refuse e) → e.status ≢ 3
+no_input_fault r e bytes slots h three = elim h [
   | inl memory ↦ let status = ap (λ (x : Ended). x.status) memory in absurd (omega (arith, status, three))
-  | inr decides ↦ (decided_refusal r.options r.command bytes [] e (decides [])).not_input three
+  | inr decides ↦ (decided_refusal r.options r.command bytes slots e decides).not_input three
 ]
 
 pub if_error : {A : Type 0} (r : Result A Ended) (P Q : Ended → Type 0) → ((e : Ended) → P e → Q e) → IfErr r P → IfErr r Q
@@ -130,11 +130,27 @@ if_okay (Err e) P Q f h = tt
 
 -- ---- endings
 
--- a job that was done, or stopped, doesn't end by want of memory
-pub ends_not : (job : Job) (e : Ended) (old new : Moment) → EndsBy (accept job) e old new → (e.status ≢ 17) × (e.status ≢ 2) × (e.status ≢ 3)
-ends_not job e old new h = elim h [
-  | inl x ↦ let status = ap (λ (y : Ended). y.status) x.0 in (λ s. absurd (omega (arith, status, s)), λ s. absurd (omega (arith, status, s)), λ s. absurd (omega (arith, status, s)))
-  | inr x ↦ let status = ap (λ (y : Ended). y.status) x.1 in (λ s. absurd (omega (arith, status, s)), λ s. absurd (omega (arith, status, s)), λ s. absurd (omega (arith, status, s)))
+-- a job that was begun ends by a status of its own
+pub record IsWorking (e : Ended) : Type 0 where
+  pub not_words : e.status ≢ 2
+  pub not_input : e.status ≢ 3
+
+working_at : (e : Ended) (status : ℕ) → e.status ≡ status → 3 < status → IsWorking e
+working_at e status is above = record { not_words = λ x. absurd (omega (arith, x, is, above)); not_input = λ x. absurd (omega (arith, x, is, above)) }
+
+working_done : (e : Ended) → e.status ≡ 0 → IsWorking e
+working_done e is = record { not_words = λ x. absurd (omega (arith, x, is)); not_input = λ x. absurd (omega (arith, x, is)) }
+
+ends_working : (shown : Shown) (job : Job) (e : Ended) (old new : Moment) → Ends shown job e old new → IsWorking e × (e.status ≢ 17)
+ends_working shown job e old new h = elim h [
+  | inl finished ↦ let status = ap (λ (y : Ended). y.status) finished.0 in (working_done e status, λ x. absurd (omega (arith, x, status)))
+  | inr more ↦ elim more [
+    | inl sink ↦ let status = ap (λ (y : Ended). y.status) sink.1 in (working_at e 14 status (omega arith), λ x. absurd (omega (arith, x, status)))
+    | inr faults ↦ elim faults [
+      | inl keeper ↦ let status = ap (λ (y : Ended). y.status) keeper.2 in (working_at e 12 status (omega arith), λ x. absurd (omega (arith, x, status)))
+      | inr damage ↦ let status = ap (λ (y : Ended). y.status) damage.4 in (working_at e 13 status (omega arith), λ x. absurd (omega (arith, x, status)))
+    ]
+  ]
 ]
 
 pub works_ends : (job : Job) (e : Ended) (old new : Moment) → Works job e old new → e.status ≢ 17 → EndsBy (accept job) e old new
@@ -143,16 +159,16 @@ works_ends job e old new h n17 = elim h [
   | inr memory ↦ absurd (n17 (ap (λ (y : Ended). y.status) memory.0))
 ]
 
-pub works_halts : (job : Job) (e : Ended) (old new : Moment) → Works job e old new → e.status ≡ 17 → (e ≡ no_memory) × Halts (deeds job) old new
+pub works_halts : (job : Job) (e : Ended) (old new : Moment) → Works job e old new → e.status ≡ 17 → (e ≡ no_memory) × HaltsShowing job old new
 works_halts job e old new h is = elim h [
-  | inl ends ↦ absurd ((ends_not job e old new ends).0 is)
+  | inl ends ↦ absurd ((ends_working ends.0 job e old new ends.1.1).1 is)
   | inr memory ↦ memory
 ]
 
-pub works_not : (job : Job) (e : Ended) (old new : Moment) → Works job e old new → (e.status ≢ 2) × (e.status ≢ 3)
+pub works_not : (job : Job) (e : Ended) (old new : Moment) → Works job e old new → IsWorking e
 works_not job e old new h = elim h [
-  | inl ends ↦ let n = ends_not job e old new ends in (n.1, n.2)
-  | inr memory ↦ let status = ap (λ (y : Ended). y.status) memory.0 in (λ s. absurd (omega (arith, status, s)), λ s. absurd (omega (arith, status, s)))
+  | inl ends ↦ (ends_working ends.0 job e old new ends.1.1).0
+  | inr memory ↦ working_at e 17 (ap (λ (y : Ended). y.status) memory.0) (omega arith)
 ]
 
 -- an ending that names an input has a status of its own

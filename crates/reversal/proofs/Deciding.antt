@@ -1,5 +1,5 @@
 -- What a request comes to: one decision, and of a list that is performed that it is valid.
-use Rattle.std.proofs.Common.{◌≡◌, ◌⊎◌, inl, inr, ℕ, ◌+◌, ◌≤◌, ◌++◌, Bool, true, false, cond, nat_le, List, [], ◌∷◌, length, append-nil, Option, None, Some, Result, Ok, Err, IsErrAnd, IfErr, IfOk, refl, sym, ◌∙◌, ap, subst, arith}
+use Rattle.std.proofs.Common.{◌≡◌, ◌⊎◌, inl, inr, ℕ, ◌+◌, ◌≤◌, ◌++◌, Bool, true, false, cond, nat_le, List, [], ◌∷◌, length, append-nil, Option, None, Some, Result, Ok, Err, IsErrAnd, IfErr, refl, sym, ◌∙◌, ap, subst, arith}
 use Rattle.std.specs.Prelude.{codes, decimal}
 use Rattle.std.proofs.lemmas.Bool.{leb-true, leb-false}
 use Rattle.plan_types.specs.declared.action.Action.{Action}
@@ -10,16 +10,18 @@ use Rattle.level_book.specs.Valid.{Valid, BrokenAt}
 use Rattle.action_text.specs.ScheduleText.{IsSchedule}
 use Rattle.schedule_rules.proofs.Lawful.{one_break}
 use Rattle.rv_machine.specs.MachineState.{MachineState}
+use Rattle.reverse_runner.specs.KeepersSeen.{HaveRoom}
 use Rattle.reversal.specs.declared.ended.Ended.{Ended}
-use Rattle.reversal.specs.declared.options.Choice.{Choice}
+use Rattle.reversal.specs.Request.{Choice}
 use Rattle.reversal.specs.Ending.{no_memory, unreadable, too_long as longer, bad_program, bad_journal, bad_book, bad_text, invalid}
 use Rattle.reversal.specs.Request.{says_raw, stack_pages, Command, run, check, Request}
 use Rattle.reversal.specs.Inputs.{Input, inputs_of}
 use Rattle.reversal.specs.InputReading.{Reading, all, too_long, not_there, with_front, reading}
-use Rattle.reversal.specs.Deeds.{Job, perform, write, deeds, bytes_written, steps_made, output, steps_taken}
-use Rattle.reversal.specs.Decision.{Decision, refuse, accept, Need, Read, Judge, Take, HasBookFault, IsStartOf, HasProgramFault, AreItemsOf, HasJournalFault, DecidesRun, DecidesCheck, DecidesBytes, Decides}
+use Rattle.reversal.specs.Deeds.{Job, perform, write, Shown, deeds, bytes_written, steps_made, output, steps_taken}
+use Rattle.reversal.specs.Decision.{Decision, refuse, accept, Need, Read, Judge, Keep, Take, HasBookFault, IsStartOf, HasProgramFault, AreItemsOf, HasJournalFault, DecidesRun, DecidesCheck, DecidesBytes, Decides}
 use Rattle.reversal.specs.JobReading.{IsRefusal}
 use Rattle.reversal.proofs.Refused.{IsOne, Excludes, book_one, book_fault_one, book_excludes, start_one, program_fault_one, start_excludes, items_one, journal_fault_one, items_exclude, list_one, text_fault_one, list_excludes, IsRefusing, refusing_at, program_refuses, journal_refuses, book_refuses, text_refuses, program_fault_is_other, journal_fault_is_other, text_fault_is_other}
+use Rattle.reversal.proofs.Keeping.{keep_one, keep_met, keep_refusing, keep_refuses, keep_accepts, keep_passes}
 use Rattle.action_text.specs.Faults.{HasFirstFault}
 use Rattle.reversal.proofs.Performing.{bytes_performed, steps_performed}
 
@@ -58,15 +60,16 @@ take_one place (i ∷ is) (Some bytes ∷ given) c d Below Other one h g =
     need_one (length bytes ≤ i.limit) (longer place i.limit) c d _ _
     (take_one (place + 1) is given c d (λ more. Below (bytes ∷ more)) (λ more. Other (bytes ∷ more)) (λ more. one (bytes ∷ more))) h g
 
-run_one : (options : List Choice) (steps : ℕ) (program : List ℕ) (journal : Option (List ℕ)) (book schedule : List ℕ) (c d : Decision) → DecidesRun options steps program journal book schedule c → DecidesRun options steps program journal book schedule d → c ≡ d
-run_one options steps program journal book schedule c d =
+run_one : (options : List Choice) (steps : ℕ) (program : List ℕ) (journal : Option (List ℕ)) (book schedule counts : List ℕ) (c d : Decision) → DecidesRun options steps program journal book schedule counts c → DecidesRun options steps program journal book schedule counts d → c ≡ d
+run_one options steps program journal book schedule counts c d =
     let raw = says_raw options in
     let stack = stack_pages options in
     read_one (IsBookText book) (HasBookFault book) bad_book c d _ _ (book_one book) (book_fault_one book) (book_excludes book) (λ b is_book.
+    keep_one steps (slots_of b) counts c d _ _ (
     read_one (IsStartOf raw stack program) (HasProgramFault raw stack program) bad_program c d _ _ (start_one raw stack program) (program_fault_one raw stack program) (start_excludes raw stack program) (λ start is_start.
     read_one (AreItemsOf journal) (HasJournalFault journal) bad_journal c d _ _ (items_one journal) (journal_fault_one journal) (items_exclude journal) (λ items are_items.
     read_one (IsSchedule (names_of b) schedule) (HasFirstFault (names_of b) schedule) bad_text c d _ _ (list_one book b schedule is_book) (text_fault_one book b schedule is_book) (list_excludes book b schedule is_book) (λ list is_list.
-    judge_one steps (slots_of b) list c d _ _ (λ x y. x ∙ sym y)))))
+    judge_one steps (slots_of b) list c d _ _ (λ x y. x ∙ sym y))))))
 
 check_one : (steps : ℕ) (book schedule : List ℕ) (c d : Decision) → DecidesCheck steps book schedule c → DecidesCheck steps book schedule d → c ≡ d
 check_one steps book schedule c d =
@@ -75,8 +78,8 @@ check_one steps book schedule c d =
     judge_one steps (slots_of b) list c d _ _ (λ x y. x ∙ sym y)))
 
 bytes_one : (options : List Choice) (command : Command) (bytes : List (List ℕ)) (slots : List ℕ) (c d : Decision) → DecidesBytes options command bytes slots c → DecidesBytes options command bytes slots d → c ≡ d
-bytes_one options (run r) (program ∷ book ∷ schedule ∷ []) slots c d h g = run_one options r.steps program None book schedule c d h g
-bytes_one options (run r) (program ∷ journal ∷ book ∷ schedule ∷ []) slots c d h g = run_one options r.steps program (Some journal) book schedule c d h g
+bytes_one options (run r) (program ∷ book ∷ schedule ∷ []) slots c d h g = run_one options r.steps program None book schedule slots c d h g
+bytes_one options (run r) (program ∷ journal ∷ book ∷ schedule ∷ []) slots c d h g = run_one options r.steps program (Some journal) book schedule slots c d h g
 bytes_one options (run r) other slots c d h g = absurd h
 bytes_one options (check r) (book ∷ schedule ∷ []) slots c d h g = check_one r.steps book schedule c d h g
 bytes_one options (check r) other slots c d h g = absurd h
@@ -120,13 +123,14 @@ judge_met steps slots list job Below h = elim h [
 
 -- a list that is performed is valid, and a text is written
 pub data IsMet (job : Job) : Type 0 where
-  performs : (first : MachineState) (journal : List (List ℕ)) (steps : ℕ) (slots : List Slots) (list : List Action) → Valid steps slots list → job ≡ perform first journal steps list → IsMet job
+  performs : (first : MachineState) (journal : List (List ℕ)) (steps : ℕ) (slots : List Slots) (list : List Action) → Valid steps slots list → job ≡ perform first journal steps slots list → IsMet job
   writes : (text : List ℕ) → job ≡ write text → IsMet job
 
-run_met : (options : List Choice) (steps : ℕ) (program : List ℕ) (journal : Option (List ℕ)) (book schedule : List ℕ) (job : Job) → DecidesRun options steps program journal book schedule (accept job) → IsMet job
-run_met options steps program journal book schedule job h =
+run_met : (options : List Choice) (steps : ℕ) (program : List ℕ) (journal : Option (List ℕ)) (book schedule counts : List ℕ) (job : Job) → DecidesRun options steps program journal book schedule counts (accept job) → IsMet job
+run_met options steps program journal book schedule counts job h =
     let b = read_met _ _ bad_book job _ h in
-    let start = read_met _ _ bad_program job _ b.1 in
+    let kept = keep_met steps (slots_of b.0) counts job _ b.1 in
+    let start = read_met _ _ bad_program job _ kept.1 in
     let items = read_met _ _ bad_journal job _ start.1 in
     let list = read_met _ _ bad_text job _ items.1 in
     let valid = judge_met _ _ _ job _ list.1 in
@@ -140,29 +144,29 @@ check_met steps book schedule job h =
     writes _ (ap (job_or job) valid.1)
 
 bytes_met : (options : List Choice) (command : Command) (bytes : List (List ℕ)) (slots : List ℕ) (job : Job) → DecidesBytes options command bytes slots (accept job) → IsMet job
-bytes_met options (run r) (program ∷ book ∷ schedule ∷ []) slots job h = run_met options r.steps program None book schedule job h
-bytes_met options (run r) (program ∷ journal ∷ book ∷ schedule ∷ []) slots job h = run_met options r.steps program (Some journal) book schedule job h
+bytes_met options (run r) (program ∷ book ∷ schedule ∷ []) slots job h = run_met options r.steps program None book schedule slots job h
+bytes_met options (run r) (program ∷ journal ∷ book ∷ schedule ∷ []) slots job h = run_met options r.steps program (Some journal) book schedule slots job h
 bytes_met options (run r) other slots job h = absurd h
 bytes_met options (check r) (book ∷ schedule ∷ []) slots job h = check_met r.steps book schedule job h
 bytes_met options (check r) other slots job h = absurd h
 
-met_output : (job : Job) → IsMet job → bytes_written (deeds job) ≡ output job
-met_output job (performs first journal steps slots list valid is) =
-    let P : Job → Type 0 = λ j. bytes_written (deeds j) ≡ output j in
-    subst P (sym is) (bytes_performed first journal steps slots list valid)
-met_output job (writes text is) =
-    let P : Job → Type 0 = λ j. bytes_written (deeds j) ≡ output j in
+met_output : (job : Job) → IsMet job → (shown : Shown) → bytes_written (deeds shown job) ≡ output shown job
+met_output job (performs first journal steps slots list valid is) shown =
+    let P : Job → Type 0 = λ j. bytes_written (deeds shown j) ≡ output shown j in
+    subst P (sym is) (bytes_performed shown steps slots list valid)
+met_output job (writes text is) shown =
+    let P : Job → Type 0 = λ j. bytes_written (deeds shown j) ≡ output shown j in
     subst P (sym is) (append-nil (text ++ []) ∙ append-nil text)
 
 -- the deeds of a job that was decided write its output
-pub deeds_output : (r : Request) (given : List (Option (List ℕ))) (slots : List ℕ) (job : Job) → Decides r given slots (accept job) → bytes_written (deeds job) ≡ output job
+pub deeds_output : (r : Request) (given : List (Option (List ℕ))) (slots : List ℕ) (job : Job) → Decides r given slots (accept job) → (shown : Shown) → bytes_written (deeds shown job) ≡ output shown job
 deeds_output r given slots job h =
     let met = take_met 1 (inputs_of r.command) given job (λ bytes. DecidesBytes r.options r.command bytes slots (accept job)) h in
     met_output job (bytes_met r.options r.command met.0 slots job met.1)
 
-pub deeds_steps : (job : Job) → steps_made (deeds job) ≡ steps_taken job
-deeds_steps (perform first journal steps list) = steps_performed first journal steps list
-deeds_steps (write text) = refl
+pub deeds_steps : (shown : Shown) (job : Job) → steps_made (deeds shown job) ≡ steps_taken job
+deeds_steps shown (perform first journal steps slots list) = steps_performed shown steps list
+deeds_steps shown (write text) = refl
 
 -- ---- from what was read to a decision
 
@@ -271,15 +275,16 @@ judge_refusing steps slots list e job h = elim h [
   | inr y ↦ absurd (refuse_accept e job y.1)
 ]
 
-run_refusing : (options : List Choice) (steps : ℕ) (program : List ℕ) (journal : Option (List ℕ)) (book schedule : List ℕ) (e : Ended) → DecidesRun options steps program journal book schedule (refuse e) → IsRefusing e
-run_refusing options steps program journal book schedule e =
+run_refusing : (options : List Choice) (steps : ℕ) (program : List ℕ) (journal : Option (List ℕ)) (book schedule counts : List ℕ) (e : Ended) → DecidesRun options steps program journal book schedule counts (refuse e) → IsRefusing e
+run_refusing options steps program journal book schedule counts e =
     let raw = says_raw options in
     let stack = stack_pages options in
     read_refusing _ _ bad_book e _ (λ f h. book_refuses f h.1) (λ b.
+    keep_refusing steps (slots_of b) counts e _ (
     read_refusing _ _ bad_program e _ (λ f h. program_refuses f (program_fault_is_other raw stack program f h)) (λ start.
     read_refusing _ _ bad_journal e _ (λ f h. journal_refuses f (journal_fault_is_other journal f h)) (λ items.
     read_refusing _ _ bad_text e _ (λ f h. text_refuses f (text_fault_is_other (names_of b) schedule f h)) (λ list.
-    judge_refusing steps (slots_of b) list e _))))
+    judge_refusing steps (slots_of b) list e _)))))
 
 check_refusing : (steps : ℕ) (book schedule : List ℕ) (e : Ended) → DecidesCheck steps book schedule (refuse e) → IsRefusing e
 check_refusing steps book schedule e =
@@ -288,52 +293,60 @@ check_refusing steps book schedule e =
     judge_refusing steps (slots_of b) list e _))
 
 pub decided_refusal : (options : List Choice) (command : Command) (bytes : List (List ℕ)) (slots : List ℕ) (e : Ended) → DecidesBytes options command bytes slots (refuse e) → IsRefusing e
-decided_refusal options (run r) (program ∷ book ∷ schedule ∷ []) slots e h = run_refusing options r.steps program None book schedule e h
-decided_refusal options (run r) (program ∷ journal ∷ book ∷ schedule ∷ []) slots e h = run_refusing options r.steps program (Some journal) book schedule e h
+decided_refusal options (run r) (program ∷ book ∷ schedule ∷ []) slots e h = run_refusing options r.steps program None book schedule slots e h
+decided_refusal options (run r) (program ∷ journal ∷ book ∷ schedule ∷ []) slots e h = run_refusing options r.steps program (Some journal) book schedule slots e h
 decided_refusal options (run r) other slots e h = absurd h
 decided_refusal options (check r) (book ∷ schedule ∷ []) slots e h = check_refusing r.steps book schedule e h
 decided_refusal options (check r) other slots e h = absurd h
 
 -- ---- the lines of a run, and of a judgement
 
-pub run_by_book : (options : List Choice) (steps : ℕ) (program : List ℕ) (journal : Option (List ℕ)) (book schedule : List ℕ) (e : Ended) → IsRefusal (HasBookFault book) bad_book e → (e ≡ no_memory) ⊎ DecidesRun options steps program journal book schedule (refuse e)
-run_by_book options steps program journal book schedule e h = read_refuses (IsBookText book) (HasBookFault book) bad_book e _ h
+pub run_by_book : (options : List Choice) (steps : ℕ) (program : List ℕ) (journal : Option (List ℕ)) (book schedule counts : List ℕ) (e : Ended) → IsRefusal (HasBookFault book) bad_book e → (e ≡ no_memory) ⊎ DecidesRun options steps program journal book schedule counts (refuse e)
+run_by_book options steps program journal book schedule counts e h = read_refuses (IsBookText book) (HasBookFault book) bad_book e _ h
 
-pub run_by_program : (options : List Choice) (steps : ℕ) (program : List ℕ) (journal : Option (List ℕ)) (book schedule : List ℕ) (e : Ended) (b : BookCosts) → IsBookText book b → IsRefusal (HasProgramFault (says_raw options) (stack_pages options) program) bad_program e →
-    (e ≡ no_memory) ⊎ DecidesRun options steps program journal book schedule (refuse e)
-run_by_program options steps program journal book schedule e b is_book h =
-    read_passes (IsBookText book) (HasBookFault book) bad_book e _ b is_book
-    (read_refuses (IsStartOf (says_raw options) (stack_pages options) program) (HasProgramFault (says_raw options) (stack_pages options) program) bad_program e _ h)
+pub run_by_keepers : (options : List Choice) (steps : ℕ) (program : List ℕ) (journal : Option (List ℕ)) (book schedule counts : List ℕ) (e : Ended) (b : BookCosts) → IsBookText book b → Keep steps (slots_of b) counts (refuse e) ⊥ →
+    (e ≡ no_memory) ⊎ DecidesRun options steps program journal book schedule counts (refuse e)
+run_by_keepers options steps program journal book schedule counts e b is_book h = inr (inr (b, is_book, keep_refuses steps (slots_of b) counts (refuse e) _ h))
 
-pub run_by_journal : (options : List Choice) (steps : ℕ) (program : List ℕ) (journal : Option (List ℕ)) (book schedule : List ℕ) (e : Ended) (b : BookCosts) (start : MachineState) → IsBookText book b → IsStartOf (says_raw options) (stack_pages options) program start →
-    IsRefusal (HasJournalFault journal) bad_journal e → (e ≡ no_memory) ⊎ DecidesRun options steps program journal book schedule (refuse e)
-run_by_journal options steps program journal book schedule e b start is_book is_start h =
+pub run_by_program : (options : List Choice) (steps : ℕ) (program : List ℕ) (journal : Option (List ℕ)) (book schedule counts : List ℕ) (e : Ended) (b : BookCosts) → IsBookText book b → HaveRoom steps (slots_of b) counts → IsRefusal (HasProgramFault (says_raw options) (stack_pages options) program) bad_program e →
+    (e ≡ no_memory) ⊎ DecidesRun options steps program journal book schedule counts (refuse e)
+run_by_program options steps program journal book schedule counts e b is_book room h =
     read_passes (IsBookText book) (HasBookFault book) bad_book e _ b is_book
+    (keep_passes steps (slots_of b) counts e _ room
+    (read_refuses (IsStartOf (says_raw options) (stack_pages options) program) (HasProgramFault (says_raw options) (stack_pages options) program) bad_program e _ h))
+
+pub run_by_journal : (options : List Choice) (steps : ℕ) (program : List ℕ) (journal : Option (List ℕ)) (book schedule counts : List ℕ) (e : Ended) (b : BookCosts) (start : MachineState) → IsBookText book b → HaveRoom steps (slots_of b) counts → IsStartOf (says_raw options) (stack_pages options) program start →
+    IsRefusal (HasJournalFault journal) bad_journal e → (e ≡ no_memory) ⊎ DecidesRun options steps program journal book schedule counts (refuse e)
+run_by_journal options steps program journal book schedule counts e b start is_book room is_start h =
+    read_passes (IsBookText book) (HasBookFault book) bad_book e _ b is_book
+    (keep_passes steps (slots_of b) counts e _ room
     (read_passes (IsStartOf (says_raw options) (stack_pages options) program) (HasProgramFault (says_raw options) (stack_pages options) program) bad_program e _ start is_start
-    (read_refuses (AreItemsOf journal) (HasJournalFault journal) bad_journal e _ h))
+    (read_refuses (AreItemsOf journal) (HasJournalFault journal) bad_journal e _ h)))
 
-pub run_by_text : (options : List Choice) (steps : ℕ) (program : List ℕ) (journal : Option (List ℕ)) (book schedule : List ℕ) (e : Ended) (b : BookCosts) (start : MachineState) (items : List (List ℕ)) → IsBookText book b → IsStartOf (says_raw options) (stack_pages options) program start →
-    AreItemsOf journal items → IsRefusal (HasFirstFault (names_of b) schedule) bad_text e → (e ≡ no_memory) ⊎ DecidesRun options steps program journal book schedule (refuse e)
-run_by_text options steps program journal book schedule e b start items is_book is_start are_items h =
+pub run_by_text : (options : List Choice) (steps : ℕ) (program : List ℕ) (journal : Option (List ℕ)) (book schedule counts : List ℕ) (e : Ended) (b : BookCosts) (start : MachineState) (items : List (List ℕ)) → IsBookText book b → HaveRoom steps (slots_of b) counts → IsStartOf (says_raw options) (stack_pages options) program start →
+    AreItemsOf journal items → IsRefusal (HasFirstFault (names_of b) schedule) bad_text e → (e ≡ no_memory) ⊎ DecidesRun options steps program journal book schedule counts (refuse e)
+run_by_text options steps program journal book schedule counts e b start items is_book room is_start are_items h =
     read_passes (IsBookText book) (HasBookFault book) bad_book e _ b is_book
+    (keep_passes steps (slots_of b) counts e _ room
     (read_passes (IsStartOf (says_raw options) (stack_pages options) program) (HasProgramFault (says_raw options) (stack_pages options) program) bad_program e _ start is_start
     (read_passes (AreItemsOf journal) (HasJournalFault journal) bad_journal e _ items are_items
-    (read_refuses (IsSchedule (names_of b) schedule) (HasFirstFault (names_of b) schedule) bad_text e _ h)))
+    (read_refuses (IsSchedule (names_of b) schedule) (HasFirstFault (names_of b) schedule) bad_text e _ h))))
 
-pub run_by_rules : (options : List Choice) (steps : ℕ) (program : List ℕ) (journal : Option (List ℕ)) (book schedule : List ℕ) (e : Ended) (b : BookCosts) (start : MachineState) (items : List (List ℕ)) (list : List Action) → IsBookText book b →
-    IsStartOf (says_raw options) (stack_pages options) program start → AreItemsOf journal items → IsSchedule (names_of b) schedule list → IsBroken steps (slots_of b) list e → (e ≡ no_memory) ⊎ DecidesRun options steps program journal book schedule (refuse e)
-run_by_rules options steps program journal book schedule e b start items list is_book is_start are_items is_list h =
+pub run_by_rules : (options : List Choice) (steps : ℕ) (program : List ℕ) (journal : Option (List ℕ)) (book schedule counts : List ℕ) (e : Ended) (b : BookCosts) (start : MachineState) (items : List (List ℕ)) (list : List Action) → IsBookText book b → HaveRoom steps (slots_of b) counts →
+    IsStartOf (says_raw options) (stack_pages options) program start → AreItemsOf journal items → IsSchedule (names_of b) schedule list → IsBroken steps (slots_of b) list e → (e ≡ no_memory) ⊎ DecidesRun options steps program journal book schedule counts (refuse e)
+run_by_rules options steps program journal book schedule counts e b start items list is_book room is_start are_items is_list h =
     read_passes (IsBookText book) (HasBookFault book) bad_book e _ b is_book
+    (keep_passes steps (slots_of b) counts e _ room
     (read_passes (IsStartOf (says_raw options) (stack_pages options) program) (HasProgramFault (says_raw options) (stack_pages options) program) bad_program e _ start is_start
     (read_passes (AreItemsOf journal) (HasJournalFault journal) bad_journal e _ items are_items
     (read_passes (IsSchedule (names_of b) schedule) (HasFirstFault (names_of b) schedule) bad_text e _ list is_list
-    (judge_refuses steps (slots_of b) list e _ h))))
+    (judge_refuses steps (slots_of b) list e _ h)))))
 
-pub run_accepted : (options : List Choice) (steps : ℕ) (program : List ℕ) (journal : Option (List ℕ)) (book schedule : List ℕ) (b : BookCosts) (start : MachineState) (items : List (List ℕ)) (list : List Action) → IsBookText book b →
+pub run_accepted : (options : List Choice) (steps : ℕ) (program : List ℕ) (journal : Option (List ℕ)) (book schedule counts : List ℕ) (b : BookCosts) (start : MachineState) (items : List (List ℕ)) (list : List Action) → IsBookText book b → HaveRoom steps (slots_of b) counts →
     IsStartOf (says_raw options) (stack_pages options) program start → AreItemsOf journal items → IsSchedule (names_of b) schedule list → Valid steps (slots_of b) list →
-    DecidesRun options steps program journal book schedule (accept (perform start items steps list))
-run_accepted options steps program journal book schedule b start items list is_book is_start are_items is_list valid =
-    inr (b, is_book, inr (start, is_start, inr (items, are_items, inr (list, is_list, inr (valid, refl)))))
+    DecidesRun options steps program journal book schedule counts (accept (perform start items steps (slots_of b) list))
+run_accepted options steps program journal book schedule counts b start items list is_book room is_start are_items is_list valid =
+    inr (b, is_book, keep_accepts steps (slots_of b) counts _ _ room (inr (start, is_start, inr (items, are_items, inr (list, is_list, inr (valid, refl))))))
 
 pub check_by_book : (steps : ℕ) (book schedule : List ℕ) (e : Ended) → IsRefusal (HasBookFault book) bad_book e → (e ≡ no_memory) ⊎ DecidesCheck steps book schedule (refuse e)
 check_by_book steps book schedule e h = read_refuses (IsBookText book) (HasBookFault book) bad_book e _ h
@@ -352,7 +365,3 @@ check_by_rules steps book schedule e b list is_book is_list h =
 pub check_accepted : (steps : ℕ) (book schedule : List ℕ) (b : BookCosts) (list : List Action) → IsBookText book b → IsSchedule (names_of b) schedule list → Valid steps (slots_of b) list →
     DecidesCheck steps book schedule (accept (write (codes "valid " ++ decimal (length list) ++ codes "\n")))
 check_accepted steps book schedule b list is_book is_list valid = inr (b, is_book, inr (list, is_list, inr (valid, refl)))
-
--- a request is decided for all slots of the keepers alike
-pub for_all_slots : (e : Ended) (P : Type 0) → (e ≡ no_memory) ⊎ P → (e ≡ no_memory) ⊎ ((slots : List ℕ) → P)
-for_all_slots e P h = elim h [ inl memory ↦ inl memory | inr p ↦ inr (λ slots. p) ]

@@ -1,12 +1,14 @@
 -- What was done of a list of deeds, one after the other.
-use Rattle.std.proofs.Common.{◌≡◌, ℕ, ◌+◌, ◌-◌, List, [], ◌∷◌, ◌++◌, length, take, append-nil, append_assoc, Option, None, Some, sym, ◌∙◌, ap, subst, arith, slice_get}
+use Rattle.std.proofs.Common.{◌≡◌, ◌≢◌, ◌⊎◌, ℕ, ◌+◌, ◌-◌, ◌<◌, ◌≤◌, List, [], ◌∷◌, ◌++◌, length, take, append-nil, append_assoc, Option, None, Some, refl, sym, ◌∙◌, ap, subst, arith, slice_get, sum_by}
 use Rattle.std.proofs.lemmas.Grind.{flat_map-append}
 use Rattle.std.proofs.lemmas.List.Sums.{sum_by-append}
+use Rattle.sha2.specs.Sha256.{sha256}
 use Rattle.keepers.specs.Counts.{raised}
 use Rattle.keepers.specs.Told.{Tells, AddsPrefix}
 use Rattle.schedule_rules.proofs.Judging.{take_one_more}
+use Rattle.reverse_runner.specs.KeepersSeen.{Calls, Called, CalledAtMost}
 use Rattle.reversal.specs.Output.{Adds}
-use Rattle.reversal.specs.Deeds.{Deed, bytes_of, bytes_written, writes_made, steps_made, Moment, Did, DidUntil, AddsAndPart}
+use Rattle.reversal.specs.Deeds.{Deed, bytes_of, bytes_written, writes_made, steps_made, calls_made, Moment, Did, DidUntil, BreaksOff, AddsAndPart, Job, CallsLevel, FailsAt, DamagedAt, Halts, IsNoImageOf, AllTell, levels_of}
 
 -- what is told after two calls
 pub tells_then : {A : Type 0} (x y z : Option A) (P Q R : A → A → Type 0) → ((a b c : A) → P a b → Q b c → R a c) → Tells x y P → Tells y z Q → Tells x z R
@@ -38,9 +40,25 @@ raised_then a b c j k e f = omega (arith, e, f)
 pub raised_none : (a : ℕ) → a ≡ raised a 0
 raised_none a = omega arith
 
+-- at least a part, and at most all
+low_part : (a b c j : ℕ) → b ≡ raised a j → b ≤ c → raised a j ≤ c
+low_part a b c j e least = omega (arith, e, least)
+
+high_part : (a b c j k : ℕ) → b ≡ raised a j → c ≤ raised b k → c ≤ raised a (j + k)
+high_part a b c j k e most = omega (arith, e, most)
+
 -- no deed was done where nothing changed
-pub did_none : (a b : Moment) → b.told ≡ a.told → b.calls ≡ a.calls → b.steps ≡ a.steps → Did [] a b
-did_none a b e f g = record { added = tells_nothing a.told b.told e; called = f ∙ raised_none a.calls; counted = omega (arith, g) }
+pub did_none : (a b : Moment) → b.told ≡ a.told → b.writes ≡ a.writes → b.steps ≡ a.steps → b.calls ≡ a.calls → Did [] a b
+did_none a b e f g h = record {
+  added = tells_nothing a.told b.told e;
+  wrote = f ∙ raised_none a.writes;
+  counted = omega (arith, g);
+  called = record {
+    put_calls = λ k. ap (λ (c : Calls). c.puts k) h ∙ raised_none (a.calls.puts k);
+    get_calls = λ k. ap (λ (c : Calls). c.gets k) h ∙ raised_none (a.calls.gets k);
+    free_calls = λ k. ap (λ (c : Calls). c.frees k) h ∙ raised_none (a.calls.frees k);
+  };
+}
 
 -- these deeds and then those
 pub did_then : (ds es : List Deed) (a b c : Moment) → Did ds a b → Did es b c → Did (ds ++ es) a c
@@ -48,21 +66,37 @@ did_then ds es a b c d e = record {
   added = tells_then a.told b.told c.told (Adds (bytes_written ds)) (Adds (bytes_written es)) (Adds (bytes_written (ds ++ es))) (λ x y z p q.
       q ∙ ap (λ l. l ++ bytes_written es) p ∙ append_assoc x (bytes_written ds) (bytes_written es)
       ∙ ap (λ l. x ++ l) (sym (flat_map-append (λ (d : Deed). bytes_of d.pieces) ds es))) d.added e.added;
-  called =
-      raised_then a.calls b.calls c.calls (writes_made ds) (writes_made es) d.called e.called
-      ∙ ap (raised a.calls) (sym (sum_by-append (λ (d : Deed). length d.pieces) ds es));
+  wrote =
+      raised_then a.writes b.writes c.writes (writes_made ds) (writes_made es) d.wrote e.wrote
+      ∙ ap (raised a.writes) (sym (sum_by-append (λ (d : Deed). length d.pieces) ds es));
   counted = let two = sum_by-append (λ (d : Deed). d.steps) ds es in omega (arith, two, d.counted, e.counted);
+  called = record {
+    put_calls = λ k.
+        raised_then (a.calls.puts k) (b.calls.puts k) (c.calls.puts k) ((calls_made ds).puts k) ((calls_made es).puts k) (d.called.put_calls k) (e.called.put_calls k)
+        ∙ ap (raised (a.calls.puts k)) (sym (sum_by-append (λ (d : Deed). d.calls.puts k) ds es));
+    get_calls = λ k.
+        raised_then (a.calls.gets k) (b.calls.gets k) (c.calls.gets k) ((calls_made ds).gets k) ((calls_made es).gets k) (d.called.get_calls k) (e.called.get_calls k)
+        ∙ ap (raised (a.calls.gets k)) (sym (sum_by-append (λ (d : Deed). d.calls.gets k) ds es));
+    free_calls = λ k.
+        raised_then (a.calls.frees k) (b.calls.frees k) (c.calls.frees k) ((calls_made ds).frees k) ((calls_made es).frees k) (d.called.free_calls k) (e.called.free_calls k)
+        ∙ ap (raised (a.calls.frees k)) (sym (sum_by-append (λ (d : Deed). d.calls.frees k) ds es));
+  };
 }
 
--- a deed that was done, by what was added, how often the sink was called, and the steps
+-- a deed that was done, by what was added, how often the sink was called, the steps, and the calls of keepers
 pub did_one : (d : Deed) (a b : Moment) (bytes : List ℕ) (writes : ℕ) → bytes_of d.pieces ≡ bytes → length d.pieces ≡ writes →
-    Tells a.told b.told (Adds bytes) → b.calls ≡ raised a.calls writes → b.steps ≡ a.steps + d.steps → Did (d ∷ []) a b
-did_one d a b bytes writes is_bytes is_writes added called counted = record {
+    Tells a.told b.told (Adds bytes) → b.writes ≡ raised a.writes writes → b.steps ≡ a.steps + d.steps → Called d.calls a.calls b.calls → Did (d ∷ []) a b
+did_one d a b bytes writes is_bytes is_writes added wrote counted called = record {
   added =
       let P : List ℕ → Type 0 = λ l. Tells a.told b.told (Adds l) in
       subst P (sym is_bytes ∙ sym (append-nil (bytes_of d.pieces))) added;
-  called = omega (arith, called, is_writes);
+  wrote = omega (arith, wrote, is_writes);
   counted = omega (arith, counted);
+  called = record {
+    put_calls = λ k. let h = called.put_calls k in omega (arith, h);
+    get_calls = λ k. let h = called.get_calls k in omega (arith, h);
+    free_calls = λ k. let h = called.free_calls k in omega (arith, h);
+  };
 }
 
 -- and one more
@@ -71,12 +105,22 @@ did_one_more ds i d a b c at before one =
     let P : List Deed → Type 0 = λ es. Did es a c in
     subst P (sym (take_one_more ds i d at)) (did_then (take i ds) (d ∷ []) a b c before one)
 
+-- so many calls by a moment after which none were made
+still_called : (m a b c : Calls) → Called m a b → CalledAtMost (record { puts = λ _. 0; gets = λ _. 0; frees = λ _. 0 }) b c → Called m a c
+still_called m a b c called none = record {
+  put_calls = λ k. let h = called.put_calls k in let n = none.put_calls k in omega (arith, h, n.0, n.1);
+  get_calls = λ k. let h = called.get_calls k in let n = none.get_calls k in omega (arith, h, n.0, n.1);
+  free_calls = λ k. let h = called.free_calls k in let n = none.free_calls k in omega (arith, h, n.0, n.1);
+}
+
 -- the deeds before a place were done, and the first piece of the deed there was written in part
 pub did_until : (ds : List Deed) (i place : ℕ) (d : Deed) (piece : List ℕ) (a b c : Moment) → slice_get ds i ≡ Some d → place ≡ i + 1 → slice_get d.pieces 0 ≡ Some piece →
-    Did (take i ds) a b → Tells b.told c.told (AddsPrefix piece) → c.calls ≡ raised b.calls 1 → c.steps ≡ b.steps → DidUntil ds place a c
-did_until ds i place d piece a b c at is next before part called still =
+    Did (take i ds) a b → Tells b.told c.told (AddsPrefix piece) → c.writes ≡ raised b.writes 1 → c.steps ≡ b.steps →
+    CalledAtMost (record { puts = λ _. 0; gets = λ _. 0; frees = λ _. 0 }) b.calls c.calls → DidUntil ds place a c
+did_until ds i place d piece a b c at is next before part wrote still uncalled =
     let here : place - 1 ≡ i = omega (arith, is) in
     let W : ℕ → List ℕ = λ n. bytes_written (take n ds) in
+    let C : ℕ → Type 0 = λ n. Called (calls_made (take n ds)) a.calls c.calls in
     record {
       from_one = omega (arith, is);
       deed = d;
@@ -88,6 +132,72 @@ did_until ds i place d piece a b c at is next before part called still =
         q.0,
         q.1 ∙ ap (λ l. l ++ take q.0 piece) (p ∙ ap (λ n. x ++ W n) (sym here) ∙ ap (λ l. x ++ l) (sym (append-nil (W (place - 1))))),
       )) before.added part;
-      called = raised_then a.calls b.calls c.calls (writes_made (take i ds)) 1 before.called called ∙ ap (λ n. raised a.calls (writes_made (take n ds) + (0 + 1))) (sym here);
+      wrote = raised_then a.writes b.writes c.writes (writes_made (take i ds)) 1 before.wrote wrote ∙ ap (λ n. raised a.writes (writes_made (take n ds) + (0 + 1))) (sym here);
       counted = let same = ap (λ n. steps_made (take n ds)) here in omega (arith, same, before.counted, still);
+      called = subst C (sym here) (still_called (calls_made (take i ds)) a.calls b.calls c.calls before.called uncalled);
     }
+
+-- the sum over one deed more
+one_more : (f : Deed → ℕ) (ds : List Deed) (i : ℕ) (d : Deed) → slice_get ds i ≡ Some d → sum_by f (take (i + 1) ds) ≡ sum_by f (take i ds) + f d
+one_more f ds i d at =
+    let whole = ap (sum_by f) (take_one_more ds i d at) in
+    let two = sum_by-append f (take i ds) (d ∷ []) in
+    omega (arith, whole, two)
+
+-- the deeds before one were done, and that one not, but that it made some of its calls
+pub broke_off : (ds : List Deed) (i : ℕ) (d : Deed) (a b c : Moment) → slice_get ds i ≡ Some d → Did (take i ds) a b → c.told ≡ b.told → c.writes ≡ b.writes → c.steps ≡ b.steps →
+    CalledAtMost d.calls b.calls c.calls → (breaks : BreaksOff ds i a c) × (breaks.next ≡ d)
+broke_off ds i d a b c at before told writes steps called =
+    let P : Option (List ℕ) → Type 0 = λ o. Tells a.told o (Adds (bytes_written (take i ds))) in
+    let most = λ (f : Deed → ℕ). one_more f ds i d at in (
+      record {
+        next = d;
+        there = at;
+        added = subst P (sym told) before.added;
+        wrote = writes ∙ before.wrote;
+        counted = steps ∙ before.counted;
+        called = record {
+          put_calls = λ k. (
+            low_part (a.calls.puts k) (b.calls.puts k) (c.calls.puts k) ((calls_made (take i ds)).puts k) (before.called.put_calls k) (called.put_calls k).0,
+            (let high = high_part (a.calls.puts k) (b.calls.puts k) (c.calls.puts k) ((calls_made (take i ds)).puts k) (d.calls.puts k) (before.called.put_calls k) (called.put_calls k).1 in
+                let P : ℕ → Type 0 = λ n. c.calls.puts k ≤ raised (a.calls.puts k) n in subst P (sym (most (λ (e : Deed). e.calls.puts k))) high),
+          );
+          get_calls = λ k. (
+            low_part (a.calls.gets k) (b.calls.gets k) (c.calls.gets k) ((calls_made (take i ds)).gets k) (before.called.get_calls k) (called.get_calls k).0,
+            (let high = high_part (a.calls.gets k) (b.calls.gets k) (c.calls.gets k) ((calls_made (take i ds)).gets k) (d.calls.gets k) (before.called.get_calls k) (called.get_calls k).1 in
+                let P : ℕ → Type 0 = λ n. c.calls.gets k ≤ raised (a.calls.gets k) n in subst P (sym (most (λ (e : Deed). e.calls.gets k))) high),
+          );
+          free_calls = λ k. (
+            low_part (a.calls.frees k) (b.calls.frees k) (c.calls.frees k) ((calls_made (take i ds)).frees k) (before.called.free_calls k) (called.free_calls k).0,
+            (let high = high_part (a.calls.frees k) (b.calls.frees k) (c.calls.frees k) ((calls_made (take i ds)).frees k) (d.calls.frees k) (before.called.free_calls k) (called.free_calls k).1 in
+                let P : ℕ → Type 0 = λ n. c.calls.frees k ≤ raised (a.calls.frees k) n in subst P (sym (most (λ (e : Deed). e.calls.frees k))) high),
+          );
+        };
+      },
+      refl,
+    )
+
+-- the keeper of a level that the deed calls failed there
+pub failed_at : (ds : List Deed) (i level : ℕ) (d : Deed) (a c : Moment) → ((breaks : BreaksOff ds i a c) × (breaks.next ≡ d)) → CallsLevel d level → FailsAt ds (i + 1) level a c
+failed_at ds i level d a c broke calls =
+    let P : ℕ → Type 0 = λ n. (breaks : BreaksOff ds n a c) × CallsLevel breaks.next level in
+    let C : Deed → Type 0 = λ e. CallsLevel e level in
+    let here : i + 1 - 1 ≡ i = omega arith in
+    let at = subst P (sym here) (broke.0, subst C (sym broke.1) calls) in
+    record { from_one = omega arith; breaks = at.0; calls = at.1 }
+
+-- an image of a level that the deed gets was damaged there
+pub damaged_at : (job : Job) (ds : List Deed) (i level : ℕ) (put got : List ℕ) (d : Deed) (a c : Moment) → ((breaks : BreaksOff ds i a c) × (breaks.next ≡ d)) → 0 < d.calls.gets level →
+    ((got ≢ put) ⊎ ((bytes : List ℕ) × ((got ≡ sha256 bytes) × IsNoImageOf job bytes))) → (AllTell (levels_of job) a.images → ⊥) → DamagedAt job ds (i + 1) level put got a c
+damaged_at job ds i level put got d a c broke gets wrong silent =
+    let P : ℕ → Type 0 = λ n. (breaks : BreaksOff ds n a c) × (0 < breaks.next.calls.gets level) in
+    let C : Deed → Type 0 = λ e. 0 < e.calls.gets level in
+    let here : i + 1 - 1 ≡ i = omega arith in
+    let at = subst P (sym here) (broke.0, subst C (sym broke.1) gets) in
+    record { from_one = omega arith; breaks = at.0; gets = at.1; wrong = wrong; silent = silent }
+
+-- the deed wanted memory, for which it calls a keeper
+pub halted_at : (ds : List Deed) (i level : ℕ) (d : Deed) (a c : Moment) → ((breaks : BreaksOff ds i a c) × (breaks.next ≡ d)) → CallsLevel d level → Halts ds a c
+halted_at ds i level d a c broke calls =
+    let C : Deed → Type 0 = λ e. CallsLevel e level in
+    record { performed = i; breaks = broke.0; level = level; wants = subst C (sym broke.1) calls }

@@ -3,11 +3,15 @@ pub mod Decimal
 pub mod Texts
 pub mod Requests
 pub mod Refusing
+pub mod Placing
 pub mod Lists
 pub mod Taking
 pub mod OnTheWay
 pub mod Doing
+pub mod Showing
 pub mod Performing
+pub mod Progress
 pub mod Refused
+pub mod Keeping
 pub mod Deciding
 pub mod Answering

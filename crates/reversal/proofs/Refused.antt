@@ -1,8 +1,6 @@
 -- The endings that a decision refuses with, and what a text of each kind says: one thing, or one fault.
-use Rattle.std.proofs.Common.{◌≡◌, ◌≢◌, ◌⊎◌, inl, inr, ℕ, ◌<◌, Bool, true, false, List, Option, None, Some, refl, sym, ◌∙◌, ap, subst, arith}
+use Rattle.std.proofs.Common.{◌≡◌, ◌≢◌, inl, inr, ℕ, ◌<◌, Bool, true, false, List, Option, None, Some, refl, sym, ◌∙◌, ap, subst, arith}
 use Rattle.std.proofs.lemmas.Bool.{cases_order}
-use Rattle.std.proofs.lemmas.Option.{same_Some}
-use Rattle.plan_types.specs.declared.action.Action.{Action}
 use Rattle.level_book.specs.declared.fault.BookFault.{BookFault}
 use Rattle.level_book.specs.declared.fault.BookFault.TheVariants as book
 use Rattle.level_book.specs.BookCosts.{BookCosts, names_of}
@@ -20,7 +18,6 @@ use Rattle.elf_load.specs.declared.fault.ElfFault.{ElfFault}
 use Rattle.elf_load.specs.declared.fault.ElfFault.TheVariants as program
 use Rattle.elf_load.specs.Faults.{number_of}
 use Rattle.elf_load.proofs.Once.{one_start, one_fault as one_file_fault, programs_have_no_fault, one_raw_start, one_raw_fault, raw_programs_have_no_fault}
-use Rattle.rv_machine.specs.MachineState.{MachineState}
 use Rattle.reversal.specs.declared.ended.Ended.{Ended}
 use Rattle.reversal.specs.Ending.{bad_program, bad_journal, bad_book, bad_text}
 use Rattle.reversal.specs.JobReading.{IsRefusal}
@@ -30,15 +27,30 @@ use Rattle.reversal.specs.Decision.{HasBookFault, IsStartOf, HasProgramFault, Ar
 pub record IsRefusing (e : Ended) : Type 0 where
   pub not_words : e.status ≢ 2
   pub not_input : e.status ≢ 3
+  pub not_keeper : e.status ≢ 12
+  pub not_damaged : e.status ≢ 13
   pub not_sink : e.status ≢ 14
   pub not_memory : e.status ≢ 17
 
-pub refusing_at : (e : Ended) (status : ℕ) → e.status ≡ status → 3 < status → status < 14 → IsRefusing e
+pub refusing_at : (e : Ended) (status : ℕ) → e.status ≡ status → 3 < status → status < 12 → IsRefusing e
 refusing_at e status is above below = record {
   not_words = λ x. absurd (omega (arith, x, is, above, below));
   not_input = λ x. absurd (omega (arith, x, is, above, below));
+  not_keeper = λ x. absurd (omega (arith, x, is, above, below));
+  not_damaged = λ x. absurd (omega (arith, x, is, above, below));
   not_sink = λ x. absurd (omega (arith, x, is, above, below));
   not_memory = λ x. absurd (omega (arith, x, is, above, below));
+}
+
+-- a refusal for the keepers
+pub refusing_for_keepers : (e : Ended) → e.status ≡ 16 → IsRefusing e
+refusing_for_keepers e is = record {
+  not_words = λ x. absurd (omega (arith, x, is));
+  not_input = λ x. absurd (omega (arith, x, is));
+  not_keeper = λ x. absurd (omega (arith, x, is));
+  not_damaged = λ x. absurd (omega (arith, x, is));
+  not_sink = λ x. absurd (omega (arith, x, is));
+  not_memory = λ x. absurd (omega (arith, x, is));
 }
 
 -- ---- faults end a call by a status of theirs

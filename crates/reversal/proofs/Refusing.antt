@@ -1,12 +1,10 @@
 -- Numbers of a request that are tested one after the other.
-use Rattle.std.proofs.Common.{◌≡◌, ℕ, ◌≤◌, ◌++◌, inl, inr, List, [], ◌∷◌, Option, Some, None, arith}
+use Rattle.std.proofs.Common.{◌≤◌, ◌++◌, inl, inr, List, [], ◌∷◌, Option, Some, None, arith}
 use Rattle.std.specs.Option.{MatchOption}
 use Rattle.std.specs.List.{AllByRecursion, flat_map}
 use Rattle.reversal.specs.declared.ended.Ended.{Ended}
 use Rattle.reversal.specs.declared.bounds.Bounded.{Bounded}
-use Rattle.reversal.specs.declared.options.Choice.{Choice}
-use Rattle.reversal.specs.declared.options.Choice.TheVariants.{Raw, Stack}
-use Rattle.reversal.specs.Request.{stack_pages}
+use Rattle.reversal.specs.Request.{Choice, raw, stack, files, stack_pages}
 use Rattle.reversal.specs.Bounds.{option_numbers, IsWithin, RefusesFirst}
 use Rattle.reversal.proofs.Requests.{all_both}
 
@@ -15,7 +13,7 @@ first_front [] ys e h = absurd h
 first_front (x ∷ xs) ys e (inl h) = inl h
 first_front (x ∷ xs) ys e (inr h) = inr (h.0, first_front xs ys e h.1)
 
-first_behind : (xs ys : List Bounded) (e : Ended) → AllByRecursion IsWithin xs → RefusesFirst ys e → RefusesFirst (xs ++ ys) e
+pub first_behind : (xs ys : List Bounded) (e : Ended) → AllByRecursion IsWithin xs → RefusesFirst ys e → RefusesFirst (xs ++ ys) e
 first_behind [] ys e h g = g
 first_behind (x ∷ xs) ys e h g = inr (h.0, first_behind xs ys e h.1 g)
 
@@ -35,5 +33,6 @@ all_after (x ∷ xs) ys h = all_after xs ys h.1
 -- the stack has as many pages as its bounds allow
 pub stack_within : (options : List Choice) → AllByRecursion IsWithin (flat_map option_numbers options) → (1 ≤ stack_pages options) × (stack_pages options ≤ 1024)
 stack_within [] h = (omega arith, omega arith)
-stack_within (Raw ∷ options) h = stack_within options h
-stack_within (Stack pages ∷ options) h = h.0
+stack_within (raw ∷ options) h = stack_within options h
+stack_within (stack pages ∷ options) h = h.0
+stack_within (files level folder ∷ options) h = stack_within options h.1

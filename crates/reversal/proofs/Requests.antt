@@ -1,19 +1,17 @@
 -- What words say: the options at their front, and the command behind them, are read in one way.
-use Rattle.std.proofs.Common.{◌≡◌, ◌≢◌, ◌⊎◌, ℕ, zero, suc, ◌^◌, ◌<◌, ◌≤◌, ◌+◌, ◌++◌, inl, inr, Bool, true, false, cond, nat_eq, eqb, not, ◌&&◌, ◌||◌, List, [], ◌∷◌, map, length, Option, Some, None, refl, sym, ap, subst, ◌∙◌, arith, append_assoc, append-nil, zero-add}
+use Rattle.std.proofs.Common.{◌≡◌, ◌≢◌, ℕ, ◌^◌, ◌<◌, ◌≤◌, ◌+◌, ◌++◌, inl, inr, Bool, true, false, cond, not, ◌&&◌, ◌||◌, List, [], ◌∷◌, map, length, Option, Some, None, refl, sym, ap, subst, ◌∙◌, arith, append_assoc, append-nil, zero-add}
 use Rattle.std.specs.Prelude.{IfSome, IfNone, decimal, codes, count_by, ◌==◌}
 use Rattle.std.specs.List.{AllByRecursion, list_any}
-use Rattle.std.specs.Option.{option_map}
 use Rattle.std.specs.Str.{bytes_eq}
 use Rattle.std.proofs.lemmas.Bool.{eqb-true, eq-eqb, false≢true}
 use Rattle.std.proofs.lemmas.Option.{same_Some, none-some, some_pair_parts}
 use Rattle.std.proofs.lemmas.List.Sums.{sum_by-append}
 use Rattle.std.proofs.lemmas.Slice.Eq.{bytes_eq-Decides}
-use Rattle.reversal.specs.declared.options.Choice.{Choice}
-use Rattle.reversal.specs.declared.options.Choice.TheVariants.{Raw, Stack}
 use Rattle.reversal.specs.declared.request.Request as in_memory
-use Rattle.reversal.specs.Reading.{Gives, ◌>>=◌, with_or, after_of, IsNumberAt, number_at}
-use Rattle.reversal.specs.Request.{option_word, is_raw, is_stack, HasNumber, AreOptions, Run, Check, Command, run, check, command_words, word_or_dash, IsName, IsScheduleName, MayBeNamed, CanBeSpelled, Request, Says}
-use Rattle.reversal.specs.RequestReading.{number_of, choice_of, is_chosen, next_choice, first_choice, options_from, is_name, is_schedule_name, name_or_none, run_of, check_of, command_of, request_read, request_of}
+use Rattle.reversal.specs.Reading.{Gives, ◌>>=◌, with_or, after_of, number_at}
+use Rattle.reversal.specs.Request.{Choice, raw, stack, files, files_front, option_word, is_raw, is_stack, is_files, FitsWord, AreOptions, Run, Check, Command, run, check, command_words, word_or_dash, IsName, IsScheduleName, MayBeNamed, CanBeSpelled, Request, Says}
+use Rattle.reversal.specs.ChoiceReading.{number_of, stack_of, files_of, choice_of, first_choice, options_at, behind_options, is_like, are_single}
+use Rattle.reversal.specs.RequestReading.{is_name, is_schedule_name, name_or_none, run_of, check_of, command_of, request_read, request_of}
 use Rattle.reversal.proofs.Decimal.{number_again, number_taken}
 use Rattle.reversal.proofs.Steps.{passed, passed_then, bind_some, chosen}
 use Rattle.reversal.proofs.Texts.{after_again, after_taken}
@@ -42,35 +40,76 @@ number_of_read word n e =
 
 -- ---- options
 
-pub choice_again : (c : Choice) → HasNumber c → choice_of (option_word c) ≡ Some c
-unfolding choice_of
-choice_again Raw h = refl
-choice_again (Stack pages) h =
-    let rest = after_again (codes "--stack=") (decimal pages) in
-    ap (λ o. o >>= λ rest. number_of rest >>= λ pages. Some (Stack pages)) rest ∙ ap (λ o. o >>= λ pages. Some (Stack pages)) (number_of_again pages h)
+is_not : (b : Bool) → (b ≡ true → ⊥) → b ≡ false
+is_not true h = absurd (h refl)
+is_not false h = refl
 
-pub choice_read : (word : List ℕ) (c : Choice) → choice_of word ≡ Some c → (word ≡ option_word c) × HasNumber c
+-- the word of a level's files, behind the text that it begins with
+behind_files : (level : ℕ) (folder : List ℕ) → files_front level ++ folder ≡ codes "--files=" ++ (decimal level ++ (codes ":" ++ folder))
+behind_files level folder =
+    append_assoc (codes "--files=" ++ decimal level) (codes ":") folder ∙ append_assoc (codes "--files=") (decimal level) (codes ":" ++ folder)
+
+files_again : (level : ℕ) (folder : List ℕ) → level < 2 ^ 64 → folder ≢ [] → files_of (decimal level ++ (codes ":" ++ folder)) ≡ Some (files level folder)
+files_again level folder small named =
+    ap (λ o. o >>= λ read. after_of (codes ":") read.1 >>= λ name. cond (length name == 0) None (Some (files read.0 name))) (number_again 18446744073709551615 level (codes ":" ++ folder) (omega arith) (omega arith) refl)
+    ∙ ap (λ o. o >>= λ name. cond (length name == 0) None (Some (files level name))) (after_again (codes ":") folder)
+    ∙ ap (λ b. cond b None (Some (files level folder))) (is_not (length folder == 0) (λ e. named (empty folder e)))
+
+pub choice_again : (c : Choice) → FitsWord c → choice_of (option_word c) ≡ Some c
+unfolding choice_of after_of
+choice_again raw h = refl
+choice_again (stack pages) h =
+    let rest = after_again (codes "--stack=") (decimal pages) in
+    ap (λ o. with_or o stack_of (after_of (codes "--files=") (codes "--stack=" ++ decimal pages) >>= files_of)) rest ∙ ap (λ o. o >>= λ pages. Some (stack pages)) (number_of_again pages h)
+choice_again (files level folder) h =
+    ap choice_of (behind_files level folder)
+    ∙ ap (λ o. o >>= files_of) (after_again (codes "--files=") (decimal level ++ (codes ":" ++ folder)))
+    ∙ files_again level folder h.0 h.1
+
+-- the word is that of this option
+abbrev IsWordOf : List ℕ → Choice → Type 0
+IsWordOf word c = (word ≡ option_word c) × FitsWord c
+
+stack_read : (word text : List ℕ) (c : Choice) → after_of (codes "--stack=") word ≡ Some text → stack_of text ≡ Some c → IsWordOf word c
+stack_read word text c e is =
+    let number = bind_some (number_of text) _ c is in
+    let same = same_Some (stack number.0) c number.2 in
+    let said = number_of_read text number.0 number.1 in
+    let P : Choice → Type 0 = λ x. IsWordOf word x in
+    subst P same (after_taken (codes "--stack=") word text e ∙ ap (λ r. codes "--stack=" ++ r) said.0, said.1)
+
+files_read : (word text : List ℕ) (c : Choice) → after_of (codes "--files=") word ≡ Some text → files_of text ≡ Some c → IsWordOf word c
+files_read word text c e is =
+    let number = bind_some (number_at 18446744073709551615 text) _ c is in
+    let level = (number.0).0 in
+    let name = bind_some (after_of (codes ":") (number.0).1) _ c number.2 in
+    let folder = name.0 in
+    let some = passed (length folder == 0) (Some (files level folder)) c name.2 in
+    let said = number_taken 18446744073709551615 text level (number.0).1 (omega arith) number.1 in
+    let behind = said.text ∙ ap (λ r. decimal level ++ r) (after_taken (codes ":") (number.0).1 folder name.1) in
+    let P : Choice → Type 0 = λ x. IsWordOf word x in
+    subst P (same_Some (files level folder) c some.1) (
+      after_taken (codes "--files=") word text e ∙ ap (λ r. codes "--files=" ++ r) behind ∙ sym (behind_files level folder),
+      (omega (arith, said.small), λ none. false≢true (sym some.0 ∙ ap (λ l. length l == 0) none)),
+    )
+
+other_read : (word : List ℕ) (c : Choice) (o : Option (List ℕ)) → after_of (codes "--stack=") word ≡ o → with_or o stack_of (after_of (codes "--files=") word >>= files_of) ≡ Some c → IsWordOf word c
+other_read word c (Some text) e is = stack_read word text c e is
+other_read word c None e is = let step = bind_some (after_of (codes "--files=") word) files_of c is in files_read word step.0 c step.1 step.2
+
+pub choice_read : (word : List ℕ) (c : Choice) → choice_of word ≡ Some c → IsWordOf word c
 unfolding choice_of
 choice_read word c e =
     elim (chosen (bytes_eq word (codes "--raw")) _ _ _ e) [
-      | inl r ↦
-          let same = same_Some Raw c r.1 in
-          let P : Choice → Type 0 = λ x. (word ≡ option_word x) × HasNumber x in
-          subst P same ((bytes_eq-Decides word (codes "--raw")).0 r.0, tt)
-      | inr s ↦
-          let one = bind_some (after_of (codes "--stack=") word) _ c s.1 in
-          let two = bind_some (number_of one.0) _ c one.2 in
-          let same = same_Some (Stack two.0) c two.2 in
-          let is = number_of_read one.0 two.0 two.1 in
-          let P : Choice → Type 0 = λ x. (word ≡ option_word x) × HasNumber x in
-          subst P same (after_taken (codes "--stack=") word one.0 one.1 ∙ ap (λ r. codes "--stack=" ++ r) is.0, is.1)
+      | inl r ↦ let P : Choice → Type 0 = λ x. IsWordOf word x in subst P (same_Some raw c r.1) ((bytes_eq-Decides word (codes "--raw")).0 r.0, tt)
+      | inr s ↦ other_read word c (after_of (codes "--stack=") word) refl s.1
     ]
 
 -- how an option counts
 once : (p : Choice → Bool) (x : Choice) (b : Bool) → p x ≡ b → cond {A = ℕ} (p x) 1 0 ≡ cond b 1 0
 once p x b f = ap (λ t. cond t 1 0) f
 
-counted : (p : Choice → Bool) (x : Choice) (xs : List Choice) → count_by p (x ∷ xs) ≡ cond (p x) 1 0 + count_by p xs
+pub counted : (p : Choice → Bool) (x : Choice) (xs : List Choice) → count_by p (x ∷ xs) ≡ cond (p x) 1 0 + count_by p xs
 counted p x xs = sum_by-append (λ y. cond (p y) 1 0) (x ∷ []) xs ∙ ap (λ n. n + count_by p xs) (zero-add (cond (p x) 1 0))
 
 -- the first of some options, and the others
@@ -94,147 +133,24 @@ none_counts : (p : Choice → Bool) (xs : List Choice) → list_any p xs ≡ fal
 none_counts p [] e = refl
 none_counts p (x ∷ xs) e = first_counts_none p x xs (p x) refl (none_counts p xs) e
 
--- one more option, where there was none of its kind
-one_kind : (p : Choice → Bool) (seen : List Choice) (c : Choice) (more : List Choice) → p c ≡ true → count_by p (seen ++ c ∷ more) ≤ 1 → list_any p seen ≡ false
-one_kind p seen c more own h = by_any (list_any p seen) refl
-  where
-    by_any : (b : Bool) → list_any p seen ≡ b → list_any p seen ≡ false
-    by_any false e = e
-    by_any true e =
-        absurd (omega (arith, any_counts p seen e, sum_by-append (λ x. cond (p x) 1 0) seen (c ∷ more), h, counted p c more, once p c true own))
+-- a kind of options, of which one may stand
+abbrev IsKind : (Choice → Bool) → Type 0
+IsKind p = (c : Choice) → p c ≡ true → is_like c ≡ p
 
-fresh : (seen : List Choice) (c : Choice) (more : List Choice) → AreOptions (seen ++ c ∷ more) → is_chosen c seen ≡ false
-fresh seen Raw more h = one_kind is_raw seen Raw more refl h.one_raw
-fresh seen (Stack pages) more h = one_kind is_stack seen (Stack pages) more refl h.one_stack
+raw_kind : IsKind is_raw
+raw_kind raw e = refl
+raw_kind (stack pages) e = absurd (false≢true e)
+raw_kind (files level folder) e = absurd (false≢true e)
 
-all_behind : {A : Type 0} (P : A → Type 0) (xs ys : List A) → AllByRecursion P (xs ++ ys) → AllByRecursion P ys
-all_behind P [] ys h = h
-all_behind P (x ∷ xs) ys h = all_behind P xs ys h.1
+stack_kind : IsKind is_stack
+stack_kind raw e = absurd (false≢true e)
+stack_kind (stack pages) e = refl
+stack_kind (files level folder) e = absurd (false≢true e)
 
-pub all_both : {A : Type 0} (P : A → Type 0) (xs ys : List A) → AllByRecursion P xs → AllByRecursion P ys → AllByRecursion P (xs ++ ys)
-all_both P [] ys h g = g
-all_both P (x ∷ xs) ys h g = (h.0, all_both P xs ys h.1 g)
-
-next_again : (seen : List Choice) (c : Choice) → HasNumber c → is_chosen c seen ≡ false → next_choice seen (option_word c) ≡ Some c
-unfolding next_choice
-next_again seen c h new = ap (λ o. o >>= λ choice. cond (is_chosen choice seen) None (Some choice)) (choice_again c h) ∙ ap (λ b. cond b None (Some c)) new
-
-next_none : (seen : List Choice) (word : List ℕ) → choice_of word ≡ None → next_choice seen word ≡ None
-unfolding next_choice
-next_none seen word e = ap (λ o. o >>= λ choice. cond (is_chosen choice seen) None (Some choice)) e
-
-next_read : (seen : List Choice) (word : List ℕ) (c : Choice) → next_choice seen word ≡ Some c → (choice_of word ≡ Some c) × (is_chosen c seen ≡ false)
-unfolding next_choice
-next_read seen word c e =
-    let step = bind_some (choice_of word) _ c e in
-    let new = passed (is_chosen step.0 seen) (Some step.0) c step.2 in
-    let same = same_Some step.0 c new.1 in
-    (step.1 ∙ ap (λ x. Some x) same, ap (λ x. is_chosen x seen) (sym same) ∙ new.0)
-
--- reading, option by option
-pub record OneMore (seen : List Choice) (words : List (List ℕ)) (c : Choice) (behind : List (List ℕ)) : Type 0 where
-  pub new : is_chosen c seen ≡ false
-  pub reads : options_from seen words ≡ options_from (seen ++ c ∷ []) behind
-  pub shorter : length behind < length words
-
-pub one_more : (seen : List Choice) (words : List (List ℕ)) (c : Choice) (behind : List (List ℕ)) → first_choice seen words ≡ Some (c, behind) → OneMore seen words c behind
-unfolding options_from
-one_more seen [] c behind e = absurd (none-some (c, behind) e)
-one_more seen (word ∷ words) c behind e =
-    let step = bind_some (next_choice seen word) _ (c, behind) e in
-    let same = some_pair_parts step.0 c words behind step.2 in
-    let is = step.1 ∙ ap (λ x. Some x) same.0 in
-    record {
-      new = (next_read seen word c is).1;
-      reads = ap (λ o. with_or o (λ choice. options_from (seen ++ choice ∷ []) words) (seen, word ∷ words)) is ∙ ap (options_from (seen ++ c ∷ [])) same.1;
-      shorter = omega (arith, ap length same.1);
-    }
-
-pub no_more : (seen : List Choice) (words : List (List ℕ)) → first_choice seen words ≡ None → (seen, words) ≡ options_from seen words
-unfolding options_from
-no_more seen [] e = refl
-no_more seen (word ∷ words) e = by_next (next_choice seen word) refl
-  where
-    by_next : (o : Option Choice) → next_choice seen word ≡ o → (seen, word ∷ words) ≡ options_from seen (word ∷ words)
-    by_next None f = sym (ap (λ o. with_or o (λ choice. options_from (seen ++ choice ∷ []) words) (seen, word ∷ words)) f)
-    by_next (Some c) f = absurd (none-some (c, words) (sym e ∙ ap (λ o. o >>= λ choice. Some (choice, words)) f))
-
--- the options of a request are read again, before words that begin with none
-pub options_again : (more seen : List Choice) (word : List ℕ) (words : List (List ℕ)) → AreOptions (seen ++ more) → choice_of word ≡ None →
-    options_from seen (map option_word more ++ word ∷ words) ≡ (seen ++ more, word ∷ words)
-unfolding options_from
-options_again [] seen word words h none =
-    ap (λ o. with_or o (λ choice. options_from (seen ++ choice ∷ []) words) (seen, word ∷ words)) (next_none seen word none)
-    ∙ λ i. (sym (append-nil seen) i, word ∷ words)
-options_again (c ∷ more) seen word words h none =
-    let behind = all_behind HasNumber seen (c ∷ more) h.numbers in
-    let new = fresh seen c more h in
-    let P : List Choice → Type 0 = λ l. AreOptions l in
-    let joined = append_assoc seen (c ∷ []) more in
-    ap (λ o. with_or o (λ choice. options_from (seen ++ choice ∷ []) (map option_word more ++ word ∷ words)) (seen, option_word c ∷ (map option_word more ++ word ∷ words))) (next_again seen c behind.0 new)
-    ∙ options_again more (seen ++ c ∷ []) word words (subst P (sym joined) h) none
-    ∙ λ i. (joined i, word ∷ words)
-
--- one more option
-grown : (seen : List Choice) (c : Choice) → AreOptions seen → HasNumber c → is_chosen c seen ≡ false → AreOptions (seen ++ c ∷ [])
-grown seen Raw h number new = record {
-  one_raw = omega (arith, sum_by-append (λ x. cond (is_raw x) 1 0) seen (Raw ∷ []), none_counts is_raw seen new);
-  one_stack = omega (arith, sum_by-append (λ x. cond (is_stack x) 1 0) seen (Raw ∷ []), h.one_stack);
-  numbers = all_both HasNumber seen (Raw ∷ []) h.numbers (number, tt);
-}
-grown seen (Stack pages) h number new = record {
-  one_raw = omega (arith, sum_by-append (λ x. cond (is_raw x) 1 0) seen (Stack pages ∷ []), h.one_raw);
-  one_stack = omega (arith, sum_by-append (λ x. cond (is_stack x) 1 0) seen (Stack pages ∷ []), none_counts is_stack seen new);
-  numbers = all_both HasNumber seen (Stack pages ∷ []) h.numbers (number, tt);
-}
-
--- what is read are options, and the words are theirs and those behind
-pub record ReadFrom (seen : List Choice) (all : List (List ℕ)) : Type 0 where
-  pub more : List Choice
-  pub options : (options_from seen all).0 ≡ seen ++ more
-  pub words : all ≡ map option_word more ++ (options_from seen all).1
-  pub are : AreOptions (seen ++ more)
-
-read_none : (seen : List Choice) (word : List ℕ) (words : List (List ℕ)) → AreOptions seen → next_choice seen word ≡ None → ReadFrom seen (word ∷ words)
-unfolding options_from
-read_none seen word words h e =
-    let P : List Choice → Type 0 = λ l. AreOptions l in
-    let all = ap (λ o. with_or o (λ choice. options_from (seen ++ choice ∷ []) words) (seen, word ∷ words)) e in
-    record {
-      more = [];
-      options = ap (λ (p : List Choice × List (List ℕ)). p.0) all ∙ sym (append-nil seen);
-      words = sym (ap (λ (p : List Choice × List (List ℕ)). p.1) all);
-      are = subst P (sym (append-nil seen)) h;
-    }
-
-read_some : (seen : List Choice) (word : List ℕ) (words : List (List ℕ)) (c : Choice) → next_choice seen word ≡ Some c → ReadFrom (seen ++ c ∷ []) words → ReadFrom seen (word ∷ words)
-unfolding options_from
-read_some seen word words c e rest =
-    let all = ap (λ o. with_or o (λ choice. options_from (seen ++ choice ∷ []) words) (seen, word ∷ words)) e in
-    let said = choice_read word c (next_read seen word c e).0 in
-    let joined = append_assoc seen (c ∷ []) rest.more in
-    let P : List Choice → Type 0 = λ l. AreOptions l in
-    record {
-      more = c ∷ rest.more;
-      options = ap (λ (p : List Choice × List (List ℕ)). p.0) all ∙ rest.options ∙ joined;
-      words = ap (λ w. w ∷ words) said.0 ∙ ap (λ ws. option_word c ∷ ws) rest.words ∙ ap (λ ws. option_word c ∷ (map option_word rest.more ++ ws)) (sym (ap (λ (p : List Choice × List (List ℕ)). p.1) all));
-      are = subst P joined rest.are;
-    }
-
-read_next : (seen : List Choice) (word : List ℕ) (words : List (List ℕ)) → AreOptions seen → ((c : Choice) → AreOptions (seen ++ c ∷ []) → ReadFrom (seen ++ c ∷ []) words) → (o : Option Choice) → next_choice seen word ≡ o → ReadFrom seen (word ∷ words)
-read_next seen word words h rest None e = read_none seen word words h e
-read_next seen word words h rest (Some c) e =
-    let is = next_read seen word c e in
-    read_some seen word words c e (rest c (grown seen c h (choice_read word c is.0).1 is.1))
-
-pub options_read : (words : List (List ℕ)) (seen : List Choice) → AreOptions seen → ReadFrom seen words
-unfolding options_from
-options_read [] seen h =
-    let P : List Choice → Type 0 = λ l. AreOptions l in
-    record { more = []; options = sym (append-nil seen); words = refl; are = subst P (sym (append-nil seen)) h }
-options_read (word ∷ words) seen h = read_next seen word words h (λ c are. options_read words (seen ++ c ∷ []) are) (next_choice seen word) refl
-
--- ---- names
+files_kind : (level : ℕ) → IsKind (is_files level)
+files_kind level raw e = absurd (false≢true e)
+files_kind level (stack pages) e = absurd (false≢true e)
+files_kind level (files k folder) e = ap is_files (sym (eqb-true level k e))
 
 and_parts : (a b : Bool) → (a && b) ≡ true → (a ≡ true) × (b ≡ true)
 and_parts true b e = (refl, e)
@@ -243,9 +159,121 @@ and_parts false b e = absurd (false≢true e)
 and_both : (a b : Bool) → a ≡ true → b ≡ true → (a && b) ≡ true
 and_both a b e f = ap (λ x. x && b) e ∙ f
 
-is_not : (b : Bool) → (b ≡ true → ⊥) → b ≡ false
-is_not true h = absurd (h refl)
-is_not false h = refl
+none_so : (b : Bool) → not b ≡ true → b ≡ false
+none_so true e = absurd (false≢true e)
+none_so false e = refl
+
+-- where each option is single, a kind stands at most once
+single_counts : (p : Choice → Bool) → IsKind p → (options : List Choice) → are_single options ≡ true → count_by p options ≤ 1
+single_counts p kind [] e = omega arith
+single_counts p kind (c ∷ options) e = by_own (single_counts p kind options (and_parts _ _ e).1) (p c) refl
+  where
+    by_own : count_by p options ≤ 1 → (b : Bool) → p c ≡ b → count_by p (c ∷ options) ≤ 1
+    by_own rest true own =
+        let none = sym (ap (λ q. list_any q options) (kind c own)) ∙ none_so _ (and_parts _ _ e).0 in
+        omega (arith, counted p c options, once p c true own, none_counts p options none)
+    by_own rest false own = omega (arith, counted p c options, once p c false own, rest)
+
+-- and the other way round
+alone : (p : Choice → Bool) (c : Choice) (options : List Choice) → p c ≡ true → count_by p (c ∷ options) ≤ 1 → list_any p options ≡ false
+alone p c options own h = is_not (list_any p options) (λ any. absurd (omega (arith, any_counts p options any, counted p c options, once p c true own, h)))
+
+first_alone : (c : Choice) (options : List Choice) → AreOptions (c ∷ options) → list_any (is_like c) options ≡ false
+first_alone raw options h = alone is_raw raw options refl h.one_raw
+first_alone (stack pages) options h = alone is_stack (stack pages) options refl h.one_stack
+first_alone (files level folder) options h = alone (is_files level) (files level folder) options (eq-eqb level level refl) (h.one_folder level)
+
+others : (c : Choice) (options : List Choice) → AreOptions (c ∷ options) → AreOptions options
+others c options h = record {
+  one_raw = omega (arith, counted is_raw c options, h.one_raw);
+  one_stack = omega (arith, counted is_stack c options, h.one_stack);
+  one_folder = λ level. omega (arith, counted (is_files level) c options, h.one_folder level);
+  fit = h.fit.1;
+}
+
+options_single : (options : List Choice) → AreOptions options → are_single options ≡ true
+options_single [] h = refl
+options_single (c ∷ options) h = and_both _ _ (ap not (first_alone c options h)) (options_single options (others c options h))
+
+single_options : (options : List Choice) → are_single options ≡ true → AllByRecursion FitsWord options → AreOptions options
+single_options options e fit = record {
+  one_raw = single_counts is_raw raw_kind options e;
+  one_stack = single_counts is_stack stack_kind options e;
+  one_folder = λ level. single_counts (is_files level) (files_kind level) options e;
+  fit = fit;
+}
+
+pub all_both : {A : Type 0} (P : A → Type 0) (xs ys : List A) → AllByRecursion P xs → AllByRecursion P ys → AllByRecursion P (xs ++ ys)
+all_both P [] ys h g = g
+all_both P (x ∷ xs) ys h g = (h.0, all_both P xs ys h.1 g)
+
+-- reading, option by option
+pub record OneMore (words : List (List ℕ)) (c : Choice) (behind : List (List ℕ)) : Type 0 where
+  pub options : options_at words ≡ c ∷ options_at behind
+  pub rest : behind_options words ≡ behind_options behind
+  pub shorter : length behind < length words
+
+pub one_more : (words : List (List ℕ)) (c : Choice) (behind : List (List ℕ)) → first_choice words ≡ Some (c, behind) → OneMore words c behind
+unfolding options_at behind_options
+one_more [] c behind e = absurd (none-some (c, behind) e)
+one_more (word ∷ words) c behind e =
+    let step = bind_some (choice_of word) _ (c, behind) e in
+    let same = some_pair_parts step.0 c words behind step.2 in
+    let is = step.1 ∙ ap (λ x. Some x) same.0 in
+    record {
+      options = ap (λ o. with_or o (λ choice. choice ∷ options_at words) []) is ∙ ap (λ ws. c ∷ options_at ws) same.1;
+      rest = ap (λ o. with_or o (λ choice. behind_options words) (word ∷ words)) is ∙ ap behind_options same.1;
+      shorter = omega (arith, ap length same.1);
+    }
+
+pub record NoMore (words : List (List ℕ)) : Type 0 where
+  pub options : options_at words ≡ []
+  pub rest : behind_options words ≡ words
+
+pub no_more : (words : List (List ℕ)) → first_choice words ≡ None → NoMore words
+unfolding options_at behind_options
+no_more [] e = record { options = refl; rest = refl }
+no_more (word ∷ words) e = by_choice (choice_of word) refl
+  where
+    by_choice : (o : Option Choice) → choice_of word ≡ o → NoMore (word ∷ words)
+    by_choice None f = record {
+      options = ap (λ o. with_or o (λ choice. choice ∷ options_at words) []) f;
+      rest = ap (λ o. with_or o (λ choice. behind_options words) (word ∷ words)) f;
+    }
+    by_choice (Some c) f = absurd (none-some (c, words) (sym e ∙ ap (λ o. o >>= λ choice. Some (choice, words)) f))
+
+-- the options of a request are read again, before words that begin with none
+options_again : (options : List Choice) (word : List ℕ) (words : List (List ℕ)) → AllByRecursion FitsWord options → choice_of word ≡ None →
+    (options_at (map option_word options ++ word ∷ words) ≡ options) × (behind_options (map option_word options ++ word ∷ words) ≡ word ∷ words)
+unfolding options_at behind_options
+options_again [] word words h none =
+    (ap (λ o. with_or o (λ choice. choice ∷ options_at words) []) none, ap (λ o. with_or o (λ choice. behind_options words) (word ∷ words)) none)
+options_again (c ∷ options) word words h none =
+    let all = map option_word options ++ word ∷ words in
+    let first = choice_again c h.0 in
+    let rest = options_again options word words h.1 none in (
+      ap (λ o. with_or o (λ choice. choice ∷ options_at all) []) first ∙ ap (λ l. c ∷ l) rest.0,
+      ap (λ o. with_or o (λ choice. behind_options all) (option_word c ∷ all)) first ∙ rest.1,
+    )
+
+-- what is read are options, and the words are theirs and those behind
+pub record IsFront (words : List (List ℕ)) (options : List Choice) (behind : List (List ℕ)) : Type 0 where
+  pub spelled : words ≡ map option_word options ++ behind
+  pub fit : AllByRecursion FitsWord options
+
+front_read : (word : List ℕ) (words : List (List ℕ)) → IsFront words (options_at words) (behind_options words) → (o : Option Choice) → choice_of word ≡ o →
+    IsFront (word ∷ words) (with_or o (λ choice. choice ∷ options_at words) []) (with_or o (λ choice. behind_options words) (word ∷ words))
+front_read word words rest None e = record { spelled = refl; fit = tt }
+front_read word words rest (Some c) e =
+    let said = choice_read word c e in
+    record { spelled = ap (λ w. w ∷ words) said.0 ∙ ap (λ ws. option_word c ∷ ws) rest.spelled; fit = (said.1, rest.fit) }
+
+pub options_read : (words : List (List ℕ)) → IsFront words (options_at words) (behind_options words)
+unfolding options_at behind_options
+options_read [] = record { spelled = refl; fit = tt }
+options_read (word ∷ words) = front_read word words (options_read words) (choice_of word) refl
+
+-- ---- names
 
 pub name_is : (word : List ℕ) → IsName word → is_name word ≡ true
 name_is word h = ap not (is_not (length word == 0) (λ e. h (empty word e)))
@@ -370,25 +398,26 @@ pub said_is_read : (words : List (List ℕ)) (r : Request) → Says words r → 
 unfolding request_read
 said_is_read words r h =
     let first = no_option r.command in
-    let read = ap (options_from []) (h.spelled ∙ ap (λ ws. map option_word r.options ++ ws) first.2) ∙ options_again r.options [] first.0 first.1 h.options first.3 in
-    let both = read ∙ ap (λ ws. (r.options, ws)) (sym first.2) in
-    ap (λ (p : List Choice × List (List ℕ)). command_of p.1 >>= λ command. Some (record { options = p.0; command = command })) both
+    let spelled = h.spelled ∙ ap (λ ws. map option_word r.options ++ ws) first.2 in
+    let read = options_again r.options first.0 first.1 h.options.fit first.3 in
+    let options = ap options_at spelled ∙ read.0 in
+    let behind = ap behind_options spelled ∙ read.1 ∙ sym first.2 in
+    ap (λ l. cond (are_single l) (command_of (behind_options words) >>= λ command. Some (record { options = l; command = command })) None) options
+    ∙ ap (λ b. cond b (command_of (behind_options words) >>= λ command. Some (record { options = r.options; command = command })) None) (options_single r.options h.options)
+    ∙ ap (λ ws. command_of ws >>= λ command. Some (record { options = r.options; command = command })) behind
     ∙ ap (λ o. o >>= λ command. Some (record { options = r.options; command = command })) (command_again r.command h.allowed)
-
-none_yet : AreOptions []
-none_yet = record { one_raw = omega arith; one_stack = omega arith; numbers = tt }
 
 pub read_is_said : (words : List (List ℕ)) (r : Request) → request_read words ≡ Some r → Says words r
 unfolding request_read
 read_is_said words r e =
-    let step = bind_some (command_of (options_from [] words).1) _ r e in
-    let options = options_read words [] none_yet in
-    let command = command_read (options_from [] words).1 step.0 step.1 in
+    let single = passed_then (are_single (options_at words)) _ r e in
+    let step = bind_some (command_of (behind_options words)) _ r single.1 in
+    let options = options_read words in
+    let command = command_read (behind_options words) step.0 step.1 in
     let P : Request → Type 0 = λ x. Says words x in
-    let O : List Choice → Type 0 = λ l. AreOptions l in
     subst P (same_Some _ r step.2) (record {
-      spelled = options.words ∙ ap (λ l. map option_word l ++ (options_from [] words).1) (sym options.options) ∙ ap (λ ws. map option_word (options_from [] words).0 ++ ws) command.spelled;
-      options = subst O (sym options.options) options.are;
+      spelled = options.spelled ∙ ap (λ ws. map option_word (options_at words) ++ ws) command.spelled;
+      options = single_options (options_at words) single.0 options.fit;
       allowed = command.allowed;
     })
 

@@ -3,18 +3,17 @@ use Rattle.std.specs.Prelude.{◌≡◌, ◌⊎◌, ℕ, ◌≤◌, ◌++◌, Li
 use Rattle.std.specs.List.{AllByRecursion, flat_map}
 use Rattle.reversal.specs.declared.ended.Ended.{Ended}
 use Rattle.reversal.specs.declared.bounds.Bounded.{Bounded}
-use Rattle.reversal.specs.declared.options.Choice.{Choice}
-use Rattle.reversal.specs.declared.options.Choice.TheVariants.{Raw, Stack}
-use Rattle.reversal.specs.Request.{Command, run, check, Request, Says}
+use Rattle.reversal.specs.Request.{Choice, raw, stack, files, Command, run, check, Request, Says}
 use Rattle.reversal.specs.Ending.{no_request, out_of_range}
 
--- A number with the rule that gives its bounds: 1 is the number of steps, 4 the number of the stack's pages.
+-- A number with the rule that gives its bounds: 1 is the number of steps, 4 the number of the stack's pages, and 5 a level.
 abbrev pub steps_bound : ℕ → Bounded
 steps_bound steps = record { number = steps; least = 0; greatest = 1000000; rule = 1 }
 
 abbrev pub option_numbers : Choice → List Bounded
-option_numbers Raw = []
-option_numbers (Stack pages) = record { number = pages; least = 1; greatest = 1024; rule = 4 } ∷ []
+option_numbers raw = []
+option_numbers (stack pages) = record { number = pages; least = 1; greatest = 1024; rule = 4 } ∷ []
+option_numbers (files level folder) = record { number = level; least = 0; greatest = 3; rule = 5 } ∷ []
 
 abbrev pub command_numbers : Command → List Bounded
 command_numbers (run c) = steps_bound c.steps ∷ []

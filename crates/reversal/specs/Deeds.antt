@@ -1,55 +1,73 @@
 -- What a job does, piece by piece: a list of deeds. Every command is such a list, so that one definition says what a call
--- did that was done, that stopped at a write that failed, or that ran out of memory.
-use Rattle.std.specs.Prelude.{◌≡◌, ℕ, ◌+◌, ◌-◌, ◌<◌, ◌++◌, Bool, true, false, List, [], ◌∷◌, length, take, map, sum_by, slice_get, Option, Some}
+-- did that was done, that stopped at a write that failed or at storage, or that ran out of memory.
+use Rattle.std.specs.Prelude.{◌≡◌, ◌≢◌, ◌⊎◌, ℕ, ◌+◌, ◌-◌, ◌<◌, ◌≤◌, ◌++◌, List, [], ◌∷◌, length, take, map, sum_by, slice_get, Option, Some, IsSome}
 use Rattle.std.specs.List.{flat_map}
+use Rattle.std.specs.FinMap as finmap
+use Rattle.sha2.specs.Sha256.{sha256}
 use Rattle.plan_types.specs.declared.action.Action.{Action}
+use Rattle.level_book.specs.declared.book.Slots.{Slots}
 use Rattle.level_book.specs.CostFold.{steps_of, forward}
+use Rattle.level_book.specs.Configuration.{Configuration, start, held_on}
+use Rattle.level_book.specs.Valid.{Leads}
 use Rattle.keepers.specs.Counts.{raised}
-use Rattle.keepers.specs.Told.{Tells, AddsPrefix}
+use Rattle.keepers.specs.Told.{Images, Tells, AddsPrefix}
 use Rattle.rv_machine.specs.MachineState.{MachineState}
+use Rattle.rv_machine.specs.States.{state_number}
+use Rattle.image_store.specs.Standing.{IsToldAnd}
 use Rattle.reverse_runner.specs.Handed.{handed_by}
-use Rattle.reverse_runner.specs.Performed.{keeps_copy}
+use Rattle.reverse_runner.specs.HoldsJust.{HoldsJust}
+use Rattle.reverse_runner.specs.KeepersSeen.{Calls, calls_of, calls_to, told_by, Called, CalledBetween}
+use Rattle.reverse_runner.specs.Standing.{IsNoImage}
 use Rattle.reversal.specs.Output.{line_of, lines_down, Adds}
 
--- What is to be done of a call that isn't refused. A command that is added is a case here, and in the four definitions
--- below: its deeds, how their places are shown, its output and its steps.
+-- What is to be done of a call that isn't refused. A command that is added is a case here, and in the definitions by cases
+-- on jobs below.
 pub data Job : Type 0 where
-  -- the actions of a list over the run from a state, with recorded input and a number of steps
-  perform : MachineState → List (List ℕ) → ℕ → List Action → Job
+  -- the actions of a list over the run from a state, with recorded input, a number of steps and the slots of a book
+  perform : MachineState → List (List ℕ) → ℕ → List Slots → List Action → Job
   -- a text, in one piece
   write : List ℕ → Job
 
--- a deed: what it writes, in as many writes as there are pieces; its machine steps; and whether it keeps a state, which takes memory
+-- a deed: what it writes, in as many writes as there are pieces; its machine steps; and how often it calls the keepers
 pub record Deed : Type 0 where
   pub pieces : List (List ℕ)
   pub steps : ℕ
-  pub keeps : Bool
+  pub calls : Calls
 
--- an action writes the lines of the states that it hands out, and takes its forward steps
-abbrev pub deed_of : MachineState → List (List ℕ) → ℕ → Action → Deed
-deed_of first journal steps action = record {
-  pieces = map (line_of first journal) (handed_by steps action);
+-- no calls
+abbrev pub no_calls : Calls
+no_calls = record { puts = λ _. 0; gets = λ _. 0; frees = λ _. 0 }
+
+-- The states that a run shows, by their numbers. Where the keepers tell they are those of the run; else the bytes that came
+-- back from storage say what they are.
+abbrev pub Shown : Type 0
+Shown = ℕ → MachineState
+
+-- an action writes the lines of the states that it hands out, takes its forward steps, and calls the keepers for its images
+abbrev pub deed_of : Shown → ℕ → Action → Deed
+deed_of shown steps action = record {
+  pieces = map (line_of shown) (handed_by steps action);
   steps = steps_of action;
-  keeps = keeps_copy action;
+  calls = calls_of action;
 }
 
-abbrev pub deeds : Job → List Deed
-deeds (perform first journal steps list) = map (deed_of first journal steps) list
-deeds (write text) = record { pieces = text ∷ []; steps = 0; keeps = false } ∷ []
+abbrev pub deeds : Shown → Job → List Deed
+deeds shown (perform first journal steps slots list) = map (deed_of shown steps) list
+deeds shown (write text) = record { pieces = text ∷ []; steps = 0; calls = no_calls } ∷ []
 
 -- The place of a deed as an ending has it: the number of the action. A text has no actions, and its place is 0.
 abbrev pub shown_place : Job → ℕ → ℕ
-shown_place (perform first journal steps list) place = place
+shown_place (perform first journal steps slots list) place = place
 shown_place (write text) place = 0
 
 -- What a job that is done writes in all, and how many steps it takes: for a performed list the lines of the states from
 -- the last to the first, each once, and the list's forward steps.
-abbrev pub output : Job → List ℕ
-output (perform first journal steps list) = lines_down first journal steps
-output (write text) = text
+abbrev pub output : Shown → Job → List ℕ
+output shown (perform first journal steps slots list) = lines_down shown steps
+output shown (write text) = text
 
 abbrev pub steps_taken : Job → ℕ
-steps_taken (perform first journal steps list) = forward list
+steps_taken (perform first journal steps slots list) = forward list
 steps_taken (write text) = 0
 
 -- ---- what was done
@@ -66,31 +84,76 @@ writes_made ds = sum_by (λ (d : Deed). length d.pieces) ds
 abbrev pub steps_made : List Deed → ℕ
 steps_made ds = sum_by (λ (d : Deed). d.steps) ds
 
--- what is seen of a sink and of a count of steps at one moment: the bytes that the sink tells, how often it was called,
--- and the count
+abbrev pub calls_made : List Deed → Calls
+calls_made ds = record {
+  puts = λ k. sum_by (λ (d : Deed). d.calls.puts k) ds;
+  gets = λ k. sum_by (λ (d : Deed). d.calls.gets k) ds;
+  frees = λ k. sum_by (λ (d : Deed). d.calls.frees k) ds;
+}
+
+-- What is seen at one moment: the bytes that the sink tells, how often it was called, the count of steps, how often the
+-- keepers were called, and the images that they tell, both by the numbers of their levels.
 pub record Moment : Type 0 where
   pub told : Option (List ℕ)
-  pub calls : ℕ
+  pub writes : ℕ
   pub steps : ℕ
+  pub calls : Calls
+  pub images : ℕ → Option Images
+
+-- what is seen of a sink, of keepers and of a count of steps, by what they tell and count
+abbrev pub moment : {X K : Type 0} → (X → Option (List ℕ)) → (X → ℕ) → (K → Option Images) → (K → ℕ) → (K → ℕ) → (K → ℕ) → X → List K → ℕ → Moment
+moment told writes images puts gets frees sink keepers steps = record {
+  told = told sink;
+  writes = writes sink;
+  steps = steps;
+  calls = calls_to puts gets frees keepers;
+  images = told_by images keepers;
+}
 
 -- these deeds were done, and nothing else
 pub record Did (ds : List Deed) (old new : Moment) : Type 0 where
   pub added : Tells old.told new.told (Adds (bytes_written ds))
-  pub called : new.calls ≡ raised old.calls (writes_made ds)
+  pub wrote : new.writes ≡ raised old.writes (writes_made ds)
   pub counted : new.steps ≡ old.steps + steps_made ds
+  pub called : Called (calls_made ds) old.calls new.calls
+
+-- ---- what holds of a performed list
+
+-- the keepers of so many levels tell, and are empty
+abbrev pub AllTell : ℕ → (ℕ → Option Images) → Type 0
+AllTell levels images = (k : ℕ) → k < levels → IsSome (images k)
+
+abbrev pub AllEmpty : ℕ → (ℕ → Option Images) → Type 0
+AllEmpty levels images = (k : ℕ) → k < levels → images k ≡ Some finmap.empty
+
+-- the states that a job shows are those of its run, where the keepers of its levels tell
+abbrev pub IsShown : Job → Shown → Moment → Type 0
+IsShown (perform first journal steps slots list) shown old = AllTell (length slots) old.images → (n : ℕ) → n ≤ steps → shown n ≡ state_number first journal n
+IsShown (write text) shown old = Unit {0}
+
+-- A list was performed to its end over keepers that tell and were empty: they hold just the images of the states that it
+-- leaves held.
+abbrev pub LeavesHeld : Job → Moment → Moment → Type 0
+LeavesHeld (perform first journal steps slots list) old new =
+    AllEmpty (length slots) old.images → (last : Configuration) → Leads steps slots (start steps slots) list last →
+    (k : ℕ) → k < length slots → IsToldAnd (new.images k) (HoldsJust first journal (held_on last k))
+LeavesHeld (write text) old new = Unit {0}
+
+-- ---- how a job ends
 
 -- a job was done
-pub record Done (job : Job) (old new : Moment) : Type 0 where
-  pub did : Did (deeds job) old new
-  pub wrote : Tells old.told new.told (Adds (output job))
+pub record Done (shown : Shown) (job : Job) (old new : Moment) : Type 0 where
+  pub did : Did (deeds shown job) old new
+  pub output_whole : Tells old.told new.told (Adds (output shown job))
   pub stepped : new.steps ≡ old.steps + steps_taken job
+  pub held : LeavesHeld job old new
 
 -- these bytes were added, and then a part of a piece
 abbrev pub AddsAndPart : List ℕ → List ℕ → List ℕ → List ℕ → Type 0
 AddsAndPart bytes piece old new = AddsPrefix piece (old ++ bytes) new
 
 -- The deeds before this place were done; of the deed at it some pieces were written, and a part of the next, whose write
--- failed. Places count from 1.
+-- failed. It called no keeper. Places count from 1.
 pub record DidUntil (ds : List Deed) (place : ℕ) (old new : Moment) : Type 0 where
   pub from_one : 0 < place
   pub deed : Deed
@@ -99,13 +162,54 @@ pub record DidUntil (ds : List Deed) (place : ℕ) (old new : Moment) : Type 0 w
   pub piece : List ℕ
   pub next : slice_get deed.pieces whole ≡ Some piece
   pub added : Tells old.told new.told (AddsAndPart (bytes_written (take (place - 1) ds) ++ bytes_of (take whole deed.pieces)) piece)
-  pub called : new.calls ≡ raised old.calls (writes_made (take (place - 1) ds) + (whole + 1))
+  pub wrote : new.writes ≡ raised old.writes (writes_made (take (place - 1) ds) + (whole + 1))
   pub counted : new.steps ≡ old.steps + steps_made (take (place - 1) ds)
+  pub called : Called (calls_made (take (place - 1) ds)) old.calls new.calls
 
--- some of the deeds were done, from the first on, and the next one wants memory
-pub record Halts (ds : List Deed) (old new : Moment) : Type 0 where
-  pub performed : ℕ
+-- a deed calls the keeper of a level
+abbrev pub CallsLevel : Deed → ℕ → Type 0
+CallsLevel deed k = 0 < deed.calls.puts k + deed.calls.gets k + deed.calls.frees k
+
+-- So many deeds were done, and the next one was not, but that it made some of its calls of keepers.
+pub record BreaksOff (ds : List Deed) (performed : ℕ) (old new : Moment) : Type 0 where
   pub next : Deed
   pub there : slice_get ds performed ≡ Some next
-  pub wants : next.keeps ≡ true
-  pub did : Did (take performed ds) old new
+  pub added : Tells old.told new.told (Adds (bytes_written (take performed ds)))
+  pub wrote : new.writes ≡ raised old.writes (writes_made (take performed ds))
+  pub counted : new.steps ≡ old.steps + steps_made (take performed ds)
+  pub called : CalledBetween (calls_made (take performed ds)) (calls_made (take (performed + 1) ds)) old.calls new.calls
+
+-- the keeper of a level failed in the deed at this place, which calls it
+pub record FailsAt (ds : List Deed) (place level : ℕ) (old new : Moment) : Type 0 where
+  pub from_one : 0 < place
+  pub breaks : BreaksOff ds (place - 1) old new
+  pub calls : CallsLevel breaks.next level
+
+-- the pages of a job's states are those of its first one; a text has no states, and nothing is its image
+abbrev pub IsNoImageOf : Job → List ℕ → Type 0
+IsNoImageOf (perform first journal steps slots list) bytes = IsNoImage first bytes
+IsNoImageOf (write text) bytes = Unit {0}
+
+abbrev pub levels_of : Job → ℕ
+levels_of (perform first journal steps slots list) = length slots
+levels_of (write text) = 0
+
+-- In the deed at this place, which gets an image of a level, bytes came back with another digest than those that were put,
+-- or with the same one, and they are no image of this machine. That never happens where the keepers tell.
+pub record DamagedAt (job : Job) (ds : List Deed) (place level : ℕ) (put got : List ℕ) (old new : Moment) : Type 0 where
+  pub from_one : 0 < place
+  pub breaks : BreaksOff ds (place - 1) old new
+  pub gets : 0 < breaks.next.calls.gets level
+  pub wrong : (got ≢ put) ⊎ ((bytes : List ℕ) × ((got ≡ sha256 bytes) × IsNoImageOf job bytes))
+  pub silent : AllTell (levels_of job) old.images → ⊥
+
+-- some of the deeds were done, from the first on, and the next one wants memory, for which it calls keepers
+pub record Halts (ds : List Deed) (old new : Moment) : Type 0 where
+  pub performed : ℕ
+  pub breaks : BreaksOff ds performed old new
+  pub level : ℕ
+  pub wants : CallsLevel breaks.next level
+
+-- the same for a job, of the states that it shows
+abbrev pub HaltsShowing : Job → Moment → Moment → Type 0
+HaltsShowing job old new = (shown : Shown) × (IsShown job shown old × Halts (deeds shown job) old new)

@@ -1,5 +1,6 @@
 -- How a call may end, and what it writes of that.
-use Rattle.std.specs.Prelude.{ℕ, ◌==◌, ◌++◌, if◌then◌else◌, List, [], codes, decimal}
+use Rattle.std.specs.Prelude.{ℕ, ◌==◌, ◌++◌, if◌then◌else◌, List, [], codes, decimal, replicate}
+use Rattle.hex.specs.Hex.{encode_lower}
 use Rattle.level_book.specs.declared.fault.BookFault.{BookFault}
 use Rattle.level_book.specs.declared.fault.BookFault.TheVariants as book
 use Rattle.action_text.specs.declared.fault.TextFault.{TextFault}
@@ -10,9 +11,17 @@ use Rattle.elf_load.specs.declared.fault.ElfFault.{ElfFault}
 use Rattle.elf_load.specs.declared.fault.ElfFault.TheVariants as program
 use Rattle.reversal.specs.declared.ended.Ended.{Ended}
 
+-- an ending by its status, its three numbers and its two digests
+abbrev pub ended_with : ℕ → ℕ → ℕ → ℕ → List ℕ → List ℕ → Ended
+ended_with status place more rule put got = record { status = status; place = place; more = more; rule = rule; put = put; got = got }
+
+-- what stands for a digest that a status doesn't name
+abbrev pub no_digest : List ℕ
+no_digest = replicate 32 0
+
 -- an ending by its status and its three numbers
 abbrev pub ended_by : ℕ → ℕ → ℕ → ℕ → Ended
-ended_by status place more rule = record { status = status; place = place; more = more; rule = rule }
+ended_by status place more rule = ended_with status place more rule no_digest no_digest
 
 -- an ending that has a status and a place alone
 abbrev pub ended_at : ℕ → ℕ → Ended
@@ -85,9 +94,26 @@ out_of_range number bound rule = ended_by 10 number bound rule
 abbrev pub too_long : ℕ → ℕ → Ended
 too_long place limit = out_of_range place limit 8
 
+-- the keeper of this level failed in the action at this place
+abbrev pub keeper_failed : ℕ → ℕ → Ended
+keeper_failed place level = ended_by 12 place level 0
+
+-- in the action at this place, bytes came back from this level that aren't those that were put, or are no image; the digests
+-- of both
+abbrev pub damaged : ℕ → ℕ → List ℕ → List ℕ → Ended
+damaged place level put got = ended_with 13 place level 0 put got
+
 -- the sink failed in the deed at this place
 abbrev pub stopped : ℕ → Ended
 stopped place = ended_at 14 place
+
+-- the book has more levels than there are keepers: rule 1
+abbrev pub few_keepers : ℕ → ℕ → Ended
+few_keepers levels keepers = ended_by 16 levels keepers 1
+
+-- the keeper of this level has too few slots, which are so many: rule 2
+abbrev pub small_keeper : ℕ → ℕ → Ended
+small_keeper level slots = ended_by 16 level slots 2
 
 -- the name of a status
 abbrev pub status_name : ℕ → List ℕ
@@ -100,13 +126,21 @@ status_name status =
     else (if status == 7 then codes "Text"
     else (if status == 8 then codes "Invalid"
     else (if status == 10 then codes "Limit"
+    else (if status == 12 then codes "Keeper"
+    else (if status == 13 then codes "Damaged"
     else (if status == 14 then codes "Sink"
+    else (if status == 16 then codes "NoKeeper"
     else (if status == 17 then codes "Memory"
-    else codes "Done")))))))))
+    else codes "Done"))))))))))))
 
--- the text of an ending: its status with the name, and its three numbers; nothing for status 0
+-- the two digests of status 13, as lower-case hexadecimal digits
+abbrev pub digests_text : Ended → List ℕ
+digests_text e = if e.status == 13 then codes " put " ++ encode_lower e.put ++ codes " got " ++ encode_lower e.got else []
+
+-- the text of an ending: its status with the name, its three numbers, and the digests of status 13; nothing for status 0
 abbrev pub text_of_ended : Ended → List ℕ
 text_of_ended e =
     if e.status == 0 then []
     else codes "reversal:" ++ codes " " ++ decimal e.status ++ codes " " ++ status_name e.status
     ++ codes " " ++ decimal e.place ++ codes " " ++ decimal e.more ++ codes " " ++ decimal e.rule
+    ++ digests_text e

@@ -4,7 +4,7 @@ use Rattle.std.specs.List.{AllByRecursion}
 use Rattle.std.specs.FinMap as finmap
 use Rattle.keepers.specs.Told.{Files, WhereTold}
 use Rattle.reversal.specs.declared.ended.Ended.{Ended}
-use Rattle.reversal.specs.Request.{Run, Command, run, check, Request}
+use Rattle.reversal.specs.Request.{Run, Command, run, check}
 use Rattle.reversal.specs.Ending.{unreadable}
 
 -- an input by its name, and how many bytes it may have

@@ -1,11 +1,13 @@
 pub mod Request
 pub mod Bounds
+pub mod Places
 pub mod Inputs
 pub mod Decision
 pub mod Deeds
 pub mod Output
 pub mod Ending
 pub mod Reading
+pub mod ChoiceReading
 pub mod RequestReading
 pub mod InputReading
 pub mod JobReading

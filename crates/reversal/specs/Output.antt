@@ -1,19 +1,17 @@
--- What is written of a run: lines of its states, from the one with the greatest number down. The states are those that
--- the machine's step leads to from the first one.
+-- What is written of a run: lines of its states, from the one with the greatest number down.
 use Rattle.std.specs.Prelude.{◌≡◌, ℕ, List, [], ◌∷◌, ◌++◌}
 use Rattle.std.specs.List.{flat_map}
 use Rattle.rv_machine.specs.MachineState.{MachineState}
-use Rattle.rv_machine.specs.States.{state_number}
 use Rattle.state_image.specs.Line.{line}
 use Rattle.reverse_runner.specs.Handed.{countdown}
 
 -- the line of the state with the number n, and a line end
-abbrev pub line_of : MachineState → List (List ℕ) → ℕ → List ℕ
-line_of first journal n = line n (state_number first journal n) ++ 10 ∷ []
+abbrev pub line_of : (ℕ → MachineState) → ℕ → List ℕ
+line_of states n = line n (states n) ++ 10 ∷ []
 
 -- the lines of the states n, n − 1, and so on to 0
-abbrev pub lines_down : MachineState → List (List ℕ) → ℕ → List ℕ
-lines_down first journal n = flat_map (line_of first journal) (countdown n)
+abbrev pub lines_down : (ℕ → MachineState) → ℕ → List ℕ
+lines_down states n = flat_map (line_of states) (countdown n)
 
 -- these bytes were added
 abbrev pub Adds : List ℕ → List ℕ → List ℕ → Type 0

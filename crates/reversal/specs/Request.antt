@@ -2,25 +2,43 @@
 -- of the words, and a command behind them:
 --     run PROGRAM JOURNAL BOOK SCHEDULE N
 --     check BOOK SCHEDULE N
-use Rattle.std.specs.Prelude.{◌≡◌, ◌≢◌, ℕ, ◌<◌, ◌≤◌, ◌^◌, Bool, true, false, List, [], ◌∷◌, ◌++◌, codes, decimal, map, count_by, Option, None, Some}
+use Rattle.std.specs.Prelude.{◌≡◌, ◌≢◌, ℕ, ◌<◌, ◌≤◌, ◌^◌, ◌==◌, Bool, true, false, List, [], ◌∷◌, ◌++◌, codes, decimal, map, count_by, Option, None, Some}
 use Rattle.std.specs.List.{AllByRecursion, list_any}
 use Rattle.reversal.specs.declared.words.Words.{Words}
-use Rattle.reversal.specs.declared.options.Choice.{Choice}
-use Rattle.reversal.specs.declared.options.Choice.TheVariants.{Raw, Stack}
 
--- ---- options: that the program is raw words, and how many pages the stack has
+-- ---- options
+
+-- That the program is raw words, how many pages the stack has, and that a level's images are kept in files of a folder. An
+-- option that is added is a case here, and in each definition by cases on options.
+pub data Choice : Type 0 where
+  raw : Choice
+  stack : (pages : ℕ) → Choice
+  files : (level : ℕ) → (folder : List ℕ) → Choice
+
+-- what stands before the name of the folder
+abbrev pub files_front : ℕ → List ℕ
+files_front level = codes "--files=" ++ decimal level ++ codes ":"
 
 abbrev pub option_word : Choice → List ℕ
-option_word Raw = codes "--raw"
-option_word (Stack pages) = codes "--stack=" ++ decimal pages
+option_word raw = codes "--raw"
+option_word (stack pages) = codes "--stack=" ++ decimal pages
+option_word (files level folder) = files_front level ++ folder
 
 abbrev pub is_raw : Choice → Bool
-is_raw Raw = true
-is_raw (Stack pages) = false
+is_raw raw = true
+is_raw (stack pages) = false
+is_raw (files level folder) = false
 
 abbrev pub is_stack : Choice → Bool
-is_stack Raw = false
-is_stack (Stack pages) = true
+is_stack raw = false
+is_stack (stack pages) = true
+is_stack (files level folder) = false
+
+-- whether it is the option of this level's files
+abbrev pub is_files : ℕ → Choice → Bool
+is_files level raw = false
+is_files level (stack pages) = false
+is_files level (files k folder) = level == k
 
 -- ---- commands
 
@@ -78,16 +96,18 @@ abbrev pub MayBeNamed : Option (List ℕ) → Type 0
 MayBeNamed (Some name) = IsName name × (name ≢ codes "-")
 MayBeNamed None = Unit {0}
 
--- the number of an option
-abbrev pub HasNumber : Choice → Type 0
-HasNumber Raw = Unit {0}
-HasNumber (Stack pages) = IsNumber pages
+-- the number of an option, and the name of its folder, may stand in its word
+abbrev pub FitsWord : Choice → Type 0
+FitsWord raw = Unit {0}
+FitsWord (stack pages) = IsNumber pages
+FitsWord (files level folder) = IsNumber level × IsName folder
 
--- each option stands at most once
+-- each option stands at most once, and that of files once for each level
 pub record AreOptions (options : List Choice) : Type 0 where
   pub one_raw : count_by is_raw options ≤ 1
   pub one_stack : count_by is_stack options ≤ 1
-  pub numbers : AllByRecursion HasNumber options
+  pub one_folder : (level : ℕ) → count_by (is_files level) options ≤ 1
+  pub fit : AllByRecursion FitsWord options
 
 -- the names and numbers of a command may stand among its words
 abbrev pub CanBeSpelled : Command → Type 0
@@ -113,5 +133,6 @@ says_raw options = list_any is_raw options
 -- how many pages the stack has: 16 where nothing is said
 abbrev pub stack_pages : List Choice → ℕ
 stack_pages [] = 16
-stack_pages (Raw ∷ options) = stack_pages options
-stack_pages (Stack pages ∷ options) = pages
+stack_pages (raw ∷ options) = stack_pages options
+stack_pages (stack pages ∷ options) = pages
+stack_pages (files level folder ∷ options) = stack_pages options

@@ -1,49 +1,16 @@
 -- No public clause cites this file. What the reader of words computes, as functions on lists, and the request that one in
 -- memory is.
-use Rattle.std.specs.Prelude.{ℕ, ◌==◌, ◌++◌, Bool, not, ◌&&◌, if◌then◌else◌, List, [], ◌∷◌, length, codes, Option, None, Some}
-use Rattle.std.specs.List.{list_any}
+use Rattle.std.specs.Prelude.{ℕ, ◌==◌, Bool, not, ◌&&◌, if◌then◌else◌, List, [], ◌∷◌, length, codes, Option, None, Some}
 use Rattle.std.specs.Option.{option_map}
 use Rattle.std.specs.Str.{bytes_eq}
-use Rattle.reversal.specs.declared.options.Choice.{Choice}
-use Rattle.reversal.specs.declared.options.Choice.TheVariants.{Raw, Stack}
 use Rattle.reversal.specs.declared.request.Run as run_in_memory
 use Rattle.reversal.specs.declared.request.Check as check_in_memory
 use Rattle.reversal.specs.declared.request.Command as command_in_memory
 use Rattle.reversal.specs.declared.request.Command.TheVariants as the_command
 use Rattle.reversal.specs.declared.request.Request as in_memory
-use Rattle.reversal.specs.Reading.{◌>>=◌, with_or, after_of, number_at}
-use Rattle.reversal.specs.Request.{is_raw, is_stack, Run, Check, Command, run, check, Request}
-
--- ---- options
-
--- the number that a whole word is
-unfoldable pub number_of : List ℕ → Option ℕ
-number_of word = number_at 18446744073709551615 word >>= λ read. if length read.1 == 0 then Some read.0 else None
-
--- the option that a word is
-unfoldable pub choice_of : List ℕ → Option Choice
-choice_of word =
-    if bytes_eq word (codes "--raw") then Some Raw
-    else (after_of (codes "--stack=") word >>= λ rest. number_of rest >>= λ pages. Some (Stack pages))
-
--- whether an option of the same kind is among these
-abbrev pub is_chosen : Choice → List Choice → Bool
-is_chosen Raw options = list_any is_raw options
-is_chosen (Stack pages) options = list_any is_stack options
-
--- the option that a word is beside those that were read
-unfoldable pub next_choice : List Choice → List ℕ → Option Choice
-next_choice seen word = choice_of word >>= λ choice. if is_chosen choice seen then None else Some choice
-
--- and the words behind it
-abbrev pub first_choice : List Choice → List (List ℕ) → Option (Choice × List (List ℕ))
-first_choice seen [] = None
-first_choice seen (word ∷ words) = next_choice seen word >>= λ choice. Some (choice, words)
-
--- the options that were read and those at the front of the words, and the words behind them
-unfoldable pub options_from : List Choice → List (List ℕ) → List Choice × List (List ℕ)
-options_from seen [] = (seen, [])
-options_from seen (word ∷ words) = with_or (next_choice seen word) (λ choice. options_from (seen ++ choice ∷ []) words) (seen, word ∷ words)
+use Rattle.reversal.specs.Reading.{◌>>=◌}
+use Rattle.reversal.specs.Request.{Run, Check, Command, run, check, Request}
+use Rattle.reversal.specs.ChoiceReading.{number_of, options_at, behind_options, are_single}
 
 -- ---- commands
 
@@ -77,7 +44,9 @@ command_of _ = None
 -- the request that the words say
 unfoldable pub request_read : List (List ℕ) → Option Request
 request_read words =
-    command_of (options_from [] words).1 >>= λ command. Some (record { options = (options_from [] words).0; command = command })
+    if are_single (options_at words)
+    then (command_of (behind_options words) >>= λ command. Some (record { options = options_at words; command = command }))
+    else None
 
 -- ---- in memory
 

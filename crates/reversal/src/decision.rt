@@ -7,13 +7,14 @@ ghost use Rattle.level_book.specs.BookFaults.{IsBookText};
 ghost use Rattle.level_book.specs.Valid.{Valid, BrokenAt};
 ghost use Rattle.action_text.specs.ScheduleText.{IsSchedule};
 ghost use Rattle.action_text.specs.Faults.{HasFirstFault};
-ghost use Rattle.reversal.specs.declared.options.Choice.{Choice};
+ghost use Rattle.reverse_runner.specs.KeepersSeen.{HaveRoom};
+ghost use Rattle.reversal.specs.Request.{Choice};
 ghost use Rattle.reversal.specs.Bounds.{numbers, IsWithin};
-ghost use Rattle.reversal.specs.Decision.{accept, refuse, HasBookFault, IsStartOf, HasProgramFault, AreItemsOf, HasJournalFault, DecidesRun, DecidesCheck, DecidesBytes};
+ghost use Rattle.reversal.specs.Decision.{accept, refuse, HasBookFault, IsStartOf, HasProgramFault, AreItemsOf, HasJournalFault, Keep, DecidesRun, DecidesCheck, DecidesBytes};
 ghost use Rattle.reversal.specs.Ending.{no_memory, bad_program, bad_journal, bad_book, bad_text, invalid};
 ghost use Rattle.reversal.specs.Inputs.{inputs_of};
 ghost use Rattle.reversal.specs.InputReading.{AreWithinLimits};
-ghost use Rattle.reversal.specs.JobReading.{job_of, CanBeDone, IsRefusal};
+ghost use Rattle.reversal.specs.JobReading.{job_of, CanBeDone, KeepersHaveRoom, IsRefusal};
 ghost use Rattle.reversal.specs.Request.{run as run_command, check as check_command, says_raw, stack_pages};
 ghost use Rattle.reversal.specs.RequestReading.{request_of, as_run, as_check};
 
@@ -30,16 +31,32 @@ use rv_machine::State;
 use schedule_rules::{Verdict, check};
 use std::alloc::Global;
 
-/// What a request, whose numbers are within their bounds, comes to by the bytes of its inputs.
-pub fn decide(alloc: Global, request: &Request<'_>, bytes: &[Vec<u8>]) -> Result<Job, Ended>
+// The texts that a run is told by.
+#[derive(Clone, Copy)]
+struct Texts<'a> {
+    program: &'a [u8],
+    journal: Option<&'a [u8]>,
+    book: &'a [u8],
+    schedule: &'a [u8],
+}
+
+/// What a request, whose numbers are within their bounds, comes to by the bytes of its inputs and the numbers of the
+/// keepers' slots.
+pub fn decide(
+    alloc: Global,
+    request: &Request<'_>,
+    bytes: &[Vec<u8>],
+    counts: &[u32],
+) -> Result<Job, Ended>
     requires numbers { AllByRecursion IsWithin (numbers (request_of request.now)) }
     requires inputs { AreWithinLimits (inputs_of (request_of request.now).command) (map (λ b. b.items) bytes.now) }
-    ensures accepted { IfOk result (λ job. (slots : List ℕ) → DecidesBytes (request_of request.now).options (request_of request.now).command (map (λ b. b.items) bytes.now) slots (accept (job_of job))) }
+    ensures accepted { IfOk result (λ job. DecidesBytes (request_of request.now).options (request_of request.now).command (map (λ b. b.items) bytes.now) counts.now (accept (job_of job))) }
     ensures can_be_done { IfOk result CanBeDone }
-    ensures refused { IfErr result (λ e. (e ≡ no_memory) ⊎ ((slots : List ℕ) → DecidesBytes (request_of request.now).options (request_of request.now).command (map (λ b. b.items) bytes.now) slots (refuse e))) }
+    ensures room { IfOk result (λ job. KeepersHaveRoom job counts.now) }
+    ensures refused { IfErr result (λ e. (e ≡ no_memory) ⊎ DecidesBytes (request_of request.now).options (request_of request.now).command (map (λ b. b.items) bytes.now) counts.now (refuse e)) }
 {
     match &request.command {
-        Command::Run(run) => decide_run(alloc, &request.options, run, bytes),
+        Command::Run(run) => decide_run(alloc, &request.options, run, bytes, counts),
         Command::Check(check) => decide_check(alloc, check, bytes),
     }
 }
@@ -50,29 +67,35 @@ fn decide_run(
     options: &Options,
     run: &Run<'_>,
     bytes: &[Vec<u8>],
+    counts: &[u32],
 ) -> Result<Job, Ended>
     requires stack { (1 ≤ stack_pages options.now) × (stack_pages options.now ≤ 1024) }
     requires steps { run.now.steps ≤ 1000000 }
     requires inputs { AreWithinLimits (inputs_of (run_command (as_run run.now))) (map (λ b. b.items) bytes.now) }
-    ensures accepted { IfOk result (λ job. (slots : List ℕ) → DecidesBytes options.now (run_command (as_run run.now)) (map (λ b. b.items) bytes.now) slots (accept (job_of job))) }
+    ensures accepted { IfOk result (λ job. DecidesBytes options.now (run_command (as_run run.now)) (map (λ b. b.items) bytes.now) counts.now (accept (job_of job))) }
     ensures can_be_done { IfOk result CanBeDone }
-    ensures refused { IfErr result (λ e. (e ≡ no_memory) ⊎ ((slots : List ℕ) → DecidesBytes options.now (run_command (as_run run.now)) (map (λ b. b.items) bytes.now) slots (refuse e))) }
+    ensures room { IfOk result (λ job. KeepersHaveRoom job counts.now) }
+    ensures refused { IfErr result (λ e. (e ≡ no_memory) ⊎ DecidesBytes options.now (run_command (as_run run.now)) (map (λ b. b.items) bytes.now) counts.now (refuse e)) }
 {
     let steps = run.steps as u32;
     match bytes {
         [program, book, schedule] => {
-            decide_texts(alloc, options, steps, program, None, book, schedule)
-        }
-        [program, journal, book, schedule] => {
-            decide_texts(
-                alloc,
-                options,
-                steps,
+            let texts = Texts {
                 program,
-                Some(journal),
+                journal: None,
                 book,
                 schedule,
-            )
+            };
+            decide_texts(alloc, options, steps, texts, counts)
+        }
+        [program, journal, book, schedule] => {
+            let texts = Texts {
+                program,
+                journal: Some(journal),
+                book,
+                schedule,
+            };
+            decide_texts(alloc, options, steps, texts, counts)
         }
         _ => unreachable!(),
     }
@@ -82,22 +105,22 @@ fn decide_texts(
     alloc: Global,
     options: &Options,
     steps: u32,
-    program: &[u8],
-    journal: Option<&[u8]>,
-    book: &[u8],
-    schedule: &[u8],
+    texts: Texts<'_>,
+    counts: &[u32],
 ) -> Result<Job, Ended>
     requires stack { (1 ≤ stack_pages options.now) × (stack_pages options.now ≤ 1024) }
     requires steps { steps ≤ 1000000 }
-    requires short { length schedule.now ≤ 536870912 }
-    ensures accepted { IfOk result (λ job. DecidesRun options.now steps program.now (option_copied journal.entry) book.now schedule.now (accept (job_of job))) }
+    requires short { length texts.schedule.now ≤ 536870912 }
+    ensures accepted { IfOk result (λ job. DecidesRun options.now steps texts.entry.program.now (option_copied texts.entry.journal) texts.entry.book.now texts.entry.schedule.now counts.now (accept (job_of job))) }
     ensures can_be_done { IfOk result CanBeDone }
-    ensures refused { IfErr result (λ e. (e ≡ no_memory) ⊎ DecidesRun options.now steps program.now (option_copied journal.entry) book.now schedule.now (refuse e)) }
+    ensures room { IfOk result (λ job. KeepersHaveRoom job counts.now) }
+    ensures refused { IfErr result (λ e. (e ≡ no_memory) ⊎ DecidesRun options.now steps texts.entry.program.now (option_copied texts.entry.journal) texts.entry.book.now texts.entry.schedule.now counts.now (refuse e)) }
 {
-    let book = book_in(alloc, book)?;
-    let start = start_of(alloc, options, program)?;
-    let journal = journal_in(alloc, journal)?;
-    let list = list_in(alloc, schedule, &book)?;
+    let book = book_in(alloc, texts.book)?;
+    keep(steps, &book, counts)?;
+    let start = start_of(alloc, options, texts.program)?;
+    let journal = journal_in(alloc, texts.journal)?;
+    let list = list_in(alloc, texts.schedule, &book)?;
     judge(alloc, &list, steps, &book)?;
     Ok(Job::Perform(Performance {
         start,
@@ -114,6 +137,7 @@ fn decide_check(alloc: Global, check: &Check<'_>, bytes: &[Vec<u8>]) -> Result<J
     requires inputs { AreWithinLimits (inputs_of (check_command (as_check check.now))) (map (λ b. b.items) bytes.now) }
     ensures accepted { IfOk result (λ job. (slots : List ℕ) → (options : List Choice) → DecidesBytes options (check_command (as_check check.now)) (map (λ b. b.items) bytes.now) slots (accept (job_of job))) }
     ensures can_be_done { IfOk result CanBeDone }
+    ensures room { IfOk result (λ job. (counts : List ℕ) → KeepersHaveRoom job counts) }
     ensures refused { IfErr result (λ e. (e ≡ no_memory) ⊎ ((slots : List ℕ) → (options : List Choice) → DecidesBytes options (check_command (as_check check.now)) (map (λ b. b.items) bytes.now) slots (refuse e))) }
 {
     let [book, schedule] = bytes else {
@@ -127,6 +151,7 @@ fn judge_texts(alloc: Global, steps: u32, book: &[u8], schedule: &[u8]) -> Resul
     requires short { length schedule.now ≤ 536870912 }
     ensures accepted { IfOk result (λ job. DecidesCheck steps book.now schedule.now (accept (job_of job))) }
     ensures can_be_done { IfOk result CanBeDone }
+    ensures room { IfOk result (λ job. (counts : List ℕ) → KeepersHaveRoom job counts) }
     ensures refused { IfErr result (λ e. (e ≡ no_memory) ⊎ DecidesCheck steps book.now schedule.now (refuse e)) }
 {
     let book = book_in(alloc, book)?;
@@ -152,6 +177,24 @@ fn book_in(alloc: Global, bytes: &[u8]) -> Result<Book, Ended>
     ensures refused { IfErr result (IsRefusal (HasBookFault bytes.now) bad_book) }
 {
     Ok(read_book(alloc, bytes)?)
+}
+
+// Looks for a keeper for each level of the book, with as many slots as a run of so many steps can use there.
+fn keep(steps: u32, book: &Book, counts: &[u32]) -> Result<(), Ended>
+    ensures room { OnOk result (HaveRoom steps (slots_of book.now) counts.now) }
+    ensures refused { IfErr result (λ e. Keep steps (slots_of book.now) counts.now (refuse e) ⊥) }
+{
+    let levels = book.levels();
+    if counts.len() < levels as usize {
+        return Err(Ended::few_keepers(levels, counts.len() as u64));
+    }
+    for level in 0..levels {
+        let slots = counts[level as usize];
+        if slots < book.room(level, steps) {
+            return Err(Ended::small_keeper(level, slots));
+        }
+    }
+    Ok(())
 }
 
 // The start state of a program.

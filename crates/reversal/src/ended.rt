@@ -1,6 +1,7 @@
 // How a call ended.
 ghost use Rattle.std.specs.Prelude.{◌≡◌, ◌+◌, ◌≤◌, ◌++◌, length, codes, decimal};
-ghost use Rattle.reversal.specs.Ending.{ended_by, ended_at, done, no_request, unreadable, invalid, out_of_range, too_long, stopped, no_memory, text_of_ended, status_name};
+ghost use Rattle.hex.specs.Hex.{encode_lower};
+ghost use Rattle.reversal.specs.Ending.{ended_with, ended_by, ended_at, done, no_request, unreadable, invalid, out_of_range, too_long, keeper_failed, damaged, stopped, few_keepers, small_keeper, no_memory, text_of_ended, digests_text, status_name};
 
 use action_text::TextFault;
 use elf_load::ElfFault;
@@ -9,19 +10,30 @@ use level_book::BookFault;
 use plan_types::Line;
 use std::alloc::{AllocError, AllocFailed};
 
-/// How a call ended. In the endings of the top call, numbers that a status doesn't name are 0.
+/// How a call ended. In the endings of the top call, numbers that a status doesn't name are 0, and so are the bytes of
+/// digests.
 #[derive(Clone, Copy, Debug, PartialEq, Eq)]
 pub struct Ended {
-    /// 0 Done, 2 Words, 3 Input, 4 Program, 5 Journal, 6 Book, 7 Text, 8 Invalid, 10 Limit, 14 Sink, 17 Memory.
+    /// 0 Done, 2 Words, 3 Input, 4 Program, 5 Journal, 6 Book, 7 Text, 8 Invalid, 10 Limit, 12 Keeper, 13 Damaged, 14 Sink,
+    /// 16 NoKeeper, 17 Memory.
     pub status: u8,
     /// The number of the input for 3; what the fault names for 4 and 6; the fault's place in bytes for 5; the line for 7;
-    /// the action for 8 and 14; the number, or that of the input, for 10.
+    /// the action for 8 and 12 to 14; the number, or that of the input, for 10; the number of levels for rule 1 of status 16,
+    /// and the level for rule 2.
     pub place: u64,
-    /// The second segment for rule 7 of status 4, the column for 7, the level for rule 4 of status 8, the passed bound for 10.
+    /// The second segment for rule 7 of status 4, the column for 7, the level for rule 4 of status 8, the passed bound for 10,
+    /// the level for 12 and 13, the number of keepers for rule 1 of status 16, and of the keeper's slots for rule 2.
     pub more: u64,
-    /// The rule for 4 to 8 and 10.
+    /// The rule for 4 to 8, 10 and 16.
     pub rule: u16,
+    /// The digest of the image that was put, for 13.
+    pub put: [u8; 32],
+    /// The digest of the bytes that were got in its place, for 13.
+    pub got: [u8; 32],
 }
+
+// What stands for a digest that a status doesn't name.
+const NO_DIGEST: [u8; 32] = [0; 32];
 
 impl Ended {
     // An ending by its status and its three numbers.
@@ -33,6 +45,8 @@ impl Ended {
             place,
             more,
             rule,
+            put: NO_DIGEST,
+            got: NO_DIGEST,
         }
     }
 
@@ -83,6 +97,39 @@ impl Ended {
         ensures { result ≡ too_long place limit }
     {
         Ended::out_of_range(place, limit as u64, 8)
+    }
+
+    /// The keeper of this level failed in the action at this place.
+    pub(crate) fn keeper_failed(place: u64, level: u8) -> Ended
+        ensures { result ≡ keeper_failed place level }
+    {
+        Ended::by(12, place, level as u64, 0)
+    }
+
+    /// The keeper of this level gave bytes with the digest `got` in the action at this place, where an image with the digest
+    /// `put` had been put.
+    pub(crate) fn damaged(place: u64, level: u8, put: &[u8; 32], got: &[u8; 32]) -> Ended
+        ensures { result ≡ damaged place level put.now got.now }
+    {
+        Ended {
+            put: *put,
+            got: *got,
+            ..Ended::by(13, place, level as u64, 0)
+        }
+    }
+
+    /// The book has more levels than there are keepers.
+    pub(crate) fn few_keepers(levels: u8, keepers: u64) -> Ended
+        ensures { result ≡ few_keepers levels keepers }
+    {
+        Ended::by(16, levels as u64, keepers, 1)
+    }
+
+    /// The keeper of this level has too few slots, which are so many.
+    pub(crate) fn small_keeper(level: u8, slots: u32) -> Ended
+        ensures { result ≡ small_keeper level slots }
+    {
+        Ended::by(16, level as u64, slots as u64, 2)
     }
 
     /// The sink failed in the deed at this place.
@@ -194,7 +241,7 @@ impl From<TextFault> for Ended {
 }
 
 /// Puts the text of an ending into a line, in place of what was there: nothing for status 0, and else `reversal: `, the
-/// status with its name, and the place, the further number and the rule. It takes no memory.
+/// status with its name, the place, the further number and the rule, and the two digests for status 13. It takes no memory.
 pub fn ended_text(ended: &Ended, line: &mut Line)
     ensures { line.new ≡ text_of_ended ended.now }
 {
@@ -209,6 +256,7 @@ pub fn ended_text(ended: &Ended, line: &mut Line)
     push_number(line, ended.place);
     push_number(line, ended.more);
     push_number(line, ended.rule as u64);
+    push_digests(line, ended);
 }
 
 // Adds a space and a number.
@@ -219,6 +267,30 @@ fn push_number(line: &mut Line, n: u64)
 {
     line.push(b" ");
     line.push_decimal(n);
+}
+
+// Adds the digests of status 13.
+fn push_digests(line: &mut Line, ended: &Ended)
+    requires { length line.old ≤ 300 }
+    ensures { line.new ≡ line.old ++ digests_text ended.now }
+{
+    if ended.status == 13 {
+        line.push(b" put ");
+        push_digest(line, &ended.put);
+        line.push(b" got ");
+        push_digest(line, &ended.got);
+    }
+}
+
+// Adds a digest as 64 digits.
+fn push_digest(line: &mut Line, digest: &[u8; 32])
+    requires { length line.old ≤ 448 }
+    ensures text { line.new ≡ line.old ++ encode_lower digest.now }
+    ensures room { length line.new ≡ length line.old + 64 }
+{
+    let mut digits = [0; 64];
+    hex::encode_to_slice(digest, &mut digits).unwrap();
+    line.push(&digits);
 }
 
 // The name of a status.
@@ -235,8 +307,61 @@ fn name_of(status: u8) -> &'static [u8]
         7 => b"Text",
         8 => b"Invalid",
         10 => b"Limit",
+        12 => b"Keeper",
+        13 => b"Damaged",
         14 => b"Sink",
+        16 => b"NoKeeper",
         17 => b"Memory",
         _ => b"Done",
+    }
+}
+
+#[cfg(test)]
+mod tests {
+    use super::*;
+    use std::process::Abort;
+
+    // SHA-256 of no bytes.
+    const OF_NO_BYTES: [u8; 32] = [
+        0xe3, 0xb0, 0xc4, 0x42, 0x98, 0xfc, 0x1c, 0x14, 0x9a, 0xfb, 0xf4, 0xc8, 0x99, 0x6f, 0xb9,
+        0x24, 0x27, 0xae, 0x41, 0xe4, 0x64, 0x9b, 0x93, 0x4c, 0xa4, 0x95, 0x99, 0x1b, 0x78, 0x52,
+        0xb8, 0x55,
+    ];
+
+    // An ending has this text.
+    fn says(rt: &impl Abort, ended: Ended, text: &[u8]) {
+        let mut line = Line::new();
+        ended_text(&ended, &mut line);
+        assert_eq!(rt; line.bytes(), text);
+    }
+
+    #[test]
+    fn a_keeper_is_named_by_its_level(rt: HostRuntime) {
+        says(
+            &rt,
+            Ended::keeper_failed(3, 0),
+            b"reversal: 12 Keeper 3 0 0",
+        );
+        says(
+            &rt,
+            Ended::few_keepers(2, 1),
+            b"reversal: 16 NoKeeper 2 1 1",
+        );
+        says(
+            &rt,
+            Ended::small_keeper(1, 0),
+            b"reversal: 16 NoKeeper 1 0 2",
+        );
+    }
+
+    #[test]
+    fn a_damaged_image_is_named_with_two_digests(rt: HostRuntime) {
+        says(
+            &rt,
+            Ended::damaged(6, 0, &NO_DIGEST, &OF_NO_BYTES),
+            b"reversal: 13 Damaged 6 0 0 \
+              put 0000000000000000000000000000000000000000000000000000000000000000 \
+              got e3b0c44298fc1c149afbf4c8996fb92427ae41e4649b934ca495991b7852b855",
+        );
     }
 }

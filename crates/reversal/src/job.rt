@@ -1,13 +1,18 @@
 // What is to be done of a call that isn't refused.
-ghost use Rattle.std.specs.Prelude.{◌≡◌, ◌≢◌, ◌⊎◌, ◌≤◌, ℕ};
+ghost use Rattle.std.specs.Prelude.{◌≡◌, ◌≢◌, ◌⊎◌, ◌≤◌, ℕ, length, map, Option};
+ghost use Rattle.keepers.specs.Told.{Images};
 ghost use Rattle.keepers.specs.Counts.{Rose};
 ghost use Rattle.level_book.specs.BookCosts.{slots_of};
 ghost use Rattle.level_book.specs.Valid.{Valid};
-ghost use Rattle.reverse_runner.specs.Standing.{begun};
-ghost use Rattle.reversal.specs.Deeds.{perform, write};
-ghost use Rattle.reversal.specs.Decision.{accept, EndsBy};
+ghost use Rattle.rv_machine.specs.MachineState.{IsMachineState};
+ghost use Rattle.reverse_runner.specs.KeepersSeen.{Calls, by_number, HaveRoom};
+ghost use Rattle.reverse_runner.specs.SessionState.{levels_of};
+ghost use Rattle.reverse_runner.specs.LevelsStand.{AreAlone};
+ghost use Rattle.reverse_runner.specs.Standing.{begun, StandsAt};
+ghost use Rattle.reversal.specs.Deeds.{perform, write, moment, AllTell, AllEmpty};
+ghost use Rattle.reversal.specs.Decision.{accept, EndsBy, KeepsOthers};
 ghost use Rattle.reversal.specs.Ending.{no_memory};
-ghost use Rattle.reversal.specs.JobReading.{job_of, IsPerformable, CanBeDone, Works};
+ghost use Rattle.reversal.specs.JobReading.{job_of, IsPerformable, CanBeDone, KeepersHaveRoom, Works};
 
 use crate::ended::Ended;
 use input_journal::Journal;
@@ -40,7 +45,8 @@ pub struct Performance {
 }
 
 impl Job {
-    /// Does the job, and tells how it ended. Where memory runs out before the first deed, nothing was done.
+    /// Does the job, over keepers with room for its images, and tells how it ended. Where memory runs out before the first
+    /// deed, nothing was done.
     pub fn work<K: Keeper, O: Sink, L: Ledger>(
         self,
         alloc: Global,
@@ -48,13 +54,16 @@ impl Job {
         out: &mut O,
         counter: &mut Steps<L>,
     ) -> Ended
-        requires { CanBeDone self }
-        ensures works { ((result ≡ no_memory) × (out.new ≡ out.old) × (counter.new ≡ counter.old)) ⊎ Works (job_of self) result
-            (record { told = O.told out.old; calls = O.call_count out.old; steps = counter.old })
-            (record { told = O.told out.new; calls = O.call_count out.new; steps = counter.new }) }
-        ensures quiet { result.status ≢ 14 → O.fault_count out.new ≡ O.fault_count out.old }
-        ensures cause { result.status ≡ 14 → Rose (O.fault_count out.old) (O.fault_count out.new) }
-        ensures kept { keepers.new ≡ keepers.old }
+        requires can_be_done { CanBeDone self }
+        requires room { KeepersHaveRoom self (map K.slot_count keepers.old.items) }
+        ensures works { ((result ≡ no_memory) × (out.new ≡ out.old) × (keepers.new ≡ keepers.old) × (counter.new ≡ counter.old)) ⊎ Works (job_of self) result
+            (moment O.told O.call_count K.told K.put_count K.get_count K.free_count out.old keepers.old.items counter.old)
+            (moment O.told O.call_count K.told K.put_count K.get_count K.free_count out.new keepers.new.items counter.new) }
+        ensures others { KeepsOthers (accept (job_of self)) keepers.old.items keepers.new.items }
+        ensures sink_quiet { result.status ≢ 14 → O.fault_count out.new ≡ O.fault_count out.old }
+        ensures sink_cause { result.status ≡ 14 → Rose (O.fault_count out.old) (O.fault_count out.new) }
+        ensures keepers_quiet { result.status ≢ 12 → (k : ℕ) → by_number 0 K.fault_count keepers.new.items k ≡ by_number 0 K.fault_count keepers.old.items k }
+        ensures keeper_cause { result.status ≡ 12 → Rose (by_number 0 K.fault_count keepers.old.items result.more) (by_number 0 K.fault_count keepers.new.items result.more) }
     {
         match self {
             Job::Perform(performance) => performance.perform(alloc, keepers, out, counter),
@@ -72,13 +81,16 @@ impl Performance {
         out: &mut O,
         counter: &mut Steps<L>,
     ) -> Ended
-        requires { IsPerformable self }
-        ensures works { ((result ≡ no_memory) × (out.new ≡ out.old) × (counter.new ≡ counter.old)) ⊎ Works (perform self.start self.journal self.steps self.list.items) result
-            (record { told = O.told out.old; calls = O.call_count out.old; steps = counter.old })
-            (record { told = O.told out.new; calls = O.call_count out.new; steps = counter.new }) }
-        ensures quiet { result.status ≢ 14 → O.fault_count out.new ≡ O.fault_count out.old }
-        ensures cause { result.status ≡ 14 → Rose (O.fault_count out.old) (O.fault_count out.new) }
-        ensures kept { keepers.new ≡ keepers.old }
+        requires can_be_done { IsPerformable self }
+        requires room { HaveRoom self.steps (slots_of self.book) (map K.slot_count keepers.old.items) }
+        ensures works { ((result ≡ no_memory) × (out.new ≡ out.old) × (keepers.new ≡ keepers.old) × (counter.new ≡ counter.old)) ⊎ Works (perform self.start self.journal self.steps (slots_of self.book) self.list.items) result
+            (moment O.told O.call_count K.told K.put_count K.get_count K.free_count out.old keepers.old.items counter.old)
+            (moment O.told O.call_count K.told K.put_count K.get_count K.free_count out.new keepers.new.items counter.new) }
+        ensures others { KeepsOthers (accept (perform self.start self.journal self.steps (slots_of self.book) self.list.items)) keepers.old.items keepers.new.items }
+        ensures sink_quiet { result.status ≢ 14 → O.fault_count out.new ≡ O.fault_count out.old }
+        ensures sink_cause { result.status ≡ 14 → Rose (O.fault_count out.old) (O.fault_count out.new) }
+        ensures keepers_quiet { result.status ≢ 12 → (k : ℕ) → by_number 0 K.fault_count keepers.new.items k ≡ by_number 0 K.fault_count keepers.old.items k }
+        ensures keeper_cause { result.status ≡ 12 → Rose (by_number 0 K.fault_count keepers.old.items result.more) (by_number 0 K.fault_count keepers.new.items result.more) }
     {
         let Performance {
             start,
@@ -87,6 +99,7 @@ impl Performance {
             book,
             list,
         } = self;
+        start.is_machine_state();
         match Session::begin(alloc, start, journal, steps, book) {
             Err(_) => Ended::no_memory(),
             Ok(mut session) => perform_all(&mut session, &list, keepers, out, counter),
@@ -96,9 +109,10 @@ impl Performance {
 
 // Writes a text in one piece.
 fn write_text<O: Sink>(text: &Line, out: &mut O) -> Ended
-    ensures works { (steps : ℕ) → EndsBy (accept (write text.now)) result
-        (record { told = O.told out.old; calls = O.call_count out.old; steps = steps })
-        (record { told = O.told out.new; calls = O.call_count out.new; steps = steps }) }
+    ensures works { (steps : ℕ) (calls : Calls) (images : ℕ → Option Images) → EndsBy (accept (write text.now)) result
+        (record { told = O.told out.old; writes = O.call_count out.old; steps = steps; calls = calls; images = images })
+        (record { told = O.told out.new; writes = O.call_count out.new; steps = steps; calls = calls; images = images }) }
+    ensures statuses { (result.status ≡ 0) ⊎ (result.status ≡ 14) }
     ensures quiet { result.status ≢ 14 → O.fault_count out.new ≡ O.fault_count out.old }
     ensures cause { result.status ≡ 14 → Rose (O.fault_count out.old) (O.fault_count out.new) }
 {
@@ -117,19 +131,30 @@ fn perform_all<K: Keeper, O: Sink, L: Ledger>(
     counter: &mut Steps<L>,
 ) -> Ended
     requires begun { session.old ≡ begun session.old.work session.old.journal session.old.situation.steps session.old.situation.slots }
+    requires stands { (told : ℕ → Option Images) → AllTell (length session.old.situation.slots) told → StandsAt session.old.work session.old told }
+    requires alone { (told : ℕ → Option Images) → AllEmpty (length session.old.situation.slots) told → AreAlone (levels_of session.old told) }
+    requires state { IsMachineState session.old.work }
     requires valid { Valid session.old.situation.steps session.old.situation.slots list.now }
-    ensures works { Works (perform session.old.work session.old.journal session.old.situation.steps list.now) result
-        (record { told = O.told out.old; calls = O.call_count out.old; steps = counter.old })
-        (record { told = O.told out.new; calls = O.call_count out.new; steps = counter.new }) }
-    ensures quiet { result.status ≢ 14 → O.fault_count out.new ≡ O.fault_count out.old }
-    ensures cause { result.status ≡ 14 → Rose (O.fault_count out.old) (O.fault_count out.new) }
-    ensures kept { keepers.new ≡ keepers.old }
+    requires room { HaveRoom session.old.situation.steps session.old.situation.slots (map K.slot_count keepers.old.items) }
+    ensures works { Works (perform session.old.work session.old.journal session.old.situation.steps session.old.situation.slots list.now) result
+        (moment O.told O.call_count K.told K.put_count K.get_count K.free_count out.old keepers.old.items counter.old)
+        (moment O.told O.call_count K.told K.put_count K.get_count K.free_count out.new keepers.new.items counter.new) }
+    ensures others { KeepsOthers (accept (perform session.old.work session.old.journal session.old.situation.steps session.old.situation.slots list.now)) keepers.old.items keepers.new.items }
+    ensures sink_quiet { result.status ≢ 14 → O.fault_count out.new ≡ O.fault_count out.old }
+    ensures sink_cause { result.status ≡ 14 → Rose (O.fault_count out.old) (O.fault_count out.new) }
+    ensures keepers_quiet { result.status ≢ 12 → (k : ℕ) → by_number 0 K.fault_count keepers.new.items k ≡ by_number 0 K.fault_count keepers.old.items k }
+    ensures keeper_cause { result.status ≡ 12 → Rose (by_number 0 K.fault_count keepers.old.items result.more) (by_number 0 K.fault_count keepers.new.items result.more) }
 {
     let mut writer = LineWriter::new(out);
     for (i, action) in list.iter().enumerate() {
+        let place = i as u64 + 1;
         match session.perform(action, keepers, &mut writer, counter) {
             Ok(()) => {}
-            Err(RunFault::Visitor) => return Ended::stopped(i as u64 + 1),
+            Err(RunFault::Keeper(level)) => return Ended::keeper_failed(place, level),
+            Err(RunFault::Damaged { level, put, got }) => {
+                return Ended::damaged(place, level, &put, &got);
+            }
+            Err(RunFault::Visitor) => return Ended::stopped(place),
             Err(RunFault::Memory) => return Ended::no_memory(),
             Err(RunFault::Ended) => unreachable!(),
         }

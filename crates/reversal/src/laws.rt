@@ -2,7 +2,7 @@
 ghost use Rattle.std.specs.Prelude.{◌≡◌, ℕ, List, Option};
 ghost use Rattle.reversal.specs.Request.{Request, Says};
 ghost use Rattle.reversal.specs.Decision.{Decision, accept, Decides};
-ghost use Rattle.reversal.specs.Deeds.{Job, deeds, bytes_written, steps_made, output, steps_taken};
+ghost use Rattle.reversal.specs.Deeds.{Job, Shown, deeds, bytes_written, steps_made, output, steps_taken};
 
 /// Words say one request at most.
 pub fn requests_are_unique()
@@ -14,8 +14,8 @@ pub fn decisions_are_unique()
     ensures { (r : Request) (given : List (Option (List ℕ))) (slots : List ℕ) (d e : Decision) → Decides r given slots d → Decides r given slots e → d ≡ e }
 {}
 
-/// The deeds of a job that was decided write its output, and take its steps.
+/// The deeds of a job that was decided write its output, of whatever states they show, and take its steps.
 pub fn deeds_make_the_output()
-    ensures bytes { (r : Request) (given : List (Option (List ℕ))) (slots : List ℕ) (job : Job) → Decides r given slots (accept job) → bytes_written (deeds job) ≡ output job }
-    ensures steps { (job : Job) → steps_made (deeds job) ≡ steps_taken job }
+    ensures bytes { (r : Request) (given : List (Option (List ℕ))) (slots : List ℕ) (job : Job) → Decides r given slots (accept job) → (shown : Shown) → bytes_written (deeds shown job) ≡ output shown job }
+    ensures steps { (shown : Shown) (job : Job) → steps_made (deeds shown job) ≡ steps_taken job }
 {}

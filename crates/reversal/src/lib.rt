@@ -11,8 +11,13 @@ mod inputs;
 mod job;
 pub mod laws;
 mod number;
+#[cfg(test)]
+mod option_tests;
 mod options;
+mod places;
 mod request;
+#[cfg(test)]
+mod storage_tests;
 #[cfg(test)]
 mod tests;
 mod text;
@@ -20,5 +25,6 @@ mod top;
 mod words;
 
 pub use crate::ended::{Ended, ended_text};
+pub use crate::places::{KeepAt, keeper_places};
 pub use crate::top::reversal;
 pub use crate::words::Words;

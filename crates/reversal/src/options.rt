@@ -1,127 +1,127 @@
 // The options of a command line.
-ghost use Rattle.std.specs.Prelude.{◌≡◌, ◌++◌, ◌≤◌, false, [], ◌∷◌, map, length};
+ghost use Rattle.std.specs.Prelude.{◌≡◌, map};
 ghost use Rattle.std.specs.List.{list_any};
-ghost use Rattle.reversal.specs.Request.{is_raw, is_stack, says_raw, stack_pages};
+ghost use Rattle.reversal.specs.Request.{is_files, says_raw, stack_pages};
 ghost use Rattle.reversal.specs.Reading.{Gives};
-ghost use Rattle.reversal.specs.RequestReading.{number_of, choice_of, is_chosen, next_choice, first_choice, options_from};
+ghost use Rattle.reversal.specs.ChoiceReading.{number_of, stack_of, files_of, choice_of, first_choice, options_at, behind_options, is_like, are_single, as_choice};
 
 use crate::number::decimal_at;
 use crate::text::after;
 use std::marker::Model;
 
 /// An option.
-#[derive(Clone, Copy, Debug, PartialEq, Eq)]
-pub enum Choice {
+#[derive(Clone, Copy, Debug)]
+pub enum Choice<'a> {
     /// The program is raw words.
     Raw,
     /// The stack has so many pages.
     Stack(u64),
+    /// The images of this level are kept in files of the folder with this name.
+    Files(u64, &'a [u8]),
 }
 
-impl Choice {
-    fn is_raw(self) -> bool
-        ensures { result ≡ is_raw self }
+impl Choice<'_> {
+    // Whether the other is of the same kind, of which one may stand.
+    fn is_like(&self, other: &Choice<'_>) -> bool
+        ensures { result ≡ is_like (as_choice self.now) (as_choice other.now) }
     {
-        matches!(self, Choice::Raw)
+        match self {
+            Choice::Raw => matches!(other, Choice::Raw),
+            Choice::Stack(_) => matches!(other, Choice::Stack(_)),
+            Choice::Files(level, _) => other.is_files(*level),
+        }
     }
 
-    fn is_stack(self) -> bool
-        ensures { result ≡ is_stack self }
+    /// Whether it is the option of this level's files.
+    pub fn is_files(&self, level: u64) -> bool
+        ensures { result ≡ is_files level (as_choice self.now) }
     {
-        matches!(self, Choice::Stack(_))
+        match self {
+            Choice::Files(k, _) => level == *k,
+            _ => false,
+        }
     }
 }
-
-// How many kinds of option there are.
-const KINDS: usize = 2;
 
 // How many pages the stack has where nothing is said.
 const STACK_PAGES: u64 = 16;
 
-/// Options in the order of the words, each kind at most once. They take no memory.
+/// Options in the order of the words. They take no memory: they are the words, and are read again where they are asked for.
 #[derive(Debug, Drop)]
-pub struct Options {
-    choices: [Choice; KINDS],
-    count: usize,
+pub struct Options<'a> {
+    words: &'a [Vec<u8>],
 }
 
-impl Model for Options {
-    ghost use Rattle.std.specs.Prelude.{◌≡◌, ◌≤◌, List, length, take, count_by};
-    ghost use Rattle.reversal.specs.declared.options.Choice.{Choice};
-    ghost use Rattle.reversal.specs.Request.{is_raw, is_stack};
+impl<'a> Model for Options<'a> {
+    ghost use Rattle.std.specs.Prelude.{List, map};
+    ghost use Rattle.reversal.specs.Request.{Choice};
+    ghost use Rattle.reversal.specs.ChoiceReading.{options_at};
 
     ghost Value = { List Choice };
 
-    ghost view = { λ o. take o.count o.choices };
-
-    ghost invariant = { λ o. (length o.choices ≡ 2) × (o.count ≤ 2) × (count_by is_raw (take o.count o.choices) ≤ 1) × (count_by is_stack (take o.count o.choices) ≤ 1) };
+    ghost view = { λ o. options_at (map (λ w. w.items) o.words.now) };
 }
 
-impl Options {
-    /// No options.
-    fn none() -> Options
-        ensures { result ≡ [] }
+impl<'a> Options<'a> {
+    /// Words that they stand at the front of.
+    pub fn words(&self) -> &'a [Vec<u8>]
+        ensures { options_at (map (λ w. w.items) result.now) ≡ self.now }
     {
-        Options {
-            choices: [Choice::Raw; KINDS],
-            count: 0,
+        self.words
+    }
+
+    /// Whether none is of the kind of another.
+    pub fn are_single(&self) -> bool
+        ensures { result ≡ are_single self.now }
+    {
+        let mut rest = self.words();
+        while let Some((choice, behind)) = next_option(rest) {
+            if has_like(behind, &choice) {
+                return false;
+            }
+            rest = behind;
         }
-    }
-
-    // Whether an option of the same kind is among these.
-    fn has(&self, choice: Choice) -> bool
-        ensures { result ≡ is_chosen choice self.now }
-    {
-        match choice {
-            Choice::Raw => self.says_raw(),
-            Choice::Stack(_) => self.says_stack(),
-        }
-    }
-
-    // Adds an option of another kind.
-    fn add(&mut self, choice: Choice)
-        requires { is_chosen choice self.old ≡ false }
-        ensures { self.new ≡ self.old ++ choice ∷ [] }
-    {
-        self.choices[self.count] = choice;
-        self.count += 1;
-    }
-
-    /// All of them, in the order of the words.
-    pub fn all(&self) -> &[Choice]
-        ensures { result.now ≡ self.now }
-    {
-        &self.choices[..self.count]
+        true
     }
 
     /// Whether the program is raw words.
     pub fn says_raw(&self) -> bool
         ensures { result ≡ says_raw self.now }
     {
-        self.all().iter().any(|c| c.is_raw())
-    }
-
-    fn says_stack(&self) -> bool
-        ensures { result ≡ list_any is_stack self.now }
-    {
-        self.all().iter().any(|c| c.is_stack())
+        has_like(self.words(), &Choice::Raw)
     }
 
     /// How many pages the stack has.
     pub fn stack_pages(&self) -> u64
         ensures { result ≡ stack_pages self.now }
     {
-        for choice in self.all() {
+        let mut rest = self.words();
+        while let Some((choice, behind)) = next_option(rest) {
             if let Choice::Stack(pages) = choice {
-                return *pages;
+                return pages;
             }
+            rest = behind;
         }
         STACK_PAGES
     }
 }
 
+// Whether an option of the same kind is among those at the front of the words.
+fn has_like(words: &[Vec<u8>], choice: &Choice<'_>) -> bool
+    ensures { result ≡ list_any (is_like (as_choice choice.now)) (options_at (map (λ w. w.items) words.now)) }
+{
+    let mut rest = words;
+    while let Some((other, behind)) = next_option(rest) {
+        if choice.is_like(&other) {
+            return true;
+        }
+        rest = behind;
+    }
+    false
+}
+
 /// The number that a whole word is.
-#[tactic(auto, unfolding(crate::specs::RequestReading::number_of))]
+#[tactic(auto, unfolding(crate::specs::ChoiceReading::number_of))]
 pub fn number_in(word: &[u8]) -> Option<u64>
     ensures { Gives (λ n. n) result (number_of word.now) }
 {
@@ -129,44 +129,61 @@ pub fn number_in(word: &[u8]) -> Option<u64>
     if rest.is_empty() { Some(n) } else { None }
 }
 
+// The option of the stack, behind the text that it begins with.
+fn stack_in(text: &[u8]) -> Option<Choice<'_>>
+    ensures { Gives as_choice result (stack_of text.now) }
+{
+    let pages = number_in(text)?;
+    Some(Choice::Stack(pages))
+}
+
+// The option of a level's files, likewise.
+fn files_in(text: &[u8]) -> Option<Choice<'_>>
+    ensures { Gives as_choice result (files_of text.now) }
+{
+    let (level, rest) = decimal_at(text, u64::MAX)?;
+    let folder = after(rest, b":")?;
+    if folder.is_empty() {
+        None
+    } else {
+        Some(Choice::Files(level, folder))
+    }
+}
+
 // The option that a word is.
-#[tactic(auto, unfolding(crate::specs::RequestReading::choice_of))]
-fn choice_in(word: &[u8]) -> Option<Choice>
-    ensures { Gives (λ c. c) result (choice_of word.now) }
+#[tactic(auto, unfolding(crate::specs::ChoiceReading::choice_of))]
+fn choice_in(word: &[u8]) -> Option<Choice<'_>>
+    ensures { Gives as_choice result (choice_of word.now) }
 {
     if word == b"--raw".as_slice() {
         return Some(Choice::Raw);
     }
-    let rest = after(word, b"--stack=")?;
-    let pages = number_in(rest)?;
-    Some(Choice::Stack(pages))
+    if let Some(text) = after(word, b"--stack=") {
+        return stack_in(text);
+    }
+    let text = after(word, b"--files=")?;
+    files_in(text)
 }
 
-// The option that the first word is, beside those that were read, and the words behind it.
-#[tactic(auto, unfolding(crate::specs::RequestReading::next_choice))]
-fn next_option<'a>(read: &Options, words: &'a [Vec<u8>]) -> Option<(Choice, &'a [Vec<u8>])>
-    ensures { Gives (λ x. (x.0, map (λ w. w.items) x.1.now)) result (first_choice read.now (map (λ w. w.items) words.now)) }
+/// The option that the first word is, and the words behind it.
+pub fn next_option(words: &[Vec<u8>]) -> Option<(Choice<'_>, &[Vec<u8>])>
+    ensures { Gives (λ x. (as_choice x.0, map (λ w. w.items) x.1.now)) result (first_choice (map (λ w. w.items) words.now)) }
 {
     let [word, behind @ ..] = words else {
         return None;
     };
     let choice = choice_in(word)?;
-    if read.has(choice) {
-        None
-    } else {
-        Some((choice, behind))
-    }
+    Some((choice, behind))
 }
 
 /// The options at the front of the words, and the words behind them.
-pub fn read_options(words: &[Vec<u8>]) -> (Options, &[Vec<u8>])
-    ensures { (result.0, map (λ w. w.items) result.1.now) ≡ options_from [] (map (λ w. w.items) words.now) }
+pub fn read_options(words: &[Vec<u8>]) -> (Options<'_>, &[Vec<u8>])
+    ensures options { result.0 ≡ options_at (map (λ w. w.items) words.now) }
+    ensures behind { map (λ w. w.items) result.1.now ≡ behind_options (map (λ w. w.items) words.now) }
 {
-    let mut options = Options::none();
     let mut rest = words;
-    while let Some((choice, behind)) = next_option(&options, rest) {
-        options.add(choice);
+    while let Some((_, behind)) = next_option(rest) {
         rest = behind;
     }
-    (options, rest)
+    (Options { words }, rest)
 }

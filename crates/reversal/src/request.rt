@@ -4,17 +4,18 @@ ghost use Rattle.std.specs.List.{AllByRecursion, flat_map};
 ghost use Rattle.reversal.specs.Request.{Request as ARequest, Says};
 ghost use Rattle.reversal.specs.Bounds.{numbers, option_numbers, command_numbers, IsWithin, RefusesFirst};
 ghost use Rattle.reversal.specs.Reading.{Gives};
+ghost use Rattle.reversal.specs.ChoiceReading.{options_at, as_choice};
 ghost use Rattle.reversal.specs.RequestReading.{is_name, is_schedule_name, name_or_none, run_of, check_of, command_of, request_read, as_run, as_check, as_command, request_of};
 
 use crate::bounds::{Bounded, first_outside};
 use crate::ended::Ended;
-use crate::options::{Choice, Options, number_in, read_options};
+use crate::options::{Choice, Options, next_option, number_in, read_options};
 use plan_types::MOST_STEPS;
 
 /// What the words ask for.
 #[derive(Debug, Drop)]
 pub struct Request<'a> {
-    pub options: Options,
+    pub options: Options<'a>,
     pub command: Command<'a>,
 }
 
@@ -57,6 +58,18 @@ fn stack_bound(pages: u64) -> Bounded
     }
 }
 
+// The bounds of a level.
+fn level_bound(level: u64) -> Bounded
+    ensures { result ≡ record { number = level; least = 0; greatest = 3; rule = 5 } }
+{
+    Bounded {
+        number: level,
+        least: 0,
+        greatest: 3,
+        rule: 5,
+    }
+}
+
 // The bounds of the number of steps.
 fn steps_bound(steps: u64) -> Bounded
     ensures { result ≡ record { number = steps; least = 0; greatest = 1000000; rule = 1 } }
@@ -74,25 +87,38 @@ impl Request<'_> {
     pub fn refusal(&self) -> Option<Ended>
         ensures { MatchOption result (AllByRecursion IsWithin (numbers (request_of self.now))) (RefusesFirst (numbers (request_of self.now))) }
     {
-        match options_refusal(self.options.all()) {
+        match options_refusal(self.options.words()) {
             Some(refusal) => Some(refusal),
             None => self.command.refusal(),
         }
     }
 }
 
-// The same for the numbers of options.
-fn options_refusal(options: &[Choice]) -> Option<Ended>
-    ensures { MatchOption result (AllByRecursion IsWithin (flat_map option_numbers options.now)) (RefusesFirst (flat_map option_numbers options.now)) }
+// The same for the numbers of the options at the front of the words.
+fn options_refusal(words: &[Vec<u8>]) -> Option<Ended>
+    ensures { MatchOption result (AllByRecursion IsWithin (flat_map option_numbers (options_at (map (λ w. w.items) words.now)))) (RefusesFirst (flat_map option_numbers (options_at (map (λ w. w.items) words.now)))) }
 {
-    for choice in options {
-        if let Choice::Stack(pages) = choice
-            && let Some(refusal) = first_outside(&[stack_bound(*pages)])
-        {
+    let mut rest = words;
+    while let Some((choice, behind)) = next_option(rest) {
+        if let Some(refusal) = choice.refusal() {
             return Some(refusal);
         }
+        rest = behind;
     }
     None
+}
+
+impl Choice<'_> {
+    // The same for the number of an option.
+    fn refusal(&self) -> Option<Ended>
+        ensures { MatchOption result (AllByRecursion IsWithin (option_numbers (as_choice self.now))) (RefusesFirst (option_numbers (as_choice self.now))) }
+    {
+        match self {
+            Choice::Raw => None,
+            Choice::Stack(pages) => first_outside(&[stack_bound(*pages)]),
+            Choice::Files(level, _) => first_outside(&[level_bound(*level)]),
+        }
+    }
 }
 
 impl Command<'_> {
@@ -199,6 +225,9 @@ fn request_in(list: &[Vec<u8>]) -> Option<Request<'_>>
     ensures { Gives request_of result (request_read (map (λ w. w.items) list.now)) }
 {
     let (options, words) = read_options(list);
+    if !options.are_single() {
+        return None;
+    }
     let command = read_command(words)?;
     Some(Request { options, command })
 }

@@ -5,8 +5,8 @@ ghost use Rattle.std.specs.Prelude.{◌≡◌, ◌<◌, ◌≤◌};
 use crate::ended::{Ended, ended_text};
 use crate::top::reversal;
 use crate::words::Words;
-use keepers::{MemoryInputs, MemoryKeeper, MemorySink};
-use plan_types::Line;
+use keepers::{Keeper, MemoryInputs, MemoryKeeper, MemorySink};
+use plan_types::{Line, MOST_SLOTS};
 use rv_machine::Steps;
 use std::alloc::{AllocError, Global};
 use std::fmt::Write;
@@ -15,7 +15,7 @@ use std::process::Abort;
 use std::sync::ledger::{Blank, Ledger};
 use std::test::Fail;
 
-const FOUR_WORDS: &[u8] = b"\x13\x05\x70\x00\x93\x02\x10\x00\x13\x83\x22\x00\x93\x08\xd0\x05";
+pub const FOUR_WORDS: &[u8] = b"\x13\x05\x70\x00\x93\x02\x10\x00\x13\x83\x22\x00\x93\x08\xd0\x05";
 
 const NO_SLOT: &[u8] =
     b"{\"forward\":1,\"reverse\":1,\"levels\":[{\"name\":\"RAM\",\"slots\":0,\"write\":0,\"read\":0}]}";
@@ -23,10 +23,10 @@ const NO_SLOT: &[u8] =
 const ONE_SLOT: &[u8] =
     b"{\"forward\":1,\"reverse\":1,\"levels\":[{\"name\":\"RAM\",\"slots\":1,\"write\":0,\"read\":0}]}";
 
-const TWO_SLOTS: &[u8] =
+pub const TWO_SLOTS: &[u8] =
     b"{\"forward\":1,\"reverse\":1,\"levels\":[{\"name\":\"RAM\",\"slots\":2,\"write\":0,\"read\":0}]}";
 
-const FOUR_STEPS_TWO_SLOTS: &[u8] = b"Forward(0, 1, True, False, RAM)
+pub const FOUR_STEPS_TWO_SLOTS: &[u8] = b"Forward(0, 1, True, False, RAM)
 Forward(1, 3, True, False, RAM)
 Forward(3, 4, False, True, WORK)
 EndForward()
@@ -81,7 +81,7 @@ EndReverse()
 ";
 
 // The lines of the four words, from state 4 to state 0.
-const FOUR_STEPS: [&[u8]; 5] = [
+pub const FOUR_STEPS: [&[u8]; 5] = [
     b"4 00010010 00000000 bffffff0 00000000 00000000 00000001 00000003 00000000 00000000 00000000 00000007 00000000 00000000 00000000 00000000 00000000 00000000 0000005d 00000000 00000000 00000000 00000000 00000000 00000000 00000000 00000000 00000000 00000000 00000000 00000000 00000000 00000000 run 0:0 0 9af16bd29526fdf25049c459aa6b2de8521b871988d33ba2fc9d264fd1557ac3\n",
     b"3 0001000c 00000000 bffffff0 00000000 00000000 00000001 00000003 00000000 00000000 00000000 00000007 00000000 00000000 00000000 00000000 00000000 00000000 00000000 00000000 00000000 00000000 00000000 00000000 00000000 00000000 00000000 00000000 00000000 00000000 00000000 00000000 00000000 run 0:0 0 09dbc2a2bcfda698744463288823c0c28a2b8f30ce47aa552eaf19248781e196\n",
     b"2 00010008 00000000 bffffff0 00000000 00000000 00000001 00000000 00000000 00000000 00000000 00000007 00000000 00000000 00000000 00000000 00000000 00000000 00000000 00000000 00000000 00000000 00000000 00000000 00000000 00000000 00000000 00000000 00000000 00000000 00000000 00000000 00000000 run 0:0 0 e18ecd8548fef529ac1fd562b27c2b32b0eeb4acdaecb57e495087377c21e36a\n",
@@ -136,14 +136,14 @@ const FALLING_COSTS: &[u8] =
     b"{\"forward\":1,\"reverse\":1,\"levels\":[{\"name\":\"RAM\",\"slots\":1,\"write\":2,\"read\":0},{\"name\":\"DISK\",\"slots\":1,\"write\":1,\"read\":1}]}";
 
 // A name and the bytes of an input.
-type Named<'a> = (&'a [u8], &'a [u8]);
+pub type Named<'a> = (&'a [u8], &'a [u8]);
 
 fn file(alloc: Global, name: &[u8], bytes: &[u8]) -> Result<(Vec<u8>, Vec<u8>), AllocError> {
     let name = Vec::from_slice(alloc, name)?;
     Ok((name, Vec::from_slice(alloc, bytes)?))
 }
 
-fn inputs_of(alloc: Global, files: &[Named<'_>]) -> Result<MemoryInputs, AllocError> {
+pub fn inputs_of(alloc: Global, files: &[Named<'_>]) -> Result<MemoryInputs, AllocError> {
     let mut list = Vec::new(alloc);
     for (name, bytes) in files {
         list.push(file(alloc, name, bytes)?)?;
@@ -152,7 +152,7 @@ fn inputs_of(alloc: Global, files: &[Named<'_>]) -> Result<MemoryInputs, AllocEr
 }
 
 // The words of a line, with a space between them.
-fn words_of(alloc: Global, line: &str) -> Result<Words, AllocError> {
+pub fn words_of(alloc: Global, line: &str) -> Result<Words, AllocError> {
     let mut list = Vec::new(alloc);
     for word in line.split(' ') {
         list.push(Vec::from_slice(alloc, word.as_bytes())?)?;
@@ -160,10 +160,20 @@ fn words_of(alloc: Global, line: &str) -> Result<Words, AllocError> {
     Ok(Words { list })
 }
 
-fn called<L: Ledger>(
+// Keepers with so many slots each.
+fn keepers_with(alloc: Global, slots: &[u32]) -> Result<Vec<MemoryKeeper>, AllocError> {
+    let mut keepers = Vec::with_capacity(alloc, slots.len())?;
+    for count in slots {
+        keepers.push(MemoryKeeper::new(alloc, *count))?;
+    }
+    Ok(keepers)
+}
+
+fn called<K: Keeper, L: Ledger>(
     alloc: Global,
     words: &Words,
     inputs: &mut MemoryInputs,
+    keepers: &mut Vec<K>,
     out: &mut MemorySink,
     blank: Blank,
 ) -> Ended
@@ -171,28 +181,49 @@ fn called<L: Ledger>(
     requires parts { blank.parts ≡ L.parts }
     requires some { 0 < blank.parts }
 {
-    let mut keepers: Vec<MemoryKeeper> = Vec::new(alloc);
     let mut steps = Steps::<L>::new(blank);
-    reversal(alloc, words, inputs, &mut keepers, out, &mut steps)
+    reversal(alloc, words, inputs, keepers, out, &mut steps)
 }
 
-fn ended(alloc: Global, words: &Words, inputs: &mut MemoryInputs, out: &mut MemorySink) -> Ended {
-    called::<Brand>(alloc, words, inputs, out, Blank::new(1))
+// A call over inputs, keepers and a sink.
+pub fn ended<K: Keeper>(
+    alloc: Global,
+    words: &Words,
+    inputs: &mut MemoryInputs,
+    keepers: &mut Vec<K>,
+    out: &mut MemorySink,
+) -> Ended {
+    called::<K, Brand>(alloc, words, inputs, keepers, out, Blank::new(1))
 }
 
-fn call(
+// As many slots as any level has, for as many levels as any book has.
+const AMPLE: [u32; 4] = [MOST_SLOTS; 4];
+
+// A call over keepers with these slots.
+fn call_over(
+    alloc: Global,
+    line: &str,
+    files: &[Named<'_>],
+    slots: &[u32],
+    out: &mut MemorySink,
+) -> Result<Ended, AllocError> {
+    let words = words_of(alloc, line)?;
+    let mut inputs = inputs_of(alloc, files)?;
+    let mut keepers = keepers_with(alloc, slots)?;
+    Ok(ended(alloc, &words, &mut inputs, &mut keepers, out))
+}
+
+pub fn call(
     alloc: Global,
     line: &str,
     files: &[Named<'_>],
     out: &mut MemorySink,
 ) -> Result<Ended, AllocError> {
-    let words = words_of(alloc, line)?;
-    let mut inputs = inputs_of(alloc, files)?;
-    Ok(ended(alloc, &words, &mut inputs, out))
+    call_over(alloc, line, files, &AMPLE, out)
 }
 
 // The first `count` lines, one after the other.
-fn joined(alloc: Global, lines: &[&[u8]], count: usize) -> Result<Vec<u8>, AllocError> {
+pub fn joined(alloc: Global, lines: &[&[u8]], count: usize) -> Result<Vec<u8>, AllocError> {
     let mut all = Vec::new(alloc);
     for line in lines.iter().take(count) {
         all.extend_from_slice(line)?;
@@ -298,7 +329,9 @@ fn ends_in(
     list.push(file(alloc, b"schedule", schedule.as_bytes())?)?;
     let mut inputs = MemoryInputs::new(alloc, list);
     let mut out = MemorySink::new(alloc, 400_000)?;
-    assert_eq!(rt; ended(alloc, &words, &mut inputs, &mut out).status, 0);
+    let mut keepers = keepers_with(alloc, &AMPLE)?;
+    let ended = ended(alloc, &words, &mut inputs, &mut keepers, &mut out);
+    assert_eq!(rt; ended.status, 0);
     assert!(rt; out.bytes().starts_with(line), "the first line");
     Ok(())
 }
@@ -421,7 +454,7 @@ fn a_sink_that_fails_keeps_the_lines_before(rt: HostRuntime) -> Result<(), Fail>
 }
 
 // A valid list that moves an image when it is no more needed.
-const STALE_MOVE: &[u8] = b"# moves image 1 late
+pub const STALE_MOVE: &[u8] = b"# moves image 1 late
 Forward(0, 1, True, False, RAM)
 Forward(1, 2, True, False, RAM)
 EndForward()
@@ -458,7 +491,27 @@ fn a_valid_list_is_counted(rt: HostRuntime) -> Result<(), Fail> {
     Ok(())
 }
 
-// A call ends with this text behind the name of the program, and nothing is written.
+// A call over keepers with these slots ends with this text behind the name of the program, and nothing is written.
+fn ends_over(
+    rt: &impl Abort,
+    alloc: Global,
+    line: &str,
+    files: &[Named<'_>],
+    slots: &[u32],
+    text: &[u8],
+) -> Result<(), Fail> {
+    let mut out = MemorySink::new(alloc, 4096)?;
+    let mut ending = Line::new();
+    ended_text(
+        &call_over(alloc, line, files, slots, &mut out)?,
+        &mut ending,
+    );
+    assert_eq!(rt; ending.bytes().strip_prefix(b"reversal: "), Some(text));
+    assert!(rt; out.bytes().is_empty(), "a refusal writes nothing");
+    Ok(())
+}
+
+// The same over keepers with ample slots.
 fn ends(
     rt: &impl Abort,
     alloc: Global,
@@ -466,12 +519,7 @@ fn ends(
     files: &[Named<'_>],
     text: &[u8],
 ) -> Result<(), Fail> {
-    let mut out = MemorySink::new(alloc, 4096)?;
-    let mut ending = Line::new();
-    ended_text(&call(alloc, line, files, &mut out)?, &mut ending);
-    assert_eq!(rt; ending.bytes().strip_prefix(b"reversal: "), Some(text));
-    assert!(rt; out.bytes().is_empty(), "a refusal writes nothing");
-    Ok(())
+    ends_over(rt, alloc, line, files, &AMPLE, text)
 }
 
 #[test]
@@ -625,7 +673,8 @@ fn an_input_that_cannot_be_read_is_named_by_its_number(rt: HostRuntime) -> Resul
     for number in [1u64, 2, 3] {
         let failing = vec![in alloc; number]?;
         let mut inputs = inputs_of(alloc, &FOUR)?.failing(failing);
-        let ended = ended(alloc, &words, &mut inputs, &mut out);
+        let mut keepers = keepers_with(alloc, &AMPLE)?;
+        let ended = ended(alloc, &words, &mut inputs, &mut keepers, &mut out);
         assert_eq!(rt; (ended.status, ended.place), (3, number));
         assert_eq!(rt; inputs.faults(), 1);
     }
@@ -651,4 +700,48 @@ fn an_input_that_is_too_long_is_named_with_its_limit(rt: HostRuntime) -> Result<
         &files,
         b"10 Limit 1 65536 8",
     )
+}
+
+#[test]
+fn a_run_wants_a_keeper_with_slots_enough_for_each_level(rt: HostRuntime) -> Result<(), Fail> {
+    let table: [(&str, &[u32], &[u8]); 7] = [
+        ("--raw run p - two s 3", &[1], b"16 NoKeeper 2 1 1"),
+        ("--raw run p - two s 0", &[1], b"16 NoKeeper 2 1 1"),
+        ("--raw run p - two s 3", &[2, 0], b"16 NoKeeper 1 0 2"),
+        ("--raw run p - two s 3", &[0, 0], b"16 NoKeeper 0 0 2"),
+        ("--raw run p - p s 3", &[], b"6 Book 0 0 1"),
+        ("run p - two s 3", &[1], b"16 NoKeeper 2 1 1"),
+        ("run p - two s 3", &[1, 1], b"4 Program 0 0 1"),
+    ];
+    for (line, slots, text) in table {
+        let files: [Named<'_>; 3] = [(b"p", FOUR_WORDS), (b"two", TWO_LEVELS), (b"s", b"")];
+        ends_over(&rt, rt.alloc(), line, &files, slots, text)?;
+    }
+    Ok(())
+}
+
+#[test]
+fn no_more_slots_are_wanted_than_a_run_can_use(rt: HostRuntime) -> Result<(), Fail> {
+    let table: [(&str, &[u8], &[u32]); 5] = [
+        ("--raw run program - book schedule 1", ONE_STEP, &[1]),
+        ("--raw run program - book schedule 0", NO_STEPS, &[0]),
+        (
+            "--raw run program - book schedule 4",
+            FOUR_STEPS_TWO_SLOTS,
+            &[2],
+        ),
+        ("--raw run program - book schedule 1", ONE_STEP, &[1, 0, 0]),
+        ("check book schedule 4", FOUR_STEPS_TWO_SLOTS, &[]),
+    ];
+    for (line, schedule, slots) in table {
+        let files: [Named<'_>; 3] = [
+            (b"program", FOUR_WORDS),
+            (b"book", TWO_SLOTS),
+            (b"schedule", schedule),
+        ];
+        let mut out = MemorySink::new(rt.alloc(), 4096)?;
+        let ended = call_over(rt.alloc(), line, &files, slots, &mut out)?;
+        assert_eq!(rt; ended.status, 0);
+    }
+    Ok(())
 }

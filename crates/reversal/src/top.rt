@@ -5,11 +5,12 @@ ghost use Rattle.keepers.specs.Counts.{Rose};
 ghost use Rattle.reversal.specs.Request.{Request as ARequest, Says, words_of};
 ghost use Rattle.reversal.specs.Bounds.{numbers, IsWithin, RefusesWords, Asks};
 ghost use Rattle.reversal.specs.Inputs.{inputs_of, names, FailsAtInput};
-ghost use Rattle.reversal.specs.Decision.{Decision, accept, refuse, Comes, EndsBy, IsOfJob};
-ghost use Rattle.reversal.specs.Deeds.{Job as AJob, deeds, Halts};
+ghost use Rattle.reverse_runner.specs.KeepersSeen.{by_number};
+ghost use Rattle.reversal.specs.Decision.{Decision, accept, refuse, Comes, KeepsOthers, EndsBy, IsOfJob};
+ghost use Rattle.reversal.specs.Deeds.{Job as AJob, moment, HaltsShowing};
 ghost use Rattle.reversal.specs.Ending.{no_memory};
 ghost use Rattle.reversal.specs.RequestReading.{request_of};
-ghost use Rattle.reversal.specs.JobReading.{job_of, CanBeDone};
+ghost use Rattle.reversal.specs.JobReading.{job_of, CanBeDone, KeepersHaveRoom};
 
 use crate::decision::decide;
 use crate::ended::Ended;
@@ -19,7 +20,7 @@ use crate::request::{Request, read_request};
 use crate::words::Words;
 use keepers::{Inputs, Keeper, Sink};
 use rv_machine::Steps;
-use std::alloc::Global;
+use std::alloc::{AllocError, Global};
 use std::sync::ledger::Ledger;
 
 /// Does what the words ask for, and tells how it ended. The words say a request; the request and its inputs come to a
@@ -49,25 +50,30 @@ pub fn reversal<I: Inputs, K: Keeper, O: Sink, L: Ledger>(
     // Unless an input can't be read or memory runs out, a decision was come to, and the call ended by it.
     ensures decided { (r : ARequest) → Asks (words_of words.now) r → result.status ≢ 3 → result.status ≢ 17 → (d : Decision)
         × Comes r (I.told inputs.old) (I.asked inputs.old) (I.asked inputs.new) (map K.slot_count keepers.old.items) d
+        × KeepsOthers d keepers.old.items keepers.new.items
         × EndsBy d result
-        (record { told = O.told out.old; calls = O.call_count out.old; steps = steps.old })
-        (record { told = O.told out.new; calls = O.call_count out.new; steps = steps.new }) }
+        (moment O.told O.call_count K.told K.put_count K.get_count K.free_count out.old keepers.old.items steps.old)
+        (moment O.told O.call_count K.told K.put_count K.get_count K.free_count out.new keepers.new.items steps.new) }
 
     // Where memory runs out nothing was done, or a part of a job that was decided.
-    ensures memory { result.status ≡ 17 → (result ≡ no_memory) × (((out.new ≡ out.old) × (steps.new ≡ steps.old))
+    ensures memory { result.status ≡ 17 → (result ≡ no_memory) × (((out.new ≡ out.old) × (keepers.new ≡ keepers.old) × (steps.new ≡ steps.old))
         ⊎ ((r : ARequest) × Asks (words_of words.now) r × (job : AJob)
         × Comes r (I.told inputs.old) (I.asked inputs.old) (I.asked inputs.new) (map K.slot_count keepers.old.items) (accept job)
-        × Halts (deeds job)
-        (record { told = O.told out.old; calls = O.call_count out.old; steps = steps.old })
-        (record { told = O.told out.new; calls = O.call_count out.new; steps = steps.new }))) }
+        × KeepsOthers (accept job) keepers.old.items keepers.new.items
+        × HaltsShowing job
+        (moment O.told O.call_count K.told K.put_count K.get_count K.free_count out.old keepers.old.items steps.old)
+        (moment O.told O.call_count K.told K.put_count K.get_count K.free_count out.new keepers.new.items steps.new))) }
 
     // Up to its end, the sink's count of faults rises exactly at status 14.
     ensures sink_cause { result.status ≡ 14 → Rose (O.fault_count out.old) (O.fault_count out.new) }
     ensures sink_quiet { result.status ≢ 14 → O.fault_count out.new ≡ O.fault_count out.old }
 
-    // A refusal leaves the sink and the count of steps as they were. The keepers are always as they were.
-    ensures untouched { (IsOfJob result.status → ⊥) → (out.new ≡ out.old) × (steps.new ≡ steps.old) }
-    ensures keepers { keepers.new ≡ keepers.old }
+    // Up to its end, a keeper's count of faults rises just at status 12, which names its level.
+    ensures keeper_cause { result.status ≡ 12 → Rose (by_number 0 K.fault_count keepers.old.items result.more) (by_number 0 K.fault_count keepers.new.items result.more) }
+    ensures keepers_quiet { result.status ≢ 12 → (k : ℕ) → by_number 0 K.fault_count keepers.new.items k ≡ by_number 0 K.fault_count keepers.old.items k }
+
+    // A refusal leaves the sink, the keepers and the count of steps as they were.
+    ensures untouched { (IsOfJob result.status → ⊥) → (out.new ≡ out.old) × (keepers.new ≡ keepers.old) × (steps.new ≡ steps.old) }
 {
     let Some(request) = read_request(&words.list) else {
         return Ended::no_request();
@@ -75,25 +81,43 @@ pub fn reversal<I: Inputs, K: Keeper, O: Sink, L: Ledger>(
     if let Some(refusal) = request.refusal() {
         return refusal;
     }
-    match prepared(alloc, &request, inputs) {
+    match prepared(alloc, &request, inputs, keepers) {
         Ok(job) => job.work(alloc, keepers, out, steps),
         Err(refusal) => refusal,
     }
 }
 
-// The job that a request, whose numbers are within their bounds, comes to by its inputs.
-fn prepared<I: Inputs>(alloc: Global, request: &Request<'_>, inputs: &mut I) -> Result<Job, Ended>
+// The job that a request, whose numbers are within their bounds, comes to by its inputs and the slots of the keepers.
+fn prepared<I: Inputs, K: Keeper>(
+    alloc: Global,
+    request: &Request<'_>,
+    inputs: &mut I,
+    keepers: &[K],
+) -> Result<Job, Ended>
     requires { AllByRecursion IsWithin (numbers (request_of request.now)) }
-    ensures comes { IfOk result (λ job. (slots : List ℕ) → Comes (request_of request.now) (I.told inputs.old) (I.asked inputs.old) (I.asked inputs.new) slots (accept (job_of job))) }
+    ensures comes { IfOk result (λ job. Comes (request_of request.now) (I.told inputs.old) (I.asked inputs.old) (I.asked inputs.new) (map K.slot_count keepers.now) (accept (job_of job))) }
     ensures can_be_done { IfOk result CanBeDone }
+    ensures room { IfOk result (λ job. KeepersHaveRoom job (map K.slot_count keepers.now)) }
     ensures refused { IfErr result (λ e. FailsAtInput (inputs_of (request_of request.now).command) (I.told inputs.old) e (I.asked inputs.old) (I.asked inputs.new)
         ⊎ (e ≡ no_memory)
-        ⊎ ((e.status ≢ 3) × (e.status ≢ 17) × (e.status ≢ 2) × (e.status ≢ 14) × ((slots : List ℕ) → Comes (request_of request.now) (I.told inputs.old) (I.asked inputs.old) (I.asked inputs.new) slots (refuse e)))) }
+        ⊎ ((e.status ≢ 3) × (e.status ≢ 17) × (e.status ≢ 2) × (e.status ≢ 12) × (e.status ≢ 14) × Comes (request_of request.now) (I.told inputs.old) (I.asked inputs.old) (I.asked inputs.new) (map K.slot_count keepers.now) (refuse e))) }
     ensures asked { (k : ℕ) × (I.asked inputs.new ≡ I.asked inputs.old ++ take k (names (inputs_of (request_of request.now).command))) }
     ensures quiet { IfOk result (λ _. I.fault_count inputs.new ≡ I.fault_count inputs.old) }
     ensures cause { IfErr result (λ e. e.status ≡ 3 → Rose (I.fault_count inputs.old) (I.fault_count inputs.new)) }
     ensures no_cause { IfErr result (λ e. e.status ≢ 3 → I.fault_count inputs.new ≡ I.fault_count inputs.old) }
 {
     let bytes = read_inputs(alloc, &request.command, inputs)?;
-    decide(alloc, request, &bytes)
+    let counts = slot_counts(alloc, keepers)?;
+    decide(alloc, request, &bytes, &counts)
+}
+
+// The number of slots of each keeper.
+fn slot_counts<K: Keeper>(alloc: Global, keepers: &[K]) -> Result<Vec<u32>, AllocError>
+    ensures { IfOk result (λ counts. counts.items ≡ map K.slot_count keepers.now) }
+{
+    let mut counts = Vec::with_capacity(alloc, keepers.len())?;
+    for keeper in keepers {
+        counts.push(keeper.slots())?;
+    }
+    Ok(counts)
 }

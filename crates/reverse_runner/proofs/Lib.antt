@@ -1,7 +1,12 @@
-pub mod StoredLemmas
-pub mod ActingLemmas
-pub mod Copies
-pub mod Following
+pub mod Asking
+pub mod AllCalls
 pub mod Getting
 pub mod Handing
+pub mod HoldingJust
+pub mod HoldingsAfter
+pub mod LevelsAfter
+pub mod LevelsFollow
+pub mod OneKeeper
+pub mod RoomLeft
 pub mod StandingAfter
+pub mod Undamaged

@@ -1,7 +1,11 @@
+pub mod Acts
 pub mod Handed
+pub mod HoldsJust
+pub mod KeepersSeen
+pub mod LevelsStand
 pub mod Performed
 pub mod SessionFields
 pub mod SessionState
 pub mod Standing
-pub mod StoredFields
-pub mod StoredStates
+pub mod Touching
+pub mod Workspaces

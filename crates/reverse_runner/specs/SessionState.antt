@@ -1,21 +1,24 @@
--- A session as it is seen: where it stands, its states, and whether it has ended.
-use Rattle.std.specs.Prelude.{◌≡◌, ℕ, Bool, true, List, IsSome, refl}
-use Rattle.std.specs.FinSet as set
-use Rattle.std.specs.FinMap as finmap
-use Rattle.std.specs.Coded.{Coded, code_by, coded×, coded_ℕ, coded_bool, coded_list}
-use Rattle.level_book.specs.Configuration.{Configuration, held_on}
+-- A session as it is seen: where it stands, its states, the pairs of its levels, and whether it has ended.
+use Rattle.std.specs.Prelude.{◌≡◌, ℕ, Bool, List, Option, refl}
+use Rattle.std.specs.Coded.{Coded, code_by, coded×, coded_ℕ, coded_bool, coded_list, coded_option}
+use Rattle.keepers.specs.Told.{Images}
 use Rattle.schedule_rules.specs.Situation.{Situation, situation_code}
+use Rattle.rv_pages.specs.Memory.{page_numbers}
 use Rattle.rv_machine.specs.MachineState.{MachineState}
 use Rattle.rv_machine.specs.StateCode.{state_code}
-use Rattle.reverse_runner.specs.StoredStates.{StoredStates, stored_code, level_of}
+use Rattle.image_store.specs.declared.shelf.Kept.{Kept}
+use Rattle.image_store.specs.Shelves.{ShelfState}
+use Rattle.reverse_runner.specs.Acts.{Levels, Holdings}
 
 pub record SessionState : Type 0 where
   -- the steps, the slots of the book, and the configuration
   pub situation : Situation
   -- the state in work
   pub work : MachineState
-  -- the state on the tape, and the copied ones
-  pub stored : StoredStates
+  -- the state on the tape, where the tape isn't empty
+  pub tape : MachineState
+  -- which images the levels keep
+  pub store : List ShelfState
   -- the recorded input
   pub journal : List (List ℕ)
   -- how many actions were performed
@@ -23,14 +26,32 @@ pub record SessionState : Type 0 where
   -- whether an action was refused
   pub ended : Bool
 
--- each image that the configuration holds has a copied state
-abbrev pub HeldIsStored : Configuration → StoredStates → Type 0
-HeldIsStored c stored = (k n : ℕ) → set.contains (held_on c k) n ≡ true → IsSome (finmap.get (level_of stored k) n)
+-- the levels of a session over what its keepers tell, and all that it holds
+abbrev pub levels_of : SessionState → (ℕ → Option Images) → Levels
+levels_of s told = record { store = s.store; told = told }
+
+abbrev pub holdings_of : SessionState → (ℕ → Option Images) → Holdings
+holdings_of s told = record { work = s.work; tape = s.tape; levels = levels_of s told }
+
+-- two states map the same pages
+abbrev pub SamePages : MachineState → MachineState → Type 0
+SamePages a b = page_numbers a.memory ≡ page_numbers b.memory
+
+-- what is kept of a pair, a level and a session are stored as the tuples of their fields
+abbrev pub kept_code : Coded Kept
+kept_code =
+    code_by (ℕ × (ℕ × List ℕ)) (coded× coded_ℕ (coded× coded_ℕ (coded_list coded_ℕ)))
+    (λ k. (k.slot, (k.length, k.digest))) (λ p. record { slot = p.0; length = p.1.0; digest = p.1.1 }) (λ _. refl)
+
+abbrev pub shelf_code : Coded ShelfState
+shelf_code =
+    code_by (List (Option Kept) × ℕ) (coded× (coded_list (coded_option kept_code)) coded_ℕ)
+    (λ s. (s.pairs, s.room)) (λ p. record { pairs = p.0; room = p.1 }) (λ _. refl)
 
 abbrev pub session_code : Coded SessionState
 session_code =
-    code_by (Situation × (MachineState × (StoredStates × (List (List ℕ) × (ℕ × Bool)))))
-    (coded× situation_code (coded× state_code (coded× stored_code (coded× (coded_list (coded_list coded_ℕ)) (coded× coded_ℕ coded_bool)))))
-    (λ s. (s.situation, (s.work, (s.stored, (s.journal, (s.done, s.ended))))))
-    (λ p. record { situation = p.0; work = p.1.0; stored = p.1.1.0; journal = p.1.1.1.0; done = p.1.1.1.1.0; ended = p.1.1.1.1.1 })
+    code_by (Situation × (MachineState × (MachineState × (List ShelfState × (List (List ℕ) × (ℕ × Bool))))))
+    (coded× situation_code (coded× state_code (coded× state_code (coded× (coded_list shelf_code) (coded× (coded_list (coded_list coded_ℕ)) (coded× coded_ℕ coded_bool))))))
+    (λ s. (s.situation, (s.work, (s.tape, (s.store, (s.journal, (s.done, s.ended)))))))
+    (λ p. record { situation = p.0; work = p.1.0; tape = p.1.1.0; store = p.1.1.1.0; journal = p.1.1.1.1.0; done = p.1.1.1.1.1.0; ended = p.1.1.1.1.1.1 })
     (λ _. refl)

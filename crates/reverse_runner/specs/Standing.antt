@@ -1,41 +1,73 @@
--- At which configuration of a run a session stands: its states are those of the run, by their numbers.
-use Rattle.std.specs.Prelude.{◌≡◌, ℕ, ◌+◌, ◌^◌, ◌-◌, true, false, min, List, length, replicate, MatchOption, Some}
-use Rattle.std.specs.FinSet as set
-use Rattle.std.specs.FinMap as finmap
+-- At which configuration of a run a session stands, and what becomes of it as actions are performed.
+use Rattle.std.specs.Prelude.{◌≡◌, ◌≢◌, ◌⊎◌, ℕ, ◌+◌, ◌^◌, ◌-◌, true, false, min, List, Option, None, Some}
+use Rattle.sha2.specs.Sha256.{sha256}
+use Rattle.keepers.specs.Told.{Images}
 use Rattle.plan_types.specs.declared.action.Action.{Action}
+use Rattle.plan_types.specs.declared.action.Action.TheVariants.{Copy, Move}
 use Rattle.level_book.specs.declared.book.Slots.{Slots}
-use Rattle.level_book.specs.Configuration.{start, held_on}
+use Rattle.level_book.specs.Configuration.{start}
 use Rattle.level_book.specs.Moves.{Goes}
-use Rattle.rv_machine.specs.MachineState.{MachineState}
-use Rattle.rv_machine.specs.States.{state_number}
-use Rattle.reverse_runner.specs.StoredStates.{level_of}
-use Rattle.reverse_runner.specs.SessionState.{SessionState}
-use Rattle.reverse_runner.specs.Performed.{Does}
+use Rattle.rv_machine.specs.MachineState.{MachineState, IsMachineState}
+use Rattle.state_image.specs.Image.{image}
+use Rattle.image_store.specs.declared.shelf.Kept.{Kept}
+use Rattle.image_store.specs.Shelves.{kept_at, no_pairs_on}
+use Rattle.image_store.specs.Calls.{IsGot}
+use Rattle.reverse_runner.specs.SessionState.{SessionState, SamePages, holdings_of}
+use Rattle.reverse_runner.specs.Acts.{Holdings}
+use Rattle.reverse_runner.specs.LevelsStand.{HoldingsStandAt}
 
 -- a session that has just begun
 abbrev pub begun : MachineState → List (List ℕ) → ℕ → List Slots → SessionState
 begun first journal steps slots = record {
   situation = record { steps = steps; slots = slots; at = start steps slots };
   work = first;
-  stored = record { tape = first; levels = replicate (length slots) finmap.empty };
+  tape = first;
+  store = no_pairs_on slots steps;
   journal = journal;
   done = 0;
   ended = false;
 }
 
--- what a session becomes where an action was performed
+-- where a session goes when an action was performed; what becomes of its states and levels is said by `Acts`
 pub record Performs (old : SessionState) (action : Action) (new : SessionState) : Type 0 where
   pub goes : Goes old.situation.steps old.situation.slots old.situation.at action new.situation.at
-  pub does : Does old.journal action old.work old.stored new.work new.stored
   pub steps : new.situation.steps ≡ old.situation.steps
   pub slots : new.situation.slots ≡ old.situation.slots
   pub journal : new.journal ≡ old.journal
   pub done : new.done ≡ min (old.done + 1) (2 ^ 64 - 1)
   pub lasts : new.ended ≡ false
 
--- The session's states are those of the run from `first` that its configuration names: the state in work, the one on
--- the tape, and a copy for each image that is held.
-pub record StandsAt (first : MachineState) (s : SessionState) : Type 0 where
-  pub work : s.work ≡ state_number first s.journal s.situation.at.work
-  pub tape : MatchOption s.situation.at.tape (Unit {0}) (λ n. s.stored.tape ≡ state_number first s.journal n)
-  pub copies : (k n : ℕ) → set.contains (held_on s.situation.at k) n ≡ true → finmap.get (level_of s.stored k) n ≡ Some (state_number first s.journal n)
+-- an action was refused: the session has ended where it stood
+pub record Ends (old new : SessionState) : Type 0 where
+  pub situation : new.situation ≡ old.situation
+  pub journal : new.journal ≡ old.journal
+  pub done : new.done ≡ old.done
+  pub over : new.ended ≡ true
+
+-- Over what its keepers tell, a session stands at its configuration of the run from `first`: its states are those of the
+-- run, and its levels stand for the images of the states that they hold.
+abbrev pub StandsAt : MachineState → SessionState → (ℕ → Option Images) → Type 0
+StandsAt first s told = HoldingsStandAt first s.journal s.situation.at (holdings_of s told)
+
+-- the pair that an action reads: the number of its state, and its level
+abbrev pub pair_read : Action → Option (ℕ × ℕ)
+pair_read (Copy n k to) = Some (n, k)
+pair_read (Move n k to) = Some (n, k)
+pair_read _ = None
+
+-- no state that a machine can be in, with the pages of this one, has these bytes as its image
+abbrev pub IsNoImage : MachineState → List ℕ → Type 0
+IsNoImage s bytes = (state : MachineState) → IsMachineState state → SamePages state s → image state ≢ bytes
+
+-- The bytes that were got of the pair that an action reads have another digest than those that were put, or the same one,
+-- and are no image.
+pub record IsDamage (action : Action) (s : Holdings) (k : ℕ) (put got : List ℕ) : Type 0 where
+  pub number : ℕ
+  pub pair : pair_read action ≡ Some (number, k)
+  pub kept : Kept
+  pub held : kept_at s.levels.store k number ≡ Some kept
+  pub bytes : List ℕ
+  pub told : IsGot kept (s.levels.told k) bytes
+  pub put_digest : put ≡ kept.digest
+  pub got_digest : got ≡ sha256 bytes
+  pub wrong : (got ≢ put) ⊎ IsNoImage s.work bytes

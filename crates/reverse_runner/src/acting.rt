@@ -1,70 +1,70 @@
-// What an action does to the states of a session.
-ghost use Rattle.std.specs.Prelude.{◌≡◌, ◌≢◌, ◌+◌, ◌-◌, ◌<◌, ◌≤◌, ℕ, List, length, Err, OnOk, OnErr, IsSome, IsTrue};
-ghost use Rattle.std.specs.FinMap as finmap;
-ghost use Rattle.level_book.specs.Rules.{rule};
+// What an action does to the states and the images of a session.
+ghost use Rattle.std.specs.Prelude.{◌≡◌, ◌≢◌, ◌+◌, ◌-◌, ◌<◌, ◌≤◌, ◌^◌, ℕ, List, map, slice_get, Err, OnOk, OnErr, IfErr, IsTrue, Contains};
+ghost use Rattle.level_book.specs.Rules.{rule, levels_named};
 ghost use Rattle.level_book.specs.CostFold.{steps_of};
-ghost use Rattle.rv_machine.specs.States.{state_number};
-ghost use Rattle.reverse_runner.specs.StoredStates.{SamePages, level_of};
-ghost use Rattle.reverse_runner.specs.SessionState.{HeldIsStored};
+ghost use Rattle.input_journal.specs.Form.{IsRecorded};
+ghost use Rattle.rv_machine.specs.MachineState.{MachineState, IsMachineState};
 ghost use Rattle.keepers.specs.Counts.{Rose};
-ghost use Rattle.reverse_runner.specs.Performed.{Does, Gets, Misses, keeps_copy, kept};
+ghost use Rattle.reverse_runner.specs.Acts.{Acts};
+ghost use Rattle.reverse_runner.specs.KeepersSeen.{told_by, calls_to, calls_of, Called, CalledAtMost};
+ghost use Rattle.reverse_runner.specs.LevelsStand.{HoldingsStandAt};
+ghost use Rattle.reverse_runner.specs.Performed.{Gets, Misses, calls_keepers};
+ghost use Rattle.reverse_runner.specs.Standing.{IsDamage};
+ghost use Rattle.reverse_runner.specs.Touching.{Remain, IsCaused, IsOfStorage};
+ghost use Rattle.reverse_runner.specs.Workspaces.{Fits, IsReady, holdings_in};
 
-use crate::stored::Stored;
+use crate::fault::RunFault;
 use crate::visitor::Visitor;
+use crate::workspace::Workspace;
 use input_journal::Journal;
+use keepers::Keeper;
 use plan_types::{Action, Dest, Keep};
-use rv_machine::{State, Steps, step};
+use rv_machine::{State, Steps};
 use schedule_rules::Config;
-use std::alloc::AllocError;
-use std::mem;
 use std::sync::ledger::Ledger;
 
-/// Why an action was not performed.
-#[derive(Clone, Copy, Debug, PartialEq, Eq)]
-pub(crate) enum ActFault {
-    Visitor,
-    Memory,
-}
-
-/// Does what an action does to the states, and hands out what it hands out. After a refusal the states are as before.
-pub(crate) fn act<V: Visitor, L: Ledger>(
-    work: &mut State,
-    stored: &mut Stored,
+/// Does what an action does, and hands out what it hands out.
+pub(crate) fn act<K: Keeper, V: Visitor, L: Ledger>(
+    space: &mut Workspace,
     config: &Config,
     journal: &Journal,
     action: &Action,
+    keepers: &mut Vec<K>,
     visitor: &mut V,
     steps: &mut Steps<L>,
-) -> Result<(), ActFault>
+) -> Result<(), RunFault>
+    requires ready { IsReady config.now.steps config.now.slots config.now.at space.old (map K.slot_count keepers.old.items) }
     requires allowed { rule config.now.steps config.now.slots config.now.at action.now ≡ 0 }
-    requires levels { length stored.old.levels ≡ length config.now.slots }
-    requires pages { SamePages stored.old.tape work.old }
-    requires held { HeldIsStored config.now.at stored.old }
-    ensures does { OnOk result (Does journal.now action.now work.old stored.old work.new stored.new) }
+    ensures acts { OnOk result (Acts journal.now action.now (holdings_in space.old (told_by K.told keepers.old.items)) (holdings_in space.new (told_by K.told keepers.new.items))) }
     ensures counted { OnOk result (steps.new ≡ steps.old + steps_of action.now) }
-    ensures gets { OnOk result (Gets V.got journal.now action.now config.now.at.work work.old stored.old visitor.old visitor.new) }
-    ensures misses { result ≡ Err ActFault.Visitor → Misses V.missed journal.now action.now config.now.at.work work.old stored.old visitor.old visitor.new }
-    ensures memory { result ≡ Err ActFault.Memory → visitor.new ≡ visitor.old }
-    ensures quiet { OnOk result (V.fault_count visitor.new ≡ V.fault_count visitor.old) }
-    ensures wants { result ≡ Err ActFault.Memory → IsTrue (keeps_copy action.now) }
-    ensures same { OnErr result ((work.new ≡ work.old) × (stored.new ≡ stored.old) × (steps.new ≡ steps.old)) }
-    ensures pages { SamePages stored.new.tape work.new }
-    ensures levels { length stored.new.levels ≡ length stored.old.levels }
-    ensures later { V.fault_count visitor.old ≤ V.fault_count visitor.new }
-    ensures cause { result ≡ Err ActFault.Visitor → Rose (V.fault_count visitor.old) (V.fault_count visitor.new) }
+    ensures uncounted { OnErr result (steps.new ≡ steps.old) }
+    ensures called { OnOk result (Called (calls_of action.now) (calls_to K.put_count K.get_count K.free_count keepers.old.items) (calls_to K.put_count K.get_count K.free_count keepers.new.items)) }
+    ensures at_most { CalledAtMost (calls_of action.now) (calls_to K.put_count K.get_count K.free_count keepers.old.items) (calls_to K.put_count K.get_count K.free_count keepers.new.items) }
+    ensures damaged { (k : ℕ) (put got : List ℕ) → result ≡ Err (RunFault.Damaged k put got) → IsDamage action.now (holdings_in space.old (told_by K.told keepers.old.items)) k put got }
+    ensures undamaged { (first : MachineState) (journal : List (List ℕ)) → IsMachineState first → IsRecorded journal → HoldingsStandAt first journal config.now.at (holdings_in space.old (told_by K.told keepers.old.items)) →
+        (k : ℕ) (put got : List ℕ) → result ≢ Err (RunFault.Damaged k put got) }
+    ensures remain { Remain K.slot_count K.fault_count keepers.old.items keepers.new.items }
+    ensures others { (k : ℕ) → (Contains (levels_named action.now) k → ⊥) → slice_get keepers.new.items k ≡ slice_get keepers.old.items k }
+    ensures caused { IsCaused K.fault_count keepers.old.items keepers.new.items result }
+    ensures named { (k : ℕ) → result ≡ Err (RunFault.Keeper k) → Contains (levels_named action.now) k }
+    ensures fits { Fits space.new }
+    ensures wants { result ≡ Err RunFault.Memory → IsTrue (calls_keepers action.now) }
+    ensures lasting { result ≢ Err RunFault.Ended }
+    ensures gets { OnOk result (Gets V.got journal.now action.now config.now.at.work space.old.work space.old.tape visitor.old visitor.new) }
+    ensures misses { result ≡ Err RunFault.Visitor → Misses V.missed journal.now action.now config.now.at.work space.old.work space.old.tape visitor.old visitor.new }
+    ensures unseen { OnErr result (result ≢ Err RunFault.Visitor → visitor.new ≡ visitor.old) }
+    ensures visitor_quiet { result ≢ Err RunFault.Visitor → V.fault_count visitor.new ≡ V.fault_count visitor.old }
+    ensures visitor_later { V.fault_count visitor.old ≤ V.fault_count visitor.new }
+    ensures visitor_cause { result ≡ Err RunFault.Visitor → Rose (V.fault_count visitor.old) (V.fault_count visitor.new) }
 {
     match *action {
         Action::Forward { from, to, keep } => {
-            forward(work, stored, journal, from, to, keep, steps).map_err(|_| ActFault::Memory)
+            forward(space, config, journal, from, to, keep, keepers, steps)
         }
-        Action::Reverse { to, .. } => hand_out(visitor, to, stored.tape(), journal),
-        Action::Copy { n, from, dest } => {
-            copy(work, stored, n, from, dest).map_err(|_| ActFault::Memory)
-        }
-        Action::Move { n, from, dest } => {
-            move_(work, stored, n, from, dest).map_err(|_| ActFault::Memory)
-        }
-        Action::EndForward => hand_out(visitor, config.work(), work, journal),
+        Action::Reverse { to, .. } => hand_out(visitor, to, &space.tape, journal),
+        Action::Copy { n, from, dest } => copy(space, config, keepers, n, from, dest),
+        Action::Move { n, from, dest } => move_(space, config, keepers, n, from, dest),
+        Action::EndForward => hand_out(visitor, config.work(), &space.work, journal),
         Action::EndReverse => Ok(()),
     }
 }
@@ -75,118 +75,116 @@ fn hand_out<V: Visitor>(
     n: u32,
     state: &State,
     journal: &Journal,
-) -> Result<(), ActFault>
+) -> Result<(), RunFault>
     ensures got { OnOk result (V.got visitor.old n state.now journal.now visitor.new) }
     ensures missed { OnErr result (V.missed visitor.old n state.now journal.now visitor.new) }
-    ensures fault { OnErr result (result ≡ Err ActFault.Visitor) }
+    ensures fault { OnErr result (result ≡ Err RunFault.Visitor) }
     ensures quiet { OnOk result (V.fault_count visitor.new ≡ V.fault_count visitor.old) }
     ensures later { V.fault_count visitor.old ≤ V.fault_count visitor.new }
     ensures cause { OnErr result (Rose (V.fault_count visitor.old) (V.fault_count visitor.new)) }
 {
     match visitor.state(n, state, journal) {
         Ok(()) => Ok(()),
-        Err(_) => Err(ActFault::Visitor),
-    }
-}
-
-// Takes so many steps.
-fn advance<L: Ledger>(work: &mut State, journal: &Journal, count: u32, steps: &mut Steps<L>)
-    ensures steps { work.new ≡ state_number work.old journal.now count }
-    ensures counted { steps.new ≡ steps.old + count }
-    ensures pages { SamePages work.old work.new }
-{
-    for _ in 0..count {
-        step(work, journal, steps);
+        Err(_) => Err(RunFault::Visitor),
     }
 }
 
 // Keeps what a Forward keeps, and takes its steps.
-fn forward<L: Ledger>(
-    work: &mut State,
-    stored: &mut Stored,
+fn forward<K: Keeper, L: Ledger>(
+    space: &mut Workspace,
+    config: &Config,
     journal: &Journal,
     from: u32,
     to: u32,
     keep: Keep,
+    keepers: &mut Vec<K>,
     steps: &mut Steps<L>,
-) -> Result<(), AllocError>
-    requires ahead { from ≤ to }
-    requires level { (k : ℕ) → keep ≡ Keep.Store k → k < length stored.old.levels }
-    requires pages { SamePages stored.old.tape work.old }
-    ensures work { OnOk result (work.new ≡ state_number work.old journal.now (to - from)) }
-    ensures stored { OnOk result (stored.new ≡ kept keep from work.old stored.old) }
+) -> Result<(), RunFault>
+    requires ready { IsReady config.now.steps config.now.slots config.now.at space.old (map K.slot_count keepers.old.items) }
+    requires allowed { rule config.now.steps config.now.slots config.now.at (Action.Forward from to keep) ≡ 0 }
+    ensures acts { OnOk result (Acts journal.now (Action.Forward from to keep) (holdings_in space.old (told_by K.told keepers.old.items)) (holdings_in space.new (told_by K.told keepers.new.items))) }
     ensures counted { OnOk result (steps.new ≡ steps.old + (to - from)) }
-    ensures wants { OnErr result (IsTrue (keeps_copy (Action.Forward from to keep))) }
-    ensures same { OnErr result ((work.new ≡ work.old) × (stored.new ≡ stored.old) × (steps.new ≡ steps.old)) }
-    ensures pages { SamePages stored.new.tape work.new }
-    ensures levels { length stored.new.levels ≡ length stored.old.levels }
+    ensures uncounted { OnErr result (steps.new ≡ steps.old) }
+    ensures stores { OnErr result (IsTrue (calls_keepers (Action.Forward from to keep))) }
+    ensures fault { IfErr result IsOfStorage }
+    ensures called { OnOk result (Called (calls_of (Action.Forward from to keep)) (calls_to K.put_count K.get_count K.free_count keepers.old.items) (calls_to K.put_count K.get_count K.free_count keepers.new.items)) }
+    ensures at_most { CalledAtMost (calls_of (Action.Forward from to keep)) (calls_to K.put_count K.get_count K.free_count keepers.old.items) (calls_to K.put_count K.get_count K.free_count keepers.new.items) }
+    ensures damaged { (k : ℕ) (put got : List ℕ) → result ≡ Err (RunFault.Damaged k put got) → IsDamage (Action.Forward from to keep) (holdings_in space.old (told_by K.told keepers.old.items)) k put got }
+    ensures undamaged { (first : MachineState) (journal : List (List ℕ)) → IsMachineState first → IsRecorded journal → HoldingsStandAt first journal config.now.at (holdings_in space.old (told_by K.told keepers.old.items)) →
+        (k : ℕ) (put got : List ℕ) → result ≢ Err (RunFault.Damaged k put got) }
+    ensures remain { Remain K.slot_count K.fault_count keepers.old.items keepers.new.items }
+    ensures others { (k : ℕ) → (Contains (levels_named (Action.Forward from to keep)) k → ⊥) → slice_get keepers.new.items k ≡ slice_get keepers.old.items k }
+    ensures caused { IsCaused K.fault_count keepers.old.items keepers.new.items result }
+    ensures named { (k : ℕ) → result ≡ Err (RunFault.Keeper k) → Contains (levels_named (Action.Forward from to keep)) k }
+    ensures fits { Fits space.new }
 {
     match keep {
         Keep::Nothing => {}
-        Keep::Store(level) => stored.keep(level, from, work)?,
-        Keep::Tape => stored.put_on_tape(work),
+        Keep::Store(level) => {
+            space.encode();
+            space.keep(keepers, level, from)?;
+        }
+        Keep::Tape => space.put_on_tape(),
     }
-    advance(work, journal, to - from, steps);
+    space.advance(journal, to - from, steps);
     Ok(())
 }
 
-// Copies a stored state into the work state or to another level.
-fn copy(
-    work: &mut State,
-    stored: &mut Stored,
+// Copies a stored image into the work state or to another level.
+fn copy<K: Keeper>(
+    space: &mut Workspace,
+    config: &Config,
+    keepers: &mut Vec<K>,
     n: u32,
     from: u8,
     dest: Dest,
-) -> Result<(), AllocError>
-    requires from { from < length stored.old.levels }
-    requires to { (k : ℕ) → dest ≡ Dest.Level k → k < length stored.old.levels }
-    requires there { IsSome (finmap.get (level_of stored.old from) n) }
-    requires pages { SamePages stored.old.tape work.old }
-    ensures does { (journal : List (List ℕ)) → OnOk result (Does journal (Action.Copy n from dest) work.old stored.old work.new stored.new) }
-    ensures wants { OnErr result (IsTrue (keeps_copy (Action.Copy n from dest))) }
-    ensures same { OnErr result ((work.new ≡ work.old) × (stored.new ≡ stored.old)) }
-    ensures pages { SamePages stored.new.tape work.new }
-    ensures levels { length stored.new.levels ≡ length stored.old.levels }
+) -> Result<(), RunFault>
+    requires ready { IsReady config.now.steps config.now.slots config.now.at space.old (map K.slot_count keepers.old.items) }
+    requires allowed { rule config.now.steps config.now.slots config.now.at (Action.Copy n from dest) ≡ 0 }
+    ensures acts { (journal : List (List ℕ)) → OnOk result (Acts journal (Action.Copy n from dest) (holdings_in space.old (told_by K.told keepers.old.items)) (holdings_in space.new (told_by K.told keepers.new.items))) }
+    ensures fault { IfErr result IsOfStorage }
+    ensures called { OnOk result (Called (calls_of (Action.Copy n from dest)) (calls_to K.put_count K.get_count K.free_count keepers.old.items) (calls_to K.put_count K.get_count K.free_count keepers.new.items)) }
+    ensures at_most { CalledAtMost (calls_of (Action.Copy n from dest)) (calls_to K.put_count K.get_count K.free_count keepers.old.items) (calls_to K.put_count K.get_count K.free_count keepers.new.items) }
+    ensures damaged { (k : ℕ) (put got : List ℕ) → result ≡ Err (RunFault.Damaged k put got) → IsDamage (Action.Copy n from dest) (holdings_in space.old (told_by K.told keepers.old.items)) k put got }
+    ensures undamaged { (first : MachineState) (journal : List (List ℕ)) → IsMachineState first → IsRecorded journal → HoldingsStandAt first journal config.now.at (holdings_in space.old (told_by K.told keepers.old.items)) →
+        (k : ℕ) (put got : List ℕ) → result ≢ Err (RunFault.Damaged k put got) }
+    ensures remain { Remain K.slot_count K.fault_count keepers.old.items keepers.new.items }
+    ensures others { (k : ℕ) → (Contains (levels_named (Action.Copy n from dest)) k → ⊥) → slice_get keepers.new.items k ≡ slice_get keepers.old.items k }
+    ensures caused { IsCaused K.fault_count keepers.old.items keepers.new.items result }
+    ensures named { (k : ℕ) → result ≡ Err (RunFault.Keeper k) → Contains (levels_named (Action.Copy n from dest)) k }
+    ensures fits { Fits space.new }
 {
+    space.fetch(keepers, from, n)?;
     match dest {
-        Dest::Work => {
-            work.copy_from(stored.copied(from, n).unwrap());
-            Ok(())
-        }
-        Dest::Level(to) => stored.copy_to(from, n, to),
+        Dest::Work => space.decode(from),
+        Dest::Level(to) => space.keep(keepers, to, n),
     }
 }
 
-// Moves a stored state into the work state or to another level.
-fn move_(
-    work: &mut State,
-    stored: &mut Stored,
+// Does the same, and then releases the image where it came from.
+fn move_<K: Keeper>(
+    space: &mut Workspace,
+    config: &Config,
+    keepers: &mut Vec<K>,
     n: u32,
     from: u8,
     dest: Dest,
-) -> Result<(), AllocError>
-    requires from { from < length stored.old.levels }
-    requires to { (k : ℕ) → dest ≡ Dest.Level k → (k < length stored.old.levels) × (k ≢ from) }
-    requires there { IsSome (finmap.get (level_of stored.old from) n) }
-    requires pages { SamePages stored.old.tape work.old }
-    ensures does { (journal : List (List ℕ)) → OnOk result (Does journal (Action.Move n from dest) work.old stored.old work.new stored.new) }
-    ensures wants { OnErr result (IsTrue (keeps_copy (Action.Move n from dest))) }
-    ensures same { OnErr result ((work.new ≡ work.old) × (stored.new ≡ stored.old)) }
-    ensures pages { SamePages stored.new.tape work.new }
-    ensures levels { length stored.new.levels ≡ length stored.old.levels }
+) -> Result<(), RunFault>
+    requires ready { IsReady config.now.steps config.now.slots config.now.at space.old (map K.slot_count keepers.old.items) }
+    requires allowed { rule config.now.steps config.now.slots config.now.at (Action.Move n from dest) ≡ 0 }
+    ensures acts { (journal : List (List ℕ)) → OnOk result (Acts journal (Action.Move n from dest) (holdings_in space.old (told_by K.told keepers.old.items)) (holdings_in space.new (told_by K.told keepers.new.items))) }
+    ensures fault { IfErr result IsOfStorage }
+    ensures called { OnOk result (Called (calls_of (Action.Move n from dest)) (calls_to K.put_count K.get_count K.free_count keepers.old.items) (calls_to K.put_count K.get_count K.free_count keepers.new.items)) }
+    ensures at_most { CalledAtMost (calls_of (Action.Move n from dest)) (calls_to K.put_count K.get_count K.free_count keepers.old.items) (calls_to K.put_count K.get_count K.free_count keepers.new.items) }
+    ensures damaged { (k : ℕ) (put got : List ℕ) → result ≡ Err (RunFault.Damaged k put got) → IsDamage (Action.Move n from dest) (holdings_in space.old (told_by K.told keepers.old.items)) k put got }
+    ensures undamaged { (first : MachineState) (journal : List (List ℕ)) → IsMachineState first → IsRecorded journal → HoldingsStandAt first journal config.now.at (holdings_in space.old (told_by K.told keepers.old.items)) →
+        (k : ℕ) (put got : List ℕ) → result ≢ Err (RunFault.Damaged k put got) }
+    ensures remain { Remain K.slot_count K.fault_count keepers.old.items keepers.new.items }
+    ensures others { (k : ℕ) → (Contains (levels_named (Action.Move n from dest)) k → ⊥) → slice_get keepers.new.items k ≡ slice_get keepers.old.items k }
+    ensures caused { IsCaused K.fault_count keepers.old.items keepers.new.items result }
+    ensures named { (k : ℕ) → result ≡ Err (RunFault.Keeper k) → Contains (levels_named (Action.Move n from dest)) k }
+    ensures fits { Fits space.new }
 {
-    match dest {
-        Dest::Work => {
-            let state = stored.take(from, n);
-            let old = mem::replace(work, state);
-            stored.recycle(old);
-            Ok(())
-        }
-        Dest::Level(to) => {
-            stored.copy_to(from, n, to)?;
-            let state = stored.take(from, n);
-            stored.recycle(state);
-            Ok(())
-        }
-    }
+    copy(space, config, keepers, n, from, dest)?;
+    space.release(keepers, from, n)
 }

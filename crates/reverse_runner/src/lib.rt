@@ -1,18 +1,20 @@
-//! The runner: a session that performs the actions of a schedule over a machine, and hands out its states. It stands on
-//! the validator, the machine and the images; the top call stands on it. `specs/Handed.antt` says which states a list
-//! hands out, `specs/Standing.antt` at which configuration of a run a session stands. It knows nothing of text, and so
-//! far it keeps copies of states by itself: the keepers that it is given aren't called.
+//! The runner: a session that performs the actions of a schedule over a machine, keeps the images of its states in
+//! storage, and hands out its states. It stands on the validator, the machine, the images and the store; the top call
+//! stands on it. `specs/Handed.antt` says which states a list hands out, `specs/Acts.antt` what an action does by the bytes
+//! that were fetched, `specs/Standing.antt` at which configuration of a run a session stands. It knows nothing of text.
 #![tactic(auto)]
 
 mod acting;
+mod fault;
 pub mod laws;
 mod line_writer;
 mod session;
-mod stored;
 #[cfg(test)]
 mod tests;
 mod visitor;
+mod workspace;
 
+pub use crate::fault::RunFault;
 pub use crate::line_writer::LineWriter;
-pub use crate::session::{RunFault, Session};
+pub use crate::session::Session;
 pub use crate::visitor::{VisitFault, Visitor};

@@ -1,17 +1,23 @@
 // A session: a run that is gone through by the actions of a schedule.
-ghost use Rattle.std.specs.Prelude.{◌≡◌, ◌+◌, ◌^◌, ◌<◌, ◌≤◌, ◌↔◌, true, false, Err, IfOk, OnOk, OnErr, IsErrOf, IsTrue};
+ghost use Rattle.std.specs.Prelude.{◌≡◌, ◌≢◌, ◌+◌, ◌<◌, ◌≤◌, ◌↔◌, ℕ, List, true, false, length, map, slice_get, Option, Some, Err, IfOk, OnOk, OnErr, IsErrOf, IsSome, IsTrue, Contains};
+ghost use Rattle.std.specs.FinMap as finmap;
 ghost use Rattle.level_book.specs.BookCosts.{slots_of};
-ghost use Rattle.level_book.specs.Configuration.{start};
-ghost use Rattle.level_book.specs.Rules.{rule};
+ghost use Rattle.level_book.specs.Rules.{rule, levels_named};
 ghost use Rattle.level_book.specs.CostFold.{steps_of};
 ghost use Rattle.keepers.specs.Counts.{Rose};
-ghost use Rattle.rv_machine.specs.MachineState.{MachineState};
-ghost use Rattle.reverse_runner.specs.Performed.{Gets, Misses, keeps_copy};
-ghost use Rattle.reverse_runner.specs.Standing.{begun, Performs, StandsAt};
+ghost use Rattle.keepers.specs.Told.{Images};
+ghost use Rattle.rv_machine.specs.MachineState.{MachineState, IsMachineState};
+ghost use Rattle.reverse_runner.specs.Acts.{Acts};
+ghost use Rattle.reverse_runner.specs.KeepersSeen.{by_number, told_by, calls_to, calls_of, HaveRoom, Called, CalledAtMost};
+ghost use Rattle.reverse_runner.specs.LevelsStand.{AreAlone};
+ghost use Rattle.reverse_runner.specs.Performed.{Gets, Misses, calls_keepers};
+ghost use Rattle.reverse_runner.specs.SessionState.{levels_of, holdings_of};
+ghost use Rattle.reverse_runner.specs.Standing.{begun, Performs, Ends, StandsAt, IsDamage};
 
-use crate::acting::{ActFault, act};
-use crate::stored::Stored;
+use crate::acting::act;
+use crate::fault::RunFault;
 use crate::visitor::Visitor;
+use crate::workspace::Workspace;
 use input_journal::Journal;
 use keepers::Keeper;
 use level_book::Book;
@@ -21,28 +27,12 @@ use schedule_rules::Config;
 use std::alloc::{AllocError, Global};
 use std::marker::Model;
 use std::sync::ledger::Ledger;
-use thiserror::Error;
-
-/// Why an action was not performed. The session has ended then.
-#[derive(Clone, Copy, Debug, PartialEq, Eq, Error)]
-pub enum RunFault {
-    /// The visitor failed.
-    #[error("the visitor failed")]
-    Visitor,
-    /// There was no memory.
-    #[error("out of memory")]
-    Memory,
-    /// An earlier action was refused, and nothing was done.
-    #[error("the session has ended")]
-    Ended,
-}
 
 /// A run of the machine that is gone through by the actions of a schedule.
 #[derive(Drop)]
 pub struct Session {
     config: Config,
-    work: State,
-    stored: Stored,
+    space: Workspace,
     journal: Journal,
     done: u64,
     ended: bool,
@@ -63,7 +53,8 @@ impl Model for Session {
 }
 
 impl Session {
-    /// A session at its start, over the run from a state with recorded input, for a number of steps and a book.
+    /// A session at its start, over the run from a state with recorded input, for a number of steps and a book. It takes
+    /// all the memory that the session ever needs, but for what keepers ask for.
     pub fn begin(
         alloc: Global,
         start: State,
@@ -73,14 +64,15 @@ impl Session {
     ) -> Result<Session, AllocError>
         requires { steps ≤ 1000000 }
         ensures begun { IfOk result (λ session. session ≡ begun start journal steps (slots_of book)) }
-        ensures stands { IfOk result (λ session. StandsAt start session) }
+        // It stands at its start over all keepers that tell, and no keeper has another image where they are empty.
+        ensures stands { IfOk result (λ session. (told : ℕ → Option Images) → ((k : ℕ) → k < length (slots_of book) → IsSome (told k)) → StandsAt start session told) }
+        ensures alone { IfOk result (λ session. (told : ℕ → Option Images) → ((k : ℕ) → k < length (slots_of book) → told k ≡ Some finmap.empty) → AreAlone (levels_of session told)) }
     {
         let config = Config::new(alloc, steps, &book)?;
-        let stored = Stored::new(alloc, book.levels(), start.clone()?)?;
+        let space = Workspace::begin(alloc, start, &book, steps)?;
         Ok(Session {
             config,
-            work: start,
-            stored,
+            space,
             journal,
             done: 0,
             ended: false,
@@ -101,7 +93,8 @@ impl Session {
         self.done
     }
 
-    /// Performs an action that may be done. So far the keepers aren't called.
+    /// Performs an action that may be done, over keepers with room for its images: one for each level of the book, in
+    /// their order.
     pub fn perform<K: Keeper, V: Visitor, L: Ledger>(
         &mut self,
         action: &Action,
@@ -109,56 +102,67 @@ impl Session {
         visitor: &mut V,
         steps: &mut Steps<L>,
     ) -> Result<(), RunFault>
-        requires { self.old.ended ≡ false → rule self.old.situation.steps self.old.situation.slots self.old.situation.at action.now ≡ 0 }
+        requires allowed { self.old.ended ≡ false → rule self.old.situation.steps self.old.situation.slots self.old.situation.at action.now ≡ 0 }
+        requires room { self.old.ended ≡ false → HaveRoom self.old.situation.steps self.old.situation.slots (map K.slot_count keepers.old.items) }
+
+        // A session that has ended does nothing.
         ensures ended { IsErrOf result RunFault.Ended ↔ (self.old.ended ≡ true) }
-        ensures inert { result ≡ Err RunFault.Ended → (self.new ≡ self.old) × (visitor.new ≡ visitor.old) × (steps.new ≡ steps.old) }
+        ensures inert { result ≡ Err RunFault.Ended → (self.new ≡ self.old) × (keepers.new ≡ keepers.old) × (visitor.new ≡ visitor.old) × (steps.new ≡ steps.old) }
+
+        // What was done: where the session goes, and what becomes of its states and levels, by the bytes that were fetched.
         ensures performs { OnOk result (Performs self.old action.now self.new) }
-        ensures stands { OnOk result ((first : MachineState) → StandsAt first self.old → StandsAt first self.new) }
+        ensures acts { OnOk result (Acts self.old.journal action.now (holdings_of self.old (told_by K.told keepers.old.items)) (holdings_of self.new (told_by K.told keepers.new.items))) }
         ensures counted { OnOk result (steps.new ≡ steps.old + steps_of action.now) }
-        ensures gets { OnOk result (Gets V.got self.old.journal action.now self.old.situation.at.work self.old.work self.old.stored visitor.old visitor.new) }
-        ensures refused { OnErr result ((self.new ≡ record self.old { ended = true }) × (steps.new ≡ steps.old)) }
-        ensures misses { result ≡ Err RunFault.Visitor → Misses V.missed self.old.journal action.now self.old.situation.at.work self.old.work self.old.stored visitor.old visitor.new }
-        ensures memory { result ≡ Err RunFault.Memory → visitor.new ≡ visitor.old }
-        ensures quiet { OnOk result (V.fault_count visitor.new ≡ V.fault_count visitor.old) }
-        ensures wants { result ≡ Err RunFault.Memory → IsTrue (keeps_copy action.now) }
-        ensures kept { keepers.new ≡ keepers.old }
-        ensures later { V.fault_count visitor.old ≤ V.fault_count visitor.new }
+        ensures called { OnOk result (Called (calls_of action.now) (calls_to K.put_count K.get_count K.free_count keepers.old.items) (calls_to K.put_count K.get_count K.free_count keepers.new.items)) }
+        ensures gets { OnOk result (Gets V.got self.old.journal action.now self.old.situation.at.work self.old.work self.old.tape visitor.old visitor.new) }
+
+        // Where the session stood before, it stands where it went.
+        ensures stands { (first : MachineState) → IsMachineState first → StandsAt first self.old (told_by K.told keepers.old.items) → OnOk result (StandsAt first self.new (told_by K.told keepers.new.items)) }
+        ensures alone { AreAlone (levels_of self.old (told_by K.told keepers.old.items)) → OnOk result (AreAlone (levels_of self.new (told_by K.told keepers.new.items))) }
+
+        // A refusal ends the session.
+        ensures refused { OnErr result (Ends self.old self.new) }
+        ensures uncounted { OnErr result (steps.new ≡ steps.old) }
+        ensures called_at_most { OnErr result (CalledAtMost (calls_of action.now) (calls_to K.put_count K.get_count K.free_count keepers.old.items) (calls_to K.put_count K.get_count K.free_count keepers.new.items)) }
+        ensures misses { result ≡ Err RunFault.Visitor → Misses V.missed self.old.journal action.now self.old.situation.at.work self.old.work self.old.tape visitor.old visitor.new }
+        ensures unseen { OnErr result (result ≢ Err RunFault.Visitor → visitor.new ≡ visitor.old) }
+
+        // The cause of each refusal.
+        ensures keeper_cause { (k : ℕ) → result ≡ Err (RunFault.Keeper k) → Contains (levels_named action.now) k × Rose (by_number 0 K.fault_count keepers.old.items k) (by_number 0 K.fault_count keepers.new.items k) }
+        ensures keepers_quiet { ((k : ℕ) → result ≢ Err (RunFault.Keeper k)) → (j : ℕ) → by_number 0 K.fault_count keepers.new.items j ≡ by_number 0 K.fault_count keepers.old.items j }
+        ensures keepers_later { (k : ℕ) → by_number 0 K.fault_count keepers.old.items k ≤ by_number 0 K.fault_count keepers.new.items k }
+        ensures damaged { (k : ℕ) (put got : List ℕ) → result ≡ Err (RunFault.Damaged k put got) → IsDamage action.now (holdings_of self.old (told_by K.told keepers.old.items)) k put got }
+        ensures undamaged { (first : MachineState) → IsMachineState first → StandsAt first self.old (told_by K.told keepers.old.items) → (k : ℕ) (put got : List ℕ) → result ≢ Err (RunFault.Damaged k put got) }
         ensures cause { result ≡ Err RunFault.Visitor → Rose (V.fault_count visitor.old) (V.fault_count visitor.new) }
+        ensures quiet { result ≢ Err RunFault.Visitor → V.fault_count visitor.new ≡ V.fault_count visitor.old }
+        ensures later { V.fault_count visitor.old ≤ V.fault_count visitor.new }
+        ensures wants { result ≡ Err RunFault.Memory → IsTrue (calls_keepers action.now) }
+
+        // The keepers have the slots that they had, and those of levels that the action doesn't name are as they were.
+        ensures slots { map K.slot_count keepers.new.items ≡ map K.slot_count keepers.old.items }
+        ensures others { (k : ℕ) → (Contains (levels_named action.now) k → ⊥) → slice_get keepers.new.items k ≡ slice_get keepers.old.items k }
     {
-        let _keepers = keepers;
         if self.ended {
             return Err(RunFault::Ended);
         }
-        match act(
-            &mut self.work,
-            &mut self.stored,
+        self.config.is_sound();
+        self.journal.is_recorded();
+        let outcome = act(
+            &mut self.space,
             &self.config,
             &self.journal,
             action,
+            keepers,
             visitor,
             steps,
-        ) {
+        );
+        match outcome {
             Ok(()) => {
                 self.config.take(action);
                 self.done = self.done.saturating_add(1);
-                Ok(())
             }
-            Err(fault) => {
-                self.ended = true;
-                Err(run_fault(fault))
-            }
+            Err(_) => self.ended = true,
         }
-    }
-}
-
-// The fault of a session for one of an action.
-fn run_fault(fault: ActFault) -> RunFault
-    ensures visitor { (result ≡ RunFault.Visitor) ↔ (fault ≡ ActFault.Visitor) }
-    ensures memory { (result ≡ RunFault.Memory) ↔ (fault ≡ ActFault.Memory) }
-    ensures lasting { result ≡ RunFault.Ended → ⊥ }
-{
-    match fault {
-        ActFault::Visitor => RunFault::Visitor,
-        ActFault::Memory => RunFault::Memory,
+        outcome
     }
 }

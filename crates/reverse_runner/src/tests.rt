@@ -1,15 +1,19 @@
-// A list performed over four words, by a writer whose sink works and by one whose sink fails.
-ghost use Rattle.std.specs.Prelude.{◌≡◌, ◌<◌};
+// Lists performed over four words, by keepers and writers that work and by some that fail.
+ghost use Rattle.std.specs.Prelude.{◌≡◌, ◌<◌, ◌≤◌, map};
+ghost use Rattle.std.specs.Bool.{OnTrue};
+ghost use Rattle.level_book.specs.BookCosts.{slots_of};
+ghost use Rattle.reverse_runner.specs.KeepersSeen.{HaveRoom};
 
-use crate::{LineWriter, RunFault, Session};
+use crate::{LineWriter, RunFault, Session, Visitor};
 use input_journal::Journal;
-use keepers::{MemoryKeeper, MemorySink};
-use level_book::Book;
+use keepers::{FlipKeeper, Keeper, MemoryKeeper, MemorySink, Op};
+use level_book::{Book, read_book};
 use plan_types::{Action, Dest, Keep};
 use rv_machine::{State, Status, Steps};
 use rv_pages::Pages;
 use std::alloc::{AllocError, Global};
 use std::marker::Brand;
+use std::process::Abort;
 use std::sync::ledger::{Blank, Ledger};
 use std::test::Fail;
 
@@ -40,6 +44,7 @@ fn start(alloc: Global) -> Result<State, AllocError> {
     })
 }
 
+// It reverses four steps over one level with two slots.
 const LIST: [Action; 16] = [
     Action::Forward {
         from: 0,
@@ -99,6 +104,58 @@ const LIST: [Action; 16] = [
     Action::EndReverse,
 ];
 
+// Two levels with a slot each.
+const TWO_LEVELS: &[u8] =
+    br#"{"forward":1,"reverse":1,"levels":[{"name":"RAM","slots":1,"write":0,"read":0},{"name":"DISK","slots":1,"write":1,"read":1}]}"#;
+
+// It reverses two steps over them. The image of state 0 is copied to level 1, moved back to level 0, and loaded from there.
+const TRAVELS: [Action; 12] = [
+    Action::Forward {
+        from: 0,
+        to: 1,
+        keep: Keep::Store(0),
+    },
+    Action::Copy {
+        n: 0,
+        from: 0,
+        dest: Dest::Level(1),
+    },
+    Action::Forward {
+        from: 1,
+        to: 2,
+        keep: Keep::Tape,
+    },
+    Action::EndForward,
+    Action::Reverse { from: 2, to: 1 },
+    Action::Move {
+        n: 0,
+        from: 0,
+        dest: Dest::Work,
+    },
+    Action::Forward {
+        from: 0,
+        to: 1,
+        keep: Keep::Nothing,
+    },
+    Action::Move {
+        n: 0,
+        from: 1,
+        dest: Dest::Level(0),
+    },
+    Action::Move {
+        n: 0,
+        from: 0,
+        dest: Dest::Work,
+    },
+    Action::Forward {
+        from: 0,
+        to: 1,
+        keep: Keep::Tape,
+    },
+    Action::Reverse { from: 1, to: 0 },
+    Action::EndReverse,
+];
+
 // What a session showed: how many actions it performed, and how it refused others, in their order.
 #[derive(Drop)]
 struct Seen {
@@ -106,43 +163,127 @@ struct Seen {
     faults: Vec<RunFault>,
 }
 
-// Performs each action of the list that breaks no rule when its turn comes.
-fn performed<L: Ledger>(
+// Whether there is a keeper for each level of a book, with as many slots as a run of so many steps can use there.
+fn have_room<K: Keeper>(keepers: &[K], book: &Book, steps: u32) -> bool
+    ensures { OnTrue result (HaveRoom steps (slots_of book.now) (map K.slot_count keepers.now)) }
+{
+    for k in 0..book.levels() {
+        match keepers.get(k as usize) {
+            Some(keeper) if book.room(k, steps) <= keeper.slots() => {}
+            _ => return false,
+        }
+    }
+    true
+}
+
+// Performs each action of a list that breaks no rule when its turn comes, and says how others were refused.
+fn go_through<K: Keeper, V: Visitor, L: Ledger>(
     alloc: Global,
+    session: &mut Session,
+    list: &[Action],
+    keepers: &mut Vec<K>,
+    visitor: &mut V,
+    steps: &mut Steps<L>,
+) -> Result<Vec<RunFault>, AllocError>
+    requires { HaveRoom session.old.situation.steps session.old.situation.slots (map K.slot_count keepers.old.items) }
+{
+    let mut faults = Vec::new(alloc);
+    for action in list {
+        if let Ok(()) = session.config().judge(action) {
+            if let Err(fault) = session.perform(action, keepers, visitor, steps) {
+                faults.push(fault)?;
+            }
+        }
+    }
+    Ok(faults)
+}
+
+// A session over the four words goes through a list for so many steps.
+fn performed<K: Keeper, L: Ledger>(
+    rt: &impl Abort,
+    alloc: Global,
+    list: &[Action],
+    count: u32,
+    book: Book,
+    keepers: &mut Vec<K>,
     out: &mut MemorySink,
     blank: Blank,
 ) -> Result<Seen, AllocError>
+    requires count { count ≤ 1000000 }
     requires name { blank.name ≡ L.name }
     requires parts { blank.parts ≡ L.parts }
     requires some { 0 < blank.parts }
 {
-    let mut keepers: Vec<MemoryKeeper> = Vec::new(alloc);
+    assert!(rt;
+        have_room(keepers.as_slice(), &book, count),
+        "each level has a keeper"
+    );
     let mut steps = Steps::<L>::new(blank);
-    let mut faults = Vec::new(alloc);
     let mut writer = LineWriter::new(out);
-    let mut session = Session::begin(
-        alloc,
-        start(alloc)?,
-        Journal::none(alloc),
-        4,
-        Book::plain(2),
-    )?;
-    for action in LIST.iter() {
-        if let Ok(()) = session.config().judge(action) {
-            match session.perform(action, &mut keepers, &mut writer, &mut steps) {
-                Ok(()) => {}
-                Err(fault) => faults.push(fault)?,
-            }
-        }
-    }
+    let mut session = Session::begin(alloc, start(alloc)?, Journal::none(alloc), count, book)?;
+    let faults = go_through(alloc, &mut session, list, keepers, &mut writer, &mut steps)?;
     Ok(Seen {
         done: session.done(),
         faults,
     })
 }
 
-fn shown(alloc: Global, out: &mut MemorySink) -> Result<Seen, AllocError> {
-    performed::<Brand>(alloc, out, Blank::new(1))
+// Goes through a list for four steps over one level with two slots.
+fn four_steps<K: Keeper>(
+    rt: &impl Abort,
+    alloc: Global,
+    list: &[Action],
+    keepers: &mut Vec<K>,
+    out: &mut MemorySink,
+) -> Result<Seen, AllocError> {
+    performed::<K, Brand>(
+        rt,
+        alloc,
+        list,
+        4,
+        Book::plain(2),
+        keepers,
+        out,
+        Blank::new(1),
+    )
+}
+
+// How often a keeper was called, by put, get and free, and how many slots hold an image.
+fn calls(keeper: &MemoryKeeper) -> (u64, u64, u64, u32) {
+    (
+        keeper.puts(),
+        keeper.gets(),
+        keeper.frees(),
+        keeper.filled(),
+    )
+}
+
+// Goes through a list over a keeper with one call that fails: the action is refused, and what follows it too. It says how
+// many actions were performed, and how often the keeper was called.
+fn refused(
+    rt: &impl Abort,
+    alloc: Global,
+    list: &[Action],
+    op: Op,
+    call: u64,
+) -> Result<(u64, Option<(u64, u64, u64, u32)>), AllocError> {
+    let failing = vec![in alloc; (op, call)]?;
+    let mut keepers = vec![in alloc; MemoryKeeper::new(alloc, 2).failing(failing)]?;
+    let mut out = MemorySink::new(alloc, 4096)?;
+    let seen = four_steps(rt, alloc, list, &mut keepers, &mut out)?;
+    assert_eq!(rt;
+        seen.faults.as_slice(),
+        [RunFault::Keeper(0), RunFault::Ended].as_slice()
+    );
+    Ok((seen.done, keepers.first().map(calls)))
+}
+
+// Whether an image of level 0 came back with other bytes.
+fn is_damage(fault: &RunFault) -> bool {
+    match fault {
+        RunFault::Damaged { level, put, got } => *level == 0 && put != got,
+        _ => false,
+    }
 }
 
 // How many line ends there are.
@@ -158,22 +299,25 @@ fn line_ends(bytes: &[u8]) -> usize {
 
 #[test]
 fn a_list_is_performed_to_its_end(rt: HostRuntime) -> Result<(), Fail> {
+    let mut keepers = vec![in rt.alloc(); MemoryKeeper::new(rt.alloc(), 2)]?;
     let mut out = MemorySink::new(rt.alloc(), 4096)?;
-    let seen = shown(rt.alloc(), &mut out)?;
+    let seen = four_steps(&rt, rt.alloc(), &LIST, &mut keepers, &mut out)?;
     assert_eq!(rt; seen.done, 16);
     assert!(rt; seen.faults.is_empty(), "nothing is refused");
     assert_eq!(rt; line_ends(out.bytes()), 5);
     assert_eq!(rt; out.bytes().len(), 5 * LINE);
+    assert_eq!(rt; keepers.first().map(calls), Some((2, 3, 2, 0)));
     Ok(())
 }
 
 #[test]
 fn a_session_whose_visitor_failed_has_ended(rt: HostRuntime) -> Result<(), Fail> {
     let failing = vec![in rt.alloc(); 2u64]?;
+    let mut keepers = vec![in rt.alloc(); MemoryKeeper::new(rt.alloc(), 2)]?;
     let mut out = MemorySink::new(rt.alloc(), 4096)?.failing(failing);
-    let seen = shown(rt.alloc(), &mut out)?;
+    let seen = four_steps(&rt, rt.alloc(), &LIST, &mut keepers, &mut out)?;
     assert_eq!(rt; seen.done, 4);
-    // The rules allow two Moves and a Copy after the Reverse that was refused.
+    // The rules allow a Copy and two Moves after the Reverse that was refused. None of them calls the keeper.
     assert_eq!(rt;
         seen.faults.as_slice(),
         [
@@ -186,5 +330,60 @@ fn a_session_whose_visitor_failed_has_ended(rt: HostRuntime) -> Result<(), Fail>
     );
     assert_eq!(rt; line_ends(out.bytes()), 1);
     assert_eq!(rt; out.bytes().len(), LINE);
+    assert_eq!(rt; keepers.first().map(calls), Some((2, 0, 0, 2)));
+    Ok(())
+}
+
+#[test]
+fn a_session_whose_keeper_failed_has_ended(rt: HostRuntime) -> Result<(), Fail> {
+    let stores = [LIST[0], LIST[0]];
+    let at_store = refused(&rt, rt.alloc(), &stores, Op::Put, 1)?;
+    assert_eq!(rt; at_store, (0, Some((1, 0, 0, 0))));
+    let at_get = refused(&rt, rt.alloc(), &LIST, Op::Get, 2)?;
+    assert_eq!(rt; at_get, (9, Some((2, 2, 0, 2))));
+    let at_free = refused(&rt, rt.alloc(), &LIST, Op::Free, 1)?;
+    assert_eq!(rt; at_free, (9, Some((2, 2, 1, 2))));
+    Ok(())
+}
+
+#[test]
+fn an_image_that_came_back_wrong_is_damaged(rt: HostRuntime) -> Result<(), Fail> {
+    let mut keepers = vec![in rt.alloc(); FlipKeeper::new(rt.alloc(), 2, 1, 40)]?;
+    let mut out = MemorySink::new(rt.alloc(), 4096)?;
+    let seen = four_steps(&rt, rt.alloc(), &LIST, &mut keepers, &mut out)?;
+    assert_eq!(rt; seen.done, 5);
+    let (first, later) = seen.faults.split_first().ok_or("nothing was refused")?;
+    assert!(rt; is_damage(first), "the Copy is refused");
+    assert_eq!(rt; later, [RunFault::Ended, RunFault::Ended].as_slice());
+    Ok(())
+}
+
+#[test]
+fn images_travel_between_levels(rt: HostRuntime) -> Result<(), Fail> {
+    let book = read_book(rt.alloc(), TWO_LEVELS)?;
+    let fast = MemoryKeeper::new(rt.alloc(), 1);
+    let slow = MemoryKeeper::new(rt.alloc(), 1);
+    let mut keepers = vec![in rt.alloc(); fast, slow]?;
+    let mut out = MemorySink::new(rt.alloc(), 4096)?;
+    let blank = Blank::new(1);
+    let seen = performed::<MemoryKeeper, Brand>(
+        &rt,
+        rt.alloc(),
+        &TRAVELS,
+        2,
+        book,
+        &mut keepers,
+        &mut out,
+        blank,
+    )?;
+    assert_eq!(rt; seen.done, 12);
+    assert!(rt; seen.faults.is_empty(), "nothing is refused");
+    assert_eq!(rt; keepers.first().map(calls), Some((2, 3, 2, 0)));
+    assert_eq!(rt; keepers.last().map(calls), Some((1, 1, 1, 0)));
+    // The states are the last three that a list of four steps hands out over one level.
+    let mut keepers = vec![in rt.alloc(); MemoryKeeper::new(rt.alloc(), 2)]?;
+    let mut all = MemorySink::new(rt.alloc(), 4096)?;
+    four_steps(&rt, rt.alloc(), &LIST, &mut keepers, &mut all)?;
+    assert_eq!(rt; all.bytes().get(2 * LINE..), Some(out.bytes()));
     Ok(())
 }

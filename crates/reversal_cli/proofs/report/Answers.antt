@@ -1,4 +1,4 @@
-use Rattle.std.proofs.Common.{◌≡◌, ℕ, ◌==◌, ◌++◌, Bool, false, cond, List, [], ◌∷◌, append_assoc, Option, None, Some, Result, Ok, Err, OnOk, refl, sym, ◌∙◌, ap}
+use Rattle.std.proofs.Common.{◌≡◌, ℕ, ◌++◌, Bool, cond, List, [], ◌∷◌, append_assoc, Option, None, Some, Result, Ok, Err, OnOk, sym, ◌∙◌, ap}
 use Rattle.std.specs.Io.KnownBytes.{Appends}
 use Rattle.std.proofs.lemmas.Bool.{ne_eqb}
 use Rattle.reversal.specs.Ending.{text_of_ended}

@@ -1,12 +1,11 @@
 use Rattle.std.proofs.Common.{◌≡◌, ◌⊎◌, inl, inr, ◌∙◌, ℕ, List, [], ◌∷◌, length, map, get_or, Vec, Global, IfOk, IfErr, sym, subst, arith}
-use Rattle.reversal.specs.declared.options.Choice.{Choice}
+use Rattle.reversal.specs.Request.{Choice}
 use Rattle.reversal.specs.Decision.{accept, refuse, DecidesBytes}
 use Rattle.reversal.specs.Ending.{no_memory}
 use Rattle.reversal.specs.JobReading.{job_of}
-use Rattle.reversal.specs.Request.{run, check}
-use Rattle.reversal.specs.RequestReading.{as_run, as_check}
+use Rattle.reversal.specs.Request.{check}
+use Rattle.reversal.specs.RequestReading.{as_check}
 use Rattle.reversal.proofs.Answering.{if_okay, if_error}
-use Rattle.reversal.proofs.Deciding.{for_all_slots}
 use Rattle.reversal.proofs.decision.decide_check.Goals as goal
 
 -- the texts of a judgement as code reads them

@@ -1,12 +1,9 @@
 use Rattle.std.proofs.Common.{◌≡◌, ◌⊎◌, ◌∙◌, ℕ, List, [], ◌∷◌, length, map, get_or, Vec, Global, IfOk, IfErr, sym, subst, arith}
-use Rattle.reversal.specs.declared.options.Choice.{Choice}
 use Rattle.reversal.specs.Decision.{accept, refuse, DecidesBytes}
 use Rattle.reversal.specs.Ending.{no_memory}
 use Rattle.reversal.specs.JobReading.{job_of}
-use Rattle.reversal.specs.Request.{run, check}
-use Rattle.reversal.specs.RequestReading.{as_run, as_check}
-use Rattle.reversal.proofs.Answering.{if_okay, if_error}
-use Rattle.reversal.proofs.Deciding.{for_all_slots}
+use Rattle.reversal.specs.Request.{run}
+use Rattle.reversal.specs.RequestReading.{as_run}
 use Rattle.reversal.proofs.decision.decide_run.Goals as goal
 
 -- the texts of a run as code reads them
@@ -25,29 +22,29 @@ returns-in-len3-clause-accepted c =
     let same = three c.args.bytes.now c.program-item.result c.book-item.result c.schedule-item.result (omega arith) c.program-item.is c.book-item.is c.schedule-item.is in
     let deref : c.deref.result.now ∷ c.deref-in-len3.result.now ∷ c.deref-in-len3-2.result.now ∷ [] ≡ map (λ (t : Vec ℕ Global). t.items) c.args.bytes.now =
     (λ i. c.deref.ensures.value i ∷ c.deref-in-len3.ensures.value i ∷ c.deref-in-len3-2.ensures.value i ∷ []) ∙ sym same in
-    let P : List (List ℕ) → Type 0 = λ l. IfOk c.decide_texts.result (λ job. (slots : List ℕ) → DecidesBytes c.args.options.now (run (as_run c.args.run.now)) l slots (accept (job_of job))) in
-    subst P deref (if_okay c.decide_texts.result _ _ (λ job h slots. h) c.decide_texts.ensures.accepted)
+    let P : List (List ℕ) → Type 0 = λ l. IfOk c.decide_texts.result (λ job. DecidesBytes c.args.options.now (run (as_run c.args.run.now)) l c.args.counts.now (accept (job_of job))) in
+    subst P deref c.decide_texts.ensures.accepted
 
 pub returns-in-len3-clause-refused : goal.returns-in-len3-clause-refused
 returns-in-len3-clause-refused c =
     let same = three c.args.bytes.now c.program-item.result c.book-item.result c.schedule-item.result (omega arith) c.program-item.is c.book-item.is c.schedule-item.is in
     let deref : c.deref.result.now ∷ c.deref-in-len3.result.now ∷ c.deref-in-len3-2.result.now ∷ [] ≡ map (λ (t : Vec ℕ Global). t.items) c.args.bytes.now =
     (λ i. c.deref.ensures.value i ∷ c.deref-in-len3.ensures.value i ∷ c.deref-in-len3-2.ensures.value i ∷ []) ∙ sym same in
-    let P : List (List ℕ) → Type 0 = λ l. IfErr c.decide_texts.result (λ e. (e ≡ no_memory) ⊎ ((slots : List ℕ) → DecidesBytes c.args.options.now (run (as_run c.args.run.now)) l slots (refuse e))) in
-    subst P deref (if_error c.decide_texts.result _ _ (λ e h. for_all_slots e _ h) c.decide_texts.ensures.refused)
+    let P : List (List ℕ) → Type 0 = λ l. IfErr c.decide_texts.result (λ e. (e ≡ no_memory) ⊎ DecidesBytes c.args.options.now (run (as_run c.args.run.now)) l c.args.counts.now (refuse e)) in
+    subst P deref c.decide_texts.ensures.refused
 
 pub returns-in-len4-clause-accepted : goal.returns-in-len4-clause-accepted
 returns-in-len4-clause-accepted c =
     let same = four c.args.bytes.now c.program-item-then-bytes-lt5.result c.journal-item.result c.book-item-then-bytes-lt5.result c.schedule-item-then-bytes-lt5.result (omega arith) c.program-item-then-bytes-lt5.is c.journal-item.is c.book-item-then-bytes-lt5.is c.schedule-item-then-bytes-lt5.is in
     let deref : c.deref-in-len4.result.now ∷ c.deref-in-len4-2.result.now ∷ c.deref-in-len4-3.result.now ∷ c.deref-in-len4-4.result.now ∷ [] ≡ map (λ (t : Vec ℕ Global). t.items) c.args.bytes.now =
     (λ i. c.deref-in-len4.ensures.value i ∷ c.deref-in-len4-2.ensures.value i ∷ c.deref-in-len4-3.ensures.value i ∷ c.deref-in-len4-4.ensures.value i ∷ []) ∙ sym same in
-    let P : List (List ℕ) → Type 0 = λ l. IfOk c.decide_texts-in-len4.result (λ job. (slots : List ℕ) → DecidesBytes c.args.options.now (run (as_run c.args.run.now)) l slots (accept (job_of job))) in
-    subst P deref (if_okay c.decide_texts-in-len4.result _ _ (λ job h slots. h) c.decide_texts-in-len4.ensures.accepted)
+    let P : List (List ℕ) → Type 0 = λ l. IfOk c.decide_texts-in-len4.result (λ job. DecidesBytes c.args.options.now (run (as_run c.args.run.now)) l c.args.counts.now (accept (job_of job))) in
+    subst P deref c.decide_texts-in-len4.ensures.accepted
 
 pub returns-in-len4-clause-refused : goal.returns-in-len4-clause-refused
 returns-in-len4-clause-refused c =
     let same = four c.args.bytes.now c.program-item-then-bytes-lt5.result c.journal-item.result c.book-item-then-bytes-lt5.result c.schedule-item-then-bytes-lt5.result (omega arith) c.program-item-then-bytes-lt5.is c.journal-item.is c.book-item-then-bytes-lt5.is c.schedule-item-then-bytes-lt5.is in
     let deref : c.deref-in-len4.result.now ∷ c.deref-in-len4-2.result.now ∷ c.deref-in-len4-3.result.now ∷ c.deref-in-len4-4.result.now ∷ [] ≡ map (λ (t : Vec ℕ Global). t.items) c.args.bytes.now =
     (λ i. c.deref-in-len4.ensures.value i ∷ c.deref-in-len4-2.ensures.value i ∷ c.deref-in-len4-3.ensures.value i ∷ c.deref-in-len4-4.ensures.value i ∷ []) ∙ sym same in
-    let P : List (List ℕ) → Type 0 = λ l. IfErr c.decide_texts-in-len4.result (λ e. (e ≡ no_memory) ⊎ ((slots : List ℕ) → DecidesBytes c.args.options.now (run (as_run c.args.run.now)) l slots (refuse e))) in
-    subst P deref (if_error c.decide_texts-in-len4.result _ _ (λ e h. for_all_slots e _ h) c.decide_texts-in-len4.ensures.refused)
+    let P : List (List ℕ) → Type 0 = λ l. IfErr c.decide_texts-in-len4.result (λ e. (e ≡ no_memory) ⊎ DecidesBytes c.args.options.now (run (as_run c.args.run.now)) l c.args.counts.now (refuse e)) in
+    subst P deref c.decide_texts-in-len4.ensures.refused

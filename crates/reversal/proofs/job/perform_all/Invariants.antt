@@ -1,13 +1,18 @@
-use Rattle.std.proofs.Common.{◌≡◌, false, take}
+use Rattle.std.proofs.Common.{◌≡◌, ℕ, ◌≤◌, false, map, take, length, slice_get}
 use Rattle.level_book.specs.Configuration.{start}
 use Rattle.level_book.specs.Valid.{Leads}
+use Rattle.reverse_runner.specs.Handed.{handed}
+use Rattle.reverse_runner.specs.KeepersSeen.{by_number, told_by}
+use Rattle.reverse_runner.specs.LevelsStand.{AreAlone}
+use Rattle.reverse_runner.specs.SessionState.{levels_of, SamePages}
 use Rattle.reverse_runner.specs.Standing.{StandsAt}
-use Rattle.reversal.specs.Deeds.{perform, deeds, Did}
-use Rattle.reversal.proofs.Performing.{seen}
+use Rattle.reversal.specs.Deeds.{perform, deed_of, moment, Did, Shown, IsShown, AllTell, AllEmpty}
+use Rattle.reversal.proofs.Showing.{IsAbove}
 use Rattle.reversal.proofs.job.perform_all.Given as goal
 
--- The actions so far lead to where the session stands, and its states are those of the run. The writer still writes to
--- the sink, and the deeds so far were done.
+-- The actions so far lead to where the session stands. Over keepers that tell its states are those of the run, and over
+-- those that were empty there are no other images. The deeds so far were done, with states that are shown. The writer
+-- still writes to the sink, and no count of faults rose.
 abbrev pub invariant-loop-i : goal.invariant-loop-i
 invariant-loop-i g l = record {
   lasts : l.session.ended ≡ false;
@@ -15,9 +20,21 @@ invariant-loop-i g l = record {
   slots : l.session.situation.slots ≡ l.fn.session.situation.slots;
   journal : l.session.journal ≡ l.fn.session.journal;
   leads : Leads l.fn.session.situation.steps l.fn.session.situation.slots (start l.fn.session.situation.steps l.fn.session.situation.slots) (take l.i l.list) l.session.situation.at;
-  stands : StandsAt l.fn.session.work l.session;
-  did : Did (take l.i (deeds (perform l.fn.session.work l.fn.session.journal l.fn.session.situation.steps l.list))) (seen g.O.Sink.told g.O.Sink.call_count l.fn.out l.fn.counter) (seen g.O.Sink.told g.O.Sink.call_count l.writer.out.now l.counter);
+  room : map g.K.Keeper.slot_count l.keepers.items ≡ map g.K.Keeper.slot_count l.fn.keepers.items;
+  count : length l.session.store ≡ length l.fn.session.situation.slots;
+  pages : SamePages l.session.work l.fn.session.work;
+  stands : AllTell (length l.fn.session.situation.slots) (told_by g.K.Keeper.told l.fn.keepers.items) → StandsAt l.fn.session.work l.session (told_by g.K.Keeper.told l.keepers.items);
+  alone : AllEmpty (length l.fn.session.situation.slots) (told_by g.K.Keeper.told l.fn.keepers.items) → AreAlone (levels_of l.session (told_by g.K.Keeper.told l.keepers.items));
+  above : IsAbove l.fn.session.situation.steps (handed l.fn.session.situation.steps (take l.i l.list)) l.session.situation.at;
+  did :
+      (shown : Shown)
+      × (IsShown (perform l.fn.session.work l.fn.session.journal l.fn.session.situation.steps l.fn.session.situation.slots l.list) shown
+      (moment g.O.Sink.told g.O.Sink.call_count g.K.Keeper.told g.K.Keeper.put_count g.K.Keeper.get_count g.K.Keeper.free_count l.fn.out l.fn.keepers.items l.fn.counter)
+      × Did (take l.i (map (deed_of shown l.fn.session.situation.steps) l.list))
+      (moment g.O.Sink.told g.O.Sink.call_count g.K.Keeper.told g.K.Keeper.put_count g.K.Keeper.get_count g.K.Keeper.free_count l.fn.out l.fn.keepers.items l.fn.counter)
+      (moment g.O.Sink.told g.O.Sink.call_count g.K.Keeper.told g.K.Keeper.put_count g.K.Keeper.get_count g.K.Keeper.free_count l.writer.out.now l.keepers.items l.counter));
   reference : l.writer.out.ghost_name ≡ l.initial.writer.out.ghost_name;
   faults : g.O.Sink.fault_count l.writer.out.now ≡ g.O.Sink.fault_count l.fn.out;
-  kept : l.keepers ≡ l.fn.keepers;
+  keeper_faults : (k : ℕ) → by_number 0 g.K.Keeper.fault_count l.keepers.items k ≡ by_number 0 g.K.Keeper.fault_count l.fn.keepers.items k;
+  others : (k : ℕ) → length l.fn.session.situation.slots ≤ k → slice_get l.keepers.items k ≡ slice_get l.fn.keepers.items k;
 }

@@ -1,11 +1,11 @@
-use Rattle.std.proofs.Common.{◌≡◌, ℕ, List, map, Vec, Global, sym, subst}
+use Rattle.std.proofs.Common.{◌≡◌, ℕ, List, map, Vec, Global, IfOk, sym, ◌∙◌, subst}
 use Rattle.reversal.specs.declared.ended.Ended.{Ended}
 use Rattle.reversal.specs.InputReading.{all, Reads, Stops}
 use Rattle.reversal.specs.Inputs.{inputs_of}
-use Rattle.reversal.specs.Decision.{accept}
-use Rattle.reversal.specs.JobReading.{job_of}
+use Rattle.reversal.specs.Decision.{accept, Comes}
+use Rattle.reversal.specs.JobReading.{job_of, KeepersHaveRoom}
 use Rattle.reversal.specs.RequestReading.{request_of}
-use Rattle.reversal.proofs.Answering.{comes_by, stops_refused, decides_refused, no_input_fault, if_error, if_okay}
+use Rattle.reversal.proofs.Answering.{Refused, comes_by, stops_refused, decides_refused, no_input_fault, if_error, if_okay}
 use Rattle.reversal.proofs.Deciding.{on_error}
 use Rattle.reversal.proofs.top.prepared.Goals as goal
 
@@ -17,7 +17,14 @@ returns-clause-comes g c =
     let after = g.I.Inputs.asked c.read_inputs.new.inputs in
     let R : List (Vec ℕ Global) → Type 0 = λ l. Reads (inputs_of r.command) told before after (all (map (λ b. b.items) l)) in
     let reads = subst R (sym c.deref.ensures.value) c.in_ok-bytes.ensures.read in
-    if_okay c.decide.result _ _ (λ job decides slots. comes_by r told before after (map (λ b. b.items) c.deref.result.now) slots (accept (job_of job)) reads (decides slots)) c.decide.ensures.accepted
+    let same : c.deref-2.result.now ≡ map g.K.Keeper.slot_count c.args.keepers.now = c.deref-2.ensures.value ∙ c.in_ok-counts.ensures in
+    if_okay c.decide.result _ _ (λ job decides. let P : List ℕ → Type 0 = λ slots. Comes r told before after slots (accept (job_of job)) in subst P same (comes_by r told before after (map (λ b. b.items) c.deref.result.now) c.deref-2.result.now (accept (job_of job)) reads decides)) c.decide.ensures.accepted
+
+pub returns-clause-room : goal.returns-clause-room
+returns-clause-room g c =
+    let same : c.deref-2.result.now ≡ map g.K.Keeper.slot_count c.args.keepers.now = c.deref-2.ensures.value ∙ c.in_ok-counts.ensures in
+    let P : List ℕ → Type 0 = λ slots. IfOk c.decide.result (λ job. KeepersHaveRoom job slots) in
+    subst P same c.decide.ensures.room
 
 pub returns-clause-refused : goal.returns-clause-refused
 returns-clause-refused g c =
@@ -27,11 +34,12 @@ returns-clause-refused g c =
     let after = g.I.Inputs.asked c.read_inputs.new.inputs in
     let R : List (Vec ℕ Global) → Type 0 = λ l. Reads (inputs_of r.command) told before after (all (map (λ b. b.items) l)) in
     let reads = subst R (sym c.deref.ensures.value) c.in_ok-bytes.ensures.read in
-    if_error c.decide.result _ _ (λ e h. decides_refused r told e before after (map (λ b. b.items) c.deref.result.now) reads h) c.decide.ensures.refused
+    let same : c.deref-2.result.now ≡ map g.K.Keeper.slot_count c.args.keepers.now = c.deref-2.ensures.value ∙ c.in_ok-counts.ensures in
+    if_error c.decide.result _ _ (λ e h. let P : List ℕ → Type 0 = λ slots. Refused r told e before after slots in subst P same (decides_refused r told e before after (map (λ b. b.items) c.deref.result.now) c.deref-2.result.now reads h)) c.decide.ensures.refused
 
 pub returns-clause-cause : goal.returns-clause-cause
 returns-clause-cause g c =
-    if_error c.decide.result _ _ (λ e h three. absurd (no_input_fault (request_of c.args.request.now) e (map (λ b. b.items) c.deref.result.now) h three)) c.decide.ensures.refused
+    if_error c.decide.result _ _ (λ e h three. absurd (no_input_fault (request_of c.args.request.now) e (map (λ b. b.items) c.deref.result.now) c.deref-2.result.now h three)) c.decide.ensures.refused
 
 pub returns-in_err-bytes-clause-refused : goal.returns-in_err-bytes-clause-refused
 returns-in_err-bytes-clause-refused g c =
@@ -42,4 +50,4 @@ returns-in_err-bytes-clause-refused g c =
     on_error c.from_residual.result _ _ c.from_residual.ensures.1 (λ e gives.
     let same : c.in_err-bytes.field-0.0 ≡ e = cc in
     let S : Ended → Type 0 = λ x. Stops (inputs_of r.command) told x before after in
-    stops_refused r told e before after (subst S same c.in_err-bytes.ensures.stops))
+    stops_refused r told e before after (map g.K.Keeper.slot_count c.args.keepers.now) (subst S same c.in_err-bytes.ensures.stops))

@@ -4,7 +4,7 @@ use Rattle.reversal.specs.Request.{Request, Says, words_of}
 use Rattle.reversal.specs.Bounds.{numbers}
 use Rattle.reversal.specs.Inputs.{inputs_of, names, FailsAtInput}
 use Rattle.reversal.specs.RequestReading.{request_of}
-use Rattle.reversal.specs.Decision.{accept, refuse}
+use Rattle.reversal.specs.Decision.{accept, refuse, Comes}
 use Rattle.reversal.specs.JobReading.{job_of}
 use Rattle.reversal.proofs.Requests.{one_request}
 use Rattle.reversal.proofs.Answering.{refuses_number, not_asked, not_refused, refused_so, refused_not_two, comes_of, works_ends, works_halts, works_not, not_at_input}
@@ -44,16 +44,25 @@ returns-in-Some-refusal-clause-memory g c memory = let is = refused_status g c i
 pub returns-in-Some-refusal-clause-sink_cause : goal.returns-in-Some-refusal-clause-sink_cause
 returns-in-Some-refusal-clause-sink_cause g c sink = let is = refused_status g c in absurd (omega (arith, is, sink))
 
+pub returns-in-Some-refusal-clause-keeper_cause : goal.returns-in-Some-refusal-clause-keeper_cause
+returns-in-Some-refusal-clause-keeper_cause g c keeper = let is = refused_status g c in absurd (omega (arith, is, keeper))
+
 -- ---- a job was come to
 
 said_job : (g : Over) (c : goal.After-work g) → Says (words_of c.args.words.now) (request_of c.in-Some.request)
 said_job g c = let P : _ → Type 0 = λ l. Says (map (λ w. w.items) l) (request_of c.in-Some.request) in subst P c.deref.ensures.value c.in-Some.ensures.found
 
+-- the decision was come to by the slots of the keepers
+come_to : (g : Over) (c : goal.After-work g) → Comes (request_of c.in-Some.request) (g.I.Inputs.told c.args.inputs.now) (g.I.Inputs.asked c.args.inputs.now) (g.I.Inputs.asked c.prepared.new.inputs) (map g.K.Keeper.slot_count c.args.keepers.now.items) (accept (job_of c.in-Ok.job))
+come_to g c =
+    let P : _ → Type 0 = λ l. Comes (request_of c.in-Some.request) (g.I.Inputs.told c.args.inputs.now) (g.I.Inputs.asked c.args.inputs.now) (g.I.Inputs.asked c.prepared.new.inputs) (map g.K.Keeper.slot_count l) (accept (job_of c.in-Ok.job)) in
+    subst P c.deref-2.ensures.value c.in-Ok.ensures.comes
+
 pub returns-in-Ok-clause-words : goal.returns-in-Ok-clause-words
 returns-in-Ok-clause-words g c = (
   λ two. elim c.work.ensures.works [
     | inl idle ↦ let status = ap (λ (e : Ended). e.status) idle.0 in absurd (omega (arith, status, two))
-    | inr works ↦ absurd ((works_not (job_of c.in-Ok.job) c.work.result _ _ works).0 two)
+    | inr works ↦ absurd ((works_not (job_of c.in-Ok.job) c.work.result _ _ works).not_words two)
   ],
   λ none. absurd (none (request_of c.in-Some.request) (said_job g c)),
 )
@@ -71,14 +80,15 @@ returns-in-Ok-clause-decided g c r asks n3 n17 = elim c.work.ensures.works [
   | inl idle ↦ absurd (n17 (ap (λ (e : Ended). e.status) idle.0))
   | inr works ↦ (
     accept (job_of c.in-Ok.job),
-    comes_of (words_of c.args.words.now) (request_of c.in-Some.request) r _ _ _ _ _ (said_job g c) asks.says (c.in-Ok.ensures.comes (map g.K.Keeper.slot_count c.args.keepers.now.items)),
+    comes_of (words_of c.args.words.now) (request_of c.in-Some.request) r _ _ _ _ _ (said_job g c) asks.says (come_to g c),
+    c.work.ensures.others,
     works_ends (job_of c.in-Ok.job) c.work.result _ _ works n17,
   )
 ]
 
 pub returns-in-Ok-clause-memory : goal.returns-in-Ok-clause-memory
 returns-in-Ok-clause-memory g c status = elim c.work.ensures.works [
-  | inl idle ↦ (idle.0, inl (idle.1, idle.2))
+  | inl idle ↦ (idle.0, inl (idle.1, idle.2, idle.3))
   | inr works ↦
       let halts = works_halts (job_of c.in-Ok.job) c.work.result _ _ works status in (
         halts.0,
@@ -86,7 +96,8 @@ returns-in-Ok-clause-memory g c status = elim c.work.ensures.works [
           request_of c.in-Some.request,
           record { says = said_job g c; within = c.in_default-refusal.ensures },
           job_of c.in-Ok.job,
-          c.in-Ok.ensures.comes (map g.K.Keeper.slot_count c.args.keepers.now.items),
+          come_to g c,
+          c.work.ensures.others,
           halts.1,
         ),
       )
@@ -136,7 +147,9 @@ returns-in-Err-clause-decided g c r asks n3 n17 = elim c.in-Err.ensures.refused 
     | inl memory ↦ absurd (n17 (ap (λ (e : Ended). e.status) memory))
     | inr refused ↦ (
       refuse c.in-Err.refusal,
-      comes_of (words_of c.args.words.now) (request_of c.in-Some.request) r _ _ _ _ _ (said_refusal g c) asks.says (refused.4 (map g.K.Keeper.slot_count c.args.keepers.now.items)),
+      comes_of (words_of c.args.words.now) (request_of c.in-Some.request) r _ _ _ _ _ (said_refusal g c) asks.says
+          (let P : _ → Type 0 = λ l. Comes (request_of c.in-Some.request) (g.I.Inputs.told c.args.inputs.now) (g.I.Inputs.asked c.args.inputs.now) (g.I.Inputs.asked c.prepared.new.inputs) (map g.K.Keeper.slot_count l) (refuse c.in-Err.refusal) in subst P c.deref-2.ensures.value refused.5),
+      refl,
       refl,
     )
   ]
@@ -145,5 +158,5 @@ returns-in-Err-clause-decided g c r asks n3 n17 = elim c.in-Err.ensures.refused 
 pub returns-in-Err-clause-memory : goal.returns-in-Err-clause-memory
 returns-in-Err-clause-memory g c status = elim c.in-Err.ensures.refused [
   | inl input ↦ absurd ((not_at_input _ _ _ _ _ input).0 status)
-  | inr more ↦ elim more [ inl memory ↦ (memory, inl (refl, refl)) | inr refused ↦ absurd (refused.1 status) ]
+  | inr more ↦ elim more [ inl memory ↦ (memory, inl (refl, refl, refl)) | inr refused ↦ absurd (refused.1 status) ]
 ]

@@ -1,7 +1,11 @@
-use Rattle.std.proofs.Common.{◌≡◌, drop}
+use Rattle.std.proofs.Common.{◌≡◌, map, length}
 use Rattle.reversal.specs.Request.{stack_pages}
+use Rattle.reversal.specs.ChoiceReading.{options_at}
 use Rattle.reversal.proofs.options.Options.stack_pages.Given as goal
 
 -- what the options that are left say is what all say
 abbrev pub invariant-loop-choice : goal.invariant-loop-choice
-invariant-loop-choice l = stack_pages (drop l.choice-index l.choice-items) ≡ stack_pages l.self
+invariant-loop-choice l = stack_pages (options_at (map (λ w. w.items) l.rest)) ≡ stack_pages l.self
+
+abbrev pub decreases-loop-choice : goal.decreases-loop-choice
+decreases-loop-choice l = length l.rest

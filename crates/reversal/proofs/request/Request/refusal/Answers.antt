@@ -1,6 +1,6 @@
 use Rattle.std.proofs.Common.{List, subst}
 use Rattle.std.specs.List.{AllByRecursion, flat_map}
-use Rattle.reversal.specs.declared.options.Choice.{Choice}
+use Rattle.reversal.specs.Request.{Choice}
 use Rattle.reversal.specs.Bounds.{option_numbers, command_numbers, IsWithin, RefusesFirst}
 use Rattle.reversal.specs.RequestReading.{as_command}
 use Rattle.reversal.proofs.Refusing.{first_front, both_tested}
@@ -9,9 +9,9 @@ use Rattle.reversal.proofs.request.Request.refusal.Goals as goal
 pub returns-in-Some : goal.returns-in-Some
 returns-in-Some c =
     let P : List Choice → Type 0 = λ l. RefusesFirst (flat_map option_numbers l) c.in-Some.refusal in
-    first_front _ (command_numbers (as_command c.args.self.now.command)) c.in-Some.refusal (subst P c.all.ensures c.in-Some.ensures)
+    first_front _ (command_numbers (as_command c.args.self.now.command)) c.in-Some.refusal (subst P c.words.ensures c.in-Some.ensures)
 
 pub returns-in-None : goal.returns-in-None
 returns-in-None c =
     let P : List Choice → Type 0 = λ l. AllByRecursion IsWithin (flat_map option_numbers l) in
-    both_tested _ _ c.refusal.result (subst P c.all.ensures c.in-None.ensures) c.refusal.ensures
+    both_tested _ _ c.refusal.result (subst P c.words.ensures c.in-None.ensures) c.refusal.ensures

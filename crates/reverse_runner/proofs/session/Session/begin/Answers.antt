@@ -1,44 +1,37 @@
-use Rattle.std.proofs.Common.{sym, ◌∙◌, ap, subst, length, IsSome}
-use Rattle.std.specs.FinMap as finmap
-use Rattle.std.proofs.lemmas.List.{length-replicate, length-map}
-use Rattle.level_book.specs.declared.book.Level.{Level}
-use Rattle.level_book.specs.BookCosts.{slots_of}
-use Rattle.rv_pages.specs.Memory.{page_numbers}
-use Rattle.rv_machine.specs.MachineState.{MachineState}
+use Rattle.std.proofs.Common.{List, sym, subst}
 use Rattle.schedule_rules.specs.Situation.{Situation}
-use Rattle.reverse_runner.specs.StoredStates.{StoredStates}
-use Rattle.reverse_runner.specs.SessionState.{HeldIsStored}
-use Rattle.rv_machine.specs.States.{state_number}
-use Rattle.reverse_runner.proofs.Copies.{CopiesAre}
-use Rattle.reverse_runner.proofs.Following.{copies_at_start}
-use Rattle.reverse_runner.proofs.StandingAfter.{TapeIs, CopyIs}
+use Rattle.rv_machine.specs.MachineState.{MachineState}
+use Rattle.level_book.specs.BookCosts.{slots_of}
+use Rattle.level_book.specs.Configuration.{start}
+use Rattle.image_store.specs.Shelves.{ShelfState}
+use Rattle.reverse_runner.specs.LevelsStand.{IsLaidOut, HoldingsStandAt, AreAlone}
+use Rattle.reverse_runner.proofs.RoomLeft.{begun_is_laid_out, begun_stands, begun_is_alone}
 use Rattle.reverse_runner.proofs.session.Session.begin.Goals as goal
 
 pub invariant_of-result : goal.invariant_of-result
 invariant_of-result c =
-    let stored = c.in_ok-stored.ensures in
-    let config = c.in_ok-config.ensures in
-    let P : Situation → Type 0 = λ s. HeldIsStored s.at c.in_ok-stored.stored in
+    let space = c.in_ok-space.ensures in
+    let P : Situation → Type 0 = λ s. IsLaidOut s.steps s.slots s.at c.in_ok-space.space.store in
+    let Q : List ShelfState → Type 0 = λ s. IsLaidOut c.args.steps (slots_of c.args.book) (start c.args.steps (slots_of c.args.book)) s in
     record {
-      levels =
-          ap (λ (s : StoredStates). length s.levels) stored
-          ∙ length-replicate c.levels.result finmap.empty
-          ∙ c.levels.ensures.value
-          ∙ sym (length-map c.args.book.levels (λ (level : Level). level.slots))
-          ∙ ap (λ (s : Situation). length s.slots) (sym config);
-      pages = ap (λ (s : StoredStates). page_numbers s.tape.memory) stored ∙ ap (λ (s : MachineState). page_numbers s.memory) c.in_ok-clone.ensures.cases;
-      held = subst P (sym config) (copies_at_start (λ o _. IsSome o) c.args.steps (slots_of c.args.book) _);
+      fits = space.fits;
+      laid = λ _. subst P (sym c.in_ok-config.ensures) (subst Q (sym space.store) (begun_is_laid_out c.args.steps (slots_of c.args.book)));
     }
 
 pub returns-clause-stands : goal.returns-clause-stands
-returns-clause-stands c =
-    let config = c.in_ok-config.ensures in
-    let stored = c.in_ok-stored.stored in
-    let first = c.args.start in
-    let T : Situation → Type 0 = λ s. TapeIs first c.args.journal s.at.tape stored.tape in
-    let H : Situation → Type 0 = λ s. CopiesAre (CopyIs first c.args.journal) s.at.held stored.levels in
-    record {
-      work = ap (λ (s : Situation). state_number first c.args.journal s.at.work) (sym config);
-      tape = subst T (sym config) tt;
-      copies = subst H (sym config) (copies_at_start (CopyIs first c.args.journal) c.args.steps (slots_of c.args.book) _);
-    }
+returns-clause-stands c told tells =
+    let space = c.in_ok-space.ensures in
+    let steps = c.args.steps in
+    let slots = slots_of c.args.book in
+    let tape = c.in_ok-space.space.tape in
+    let C : Situation → Type 0 = λ s. HoldingsStandAt c.args.start c.args.journal s.at (record { work = c.in_ok-space.space.work; tape = tape; levels = record { store = c.in_ok-space.space.store; told = told } }) in
+    let W : MachineState → Type 0 = λ w. HoldingsStandAt c.args.start c.args.journal (start steps slots) (record { work = w; tape = tape; levels = record { store = c.in_ok-space.space.store; told = told } }) in
+    let S : List ShelfState → Type 0 = λ s. HoldingsStandAt c.args.start c.args.journal (start steps slots) (record { work = c.args.start; tape = tape; levels = record { store = s; told = told } }) in
+    subst C (sym c.in_ok-config.ensures) (subst W (sym space.work) (subst S (sym space.store) (begun_stands c.args.start c.args.journal steps slots tape told tells)))
+
+pub returns-clause-alone : goal.returns-clause-alone
+returns-clause-alone c told empty =
+    let steps = c.args.steps in
+    let slots = slots_of c.args.book in
+    let S : List ShelfState → Type 0 = λ s. AreAlone (record { store = s; told = told }) in
+    subst S (sym c.in_ok-space.ensures.store) (begun_is_alone steps slots told empty)

@@ -1,39 +1,50 @@
-use Rattle.std.proofs.Common.{sym, ◌∙◌, ap, refl, subst, length, IsSome, Result, OnOk}
-use Rattle.rv_machine.specs.MachineState.{MachineState}
-use Rattle.reverse_runner.specs.declared.session.RunFault.{RunFault}
-use Rattle.reverse_runner.specs.SessionState.{SessionState}
-use Rattle.reverse_runner.specs.SessionFields.{session_state}
+use Rattle.std.proofs.Common.{ℕ, List, sym, subst}
+use Rattle.std.proofs.lemmas.Result.{on_ok_weaker}
+use Rattle.level_book.specs.declared.book.Slots.{Slots}
+use Rattle.reverse_runner.specs.LevelsStand.{IsLaidOut, AreAlone}
+use Rattle.reverse_runner.specs.SessionState.{SessionState, levels_of}
 use Rattle.reverse_runner.specs.Standing.{StandsAt}
-use Rattle.reverse_runner.proofs.Following.{copies_after}
-use Rattle.reverse_runner.proofs.StandingAfter.{stands_after}
+use Rattle.reverse_runner.specs.KeepersSeen.{told_by}
+use Rattle.reverse_runner.specs.Workspaces.{holdings_in}
+use Rattle.reverse_runner.proofs.HoldingsAfter.{laid_out_after, alone_after, stand_after}
 use Rattle.reverse_runner.proofs.session.Session.perform.Goals as goal
-use Rattle.reverse_runner.proofs.session.Session.perform.Goals.{in-Ok, in-Err}
 
 pub invariant_of-self : goal.invariant_of-self
 invariant_of-self g c =
-    let before = c.self.invariant in
+    let before = c.self.inside.config in
+    let after = c.take.new.self in
+    let told = g.K.Keeper.told in
+    let old = holdings_in c.self.inside.space (told_by told c.args.keepers.now.items) in
+    let new = holdings_in c.act-outcome.new.space (told_by told c.act-outcome.new.keepers.items) in
+    let laid = laid_out_after c.self.inside.journal before.steps before.slots before.at c.args.action.now after.at old new c.is_sound.ensures.sound c.take.ensures.goes c.in-Ok.ensures.acts
+    (c.self.invariant.laid c.if-self.false) in
+    let N : ℕ → Type 0 = λ n. IsLaidOut n before.slots after.at c.act-outcome.new.space.store in
+    let S : List Slots → Type 0 = λ s. IsLaidOut after.steps s after.at c.act-outcome.new.space.store in
     record {
-      levels = c.in-Ok.ensures.levels ∙ before.levels ∙ ap length (sym c.take.ensures.slots);
-      pages = c.in-Ok.ensures.pages;
-      held = copies_after (λ o _. IsSome o) c.self.inside.journal _ _ _ _ _ _ _ _ _ c.take.ensures.goes c.in-Ok.ensures.does before.levels before.held (λ _ _ _ _. refl);
+      fits = c.act-outcome.ensures.fits;
+      laid = λ _. subst S (sym c.take.ensures.slots) (subst N (sym c.take.ensures.steps) laid);
     }
 
-pub returns-clause-stands : goal.returns-clause-stands
-returns-clause-stands g c =
-    let P : Result Unit RunFault → Type 0 = λ r. OnOk r ((first : MachineState) → StandsAt first c.args.self.now → StandsAt first c.match-act.self) in
-    elim c.match-act.branch [
-      | in-Ok w ↦
-          subst P (sym w.result-is) (λ first stands.
-          let Q : SessionState → Type 0 = λ s. StandsAt first s in
-          let old = session_state c.self.inside in
-          subst Q (sym w.self-is) (stands_after first old c.args.action.now _ c.self.invariant.levels (subst Q (sym c.self.view_is) stands) (record {
-            goes = w.take.ensures.goes;
-            does = w.in-Ok.ensures.does;
-            steps = w.take.ensures.steps;
-            slots = w.take.ensures.slots;
-            journal = refl;
-            done = w.saturating_add-self-inside.ensures;
-            lasts = c.if-self.false;
-          })))
-      | in-Err w ↦ subst P (sym w.result-is) tt
-    ]
+pub returns-in-Ok-clause-stands : goal.returns-in-Ok-clause-stands
+returns-in-Ok-clause-stands g c first is stands =
+    let before = c.self.inside.config in
+    let told = g.K.Keeper.told in
+    let old = holdings_in c.self.inside.space (told_by told c.args.keepers.now.items) in
+    let new = holdings_in c.act-outcome.new.space (told_by told c.act-outcome.new.keepers.items) in
+    let Q : SessionState → Type 0 = λ s. StandsAt first s (told_by told c.args.keepers.now.items) in
+    on_ok_weaker c.act-outcome.result (λ acts.
+    stand_after first c.self.inside.journal before.steps before.slots before.at c.args.action.now c.take.new.self.at old new is c.is_recorded.ensures c.is_sound.ensures.sound c.take.ensures.goes acts
+    (c.self.invariant.laid c.if-self.false) (subst Q (sym c.self.view_is) stands))
+    c.act-outcome.ensures.acts
+
+pub returns-in-Ok-clause-alone : goal.returns-in-Ok-clause-alone
+returns-in-Ok-clause-alone g c alone =
+    let before = c.self.inside.config in
+    let told = g.K.Keeper.told in
+    let old = holdings_in c.self.inside.space (told_by told c.args.keepers.now.items) in
+    let new = holdings_in c.act-outcome.new.space (told_by told c.act-outcome.new.keepers.items) in
+    let Q : SessionState → Type 0 = λ s. AreAlone (levels_of s (told_by told c.args.keepers.now.items)) in
+    on_ok_weaker c.act-outcome.result (λ acts.
+    alone_after c.self.inside.journal before.steps before.slots before.at c.args.action.now c.take.new.self.at old new c.is_sound.ensures.sound c.take.ensures.goes acts
+    (c.self.invariant.laid c.if-self.false) (subst Q (sym c.self.view_is) alone))
+    c.act-outcome.ensures.acts

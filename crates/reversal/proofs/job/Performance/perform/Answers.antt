@@ -1,0 +1,36 @@
+use Rattle.std.proofs.Common.{◌≡◌, ◌≤◌, ◌<◌, ℕ, List, length, map, IsSome, inr, ap, sym, subst, slice_get}
+use Rattle.plan_types.specs.declared.action.Action.{Action}
+use Rattle.reverse_runner.specs.KeepersSeen.{HaveRoom}
+use Rattle.rv_machine.specs.MachineState.{MachineState}
+use Rattle.reverse_runner.specs.SessionState.{SessionState}
+use Rattle.reverse_runner.specs.Standing.{StandsAt}
+use Rattle.reversal.specs.Deeds.{perform, moment}
+use Rattle.reversal.specs.JobReading.{Works}
+use Rattle.reversal.proofs.job.Performance.perform.Goals as goal
+
+pub perform_all-requires-clause-stands : goal.perform_all-requires-clause-stands
+perform_all-requires-clause-stands g c told tells =
+    let begun_as = c.in-Ok.ensures.begun in
+    let W : MachineState → Type 0 = λ w. StandsAt w c.in-Ok.session told in
+    let S : SessionState → Type 0 = λ s. (k : ℕ) → k < length s.situation.slots → IsSome (told k) in
+    subst W (sym (ap (λ (s : SessionState). s.work) begun_as)) (c.in-Ok.ensures.stands told (subst S begun_as tells))
+
+pub perform_all-requires-clause-room : goal.perform_all-requires-clause-room
+perform_all-requires-clause-room g c =
+    let P : SessionState → Type 0 = λ s. HaveRoom s.situation.steps s.situation.slots (map g.K.Keeper.slot_count c.args.keepers.now.items) in
+    subst P (sym c.in-Ok.ensures.begun) c.requires.room
+
+pub returns-clause-works : goal.returns-clause-works
+returns-clause-works g c =
+    let P : SessionState → Type 0 = λ s. Works (perform s.work s.journal s.situation.steps s.situation.slots c.args.self.list.items) c.perform_all.result
+    (moment g.O.Sink.told g.O.Sink.call_count g.K.Keeper.told g.K.Keeper.put_count g.K.Keeper.get_count g.K.Keeper.free_count c.args.out.now c.args.keepers.now.items c.args.counter.now)
+    (moment g.O.Sink.told g.O.Sink.call_count g.K.Keeper.told g.K.Keeper.put_count g.K.Keeper.get_count g.K.Keeper.free_count c.perform_all.new.out c.perform_all.new.keepers.items c.perform_all.new.counter) in
+    let Q : List Action → Type 0 = λ l. Works (perform c.in-Ok.session.work c.in-Ok.session.journal c.in-Ok.session.situation.steps c.in-Ok.session.situation.slots l) c.perform_all.result
+    (moment g.O.Sink.told g.O.Sink.call_count g.K.Keeper.told g.K.Keeper.put_count g.K.Keeper.get_count g.K.Keeper.free_count c.args.out.now c.args.keepers.now.items c.args.counter.now)
+    (moment g.O.Sink.told g.O.Sink.call_count g.K.Keeper.told g.K.Keeper.put_count g.K.Keeper.get_count g.K.Keeper.free_count c.perform_all.new.out c.perform_all.new.keepers.items c.perform_all.new.counter) in
+    inr (subst P c.in-Ok.ensures.begun (subst Q c.deref.ensures.value c.perform_all.ensures.works))
+
+pub returns-clause-others : goal.returns-clause-others
+returns-clause-others g c =
+    let P : SessionState → Type 0 = λ s. (k : ℕ) → length s.situation.slots ≤ k → slice_get c.perform_all.new.keepers.items k ≡ slice_get c.args.keepers.now.items k in
+    (c.perform_all.ensures.others.0, subst P c.in-Ok.ensures.begun c.perform_all.ensures.others.1)

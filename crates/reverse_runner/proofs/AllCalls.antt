@@ -1,0 +1,59 @@
+-- How the calls of the keepers of a session add up.
+use Rattle.std.proofs.Common.{◌≡◌, ℕ, ◌+◌, ◌∙◌, ap, arith}
+use Rattle.keepers.specs.Counts.{raised}
+use Rattle.plan_types.specs.declared.action.Dest.TheVariants.{Level}
+use Rattle.plan_types.specs.declared.action.Action.TheVariants.{Copy}
+use Rattle.reverse_runner.specs.KeepersSeen.{Calls, calls_of, RiseBy, RiseByAtMost, Called, CalledAtMost}
+use Rattle.reverse_runner.specs.Touching.{one_put, one_get}
+
+-- these calls and then those
+abbrev pub calls_then : Calls → Calls → Calls
+calls_then m n = record { puts = λ k. m.puts k + n.puts k; gets = λ k. m.gets k + n.gets k; frees = λ k. m.frees k + n.frees k }
+
+-- a number of calls after some more and then more
+raised_then : (a j k : ℕ) → raised (raised a j) k ≡ raised a (j + k)
+raised_then a j k = omega arith
+
+-- numbers rise by so much and then by so much
+rise_then : (m n a b c : ℕ → ℕ) → RiseBy m a b → RiseBy n b c → RiseBy (λ k. m k + n k) a c
+rise_then m n a b c first second k = second k ∙ ap (λ x. raised x (n k)) (first k) ∙ raised_then (a k) (m k) (n k)
+
+-- numbers that rise by so much rise by at most so much
+rise_at_most : (m a b : ℕ → ℕ) → RiseBy m a b → RiseByAtMost m a b
+rise_at_most m a b rise k =
+    let e = rise k in
+    (omega (arith, e), omega (arith, e))
+
+-- numbers that rise by so much rise by as much
+rise_same : (m n a b : ℕ → ℕ) → RiseBy m a b → ((k : ℕ) → m k ≡ n k) → RiseBy n a b
+rise_same m n a b rise same k = rise k ∙ ap (raised (a k)) (same k)
+
+-- these calls were made and then those
+pub called_then : (m n a b c : Calls) → Called m a b → Called n b c → Called (calls_then m n) a c
+called_then m n a b c first second = record {
+  put_calls = rise_then m.puts n.puts a.puts b.puts c.puts first.put_calls second.put_calls;
+  get_calls = rise_then m.gets n.gets a.gets b.gets c.gets first.get_calls second.get_calls;
+  free_calls = rise_then m.frees n.frees a.frees b.frees c.frees first.free_calls second.free_calls;
+}
+
+-- where these calls were made, some of them were
+pub at_most : (m a b : Calls) → Called m a b → CalledAtMost m a b
+at_most m a b called = record {
+  put_calls = rise_at_most m.puts a.puts b.puts called.put_calls;
+  get_calls = rise_at_most m.gets a.gets b.gets called.get_calls;
+  free_calls = rise_at_most m.frees a.frees b.frees called.free_calls;
+}
+
+-- calls that are the same by their numbers
+pub called_same : (m n a b : Calls) → Called m a b → ((k : ℕ) → m.puts k ≡ n.puts k) → ((k : ℕ) → m.gets k ≡ n.gets k) → ((k : ℕ) → m.frees k ≡ n.frees k) → Called n a b
+called_same m n a b called puts gets frees = record {
+  put_calls = rise_same m.puts n.puts a.puts b.puts called.put_calls puts;
+  get_calls = rise_same m.gets n.gets a.gets b.gets called.get_calls gets;
+  free_calls = rise_same m.frees n.frees a.frees b.frees called.free_calls frees;
+}
+
+-- the calls of a Copy to a level: an image is got and put
+pub called_copy : (n k j : ℕ) (a b c : Calls) → Called (one_get k) a b → Called (one_put j) b c → Called (calls_of (Copy n k (Level j))) a c
+called_copy n k j a b c got put =
+    called_same (calls_then (one_get k) (one_put j)) (calls_of (Copy n k (Level j))) a c (called_then (one_get k) (one_put j) a b c got put)
+    (λ i. omega arith) (λ i. omega arith) (λ i. omega arith)

@@ -1,0 +1,111 @@
+use Rattle.std.proofs.Common.{◌≡◌, ◌<◌, ◌∙◌, ℕ, List, length, Err, Contains, refl, ap, sym, subst}
+use Rattle.std.proofs.lemmas.Result.{IfErr-at_err, err_from_is_err_and, on_ok_weaker}
+use Rattle.plan_types.specs.declared.action.Dest.{Dest}
+use Rattle.plan_types.specs.declared.action.Dest.TheVariants.{Level}
+use Rattle.plan_types.specs.declared.action.Action.TheVariants.{Copy}
+use Rattle.level_book.specs.Rules.{levels_named}
+use Rattle.sha2.specs.Sha256.{sha256}
+use Rattle.rv_pages.specs.Memory.{page_numbers}
+use Rattle.rv_machine.specs.MachineState.{MachineState}
+use Rattle.rv_machine.specs.States.{state_number}
+use Rattle.reverse_runner.specs.Standing.{IsNoImage}
+use Rattle.image_store.specs.Shelves.{ShelfState, level_of}
+use Rattle.image_store.specs.Pairs.{held}
+use Rattle.reverse_runner.specs.declared.fault.RunFault.TheVariants.{Keeper, Damaged}
+use Rattle.reverse_runner.specs.Acts.{IsDecoded}
+use Rattle.reverse_runner.specs.KeepersSeen.{told_by, calls_of, calls_to, CalledAtMost}
+use Rattle.reverse_runner.specs.Touching.{IsKeeping}
+use Rattle.reverse_runner.specs.Workspaces.{holdings_in}
+use Rattle.reverse_runner.proofs.Asking.{may_get, may_give, copies_held, copies_free, damage_of, copied_to_work, copy_names_source, copy_names_target, not_named, keeping_is_on, has_keeper_still}
+use Rattle.reverse_runner.proofs.AllCalls.{called_copy, at_most}
+use Rattle.reverse_runner.proofs.Undamaged.{held_stands, fetched_image, state_of_run}
+use Rattle.reverse_runner.proofs.acting.copy.Goals as goal
+
+pub returns-in_err-fetch-clause-damaged : goal.returns-in_err-fetch-clause-damaged
+returns-in_err-fetch-clause-damaged g c k put got e =
+    let p = err_from_is_err_and c.from_residual.result c.from_residual.ensures.1 in
+    let same : c.fetch.result ≡ Err (Damaged k put got) = cc in
+    let other = c.fetch.ensures.damaged k put got same in
+    damage_of (Copy c.args.n c.args.from c.args.dest) (holdings_in c.args.space.now (told_by g.K.Keeper.told c.args.keepers.now.items)) c.args.n c.args.from k put got refl other.0 other.1
+
+pub returns-in_err-fetch-clause-undamaged : goal.returns-in_err-fetch-clause-undamaged
+returns-in_err-fetch-clause-undamaged g c first journal is recorded stands k put got e =
+    let p = err_from_is_err_and c.from_residual.result c.from_residual.ensures.1 in
+    let same : c.fetch.result ≡ Err (Damaged k put got) = cc in
+    let now = c.args.config.now in
+    let is_held = copies_held now.steps now.slots now.at c.args.n c.args.from c.args.dest c.requires.allowed in
+    let s = holdings_in c.args.space.now (told_by g.K.Keeper.told c.args.keepers.now.items) in
+    let there = held_stands first journal now.steps now.slots now.at s c.args.from c.args.n stands c.requires.ready.laid is_held.level is_held.there in
+    IfErr-at_err (IsKeeping c.args.from) same (c.fetch.ensures.sound there.0 there.1)
+
+pub returns-in_err-fetch-clause-others : goal.returns-in_err-fetch-clause-others
+returns-in_err-fetch-clause-others g c k free =
+    c.fetch.ensures.keepers k (not_named (levels_named (Copy c.args.n c.args.from c.args.dest)) k c.args.from (copy_names_source c.args.n c.args.from c.args.dest) free)
+
+pub keep-requires-clause-room : goal.keep-requires-clause-room
+keep-requires-clause-room g c =
+    let now = c.args.config.now in
+    let is_held = copies_held now.steps now.slots now.at c.args.n c.args.from c.args.dest c.requires.allowed in
+    let free = copies_free now.steps now.slots now.at c.args.n c.args.from c.in-Level.to c.args.dest c.requires.allowed c.in-Level.is in
+    let give = may_give now.steps now.slots now.at c.args.space.now.store c.args.n c.args.from c.requires.ready.laid is_held in
+    let get = may_get now.steps now.slots now.at c.args.space.now.store c.args.n c.in-Level.to c.requires.ready.laid free.1 give.1 in
+    let P : List ShelfState → Type 0 = λ s. held (level_of s c.in-Level.to).pairs < (level_of s c.in-Level.to).room in
+    subst P (sym c.fetch.ensures.states.2) get.0
+
+pub keep-requires-clause-slots : goal.keep-requires-clause-slots
+keep-requires-clause-slots g c =
+    let now = c.args.config.now in
+    let free = copies_free now.steps now.slots now.at c.args.n c.args.from c.in-Level.to c.args.dest c.requires.allowed c.in-Level.is in
+    (has_keeper_still g.K.Keeper.slot_count c.args.keepers.now.items c.fetch.new.keepers.items now.steps now.slots now.at c.args.space.now.store c.fetch.new.self.store c.in-Level.to
+    c.requires.ready.laid c.requires.ready.room free.1.level c.fetch.ensures.remain.slots_same c.fetch.ensures.states.2).1
+
+pub returns-in-Work-clause-acts : goal.returns-in-Work-clause-acts
+returns-in-Work-clause-acts g c journal =
+    let told = g.K.Keeper.told in
+    let old = holdings_in c.args.space.now (told_by told c.args.keepers.now.items) in
+    let new = holdings_in c.decode.new.self (told_by told c.fetch.new.keepers.items) in
+    let stays = c.fetch.ensures.states in
+    let P : MachineState → Type 0 = λ s. IsDecoded s c.decode.new.self.work c.fetch.new.self.buffer.items in
+    on_ok_weaker c.decode.result (λ decoded.
+    copied_to_work journal c.args.n c.args.from c.args.dest old new c.fetch.new.self.buffer.items c.in-Work.is c.in_ok-fetch.ensures.fetched (subst P stays.0 decoded)
+    (c.decode.ensures.tape ∙ stays.1) (ap length (c.decode.ensures.store ∙ stays.2))
+    (λ j. let same = c.fetch.ensures.same j in (ap (λ (s : List ShelfState). level_of s j) (c.decode.ensures.store ∙ stays.2), same.1)))
+    c.decode.ensures.decoded
+
+pub returns-in-Work-clause-undamaged : goal.returns-in-Work-clause-undamaged
+returns-in-Work-clause-undamaged g c first journal is recorded stands k put got e =
+    let now = c.args.config.now in
+    let is_held = copies_held now.steps now.slots now.at c.args.n c.args.from c.args.dest c.requires.allowed in
+    let s = holdings_in c.args.space.now (told_by g.K.Keeper.told c.args.keepers.now.items) in
+    let got_is = fetched_image first journal now.steps now.slots now.at s c.args.from c.args.n c.fetch.new.self.buffer.items stands c.requires.ready.laid is_held.level is_held.there
+    c.in_ok-fetch.ensures.fetched in
+    let state = state_of_run first journal now.at s c.args.n is recorded stands in
+    let none = IfErr-at_err (λ fault. (fault ≡ Damaged c.args.from (sha256 c.fetch.new.self.buffer.items) (sha256 c.fetch.new.self.buffer.items)) × IsNoImage c.fetch.new.self.work c.fetch.new.self.buffer.items) e
+    c.decode.ensures.damaged in
+    none.1 (state_number first journal c.args.n) state.0 (state.1 ∙ sym (ap (λ (x : MachineState). page_numbers x.memory) c.fetch.ensures.states.0)) (sym got_is)
+
+pub returns-in-Work-clause-others : goal.returns-in-Work-clause-others
+returns-in-Work-clause-others g c k free =
+    c.fetch.ensures.keepers k (not_named (levels_named (Copy c.args.n c.args.from c.args.dest)) k c.args.from (copy_names_source c.args.n c.args.from c.args.dest) free)
+
+pub returns-in-Level-clause-at_most : goal.returns-in-Level-clause-at_most
+returns-in-Level-clause-at_most g c =
+    let calls = calls_to g.K.Keeper.put_count g.K.Keeper.get_count g.K.Keeper.free_count in
+    let old = calls c.args.keepers.now.items in
+    let new = calls c.keep.new.keepers.items in
+    let P : Dest → Type 0 = λ d. CalledAtMost (calls_of (Copy c.args.n c.args.from d)) old new in
+    subst P (sym c.in-Level.is)
+    (at_most (calls_of (Copy c.args.n c.args.from (Level c.in-Level.to))) old new
+    (called_copy c.args.n c.args.from c.in-Level.to old (calls c.fetch.new.keepers.items) new c.fetch.ensures.called c.keep.ensures.called))
+
+pub returns-in-Level-clause-others : goal.returns-in-Level-clause-others
+returns-in-Level-clause-others g c k free =
+    let names = levels_named (Copy c.args.n c.args.from c.args.dest) in
+    c.keep.ensures.keepers k (not_named names k c.in-Level.to (copy_names_target c.args.n c.args.from c.in-Level.to c.args.dest c.in-Level.is) free)
+    ∙ c.fetch.ensures.keepers k (not_named names k c.args.from (copy_names_source c.args.n c.args.from c.args.dest) free)
+
+pub returns-in-Level-clause-named : goal.returns-in-Level-clause-named
+returns-in-Level-clause-named g c k e =
+    let on = keeping_is_on c.in-Level.to k (Keeper k) (IfErr-at_err (IsKeeping c.in-Level.to) e c.keep.ensures.fault) refl in
+    let P : ℕ → Type 0 = λ j. Contains (levels_named (Copy c.args.n c.args.from c.args.dest)) j in
+    subst P (sym on) (copy_names_target c.args.n c.args.from c.in-Level.to c.args.dest c.in-Level.is)

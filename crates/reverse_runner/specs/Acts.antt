@@ -1,0 +1,81 @@
+-- What an action does to the states of a session and to the levels of its store, by the bytes that were fetched. It says
+-- so also where nothing stands; what a keeper tells comes in only where it tells.
+use Rattle.std.specs.Prelude.{◌≡◌, ◌≢◌, ℕ, ◌-◌, ◌≤◌, List, length, Option, Some}
+use Rattle.sha2.specs.Sha256.{sha256}
+use Rattle.keepers.specs.Told.{Images}
+use Rattle.plan_types.specs.declared.action.Keep.TheVariants.{Nothing, Store, Tape}
+use Rattle.plan_types.specs.declared.action.Dest.TheVariants.{Work, Level}
+use Rattle.plan_types.specs.declared.action.Action.{Action}
+use Rattle.plan_types.specs.declared.action.Action.TheVariants.{Forward, Reverse, Copy, Move, EndForward, EndReverse}
+use Rattle.rv_pages.specs.Memory.{page_numbers}
+use Rattle.rv_machine.specs.MachineState.{MachineState, IsMachineState}
+use Rattle.rv_machine.specs.States.{state_number}
+use Rattle.state_image.specs.Image.{image}
+use Rattle.image_store.specs.declared.shelf.Kept.{Kept}
+use Rattle.image_store.specs.Shelves.{ShelfState, level_of, kept_at}
+use Rattle.image_store.specs.Calls.{IsKept, IsGot, IsFreed, without_pair}
+
+-- the levels of a session: the pairs of its store, and what their keepers tell, by the numbers of the levels
+pub record Levels : Type 0 where
+  pub store : List ShelfState
+  pub told : ℕ → Option Images
+
+-- what a session holds: the states in work and on the tape, and its levels
+pub record Holdings : Type 0 where
+  pub work : MachineState
+  pub tape : MachineState
+  pub levels : Levels
+
+-- nothing was done to a level
+abbrev pub IsAsBefore : Levels → Levels → ℕ → Type 0
+IsAsBefore old new k = (level_of new.store k ≡ level_of old.store k) × (new.told k ≡ old.told k)
+
+-- The bytes of a pair were fetched: they are no more than were put, and have their digest. Where the keeper tells, they
+-- are what it tells.
+abbrev pub IsFetched : Levels → ℕ → ℕ → List ℕ → Type 0
+IsFetched old k n got =
+    (kept : Kept) × (kept_at old.store k n ≡ Some kept) × IsGot kept (old.told k) got × (length got ≤ kept.length) × (sha256 got ≡ kept.digest)
+
+-- these bytes were kept on a level
+abbrev pub Keeps : Levels → Levels → ℕ → ℕ → List ℕ → Type 0
+Keeps old new k n bytes = IsKept (level_of old.store k) (level_of new.store k) n bytes (old.told k) (new.told k)
+
+-- a pair was released, and its slot emptied
+abbrev pub Releases : Levels → Levels → ℕ → ℕ → Type 0
+Releases old new k n =
+    (level_of new.store k ≡ without_pair (level_of old.store k) n)
+    × ((kept : Kept) × (kept_at old.store k n ≡ Some kept) × IsFreed kept (old.told k) (new.told k))
+
+-- a state that a machine can be in became one whose image these bytes are, with the same pages
+abbrev pub IsDecoded : MachineState → MachineState → List ℕ → Type 0
+IsDecoded before after bytes = IsMachineState after × (image after ≡ bytes) × (page_numbers after.memory ≡ page_numbers before.memory)
+
+-- by the actions
+abbrev pub Does : List (List ℕ) → Action → Holdings → Holdings → Type 0
+Does journal (Forward from to Nothing) old new =
+    (new.work ≡ state_number old.work journal (to - from)) × (new.tape ≡ old.tape) × ((k : ℕ) → IsAsBefore old.levels new.levels k)
+Does journal (Forward from to (Store k)) old new =
+    (new.work ≡ state_number old.work journal (to - from)) × (new.tape ≡ old.tape)
+    × Keeps old.levels new.levels k from (image old.work) × ((j : ℕ) → j ≢ k → IsAsBefore old.levels new.levels j)
+Does journal (Forward from to Tape) old new =
+    (new.work ≡ state_number old.work journal (to - from)) × (new.tape ≡ old.work) × ((k : ℕ) → IsAsBefore old.levels new.levels k)
+Does journal (Reverse from to) old new = (new.work ≡ old.work) × (new.tape ≡ old.tape) × ((k : ℕ) → IsAsBefore old.levels new.levels k)
+Does journal (Copy n k Work) old new =
+    ((got : List ℕ) × (IsFetched old.levels k n got × IsDecoded old.work new.work got)) × (new.tape ≡ old.tape) × ((j : ℕ) → IsAsBefore old.levels new.levels j)
+Does journal (Copy n k (Level j)) old new =
+    (new.work ≡ old.work) × (new.tape ≡ old.tape)
+    × ((got : List ℕ) × (IsFetched old.levels k n got × Keeps old.levels new.levels j n got)) × ((i : ℕ) → i ≢ j → IsAsBefore old.levels new.levels i)
+Does journal (Move n k Work) old new =
+    ((got : List ℕ) × (IsFetched old.levels k n got × IsDecoded old.work new.work got)) × (new.tape ≡ old.tape)
+    × Releases old.levels new.levels k n × ((j : ℕ) → j ≢ k → IsAsBefore old.levels new.levels j)
+Does journal (Move n k (Level j)) old new =
+    (new.work ≡ old.work) × (new.tape ≡ old.tape)
+    × ((got : List ℕ) × (IsFetched old.levels k n got × Keeps old.levels new.levels j n got)) × Releases old.levels new.levels k n
+    × ((i : ℕ) → i ≢ j → i ≢ k → IsAsBefore old.levels new.levels i)
+Does journal EndForward old new = (new.work ≡ old.work) × (new.tape ≡ old.tape) × ((k : ℕ) → IsAsBefore old.levels new.levels k)
+Does journal EndReverse old new = (new.work ≡ old.work) × (new.tape ≡ old.tape) × ((k : ℕ) → IsAsBefore old.levels new.levels k)
+
+-- what becomes of the holdings of a session where an action was performed
+pub record Acts (journal : List (List ℕ)) (action : Action) (old new : Holdings) : Type 0 where
+  pub count : length new.levels.store ≡ length old.levels.store
+  pub does : Does journal action old new

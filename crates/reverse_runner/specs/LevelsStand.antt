@@ -1,0 +1,54 @@
+-- At which configuration of a run the holdings of a session stand: the states in work and on the tape are those of the
+-- run, by their numbers, and each level stands for the images of the states that it holds.
+use Rattle.std.specs.Prelude.{◌≡◌, ℕ, ◌+◌, ◌<◌, cond, false, List, length, slice_index_or, Option, None, Some, is_some, MatchOption}
+use Rattle.std.specs.Ordering.{nat_cmp}
+use Rattle.std.specs.FinSet as set
+use Rattle.std.specs.FinMap as finmap
+use Rattle.level_book.specs.declared.book.Slots.{Slots}
+use Rattle.level_book.specs.declared.book.Slots.TheVariants.{Count}
+use Rattle.level_book.specs.BookCosts.{least}
+use Rattle.level_book.specs.Configuration.{Configuration, held_on}
+use Rattle.keepers.specs.Told.{Images}
+use Rattle.rv_machine.specs.MachineState.{MachineState}
+use Rattle.rv_machine.specs.States.{state_number}
+use Rattle.state_image.specs.Image.{image}
+use Rattle.image_store.specs.Pairs.{pair_at, held}
+use Rattle.image_store.specs.Shelves.{ShelfState, level_of}
+use Rattle.image_store.specs.Standing.{LevelStands, LevelAlone}
+use Rattle.reverse_runner.specs.Acts.{Levels, Holdings}
+
+-- numbers of states
+abbrev pub Numbers : Type 0
+Numbers = set.FinSet nat_cmp
+
+-- the images of the states of a run with these numbers, and no more
+abbrev pub AreImages : MachineState → List (List ℕ) → Numbers → Images → Type 0
+AreImages first journal numbers images =
+    (n : ℕ) → finmap.get images n ≡ cond (set.contains numbers n) (Some (image (state_number first journal n))) None
+
+-- a level that holds these numbers stands for their images
+abbrev pub LevelStandsAt : MachineState → List (List ℕ) → Numbers → ShelfState → Option Images → Type 0
+LevelStandsAt first journal numbers level told = (images : Images) × (AreImages first journal numbers images × LevelStands level told images)
+
+pub record HoldingsStandAt (first : MachineState) (journal : List (List ℕ)) (c : Configuration) (s : Holdings) : Type 0 where
+  pub work : s.work ≡ state_number first journal c.work
+  pub tape : MatchOption c.tape (Unit {0}) (λ n. s.tape ≡ state_number first journal n)
+  pub levels : (k : ℕ) → k < length s.levels.store → LevelStandsAt first journal (held_on c k) (level_of s.levels.store k) (s.levels.told k)
+
+-- no keeper has an image but those of the pairs
+abbrev pub AreAlone : Levels → Type 0
+AreAlone s = (k : ℕ) → k < length s.store → LevelAlone (level_of s.store k) (s.told k)
+
+-- a level that holds these numbers: it has a pair for each of them, and no more; there is a place for each state of a run
+-- of so many steps, and room for as many pairs as such a run can hold there, which never holds the last state
+pub record IsLevelLaidOut (steps : ℕ) (slots : Slots) (numbers : Numbers) (level : ShelfState) : Type 0 where
+  pub places : length level.pairs ≡ steps + 1
+  pub room : level.room ≡ least slots steps
+  pub pairs : (n : ℕ) → is_some (pair_at level.pairs n) ≡ set.contains numbers n
+  pub count : held level.pairs ≡ set.len numbers
+  pub last : set.contains numbers steps ≡ false
+
+-- the levels of a store hold the pairs that a configuration names
+pub record IsLaidOut (steps : ℕ) (slots : List Slots) (c : Configuration) (store : List ShelfState) : Type 0 where
+  pub levels : length store ≡ length slots
+  pub each : (k : ℕ) → k < length store → IsLevelLaidOut steps (slice_index_or slots k (Count 0)) (held_on c k) (level_of store k)

@@ -1,0 +1,214 @@
+// What a session works with: its states, and the images that its levels keep.
+ghost use Rattle.std.specs.Prelude.{◌≡◌, ◌≢◌, ◌+◌, ◌*◌, ◌<◌, ◌≤◌, ◌^◌, ℕ, List, length, map, Err, IfOk, IfErr, OnOk, OnErr, IsSome, None};
+ghost use Rattle.std.specs.Vec.{vec_len, vec_capacity};
+ghost use Rattle.level_book.specs.BookCosts.{slots_of};
+ghost use Rattle.rv_machine.specs.MachineState.{MachineState, IsMachineState};
+ghost use Rattle.rv_machine.specs.States.{state_number};
+ghost use Rattle.state_image.specs.Image.{image};
+ghost use Rattle.image_store.specs.Pairs.{held};
+ghost use Rattle.image_store.specs.Shelves.{level_of, kept_at, no_pairs_on};
+ghost use Rattle.image_store.specs.Standing.{LevelStands};
+ghost use Rattle.keepers.specs.Told.{Images};
+ghost use Rattle.reverse_runner.specs.Acts.{IsAsBefore, IsFetched, IsDecoded, Keeps, Releases};
+ghost use Rattle.reverse_runner.specs.KeepersSeen.{by_number, told_by, calls_to, Called};
+ghost use Rattle.reverse_runner.specs.SessionState.{SamePages};
+ghost use Rattle.reverse_runner.specs.Standing.{IsNoImage};
+ghost use Rattle.reverse_runner.specs.Touching.{one_put, one_get, one_free, Remain, OthersRemain, IsCaused, IsKeeping, IsFetching, IsOther};
+ghost use Rattle.sha2.specs.Sha256.{sha256};
+
+use crate::fault::RunFault;
+use image_store::Store;
+use input_journal::Journal;
+use keepers::Keeper;
+use level_book::Book;
+use rv_machine::{State, Steps, step};
+use sha2::{Digest, Sha256};
+use state_image::{decode_image, encode_image, max_image};
+use std::alloc::{AllocError, Global};
+use std::sync::ledger::Ledger;
+
+/// The state in work, the state on the tape, which images the levels keep, and a buffer for the bytes of one image.
+#[derive(Drop)]
+pub(crate) struct Workspace {
+    pub work: State,
+    pub tape: State,
+    pub store: Store,
+    pub buffer: Vec<u8>,
+}
+
+impl Workspace {
+    ghost use Rattle.reverse_runner.specs.Workspaces.{Fits, levels_in};
+
+    /// A workspace with a state in work, and no images. It takes all the memory that it ever needs.
+    pub fn begin(
+        alloc: Global,
+        start: State,
+        book: &Book,
+        steps: u32,
+    ) -> Result<Workspace, AllocError>
+        ensures work { IfOk result (λ w. w.work ≡ start) }
+        ensures tape { IfOk result (λ w. w.tape ≡ start) }
+        ensures store { IfOk result (λ w. w.store ≡ no_pairs_on (slots_of book.now) steps) }
+        ensures fits { IfOk result Fits }
+    {
+        let store = Store::begin(alloc, book, steps)?;
+        let buffer = Vec::with_capacity(alloc, max_image(&start) as usize)?;
+        let tape = start.clone()?;
+        Ok(Workspace {
+            work: start,
+            tape,
+            store,
+            buffer,
+        })
+    }
+
+    /// Takes so many steps of the machine.
+    pub fn advance<L: Ledger>(&mut self, journal: &Journal, count: u32, steps: &mut Steps<L>)
+        ensures work { self.new.work ≡ state_number self.old.work journal.now count }
+        ensures pages { SamePages self.old.work self.new.work }
+        ensures tape { self.new.tape ≡ self.old.tape }
+        ensures store { self.new.store ≡ self.old.store }
+        ensures buffer { self.new.buffer ≡ self.old.buffer }
+        ensures counted { steps.new ≡ steps.old + count }
+    {
+        for _ in 0..count {
+            step(&mut self.work, journal, steps);
+        }
+    }
+
+    /// Copies the state in work to the tape.
+    pub fn put_on_tape(&mut self)
+        requires { SamePages self.old.tape self.old.work }
+        ensures { self.new ≡ record self.old { tape = self.old.work } }
+    {
+        self.tape.copy_from(&self.work);
+    }
+
+    /// Writes the image of the state in work into the buffer.
+    pub fn encode(&mut self)
+        requires { Fits self.old }
+        ensures image { self.new.buffer.items ≡ image self.old.work }
+        ensures short { vec_len self.new.buffer < 2 ^ 32 }
+        ensures work { self.new.work ≡ self.old.work }
+        ensures tape { self.new.tape ≡ self.old.tape }
+        ensures store { self.new.store ≡ self.old.store }
+        ensures fits { Fits self.new }
+    {
+        encode_image(&self.work, &mut self.buffer);
+    }
+
+    /// Makes the state in work the one whose image stands in the buffer, which came from a level.
+    pub fn decode(&mut self, level: u8) -> Result<(), RunFault>
+        requires { Fits self.old }
+        ensures decoded { OnOk result (IsDecoded self.old.work self.new.work self.old.buffer.items) }
+        ensures damaged { IfErr result (λ fault. (fault ≡ RunFault.Damaged level (sha256 self.old.buffer.items) (sha256 self.old.buffer.items)) × IsNoImage self.old.work self.old.buffer.items) }
+        ensures tape { self.new.tape ≡ self.old.tape }
+        ensures store { self.new.store ≡ self.old.store }
+        ensures fits { Fits self.new }
+    {
+        match decode_image(self.buffer.as_slice(), &mut self.work) {
+            Ok(()) => {
+                self.work.is_machine_state();
+                Ok(())
+            }
+            Err(_) => {
+                let digest = Sha256::digest(self.buffer.as_slice());
+                Err(RunFault::Damaged {
+                    level,
+                    put: digest,
+                    got: digest,
+                })
+            }
+        }
+    }
+
+    /// Keeps the bytes in the buffer on a level.
+    pub fn keep<K: Keeper>(
+        &mut self,
+        keepers: &mut Vec<K>,
+        level: u8,
+        n: u32,
+    ) -> Result<(), RunFault>
+        requires there { level < vec_len keepers.old }
+        requires level { level < length self.old.store }
+        requires number { n < length (level_of self.old.store level).pairs }
+        requires new { kept_at self.old.store level n ≡ None }
+        requires room { held (level_of self.old.store level).pairs < (level_of self.old.store level).room }
+        requires size { vec_len self.old.buffer < 2 ^ 32 }
+        requires slots { (level_of self.old.store level).room ≤ by_number 0 K.slot_count keepers.old.items level }
+        ensures keeps { OnOk result (Keeps (levels_in self.old (told_by K.told keepers.old.items)) (levels_in self.new (told_by K.told keepers.new.items)) level n self.old.buffer.items) }
+        ensures others { (j : ℕ) → j ≢ level → IsAsBefore (levels_in self.old (told_by K.told keepers.old.items)) (levels_in self.new (told_by K.told keepers.new.items)) j }
+        ensures count { length self.new.store ≡ length self.old.store }
+        ensures states { (self.new.work ≡ self.old.work) × (self.new.tape ≡ self.old.tape) × (self.new.buffer ≡ self.old.buffer) }
+        ensures called { Called (one_put level) (calls_to K.put_count K.get_count K.free_count keepers.old.items) (calls_to K.put_count K.get_count K.free_count keepers.new.items) }
+        ensures remain { Remain K.slot_count K.fault_count keepers.old.items keepers.new.items }
+        ensures keepers { OthersRemain level keepers.old.items keepers.new.items }
+        ensures caused { IsCaused K.fault_count keepers.old.items keepers.new.items result }
+        ensures fault { IfErr result (IsKeeping level) }
+    {
+        let keeper = &mut keepers[level as usize];
+        match self.store.keep(keeper, level, n, self.buffer.as_slice()) {
+            Ok(()) => Ok(()),
+            Err(fault) => Err(RunFault::on(level, fault)),
+        }
+    }
+
+    /// Gets the bytes of a held pair into the buffer.
+    pub fn fetch<K: Keeper>(
+        &mut self,
+        keepers: &mut Vec<K>,
+        level: u8,
+        n: u32,
+    ) -> Result<(), RunFault>
+        requires there { level < vec_len keepers.old }
+        requires level { level < length self.old.store }
+        requires held { IsSome (kept_at self.old.store level n) }
+        requires slots { (level_of self.old.store level).room ≤ by_number 0 K.slot_count keepers.old.items level }
+        ensures fetched { OnOk result (IsFetched (levels_in self.old (told_by K.told keepers.old.items)) level n self.new.buffer.items) }
+        ensures damaged { (k : ℕ) (put got : List ℕ) → result ≡ Err (RunFault.Damaged k put got) → (k ≡ level) × IsOther (levels_in self.old (told_by K.told keepers.old.items)) level n put got }
+        ensures sound { (images : Images) → LevelStands (level_of self.old.store level) (told_by K.told keepers.old.items level) images → IfErr result (IsKeeping level) }
+        ensures fault { IfErr result (IsFetching level) }
+        ensures same { (j : ℕ) → IsAsBefore (levels_in self.old (told_by K.told keepers.old.items)) (levels_in self.new (told_by K.told keepers.new.items)) j }
+        ensures short { OnOk result (vec_len self.new.buffer < 2 ^ 32) }
+        ensures reserved { vec_capacity self.old.buffer ≤ vec_capacity self.new.buffer }
+        ensures states { (self.new.work ≡ self.old.work) × (self.new.tape ≡ self.old.tape) × (self.new.store ≡ self.old.store) }
+        ensures called { Called (one_get level) (calls_to K.put_count K.get_count K.free_count keepers.old.items) (calls_to K.put_count K.get_count K.free_count keepers.new.items) }
+        ensures remain { Remain K.slot_count K.fault_count keepers.old.items keepers.new.items }
+        ensures keepers { OthersRemain level keepers.old.items keepers.new.items }
+        ensures caused { IsCaused K.fault_count keepers.old.items keepers.new.items result }
+    {
+        let keeper = &mut keepers[level as usize];
+        match self.store.fetch(keeper, level, n, &mut self.buffer) {
+            Ok(()) => Ok(()),
+            Err(fault) => Err(RunFault::on(level, fault)),
+        }
+    }
+
+    /// Releases a held pair.
+    pub fn release<K: Keeper>(
+        &mut self,
+        keepers: &mut Vec<K>,
+        level: u8,
+        n: u32,
+    ) -> Result<(), RunFault>
+        requires there { level < vec_len keepers.old }
+        requires level { level < length self.old.store }
+        requires held { IsSome (kept_at self.old.store level n) }
+        requires slots { (level_of self.old.store level).room ≤ by_number 0 K.slot_count keepers.old.items level }
+        ensures releases { OnOk result (Releases (levels_in self.old (told_by K.told keepers.old.items)) (levels_in self.new (told_by K.told keepers.new.items)) level n) }
+        ensures others { (j : ℕ) → j ≢ level → IsAsBefore (levels_in self.old (told_by K.told keepers.old.items)) (levels_in self.new (told_by K.told keepers.new.items)) j }
+        ensures count { length self.new.store ≡ length self.old.store }
+        ensures states { (self.new.work ≡ self.old.work) × (self.new.tape ≡ self.old.tape) × (self.new.buffer ≡ self.old.buffer) }
+        ensures called { Called (one_free level) (calls_to K.put_count K.get_count K.free_count keepers.old.items) (calls_to K.put_count K.get_count K.free_count keepers.new.items) }
+        ensures remain { Remain K.slot_count K.fault_count keepers.old.items keepers.new.items }
+        ensures keepers { OthersRemain level keepers.old.items keepers.new.items }
+        ensures caused { IsCaused K.fault_count keepers.old.items keepers.new.items result }
+        ensures fault { IfErr result (IsKeeping level) }
+    {
+        let keeper = &mut keepers[level as usize];
+        match self.store.release(keeper, level, n) {
+            Ok(()) => Ok(()),
+            Err(fault) => Err(RunFault::on(level, fault)),
+        }
+    }
+}
