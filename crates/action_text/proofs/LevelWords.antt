@@ -1,11 +1,15 @@
 -- The names of levels as words: a level's name is found, and no other word is a level.
-use Rattle.std.proofs.Common.{◌≡◌, ℕ, zero, suc, ◌+◌, ◌<◌, Bool, true, false, not, List, [], ◌∷◌, length, get_or, slice_get, Option, Some, None, refl, sym, ap, ◌∙◌, arith, inl, inr, Contains}
+use Rattle.std.proofs.Common.{◌≡◌, ℕ, zero, suc, ◌+◌, ◌<◌, Bool, true, false, not, List, [], ◌∷◌, length, get_or, slice_get, Option, Some, None, refl, sym, ap, ◌∙◌, arith, inl, inr, Contains, below_more, ◌≤◌}
 use Rattle.std.specs.List.{AllByRecursion, IsDistinct, position_from, list_all}
 use Rattle.std.specs.Str.{bytes_eq}
 use Rattle.std.proofs.lemmas.Bool.Decides.{nat_tests}
 use Rattle.std.proofs.lemmas.Slice.Eq.{bytes_eq-Decides}
 use Rattle.std.proofs.lemmas.Iterator.Adapters.{position_from-zero}
 use Rattle.std.proofs.lemmas.List.{length-map}
+use Rattle.std.proofs.lemmas.Option.{slice_get-map}
+use Rattle.std.specs.Prelude.{option_map}
+use Rattle.level_book.specs.declared.book.Level.{Level}
+use Rattle.action_text.specs.Bytes.{IsWord}
 use Rattle.level_book.specs.BookCosts.{BookCosts, names_of}
 use Rattle.level_book.specs.Names.{is_name, is_spelled, is_name_byte, AreNames}
 use Rattle.action_text.specs.Tokens.{is_run_byte, starts_run}
@@ -36,6 +40,15 @@ pub name_is_run : (name : List ℕ) → is_name name ≡ true → IsRun name
 name_is_run name is =
     let spelled = (both (is_spelled name) _ (both _ _ is).0).0 in
     record { some = first_is_run name spelled; each = all_run name (both _ _ spelled).1 }
+
+all_of_word : (name : List ℕ) → list_all is_name_byte name ≡ true → list_all is_run_byte name ≡ true
+all_of_word [] all = refl
+all_of_word (b ∷ bs) all = let p = both (is_name_byte b) (list_all is_name_byte bs) all in rw (upper_is_run b p.0, all_of_word bs p.1) refl
+
+pub name_is_word : (name : List ℕ) → is_name name ≡ true → IsWord name
+name_is_word name is =
+    let spelled = (both (is_spelled name) _ (both _ _ is).0).0 in
+    record { some = first_is_run name spelled; each = all_of_word name (both _ _ spelled).1 }
 
 is_false : (b : Bool) → not b ≡ true → b ≡ false
 is_false true h = cc
@@ -131,3 +144,41 @@ at_contained names text c = (c.0, there names c.0 c.1 c.2)
 -- a level of a book has a name
 pub is_level : (book : BookCosts) (k : ℕ) → k < length book.levels → k < length (names_of book)
 is_level book k within = rw length-map within
+
+-- ---- the levels of a book, one after the other
+
+pub name_of_level : (book : BookCosts) (k : ℕ) (level : Level) → slice_get book.levels k ≡ Some level → slice_get (names_of book) k ≡ Some level.name
+name_of_level book k level at = slice_get-map (λ (l : Level). l.name) book.levels k ∙ ap (option_map (λ (l : Level). l.name)) at
+
+pub level_is_word : (book : BookCosts) (k : ℕ) (level : Level) → AreNames (names_of book) → slice_get book.levels k ≡ Some level → IsWord level.name
+level_is_word book k level are at = name_is_word level.name (level_is_name (names_of book) k level.name are (name_of_level book k level at))
+
+pub level_found_here : (book : BookCosts) (k : ℕ) (level : Level) (text : List ℕ) → AreNames (names_of book) → slice_get book.levels k ≡ Some level → bytes_eq text level.name ≡ true →
+    level_of (names_of book) text ≡ Some k
+level_found_here book k level text are at same =
+    level_found (names_of book) k text are (name_of_level book k level at ∙ ap Some (sym (same_bytes text level.name same)))
+
+-- no level with a number below this one has the name
+abbrev pub NoneBelow : BookCosts → List ℕ → ℕ → Type 0
+NoneBelow book text k = (j : ℕ) → j < k → slice_get (names_of book) j ≡ Some text → ⊥
+
+pub none_below_more : (book : BookCosts) (k : ℕ) (level : Level) (text : List ℕ) → NoneBelow book text k → slice_get book.levels k ≡ Some level → bytes_eq text level.name ≡ false →
+    NoneBelow book text (k + 1)
+none_below_more book k level text none at differs =
+    below_more (λ (j : ℕ). slice_get (names_of book) j ≡ Some text → ⊥) k none
+    (λ here. let same : text ≡ level.name = cc (name_of_level book k level at, here) in cc (bytes_same text level.name same, differs))
+
+pub no_level_found : (book : BookCosts) (k : ℕ) (text : List ℕ) → NoneBelow book text k → length book.levels ≤ k → level_of (names_of book) text ≡ None
+no_level_found book k text none past = none_of (level_of (names_of book) text) refl
+  where
+    within : (names : List (List ℕ)) (j : ℕ) → slice_get names j ≡ Some text → j < length names
+    within [] j at = cc
+    within (name ∷ names) zero at = omega arith
+    within (name ∷ names) (suc j) at = omega (arith, within names j at)
+
+    none_of : (o : Option ℕ) → level_of (names_of book) text ≡ o → level_of (names_of book) text ≡ None
+    none_of None e = e
+    none_of (Some j) e =
+        let at = level_is (names_of book) text j e in
+        let count : length (names_of book) ≡ length book.levels = rw length-map refl in
+        absurd (none j (omega (arith, within (names_of book) j at, count)) at)

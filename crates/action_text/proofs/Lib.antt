@@ -1,6 +1,7 @@
 pub mod Steps
 pub mod Decimal
 pub mod Seen
+pub mod Fronts
 pub mod LineOf
 pub mod ManyLines
 pub mod LevelWords

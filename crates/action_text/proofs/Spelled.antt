@@ -183,7 +183,7 @@ one_spelling names are a b spells also same =
 
 -- ---- lines
 
-abbrev HasNoEnd : List ℕ → Type 0
+abbrev pub HasNoEnd : List ℕ → Type 0
 HasNoEnd bs = AllByRecursion (λ b. eqb b 10 ≡ false) bs
 
 both_parts : (xs ys : List ℕ) → HasNoEnd xs → HasNoEnd ys → HasNoEnd (xs ++ ys)
@@ -222,7 +222,7 @@ copy_endless names before n k d are low level dest front =
     (run_endless (dest_text names d) (dest_run names d are dest).each))
     (literal (codes ")") refl))
 
-endless : (names : List (List ℕ)) (a : Action) → AreNames names → HasSpelling names a → HasNoEnd (canonical names a)
+pub endless : (names : List (List ℕ)) (a : Action) → AreNames names → HasSpelling names a → HasNoEnd (canonical names a)
 endless names (Forward n m Nothing) are (low, high, keeps) = two_endless (codes "Forward(") n m (codes ", False, False, NONE)") low high (literal (codes "Forward(") refl) (literal (codes ", False, False, NONE)") refl)
 endless names (Forward n m (Store k)) are (low, high, keeps) =
     two_endless (codes "Forward(") n m (keep_text names (Store k)) low high (literal (codes "Forward(") refl)

@@ -1,6 +1,9 @@
 -- No public clause cites this file. Where the parts of a line lie in its bytes.
 use Rattle.std.specs.Prelude.{ℕ, ◌+◌, ◌==◌, ◌||◌, Bool, true, List, [], ◌∷◌, Option, Some, None, if◌then◌else◌}
-use Rattle.action_text.specs.Tokens.{is_blank, is_run_byte}
+use Rattle.std.specs.Prelude.{◌≡◌, take, drop}
+use Rattle.std.specs.List.{list_all}
+use Rattle.std.specs.Str.{bytes_eq}
+use Rattle.action_text.specs.Tokens.{is_blank, is_run_byte, starts_run}
 
 -- the bytes from the first one on that isn't a blank
 unfoldable pub without_blanks : List ℕ → List ℕ
@@ -30,3 +33,25 @@ begins_nothing (b ∷ bs) = b == 10 || b == 35
 unfoldable pub run_length : List ℕ → ℕ
 run_length [] = 0
 run_length (b ∷ bs) = if is_run_byte b then run_length bs + 1 else 0
+
+-- the run at the front of the bytes, and what stands behind it
+abbrev pub run_of : List ℕ → List ℕ
+run_of bs = take (run_length bs) bs
+
+abbrev pub behind_run : List ℕ → List ℕ
+behind_run bs = drop (run_length bs) bs
+
+-- bytes that are one run
+pub record IsWord (word : List ℕ) : Type 0 where
+  pub some : starts_run word ≡ true
+  pub each : list_all is_run_byte word ≡ true
+
+-- the bytes behind a word, where it is the run at the front
+abbrev pub behind_word : List ℕ → List ℕ → Option (List ℕ)
+behind_word bs word = if bytes_eq (run_of bs) word then Some (behind_run bs) else None
+
+-- the bytes behind other ones, where they begin with those
+unfoldable pub behind_front : List ℕ → List ℕ → Option (List ℕ)
+behind_front bs [] = Some bs
+behind_front [] (w ∷ ws) = None
+behind_front (b ∷ bs) (w ∷ ws) = if b == w then behind_front bs ws else None

@@ -72,6 +72,11 @@ whole (Some x) = if length x.1 == 0 then Some x.0 else None
 unfoldable pub number_of : List ℕ → Option ℕ
 number_of text = whole (number_at 1000000 text)
 
+-- what was read at the front of bytes, unless a run goes on behind it
+abbrev pub alone : {A : Type 0} → Option (A × List ℕ) → Option A
+alone None = None
+alone (Some x) = if starts_run x.1 then None else Some x.0
+
 -- ---- other words
 
 abbrev pub truth_of : List ℕ → Option Bool
@@ -125,6 +130,16 @@ text_at rest = text_in rest.tokens
 
 unfoldable pub column_at : Rest → ℕ
 column_at rest = column_in rest.tokens rest.end
+
+-- what the next token was read as: where it was, it was gone past, and else nothing was
+abbrev pub Takes : {A : Type 0} → Option A → Option A → Rest → Rest → Type 0
+Takes (Some x) read old new = (read ≡ Some x) × (starts_run (text_at old) ≡ true) × (new ≡ behind old)
+Takes None read old new = (read ≡ None) × (new ≡ old)
+
+-- the same of one word
+abbrev pub TakesWord : Bool → List ℕ → Rest → Rest → Type 0
+TakesWord true word old new = (bytes_eq (text_at old) word ≡ true) × (starts_run (text_at old) ≡ true) × (new ≡ behind old)
+TakesWord false word old new = (bytes_eq (text_at old) word ≡ false) × (new ≡ old)
 
 abbrev pub not_action : ℕ → LineFault
 not_action column = record { rule = rule.NotAction; column = column }

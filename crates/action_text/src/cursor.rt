@@ -1,11 +1,12 @@
 // A cursor over the bytes of a text, which goes from token to token of a line, and from line to line.
-ghost use Rattle.std.specs.Prelude.{◌≡◌, ◌≢◌, ◌<◌, ◌≤◌, ◌+◌, ◌-◌, ◌^◌, ◌∷◌, [], false, true, length, IsTrue, MatchResult, IfOk, IfErr, OnOk, Ok, Err};
+ghost use Rattle.std.specs.Prelude.{◌≡◌, ◌≢◌, ◌<◌, ◌≤◌, ◌+◌, ◌-◌, ◌^◌, ◌∷◌, [], false, true, length, IsTrue, MatchResult, IfOk, IfErr, OnOk, Ok, Err, IfSome};
 ghost use Rattle.action_text.specs.Tokens.{is_blank, is_run_byte, starts_run};
 ghost use Rattle.action_text.specs.ScheduleText.{lines};
-ghost use Rattle.action_text.specs.Bytes.{without_blanks, behind_line, past, ends_line, begins_nothing, run_length};
-ghost use Rattle.action_text.specs.Reading.{GivesSome, text_at, column_at, behind, says_nothing, not_action, mark_next, end_next, has_line, next_line};
+ghost use Rattle.action_text.specs.Bytes.{without_blanks, behind_line, past, ends_line, begins_nothing, run_length, IsWord, behind_word, behind_front};
+ghost use Rattle.action_text.specs.Reading.{GivesSome, text_at, column_at, says_nothing, not_action, number_of, mark_next, end_next, has_line, next_line, Takes, TakesWord};
 
 use crate::fault::{LineFault, Rule};
+use crate::number::number_at;
 use std::marker::Model;
 
 // The bytes that are left, and how many were left at the beginning of their line.
@@ -46,6 +47,7 @@ impl<'a> Cursor<'a> {
     }
 
     // Whether the line says nothing.
+    #[inline(always)]
     pub(crate) fn says_nothing(&mut self) -> bool
         ensures value { result ≡ says_nothing self.old.tokens }
         ensures stays { self.new ≡ self.old }
@@ -55,6 +57,7 @@ impl<'a> Cursor<'a> {
     }
 
     // Goes past the next token, which is to be this byte.
+    #[inline(always)]
     pub(crate) fn mark(&mut self, byte: u8) -> Result<(), LineFault>
         requires { (is_blank byte ≡ false) × (is_run_byte byte ≡ false) × (byte ≢ 10) }
         ensures value { MatchResult result
@@ -75,12 +78,13 @@ impl<'a> Cursor<'a> {
         }
     }
 
-    // Goes past the next token, which is to be a word.
-    pub(crate) fn word(&mut self) -> Result<Word<'a>, LineFault>
-        ensures word { IfOk result (λ word. (starts_run (text_at self.old) ≡ true) × (word.text.now ≡ text_at self.old)
-            × (word.column ≡ column_at self.old) × (self.new ≡ behind self.old)) }
-        ensures fault { IfErr result (λ e. (starts_run (text_at self.old) ≡ false)
-            × (e ≡ not_action (column_at self.old))) }
+    // The next token, which is to be a word.
+    #[inline(always)]
+    pub(crate) fn word(&self) -> Result<Word<'a>, LineFault>
+        ensures word { IfOk result (λ word. (starts_run (text_at self.now) ≡ true) × (word.text.now ≡ text_at self.now)
+            × (word.column ≡ column_at self.now)) }
+        ensures fault { IfErr result (λ e. (starts_run (text_at self.now) ≡ false)
+            × (e ≡ not_action (column_at self.now))) }
     {
         let rest = after_blanks(self.rest);
         let column = column_of(self.start, rest);
@@ -91,12 +95,49 @@ impl<'a> Cursor<'a> {
                 column,
             });
         }
-        let (text, behind) = rest.split_at(length);
-        self.rest = behind;
+        let (text, _) = rest.split_at(length);
         Ok(Word { text, column })
     }
 
+    // Goes past the next token, where it is a number.
+    #[inline(always)]
+    pub(crate) fn take_number(&mut self) -> Option<u32>
+        ensures value { Takes result (number_of (text_at self.old)) self.old self.new }
+        ensures small { IfSome result (λ n. n ≤ 1000000) }
+    {
+        let (n, behind) = number_at(after_blanks(self.rest))?;
+        if starts_run(behind) {
+            return None;
+        }
+        self.rest = behind;
+        Some(n)
+    }
+
+    // Goes past the next token, where it is this word.
+    #[inline(always)]
+    pub(crate) fn take(&mut self, word: &[u8]) -> bool
+        requires { IsWord word.now }
+        ensures { TakesWord result word.now self.old self.new }
+    {
+        match behind_word(after_blanks(self.rest), word) {
+            Some(behind) => {
+                self.rest = behind;
+                true
+            }
+            None => false,
+        }
+    }
+
+    // The column of the next token, or of the line's end.
+    #[inline(always)]
+    pub(crate) fn column(&self) -> u32
+        ensures { result ≡ column_at self.now }
+    {
+        column_of(self.start, after_blanks(self.rest))
+    }
+
     // Sees that nothing is left of the line.
+    #[inline(always)]
     pub(crate) fn end(&mut self) -> Result<(), LineFault>
         ensures value { MatchResult result
             (λ _. end_next self.old ≡ Ok [])
@@ -115,6 +156,7 @@ impl<'a> Cursor<'a> {
     }
 
     // Goes to the next line, if there is one.
+    #[inline(always)]
     pub(crate) fn next_line(&mut self) -> bool
         ensures more { result ≡ has_line self.old.later }
         ensures goes { IsTrue result → self.new ≡ next_line self.old.later }
@@ -131,15 +173,26 @@ impl<'a> Cursor<'a> {
 }
 
 // The bytes from the first one on that isn't a blank.
+#[inline(always)]
 #[tactic(auto, unfolding(crate::specs::Bytes::without_blanks))]
 fn after_blanks(bytes: &[u8]) -> &[u8]
     ensures { result.now ≡ without_blanks bytes.now }
 {
     let mut rest = bytes;
-    while let [b' ' | b'\t' | b'\r', after @ ..] = rest {
+    while let [byte, after @ ..] = rest {
+        if !is_blank(*byte) {
+            return rest;
+        }
         rest = after;
     }
     rest
+}
+
+// Most bytes come after all blanks, so that one comparison tells it of them.
+fn is_blank(b: u8) -> bool
+    ensures { result ≡ is_blank b }
+{
+    b <= b' ' && (b == b' ' || b == b'\t' || b == b'\r')
 }
 
 // The bytes behind the first one that ends a line.
@@ -167,6 +220,44 @@ fn past(bytes: &[u8], byte: u8) -> Option<&[u8]>
     }
 }
 
+// The bytes behind a word, where it is the run at the front.
+#[inline(always)]
+fn behind_word<'a>(bytes: &'a [u8], word: &[u8]) -> Option<&'a [u8]>
+    requires { IsWord word.now }
+    ensures { GivesSome (λ rest. rest.now) result (behind_word bytes.now word.now) }
+{
+    let behind = behind_front(bytes, word)?;
+    if starts_run(behind) {
+        return None;
+    }
+    Some(behind)
+}
+
+// The bytes behind other ones, where they begin with those.
+#[inline(always)]
+#[tactic(auto, unfolding(crate::specs::Bytes::behind_front))]
+fn behind_front<'a>(bytes: &'a [u8], others: &[u8]) -> Option<&'a [u8]>
+    ensures { GivesSome (λ rest. rest.now) result (behind_front bytes.now others.now) }
+{
+    let mut rest = bytes;
+    let mut due = others;
+    while let [wanted, later @ ..] = due {
+        rest = past(rest, *wanted)?;
+        due = later;
+    }
+    Some(rest)
+}
+
+// Whether a run begins at the front.
+fn starts_run(bytes: &[u8]) -> bool
+    ensures { result ≡ starts_run bytes.now }
+{
+    match bytes {
+        [] => false,
+        [byte, ..] => is_run_byte(*byte),
+    }
+}
+
 // Whether no bytes are left of a line.
 fn ends_line(bytes: &[u8]) -> bool
     ensures { result ≡ ends_line bytes.now }
@@ -188,6 +279,7 @@ fn begins_nothing(bytes: &[u8]) -> bool
 }
 
 // How many bytes at the front are of one run.
+#[inline(never)]
 fn length_of_run(bytes: &[u8]) -> usize
     ensures value { result ≡ run_length bytes.now }
     ensures within { result ≤ length bytes.now }
@@ -200,10 +292,11 @@ fn length_of_run(bytes: &[u8]) -> usize
     bytes.len()
 }
 
+// Most bytes behind a run come before all of its bytes, so that one comparison tells it of them.
 fn is_run_byte(b: u8) -> bool
     ensures { result ≡ is_run_byte b }
 {
-    b.is_ascii_alphanumeric() || b == b'_'
+    b >= b'0' && (b.is_ascii_alphanumeric() || b == b'_')
 }
 
 // The column of the first of these bytes, in a line at whose beginning so many were left.

@@ -5,13 +5,13 @@ ghost use Rattle.action_text.specs.Reading.{text_at, number_of, truth_of, level_
 
 use crate::cursor::{Cursor, Word};
 use crate::fault::{LineFault, Rule};
-use crate::number;
-use crate::words::{self, Place};
+use crate::words::{Place, take_level, take_place, take_target, take_truth};
 use level_book::Book;
 use plan_types::Dest;
 
 // A number.
 #[tactic(auto, unfolding(crate::specs::Reading::number_next))]
+#[inline(always)]
 pub(crate) fn next_number(cursor: &mut Cursor) -> Result<u32, LineFault>
     ensures value { MatchResult result
         (λ x. (number_next cursor.old ≡ Ok (text_at cursor.old, cursor.new))
@@ -20,15 +20,15 @@ pub(crate) fn next_number(cursor: &mut Cursor) -> Result<u32, LineFault>
     ensures later { OnOk result (cursor.new.later ≡ cursor.old.later) }
     ensures small { IfOk result (λ n. n ≤ 1000000) }
 {
-    let word = cursor.word()?;
-    match number::number(word.text) {
+    match cursor.take_number() {
         Some(x) => Ok(x),
-        None => Err(number_fault(&word)),
+        None => Err(number_fault(&cursor.word()?)),
     }
 }
 
 // A truth.
 #[tactic(auto, unfolding(crate::specs::Reading::truth_next))]
+#[inline(always)]
 pub(crate) fn next_truth(cursor: &mut Cursor) -> Result<bool, LineFault>
     ensures value { MatchResult result
         (λ x. (truth_next cursor.old ≡ Ok (text_at cursor.old, cursor.new))
@@ -36,15 +36,15 @@ pub(crate) fn next_truth(cursor: &mut Cursor) -> Result<bool, LineFault>
         (λ e. truth_next cursor.old ≡ Err e) }
     ensures later { OnOk result (cursor.new.later ≡ cursor.old.later) }
 {
-    let word = cursor.word()?;
-    match words::truth_of(word.text) {
+    match take_truth(cursor) {
         Some(x) => Ok(x),
-        None => Err(other_fault(&word)),
+        None => Err(other_fault(&cursor.word()?)),
     }
 }
 
 // A level.
 #[tactic(auto, unfolding(crate::specs::Reading::level_next))]
+#[inline(always)]
 pub(crate) fn next_level(cursor: &mut Cursor, book: &Book) -> Result<u8, LineFault>
     ensures value { MatchResult result
         (λ x. (level_next (names_of book.now) cursor.old ≡ Ok (text_at cursor.old, cursor.new))
@@ -52,15 +52,15 @@ pub(crate) fn next_level(cursor: &mut Cursor, book: &Book) -> Result<u8, LineFau
         (λ e. level_next (names_of book.now) cursor.old ≡ Err e) }
     ensures later { OnOk result (cursor.new.later ≡ cursor.old.later) }
 {
-    let word = cursor.word()?;
-    match words::level_of(word.text, book) {
+    match take_level(cursor, book) {
         Some(x) => Ok(x),
-        None => Err(level_fault(&word)),
+        None => Err(level_fault(&cursor.word()?)),
     }
 }
 
 // A level or the work state.
 #[tactic(auto, unfolding(crate::specs::Reading::target_next))]
+#[inline(always)]
 pub(crate) fn next_target(cursor: &mut Cursor, book: &Book) -> Result<Dest, LineFault>
     ensures value { MatchResult result
         (λ x. (target_next (names_of book.now) cursor.old ≡ Ok (text_at cursor.old, cursor.new))
@@ -68,15 +68,15 @@ pub(crate) fn next_target(cursor: &mut Cursor, book: &Book) -> Result<Dest, Line
         (λ e. target_next (names_of book.now) cursor.old ≡ Err e) }
     ensures later { OnOk result (cursor.new.later ≡ cursor.old.later) }
 {
-    let word = cursor.word()?;
-    match words::target_of(word.text, book) {
+    match take_target(cursor, book) {
         Some(x) => Ok(x),
-        None => Err(level_fault(&word)),
+        None => Err(level_fault(&cursor.word()?)),
     }
 }
 
 // A level, the work state or none.
 #[tactic(auto, unfolding(crate::specs::Reading::place_next))]
+#[inline(always)]
 pub(crate) fn next_place(cursor: &mut Cursor, book: &Book) -> Result<Place, LineFault>
     ensures value { MatchResult result
         (λ x. (place_next (names_of book.now) cursor.old ≡ Ok (text_at cursor.old, cursor.new))
@@ -84,10 +84,9 @@ pub(crate) fn next_place(cursor: &mut Cursor, book: &Book) -> Result<Place, Line
         (λ e. place_next (names_of book.now) cursor.old ≡ Err e) }
     ensures later { OnOk result (cursor.new.later ≡ cursor.old.later) }
 {
-    let word = cursor.word()?;
-    match words::place_of(word.text, book) {
+    match take_place(cursor, book) {
         Some(x) => Ok(x),
-        None => Err(level_fault(&word)),
+        None => Err(level_fault(&cursor.word()?)),
     }
 }
 

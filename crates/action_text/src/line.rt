@@ -7,7 +7,7 @@ ghost use Rattle.action_text.specs.Reading.{Gives, arguments_of, forward_said, r
 use crate::cursor::Cursor;
 use crate::fault::{LineFault, Rule};
 use crate::fields::{next_level, next_number, next_place, next_target, next_truth};
-use crate::words::{Kind, Place, kind_of};
+use crate::words::{Kind, Place, take_kind};
 use level_book::Book;
 use plan_types::{Action, Keep};
 
@@ -24,23 +24,23 @@ pub(crate) fn line(
     if cursor.says_nothing() {
         return Ok(None);
     }
-    let name = cursor.word()?;
-    let Some(kind) = kind_of(name.text) else {
+    let column = cursor.column();
+    let Some(kind) = take_kind(cursor) else {
         return Err(LineFault {
             rule: Rule::NotAction,
-            column: name.column,
+            column,
         });
     };
     if full {
         return Err(LineFault {
             rule: Rule::TooMany,
-            column: name.column,
+            column,
         });
     }
     let Some(action) = arguments(kind, cursor, book)? else {
         return Err(LineFault {
             rule: Rule::Profile,
-            column: name.column,
+            column,
         });
     };
     Ok(Some(action))

@@ -1,10 +1,10 @@
 // A number in decimal digits.
 ghost use Rattle.std.specs.Prelude.{◌≡◌, ◌≤◌, IfSome};
-ghost use Rattle.action_text.specs.Reading.{GivesSome, digits_at, number_at, number_of};
+ghost use Rattle.action_text.specs.Reading.{GivesSome, digits_at, number_at};
 
 use plan_types::MOST_STEPS;
 
-// The number that the digits at the front of the bytes make, and the bytes after them.
+// The number that the digits at the front of the bytes make, and the bytes after them, unless it is over 1,000,000.
 #[tactic(auto, unfolding(crate::specs::Reading::digits_at))]
 fn digits(bytes: &[u8]) -> Option<(u32, &[u8])>
     ensures value { GivesSome (λ x. (x.0, x.1.now)) result (digits_at 1000000 0 bytes.now) }
@@ -25,7 +25,7 @@ fn digits(bytes: &[u8]) -> Option<(u32, &[u8])>
 
 // The same, without a leading zero.
 #[tactic(auto, unfolding(crate::specs::Reading::number_at))]
-fn number_at(bytes: &[u8]) -> Option<(u32, &[u8])>
+pub(crate) fn number_at(bytes: &[u8]) -> Option<(u32, &[u8])>
     ensures value { GivesSome (λ x. (x.0, x.1.now)) result (number_at 1000000 bytes.now) }
     ensures small { IfSome result (λ x. x.0 ≤ 1000000) }
 {
@@ -35,14 +35,4 @@ fn number_at(bytes: &[u8]) -> Option<(u32, &[u8])>
         [b'1'..=b'9', ..] => digits(bytes),
         _ => None,
     }
-}
-
-// The number that a text is: decimal digits without a leading zero that say at most 1,000,000.
-#[tactic(auto, unfolding(crate::specs::Reading::number_of))]
-pub(crate) fn number(text: &[u8]) -> Option<u32>
-    ensures value { result ≡ number_of text.now }
-    ensures small { IfSome result (λ n. n ≤ 1000000) }
-{
-    let (n, rest) = number_at(text)?;
-    if rest.is_empty() { Some(n) } else { None }
 }

@@ -1,8 +1,8 @@
 // The words of a line, and what they stand for.
-ghost use Rattle.std.specs.Prelude.{◌≡◌};
 ghost use Rattle.level_book.specs.BookCosts.{names_of};
-ghost use Rattle.action_text.specs.Reading.{truth_of, level_of, target_of, place_of, kind_of};
+ghost use Rattle.action_text.specs.Reading.{text_at, truth_of, level_of, target_of, place_of, kind_of, Takes};
 
+use crate::cursor::Cursor;
 use level_book::Book;
 use plan_types::Dest;
 
@@ -25,69 +25,83 @@ pub(crate) enum Place {
     Nowhere,
 }
 
-// The kind of action with this name.
+// Goes past the next token, where it is the name of a kind of action.
 #[tactic(auto, unfolding(crate::specs::Reading::kind_of))]
-pub(crate) fn kind_of(text: &[u8]) -> Option<Kind>
-    ensures { result ≡ kind_of text.now }
+#[inline(always)]
+pub(crate) fn take_kind(cursor: &mut Cursor) -> Option<Kind>
+    ensures { Takes result (kind_of (text_at cursor.old)) cursor.old cursor.new }
 {
-    if text == b"Forward".as_slice() {
+    if cursor.take(b"Forward") {
         Some(Kind::Forward)
-    } else if text == b"Reverse".as_slice() {
+    } else if cursor.take(b"Reverse") {
         Some(Kind::Reverse)
-    } else if text == b"Copy".as_slice() {
+    } else if cursor.take(b"Copy") {
         Some(Kind::Copy)
-    } else if text == b"Move".as_slice() {
+    } else if cursor.take(b"Move") {
         Some(Kind::Move)
-    } else if text == b"EndForward".as_slice() {
+    } else if cursor.take(b"EndForward") {
         Some(Kind::EndForward)
-    } else if text == b"EndReverse".as_slice() {
+    } else if cursor.take(b"EndReverse") {
         Some(Kind::EndReverse)
     } else {
         None
     }
 }
 
-pub(crate) fn truth_of(text: &[u8]) -> Option<bool>
-    ensures { result ≡ truth_of text.now }
+// Goes past the next token, where it is a truth.
+#[inline(always)]
+pub(crate) fn take_truth(cursor: &mut Cursor) -> Option<bool>
+    ensures { Takes result (truth_of (text_at cursor.old)) cursor.old cursor.new }
 {
-    if text == b"True".as_slice() {
+    if cursor.take(b"True") {
         Some(true)
-    } else if text == b"False".as_slice() {
+    } else if cursor.take(b"False") {
         Some(false)
     } else {
         None
     }
 }
 
-#[tactic(auto, unfolding(crate::specs::Reading::level_of))]
-pub(crate) fn level_of(text: &[u8], book: &Book) -> Option<u8>
-    ensures { result ≡ level_of (names_of book.now) text.now }
+// Goes past the next token, where it is the name of a level. At most four names are compared with it.
+#[inline(always)]
+pub(crate) fn take_level(cursor: &mut Cursor, book: &Book) -> Option<u8>
+    ensures { Takes result (level_of (names_of book.now) (text_at cursor.old)) cursor.old cursor.new }
 {
-    book.level_named(text)
+    book.has_names();
+    for k in 0..book.levels() {
+        if cursor.take(book.level(k).name.bytes()) {
+            return Some(k);
+        }
+    }
+    None
 }
 
+// Goes past the next token, where it is the name of a level or the work state.
 #[tactic(auto, unfolding(crate::specs::Reading::target_of))]
-pub(crate) fn target_of(text: &[u8], book: &Book) -> Option<Dest>
-    ensures { result ≡ target_of (names_of book.now) text.now }
+#[inline(always)]
+pub(crate) fn take_target(cursor: &mut Cursor, book: &Book) -> Option<Dest>
+    ensures { Takes result (target_of (names_of book.now) (text_at cursor.old)) cursor.old cursor.new }
 {
-    if let Some(k) = level_of(text, book) {
+    if let Some(k) = take_level(cursor, book) {
         Some(Dest::Level(k))
-    } else if text == b"WORK".as_slice() {
+    } else if cursor.take(b"WORK") {
         Some(Dest::Work)
     } else {
         None
     }
 }
 
+// Goes past the next token, where it is the name of a level, the work state or none.
 #[tactic(auto, unfolding(crate::specs::Reading::place_of))]
-pub(crate) fn place_of(text: &[u8], book: &Book) -> Option<Place>
-    ensures { result ≡ place_of (names_of book.now) text.now }
+#[inline(always)]
+pub(crate) fn take_place(cursor: &mut Cursor, book: &Book) -> Option<Place>
+    ensures { Takes result (place_of (names_of book.now) (text_at cursor.old)) cursor.old cursor.new }
 {
-    if let Some(k) = level_of(text, book) {
+    if let Some(k) = take_level(cursor, book) {
         Some(Place::Level(k))
-    } else if text == b"WORK".as_slice() {
+    } else if cursor.take(b"WORK") {
         Some(Place::Work)
-    } else if text == b"NONE".as_slice() {
+    } else if cursor.take(b"NONE") {
         Some(Place::Nowhere)
     } else {
         None

@@ -16,7 +16,7 @@ use Rattle.bound_cert.specs.Accepted.{bound, IsAccepted, IsFirstReason, Differs}
 use Rattle.bound_cert.specs.Verdicts.{IsVerdict}
 
 -- what is accepted isn't refused
-apart : (list : List Action) (steps : ℕ) (book : BookCosts) (certificate : Certificate) (reason : Reason) → IsFirstReason list steps book certificate reason → IsAccepted list steps book certificate → ⊥
+pub apart : (list : List Action) (steps : ℕ) (book : BookCosts) (certificate : Certificate) (reason : Reason) → IsFirstReason list steps book certificate reason → IsAccepted list steps book certificate → ⊥
 apart list steps book (Revolve k value) Invalid is accepted = is accepted.0
 apart list steps book (Revolve k value) (ValueDiffers cost other) is accepted = elim is.2 [
   | inl value_differs ↦ value_differs.0 (is.1 ∙ accepted.1)
@@ -30,7 +30,7 @@ one_value cost value number a b (inr x) (inl y) = absurd (y.0 x.0)
 one_value cost value number a b (inr x) (inr y) = x.2 ∙ sym y.2
 
 -- there is one first reason at most
-one_reason : (list : List Action) (steps : ℕ) (book : BookCosts) (certificate : Certificate) (a b : Reason) → IsFirstReason list steps book certificate a → IsFirstReason list steps book certificate b → a ≡ b
+pub one_reason : (list : List Action) (steps : ℕ) (book : BookCosts) (certificate : Certificate) (a b : Reason) → IsFirstReason list steps book certificate a → IsFirstReason list steps book certificate b → a ≡ b
 one_reason list steps book (Revolve k value) Invalid Invalid x y = refl
 one_reason list steps book (Revolve k value) Invalid (ValueDiffers cost other) x y = absurd (x y.0)
 one_reason list steps book (Revolve k value) (ValueDiffers cost other) Invalid x y = absurd (y x.0)

@@ -90,7 +90,7 @@ unfolding words
 no_words column = refl
 
 -- the bytes behind `#!`
-abbrev said : ℕ → ℕ → List ℕ
+abbrev pub said : ℕ → ℕ → List ℕ
 said k v = 32 ∷ (codes "revolve" ++ 32 ∷ (decimal k ++ 32 ∷ decimal v))
 
 kind_plain : AllByRecursion IsPlain (codes "revolve")
@@ -126,7 +126,7 @@ more_no_end : (w rest : List ℕ) → AllByRecursion IsPlain w → AllByRecursio
 more_no_end [] rest all others = others
 more_no_end (b ∷ w) rest all others = (all.0.no_end, more_no_end w rest all.1 others)
 
-no_end_said : (k v : ℕ) → k < 2 ^ 64 → v < 2 ^ 64 → AllByRecursion (λ b. b ≢ 10) (said k v)
+pub no_end_said : (k v : ℕ) → k < 2 ^ 64 → v < 2 ^ 64 → AllByRecursion (λ b. b ≢ 10) (said k v)
 no_end_said k v small wide =
     let blank : 32 ≢ 10 = omega arith in
     let value : List ℕ = 32 ∷ decimal v in

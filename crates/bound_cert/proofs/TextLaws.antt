@@ -1,14 +1,15 @@
 -- Bytes say one certificate, or have one first fault.
 use Rattle.std.proofs.Common.{◌≡◌, ◌⊎◌, ℕ, Result, Ok, Err, List, [], ◌∷◌, refl, sym, ap, subst, ◌∙◌, inl, inr}
 use Rattle.std.specs.Prelude.{MatchResult}
+use Rattle.action_text.specs.Tokens.{Token}
 use Rattle.bound_cert.specs.declared.certificate.Certificate.{Certificate}
 use Rattle.bound_cert.specs.declared.fault.CertFault.{CertFault}
 use Rattle.bound_cert.specs.declared.fault.CertFault.TheVariants.{At, Memory}
 use Rattle.bound_cert.specs.MarkedLines.{CertificateLine, certificate_lines}
 use Rattle.bound_cert.specs.Words.{words_of, texts_of, end_of}
 use Rattle.bound_cert.specs.Meaning.{Says, IsCertificateText}
-use Rattle.bound_cert.specs.Faults.{places, first_column, IsWordFault, IsFault, HasFirstFault}
-use Rattle.bound_cert.specs.Laws.{OneCertificate, CertificatesHaveNoFault, CertificateOrFault}
+use Rattle.bound_cert.specs.Faults.{Want, places, first_column, IsWordFault, IsLineTooMany, IsFault, HasFirstFault}
+use Rattle.bound_cert.specs.Laws.{OneCertificate, OneFault, CertificatesHaveNoFault, CertificateOrFault}
 use Rattle.bound_cert.proofs.Saying.{fits_says, says_fits, one_said, no_word_fault, outcome}
 
 pub one_certificate : OneCertificate
@@ -31,6 +32,36 @@ no_fault_in (first ∷ next ∷ others) line certificate r l c is says (inr faul
 pub no_fault : CertificatesHaveNoFault
 no_fault bytes certificate (At r l c) is fault = no_fault_in (certificate_lines bytes) is.line certificate r l c is.only is.says fault
 no_fault bytes certificate Memory is fault = fault
+
+one_word_fault : (wants : List Want) (ws : List Token) (end r c r' c' : ℕ) → IsWordFault wants ws end r c → IsWordFault wants ws end r' c' → (r ≡ r') × (c ≡ c')
+one_word_fault [] [] end r c r' c' x y = absurd x
+one_word_fault [] (w ∷ ws) end r c r' c' x y = (x.0 ∙ sym y.0, x.1 ∙ sym y.1)
+one_word_fault (want ∷ wants) [] end r c r' c' x y = (x.0 ∙ sym y.0, x.1 ∙ sym y.1)
+one_word_fault (want ∷ wants) (w ∷ ws) end r c r' c' (inl x) (inl y) = (x.1 ∙ sym y.1, x.2 ∙ sym y.2)
+one_word_fault (want ∷ wants) (w ∷ ws) end r c r' c' (inl x) (inr y) = absurd (x.0 y.0)
+one_word_fault (want ∷ wants) (w ∷ ws) end r c r' c' (inr x) (inl y) = absurd (y.0 x.0)
+one_word_fault (want ∷ wants) (w ∷ ws) end r c r' c' (inr x) (inr y) = one_word_fault wants ws end r c r' c' x.1 y.1
+
+one_line_too_many : (ls : List CertificateLine) (r l c r' l' c' : ℕ) → IsLineTooMany ls r l c → IsLineTooMany ls r' l' c' → (r ≡ r') × (l ≡ l') × (c ≡ c')
+one_line_too_many [] r l c r' l' c' x y = absurd x
+one_line_too_many (next ∷ others) r l c r' l' c' x y = (x.0 ∙ sym y.0, x.1 ∙ sym y.1, x.2 ∙ sym y.2)
+
+one_fault_in : (ls : List CertificateLine) (r l c r' l' c' : ℕ) → IsFault ls r l c → IsFault ls r' l' c' → (r ≡ r') × (l ≡ l') × (c ≡ c')
+one_fault_in [] r l c r' l' c' x y = (x.0 ∙ sym y.0, x.1 ∙ sym y.1, x.2 ∙ sym y.2)
+one_fault_in (first ∷ others) r l c r' l' c' (inl x) (inl y) =
+    let same = one_word_fault places (words_of first) (end_of first) r c r' c' x.0 y.0 in
+    (same.0, x.1 ∙ sym y.1, same.1)
+one_fault_in (first ∷ others) r l c r' l' c' (inl x) (inr y) = absurd (said_no_fault first (y.0).0 r c (y.0).1 x.0)
+one_fault_in (first ∷ others) r l c r' l' c' (inr x) (inl y) = absurd (said_no_fault first (x.0).0 r' c' (x.0).1 y.0)
+one_fault_in (first ∷ others) r l c r' l' c' (inr x) (inr y) = one_line_too_many others r l c r' l' c' x.1 y.1
+
+-- a text has one first fault at most
+pub one_fault : OneFault
+one_fault bytes (At r l c) (At r' l' c') x y =
+    let same = one_fault_in (certificate_lines bytes) r l c r' l' c' x y in
+    λ i. At (same.0 i) (same.1 i) (same.2 i)
+one_fault bytes Memory other x y = absurd x
+one_fault bytes (At r l c) Memory x y = absurd y
 
 -- an answer that fits what the bytes say is the only one
 pub only_said : (bytes : List ℕ) (answer : Result Certificate CertFault) → MatchResult answer (λ c. IsCertificateText bytes c) (λ f. HasFirstFault bytes f) →

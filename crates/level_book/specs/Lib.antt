@@ -8,3 +8,7 @@ pub mod Moves
 pub mod Rules
 pub mod Valid
 pub mod CostFold
+pub mod NestedClass
+pub mod UnderTable
+pub mod DiskClass
+pub mod DiskUnderTable

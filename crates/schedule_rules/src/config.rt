@@ -75,6 +75,7 @@ impl Config {
     }
 
     /// Does an action that `judge` allows. It takes no memory.
+    #[inline(always)]
     pub fn take(&mut self, action: &Action)
         requires { rule self.old.steps self.old.slots self.old.at action.now ≡ 0 }
         ensures goes { Goes self.old.steps self.old.slots self.old.at action.now self.new.at }
@@ -194,6 +195,7 @@ impl Config {
     }
 
     /// Whether an action may be done, and if not, the lowest rule that it breaks. It changes nothing and takes no memory.
+    #[inline(always)]
     pub fn judge(&self, action: &Action) -> Result<(), Broken>
         ensures { MatchResult result
             (λ _. rule self.now.steps self.now.slots self.now.at action.now ≡ 0)
@@ -227,18 +229,19 @@ impl Config {
         requires { self.now.at.ended ≡ false }
         ensures { result ≡ rule self.now.steps self.now.slots self.now.at (Action.Forward from to keep) }
     {
-        if from != self.work {
-            1
-        } else if to <= from || self.steps < to {
-            2
-        } else if self.reverse < to {
-            3
-        } else {
+        // One test for three rules: nearly every action passes it, and a branch for each takes longer.
+        if (from == self.work) & (from < to) & (to <= self.reverse) {
             match keep {
                 Keep::Nothing => 0,
                 Keep::Store(level) => self.judge_store(from, level),
                 Keep::Tape => self.judge_tape(from, to),
             }
+        } else if from != self.work {
+            1
+        } else if to <= from || self.steps < to {
+            2
+        } else {
+            3
         }
     }
 
@@ -247,7 +250,7 @@ impl Config {
         requires { from < to }
         ensures { result ≡ cond (not (to == from + 1) || not (to == self.now.at.reverse)) 8 (cond (is_some self.now.at.tape) 9 0) }
     {
-        if to - from != 1 || to != self.reverse {
+        if (to - from != 1) | (to != self.reverse) {
             8
         } else if self.tape.is_some() {
             9
@@ -275,6 +278,7 @@ impl Config {
     }
 
     // The lowest rule that a Copy or a Move breaks.
+    #[inline(always)]
     fn judge_transfer(&self, n: u32, from: u8, dest: Dest) -> u8
         requires { self.now.at.ended ≡ false }
         ensures copy { result ≡ rule self.now.steps self.now.slots self.now.at (Action.Copy n from dest) }
@@ -295,6 +299,7 @@ impl Config {
     }
 
     // The same where it goes to a level.
+    #[inline(always)]
     fn judge_to_level(&self, n: u32, from: u8, to: u8) -> u8
         requires { self.now.at.ended ≡ false }
         ensures copy { result ≡ rule self.now.steps self.now.slots self.now.at (Action.Copy n from (Dest.Level to)) }
@@ -320,14 +325,15 @@ impl Config {
         requires { self.now.at.ended ≡ false }
         ensures { result ≡ rule self.now.steps self.now.slots self.now.at (Action.Reverse from to) }
     {
-        if self.tape.is_none() {
-            10
-        } else if from != self.reverse || to >= from || from - to != 1 {
-            11
-        } else if !self.forward_ended {
-            12
-        } else {
+        let is_next = (from == self.reverse) & (to < from) & (from.wrapping_sub(to) == 1);
+        if self.tape.is_some() & is_next & self.forward_ended {
             0
+        } else if self.tape.is_none() {
+            10
+        } else if !is_next {
+            11
+        } else {
+            12
         }
     }
 
@@ -361,6 +367,7 @@ impl Config {
 }
 
 // Holds the image of state `n` on a level that doesn't hold it.
+#[inline(always)]
 fn hold(levels: &mut Vec<LevelHeld>, n: u32, level: u8)
     requires level { level < vec_len levels.old }
     requires room { AllByRecursion (HasBit n) levels.old.items }
@@ -373,6 +380,7 @@ fn hold(levels: &mut Vec<LevelHeld>, n: u32, level: u8)
 }
 
 // Holds the image of state `n` on a level no longer.
+#[inline(always)]
 fn release(levels: &mut Vec<LevelHeld>, n: u32, level: u8)
     requires level { level < vec_len levels.old }
     requires there { set.contains (slice_index_or (images_kept levels.old.items) level set.empty) n ≡ true }

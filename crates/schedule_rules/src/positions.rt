@@ -27,6 +27,7 @@ impl Positions {
     }
 
     /// Whether a position is in the set.
+    #[inline]
     pub fn contains(&self, n: u32) -> bool
         ensures { result ≡ set.contains (set_of self.now.words.items) n }
     {
@@ -37,6 +38,7 @@ impl Positions {
     }
 
     /// Adds a position that isn't there.
+    #[inline]
     pub fn insert(&mut self, n: u32)
         requires room { n / 64 < length self.old.words.items }
         requires new { set.contains (set_of self.old.words.items) n ≡ false }
@@ -49,6 +51,7 @@ impl Positions {
     }
 
     /// Takes a position away that is there.
+    #[inline]
     pub fn remove(&mut self, n: u32)
         requires { set.contains (set_of self.old.words.items) n ≡ true }
         ensures set { set_of self.new.words.items ≡ set.remove (set_of self.old.words.items) n }

@@ -1,5 +1,4 @@
-use Rattle.std.proofs.Common.{◌<◌, take, drop, sym, ap, ◌∙◌, arith, ℕ}
-use Rattle.action_text.specs.Rest.{seen}
+use Rattle.std.proofs.Common.{◌<◌, take, sym, ap, ◌∙◌, arith, ℕ}
 use Rattle.action_text.specs.Bytes.{run_length}
 use Rattle.action_text.specs.Reading.{not_action}
 use Rattle.action_text.proofs.Seen.{at_token, column_there, word_there, no_word_there}
@@ -18,11 +17,6 @@ returns-then-length-eq0-clause-fault c =
       ap not_action (c.column_of-column.ensures ∙ sym (column_there c.self.inside.start w c.args.self.now at)),
     )
 
-pub invariant_of-self : goal.invariant_of-self
-invariant_of-self c =
-    let at = at_token c.self.inside.start c.self.inside.rest.now c.after_blanks-rest.result.now c.args.self.now c.self.invariant.0 c.after_blanks-rest.ensures c.self.view_is in
-    (omega (arith, at.within, c.split_at.ensures.back_len), c.self.invariant.1)
-
 pub returns-clause-word : goal.returns-clause-word
 returns-clause-word c =
     let w = c.after_blanks-rest.result.now in
@@ -33,5 +27,4 @@ returns-clause-word c =
       there.2,
       c.split_at.ensures.front ∙ ap (λ (k : ℕ). take k w) n ∙ sym there.0,
       c.column_of-column.ensures ∙ sym (column_there c.self.inside.start w c.args.self.now at),
-      ap (seen c.self.inside.start) (c.split_at.ensures.back ∙ ap (λ (k : ℕ). drop k w) n) ∙ there.1,
     )
