@@ -19,10 +19,10 @@ use Rattle.revolve_gen.proofs.Written.{fresh_one, held_one, fresh_more, held_mor
 use Rattle.revolve_gen.proofs.Holding.{Images, on, stored, Holds, there, on_stored, released, holds_more, room_at}
 
 -- a configuration with nothing on the tape, before the end
-abbrev at : Images → ℕ → ℕ → Bool → Configuration
+abbrev pub at : Images → ℕ → ℕ → Bool → Configuration
 at h w r ended = record { work = w; held = h; tape = None; reverse = r; forward_ended = ended; ended = false }
 
-leads_on : (steps : ℕ) (slots : List Slots) (c m d : Configuration) (xs ys : List Action) → Leads steps slots c xs m → Leads steps slots m ys d → Leads steps slots c (xs ++ ys) d
+pub leads_on : (steps : ℕ) (slots : List Slots) (c m d : Configuration) (xs ys : List Action) → Leads steps slots c xs m → Leads steps slots m ys d → Leads steps slots c (xs ++ ys) d
 leads_on steps slots c m d [] ys h g =
     let P : Configuration → Type 0 = λ c. Leads steps slots c ys d in
     subst P h g
@@ -52,17 +52,17 @@ pub record Stands (steps : ℕ) (slots : List Slots) (level : ℕ → ℕ) (room
   pub places : p + c ≡ room
   pub holds : Holds slots level p h b
 
-listed : (steps : ℕ) (slots : List Slots) (c d : Configuration) (xs ys : List Action) → xs ≡ ys → Leads steps slots c ys d → Leads steps slots c xs d
+pub listed : (steps : ℕ) (slots : List Slots) (c d : Configuration) (xs ys : List Action) → xs ≡ ys → Leads steps slots c ys d → Leads steps slots c xs d
 listed steps slots c d xs ys e h =
     let P : List Action → Type 0 = λ list. Leads steps slots c list d in
     subst P (sym e) h
 
 module _ (steps : ℕ) (slots : List Slots) (level : ℕ → ℕ) (room : ℕ) (roomy : IsRoomy slots level room) where
   -- what the two rules do with a stretch of l steps
-  record StretchLeads (more l : ℕ) : Type 0 where
-    anew : (h : Images) (first : Bool) (b r c p : ℕ) → Stands steps slots level room h b l c p → r ≡ b + l → (first ≡ true → r ≡ steps) →
+  pub record StretchLeads (more l : ℕ) : Type 0 where
+    pub anew : (h : Images) (first : Bool) (b r c p : ℕ) → Stands steps slots level room h b l c p → r ≡ b + l → (first ≡ true → r ≡ steps) →
         Leads steps slots (at h b r (not first)) (fresh more level first b l c p) (at h (b + 1) b true)
-    again : (h : Images) (w b r c p : ℕ) → Stands steps slots level room h b l c p → p < room → r ≡ b + l →
+    pub again : (h : Images) (w b r c p : ℕ) → Stands steps slots level room h b l c p → p < room → r ≡ b + l →
         Leads steps slots (at (stored h b (level p)) w r true) (held more level b l c p) (at h (b + 1) b true)
 
   parts_lead : (more : ℕ) (h : Images) (first : Bool) (b l r c p : ℕ) → Stands steps slots level room h b l c p → 2 ≤ l → p < room → r ≡ b + l → (first ≡ true → r ≡ steps) →
@@ -80,7 +80,7 @@ module _ (steps : ℕ) (slots : List Slots) (level : ℕ → ℕ) (room : ℕ) (
       (omega arith) last)
       (begin.again h (b + j + 1) b (b + j) c p (record { stretch = is.before; places = s.places; holds = s.holds }) within refl)
 
-  both : (more l : ℕ) → l ≤ more → 1 ≤ l → StretchLeads more l
+  pub both : (more l : ℕ) → l ≤ more → 1 ≤ l → StretchLeads more l
   both zero l le some = absurd (omega arith)
   both (suc more) l le some = elim (one_or_more l some) [
     | inl one ↦ record {
@@ -136,7 +136,7 @@ module _ (steps : ℕ) (slots : List Slots) (level : ℕ → ℕ) (room : ℕ) (
   ]
 
 -- nothing is held at the start
-none_held : (slots : List Slots) (level : ℕ → ℕ) → Holds slots level 0 (map (λ _. set.empty) slots) 0
+pub none_held : (slots : List Slots) (level : ℕ → ℕ) → Holds slots level 0 (map (λ _. set.empty) slots) 0
 none_held slots level =
     let h : Images = map (λ _. set.empty) slots in
     let each : (k : ℕ) → on h k ≡ set.empty = λ k. elim (cases_lt k (length slots)) [

@@ -1,6 +1,6 @@
 -- What is owed, before and after an action.
-use Rattle.std.proofs.Common.{◌≡◌, ℕ, suc, ◌+◌, ◌-◌, ◌<◌, ◌≤◌, Bool, false, List, [], ◌∷◌, ◌++◌, length, refl, sym, ◌∙◌, ap, subst, arith, append_assoc}
-use Rattle.std.proofs.lemmas.List.{length_push}
+use Rattle.std.proofs.Common.{◌≡◌, ℕ, zero, suc, ◌+◌, ◌-◌, ◌<◌, ◌≤◌, Bool, true, false, List, [], ◌∷◌, ◌++◌, length, refl, sym, ◌∙◌, ap, subst, arith, append_assoc}
+use Rattle.std.proofs.lemmas.List.{length_push, append-nil}
 use Rattle.plan_types.specs.declared.action.Keep.TheVariants.{Nothing, Store}
 use Rattle.plan_types.specs.declared.action.Dest.TheVariants.{Work}
 use Rattle.plan_types.specs.declared.action.Action.{Action}
@@ -9,9 +9,11 @@ use Rattle.binomials.specs.Advances.{split}
 use Rattle.binomials.specs.Laws.{IsStretch, IsSplit}
 use Rattle.revolve_gen.specs.declared.stretch.Stretch.{Stretch}
 use Rattle.revolve_gen.specs.declared.stretch.Phase.TheVariants.{Fresh, Ahead, Back}
-use Rattle.revolve_gen.specs.Written.{fresh, held, one_step}
+use Rattle.revolve_gen.specs.Written.{fresh, held, one_step, revolve}
+use Rattle.revolve_gen.specs.Part.{stretch}
+use Rattle.revolve_gen.specs.Plans.{HasPlan}
 use Rattle.revolve_gen.specs.Owed.{owed_held, owed, IsWithin, AreStretches, IsOwing}
-use Rattle.revolve_gen.proofs.Written.{fresh_one, held_one, fresh_next, held_next}
+use Rattle.revolve_gen.proofs.Written.{fresh_one, held_one, fresh_next, held_next, planned}
 
 -- what the newest held stretch owes comes first
 held_push : (level : ℕ → ℕ) (room p : ℕ) (xs : List Stretch) (s : Stretch) (rest : List Action) (q : ℕ) → p + length xs ≡ q →
@@ -22,8 +24,8 @@ held_push level room p [] s rest q e =
 held_push level room p (x ∷ xs) s rest q e = held_push level room (suc p) xs s (held x.steps level x.start x.steps (room - p) p ++ rest) q (omega arith)
 
 stack_push : (level : ℕ → ℕ) (room : ℕ) (xs : List Stretch) (s : Stretch) →
-    owed_held level room 0 (xs ++ s ∷ []) (EndReverse ∷ []) ≡ held s.steps level s.start s.steps (room - length xs) (length xs) ++ owed_held level room 0 xs (EndReverse ∷ [])
-stack_push level room xs s = held_push level room 0 xs s (EndReverse ∷ []) (length xs) (omega arith)
+    owed_held level room 0 (xs ++ s ∷ []) [] ≡ held s.steps level s.start s.steps (room - length xs) (length xs) ++ owed_held level room 0 xs []
+stack_push level room xs s = held_push level room 0 xs s [] (length xs) (omega arith)
 
 stretches_push : (room p : ℕ) (xs : List Stretch) (s : Stretch) (q : ℕ) → p + length xs ≡ q → AreStretches room p xs → IsWithin s.start s.steps (room - q) → AreStretches room p (xs ++ s ∷ [])
 stretches_push room p [] s q e all h =
@@ -49,7 +51,7 @@ behind level first b l c p room e n f =
 
 module _ (level : ℕ → ℕ) (room : ℕ) where
   abbrev pub below : List Stretch → List Action
-  below xs = owed_held level room 0 xs (EndReverse ∷ [])
+  below xs = owed_held level room 0 xs []
 
   -- the two parts of a split stretch, before what is below
   parts_owed : (xs items : List Stretch) (first : Bool) (b l m to j : ℕ) → items ≡ xs ++ record { start = b; steps = j } ∷ [] → m ≡ l - j → to ≡ b + j →
@@ -137,4 +139,26 @@ held_owing room xs more start steps j small is within all at e =
         omega arith,
         record { stretch = subst (λ n. IsStretch n (room - length more)) left (subst (IsStretch (steps - j)) slots at.after); within = omega arith },
       );
+    }
+
+-- a list is one stretch and the end
+pub whole_stretch : (level : ℕ → ℕ) (steps c : ℕ) → stretch level true 0 steps c ++ EndReverse ∷ [] ≡ revolve level steps c
+whole_stretch level zero c = refl
+whole_stretch level (suc n) c = refl
+
+-- a stretch that begins where nothing is held
+pub fresh_begun : (level : ℕ → ℕ) (room start steps : ℕ) (first : Bool) → 0 < steps → owed level room (Fresh start steps first) [] ≡ stretch level first start steps room
+fresh_begun level room start zero first some = absurd (omega arith)
+fresh_begun level room start (suc n) first some =
+    let all : room - 0 ≡ room = omega arith in
+    append-nil (fresh (suc n) level first start (suc n) (room - 0) 0) ∙ ap (λ c. fresh (suc n) level first start (suc n) c 0) all
+
+pub begun_owing : (room start steps : ℕ) (first : Bool) → 0 < steps → start + steps ≤ 1000000 → room ≤ 1000000 → HasPlan steps room → IsOwing room (Fresh start steps first) []
+begun_owing room start steps first some short small plan =
+    let all : room ≡ room - 0 = omega arith in
+    record {
+      few = omega arith;
+      small = small;
+      stretches = tt;
+      next = record { stretch = subst (IsStretch steps) all (planned steps room plan (omega arith)); within = short };
     }

@@ -1,13 +1,13 @@
 -- No public clause cites this file. What is still to be written, by the phase of the current stretch and the stack of held
--- stretches: the list `owed`, as which a stream is seen.
+-- stretches: the list `owed`, as which the stream of a stretch is seen.
 use Rattle.std.specs.Prelude.{ℕ, suc, ◌+◌, ◌-◌, ◌<◌, ◌≤◌, false, List, [], ◌∷◌, ◌++◌, length}
 use Rattle.plan_types.specs.declared.action.Keep.TheVariants.{Nothing}
 use Rattle.plan_types.specs.declared.action.Action.{Action}
-use Rattle.plan_types.specs.declared.action.Action.TheVariants.{Forward, Reverse, EndForward, EndReverse}
+use Rattle.plan_types.specs.declared.action.Action.TheVariants.{Forward, Reverse, EndForward}
 use Rattle.binomials.specs.Laws.{IsStretch}
 use Rattle.revolve_gen.specs.declared.stretch.Stretch.{Stretch}
 use Rattle.revolve_gen.specs.declared.stretch.Phase.{Phase}
-use Rattle.revolve_gen.specs.declared.stretch.Phase.TheVariants.{Empty, Fresh, Ahead, Last, Taped, Back, Ended}
+use Rattle.revolve_gen.specs.declared.stretch.Phase.TheVariants.{Empty, Fresh, Ahead, Last, Taped, Back}
 use Rattle.revolve_gen.specs.Written.{fresh, held}
 
 -- what the held stretches owe, the newest first, which stands last; p places lie below them
@@ -23,11 +23,10 @@ owed_by level room p (Ahead start split end) rest = Forward start split Nothing 
 owed_by level room p (Last start) rest = EndForward ∷ Reverse (start + 1) start ∷ rest
 owed_by level room p (Taped start) rest = Reverse (start + 1) start ∷ rest
 owed_by level room p Back rest = rest
-owed_by level room p Ended rest = []
 
 -- all that is owed
 abbrev pub owed : (ℕ → ℕ) → ℕ → Phase → List Stretch → List Action
-owed level room phase stack = owed_by level room (length stack) phase (owed_held level room 0 stack (EndReverse ∷ []))
+owed level room phase stack = owed_by level room (length stack) phase (owed_held level room 0 stack [])
 
 -- a stretch that can be reversed with so many slots, below the greatest number of steps
 pub record IsWithin (start steps slots : ℕ) : Type 0 where
@@ -47,7 +46,6 @@ IsPhase room p (Ahead start split end) = (start < split) × (split < end) × IsW
 IsPhase room p (Last start) = start < 1000000
 IsPhase room p (Taped start) = start < 1000000
 IsPhase room p Back = Unit {0}
-IsPhase room p Ended = Unit {0}
 
 -- there is a place for each held stretch, and each stretch can be reversed with the slots that are left for it
 pub record IsOwing (room : ℕ) (phase : Phase) (stack : List Stretch) : Type 0 where

@@ -6,7 +6,7 @@ use thiserror::Error;
 #[derive(Clone, Copy, Debug, PartialEq, Eq, Error)]
 pub enum GenFault {
     /// The book has no plan for so many steps, by the rule with this number. Rule 1: there are two steps or more, and no
-    /// slot.
+    /// slot. Rule 2: the plan is over two levels, and the book hasn't two. Rule 4: the slower level has too few slots.
     #[error("no plan, by rule {0}")]
     NoPlan(u8),
     /// There was no memory.

@@ -3,6 +3,7 @@ ghost use Rattle.std.specs.Prelude.{ℕ, List};
 ghost use Rattle.level_book.specs.declared.book.Slots.{Slots};
 ghost use Rattle.level_book.specs.BookCosts.{BookCosts};
 ghost use Rattle.revolve_gen.specs.Laws.{WrittenByRules, RevolveIsValid, BookIsRoomy, RevolveIsCounted, BookListIsRight};
+ghost use Rattle.revolve_gen.specs.Multistage.{LevelsAreFree, UsesItsSlots, MultistageIsValid, CostIsByPlaces};
 
 /// The list is written by the two rules.
 pub fn revolve_is_by_the_rules()
@@ -28,4 +29,24 @@ pub fn revolve_is_counted()
 /// steps.
 pub fn book_lists_are_right()
     ensures { (steps : ℕ) (book : BookCosts) → BookListIsRight steps book }
+{}
+
+/// Which levels the places stand on changes nothing else of the list.
+pub fn levels_are_free()
+    ensures { (steps c : ℕ) → LevelsAreFree steps c }
+{}
+
+/// The list uses no more places than it has slots.
+pub fn revolve_uses_its_slots()
+    ensures { (steps c : ℕ) → UsesItsSlots steps c }
+{}
+
+/// A list of the multistage class is valid.
+pub fn multistage_lists_are_valid()
+    ensures { (steps : ℕ) (book : BookCosts) → MultistageIsValid steps book }
+{}
+
+/// The cost of a list of the multistage class is a sum over its places.
+pub fn cost_is_by_places()
+    ensures { (steps : ℕ) (book : BookCosts) → CostIsByPlaces steps book }
 {}

@@ -1,14 +1,35 @@
 // One action, and what is to be written after it.
-ghost use Rattle.std.specs.Prelude.{◌≡◌, ◌<◌, ◌≤◌, ◌-◌, [], ◌∷◌, ◌++◌, length, vec_capacity, MatchOption, IfSome};
+ghost use Rattle.std.specs.Prelude.{◌≡◌, ℕ, ◌+◌, ◌<◌, ◌≤◌, ◌-◌, [], ◌∷◌, ◌++◌, length, vec_capacity, MatchOption, IfSome};
 ghost use Rattle.binomials.specs.Advances.{split};
 ghost use Rattle.binomials.specs.Laws.{IsSplit};
 ghost use Rattle.revolve_gen.specs.Places.{level_at};
+ghost use Rattle.revolve_gen.specs.Part.{stretch};
+ghost use Rattle.revolve_gen.specs.Plans.{HasPlan};
 ghost use Rattle.revolve_gen.specs.Owed.{owed, IsOwing};
 
 use crate::places::Places;
 use crate::stretch::{Phase, Stretch};
 use binomials::split;
 use plan_types::{Action, Dest, Keep};
+
+// What is to be written of a stretch, where nothing is held.
+pub(crate) fn first_phase(start: u32, steps: u32, first: bool) -> Phase
+    requires { start + steps ≤ 1000000 }
+    ensures written { (level : ℕ → ℕ) (room : ℕ) → owed level room result [] ≡ stretch level first start steps room }
+    ensures owing { (room : ℕ) → room ≤ 1000000 → HasPlan steps room → IsOwing room result [] }
+{
+    if steps > 0 {
+        return Phase::Fresh {
+            start,
+            steps,
+            first,
+        };
+    }
+    if first {
+        return Phase::Empty;
+    }
+    Phase::Back
+}
 
 // Splits a stretch of two steps or more, and holds the part up to the split. It gives how many steps that part has.
 fn hold_front(room: u32, stack: &mut Vec<Stretch>, start: u32, steps: u32) -> u32
@@ -75,16 +96,22 @@ pub(crate) fn fresh_action(
     )
 }
 
-// The first action of the newest held stretch, or the end.
-pub(crate) fn held_action(places: &Places, room: u32, stack: &mut Vec<Stretch>) -> (Action, Phase)
+// The first action of the newest held stretch, if one is held.
+pub(crate) fn held_action(
+    places: &Places,
+    room: u32,
+    stack: &mut Vec<Stretch>,
+) -> Option<(Action, Phase)>
     requires owing { IsOwing room Phase.Back stack.old.items }
     requires reserved { room ≤ vec_capacity stack.old }
-    ensures written { owed (level_at places.now) room Phase.Back stack.old.items ≡ result.0 ∷ owed (level_at places.now) room result.1 stack.new.items }
-    ensures owing { IsOwing room result.1 stack.new.items }
+    ensures written { MatchOption result (owed (level_at places.now) room Phase.Back stack.old.items ≡ []) (λ r.
+        owed (level_at places.now) room Phase.Back stack.old.items ≡ r.0 ∷ owed (level_at places.now) room r.1 stack.new.items) }
+    ensures owing { IfSome result (λ r. IsOwing room r.1 stack.new.items) }
     ensures capacity { vec_capacity stack.new ≡ vec_capacity stack.old }
+    ensures kept { result ≡ None → stack.new.items ≡ stack.old.items }
 {
     let Some(newest) = stack.pop() else {
-        return (Action::EndReverse, Phase::Ended);
+        return None;
     };
     let level = places.level(stack.len() as u32);
     let start = newest.start;
@@ -99,10 +126,10 @@ pub(crate) fn held_action(places: &Places, room: u32, stack: &mut Vec<Stretch>) 
             steps: 1,
             first: false,
         };
-        return (action, phase);
+        return Some((action, phase));
     }
     let ahead = hold_front(room, stack, start, newest.steps);
-    (
+    Some((
         Action::Copy {
             n: start,
             from: level,
@@ -113,7 +140,7 @@ pub(crate) fn held_action(places: &Places, room: u32, stack: &mut Vec<Stretch>) 
             split: start + ahead,
             end: start + newest.steps,
         },
-    )
+    ))
 }
 
 // The next action, and what is to be written after it.
@@ -158,7 +185,6 @@ pub(crate) fn next_action(
             },
             Phase::Back,
         )),
-        Phase::Back => Some(held_action(places, room, stack)),
-        Phase::Ended => None,
+        Phase::Back => held_action(places, room, stack),
     }
 }

@@ -1,5 +1,6 @@
 // The levels of a book's slots, in their order.
-ghost use Rattle.std.specs.Prelude.{◌≡◌};
+ghost use Rattle.std.specs.Prelude.{◌≡◌, [], ◌∷◌};
+ghost use Rattle.level_book.specs.declared.book.Slots.TheVariants.{Unlimited};
 ghost use Rattle.level_book.specs.BookCosts.{slots_of};
 ghost use Rattle.revolve_gen.specs.Places.{level_at};
 
@@ -35,6 +36,16 @@ impl Places {
             slots[k as usize] = book.level(k).slots;
         }
         Places { slots, count }
+    }
+
+    // One level without a bound.
+    pub(crate) fn fastest() -> Places
+        ensures { result ≡ Unlimited ∷ [] }
+    {
+        Places {
+            slots: [Slots::Unlimited; 4],
+            count: 1,
+        }
     }
 
     // The level on which a place of the stack stands.

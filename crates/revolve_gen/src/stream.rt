@@ -5,9 +5,8 @@ ghost use Rattle.revolve_gen.specs.Written.{revolve_list};
 ghost use Rattle.revolve_gen.specs.Plans.{HasPlan, IsFault};
 
 use crate::fault::GenFault;
-use crate::phases::next_action;
-use crate::places::Places;
-use crate::stretch::{Phase, Stretch};
+use crate::part::StretchStream;
+use crate::stretch::Stretch;
 use level_book::Book;
 use plan_types::Action;
 use std::alloc::Global;
@@ -17,28 +16,23 @@ use std::marker::Model;
 /// each held image.
 #[derive(Drop)]
 pub struct Revolve {
-    places: Places,
-    room: u32,
-    stack: Vec<Stretch>,
-    phase: Phase,
+    stretch: StretchStream,
+    ended: bool,
 }
 
 impl Model for Revolve {
-    ghost use Rattle.std.specs.Prelude.{◌≤◌, List, vec_capacity};
+    ghost use Rattle.std.specs.Prelude.{List, [], ◌∷◌, ◌++◌, cond};
     ghost use Rattle.plan_types.specs.declared.action.Action.{Action};
+    ghost use Rattle.plan_types.specs.declared.action.Action.TheVariants.{EndReverse};
 
     ghost Value = { List Action };
 
-    ghost use Rattle.revolve_gen.specs.Places.{level_at};
-    ghost use Rattle.revolve_gen.specs.Owed.{owed, IsOwing};
-
-    ghost view = { λ r. owed (level_at r.places) r.room r.phase r.stack.items };
-
-    ghost invariant = { λ r. IsOwing r.room r.phase r.stack.items × (r.room ≤ vec_capacity r.stack) };
+    ghost view = { λ r. r.stretch.actions ++ cond r.ended [] (EndReverse ∷ []) };
 }
 
 impl Revolve {
     /// The list for so many steps, with a stack in a room that was reserved for it. It takes no memory.
+    #[tactic(auto, using(crate::proofs::Owing::whole_stretch))]
     pub fn over(steps: u32, book: &Book, room: Vec<Stretch>) -> Revolve
         requires short { steps ≤ 1000000 }
         requires plan { HasPlan steps (total_room book.now steps) }
@@ -46,20 +40,11 @@ impl Revolve {
         requires reserved { total_room book.now steps ≤ vec_capacity room }
         ensures { result ≡ revolve_list steps book.now }
     {
-        let phase = if steps == 0 {
-            Phase::Empty
-        } else {
-            Phase::Fresh {
-                start: 0,
-                steps,
-                first: true,
-            }
-        };
+        let mut stretch = StretchStream::over(book, book.total_room(steps), room);
+        stretch.begin(0, steps, true);
         Revolve {
-            places: Places::of(book),
-            room: book.total_room(steps),
-            stack: room,
-            phase,
+            stretch,
+            ended: false,
         }
     }
 
@@ -84,9 +69,14 @@ impl Revolve {
     pub fn next(&mut self) -> Option<Action>
         ensures { MatchOption result ((self.old ≡ []) × (self.new ≡ [])) (λ action. self.old ≡ action ∷ self.new) }
     {
-        let (action, phase) = next_action(&self.places, self.room, &mut self.stack, self.phase)?;
-        self.phase = phase;
-        Some(action)
+        if let Some(action) = self.stretch.next() {
+            return Some(action);
+        }
+        if self.ended {
+            return None;
+        }
+        self.ended = true;
+        Some(Action::EndReverse)
     }
 }
 

@@ -24,6 +24,4 @@ pub(crate) enum Phase {
     Taped { start: u32 },
     // Nothing.
     Back,
-    // Nothing, and no held stretch: the end was written.
-    Ended,
 }

@@ -1,5 +1,5 @@
 // Lists that were worked out by hand, by the two rules.
-use crate::{GenFault, Revolve, Stretch, revolve_list};
+use crate::{GenFault, Revolve, Stretch, StretchStream, revolve_list};
 use binomials::least_advances;
 use level_book::{Book, read_book};
 use plan_types::{Action, Dest, Keep};
@@ -128,6 +128,46 @@ fn the_stream_stays_at_its_end(rt: HostRuntime) -> Result<(), Fail> {
     for _ in 0..3 {
         assert_eq!(rt; stream.next(), None);
     }
+    Ok(())
+}
+
+#[test]
+fn one_stream_serves_for_several_stretches(rt: HostRuntime) -> Result<(), Fail> {
+    let room: Vec<Stretch> = Vec::with_capacity(rt.alloc(), 1)?;
+    let mut stream = StretchStream::over(&Book::plain(1), 1, room);
+    assert_eq!(rt; stream.next(), None);
+    stream.begin(3, 1, true);
+    for action in [tape!(3, 4), Action::EndForward, reverse!(4, 3)] {
+        assert_eq!(rt; stream.next(), Some(action));
+    }
+    assert_eq!(rt; stream.next(), None);
+    stream.begin(5, 1, false);
+    for action in [tape!(5, 6), reverse!(6, 5)] {
+        assert_eq!(rt; stream.next(), Some(action));
+    }
+    assert_eq!(rt; stream.next(), None);
+    stream.begin(0, 0, true);
+    assert_eq!(rt; stream.next(), Some(Action::EndForward));
+    assert_eq!(rt; stream.next(), None);
+    Ok(())
+}
+
+#[test]
+fn images_of_a_stretch_stand_on_the_fastest_level(rt: HostRuntime) -> Result<(), Fail> {
+    let room: Vec<Stretch> = Vec::with_capacity(rt.alloc(), 1)?;
+    let mut stream = StretchStream::on_fastest(1, room);
+    stream.begin(7, 2, false);
+    for action in [
+        store!(7, 8, 0),
+        tape!(8, 9),
+        reverse!(9, 8),
+        moved!(7, 0),
+        tape!(7, 8),
+        reverse!(8, 7),
+    ] {
+        assert_eq!(rt; stream.next(), Some(action));
+    }
+    assert_eq!(rt; stream.next(), None);
     Ok(())
 }
 
