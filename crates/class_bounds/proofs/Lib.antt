@@ -1,0 +1,9 @@
+pub mod Bounds
+pub mod NestedRates
+pub mod DiskRates
+pub mod Potential
+pub mod Costs
+pub mod Standing
+pub mod Paying
+pub mod NestedCosts
+pub mod DiskCosts

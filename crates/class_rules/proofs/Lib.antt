@@ -1,0 +1,3 @@
+pub mod Walking
+pub mod Classing
+pub mod Stacking

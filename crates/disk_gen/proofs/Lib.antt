@@ -1,0 +1,4 @@
+pub mod Counting
+pub mod Holding
+pub mod Leading
+pub mod Owing

@@ -1,0 +1,18 @@
+-- What holds of the periodic lists.
+use Rattle.std.specs.Prelude.{ℕ, ◌*◌, ◌≤◌}
+use Rattle.level_book.specs.BookCosts.{BookCosts, slots_of}
+use Rattle.level_book.specs.Valid.{Valid}
+use Rattle.disk_gen.specs.Periodic.{stretches, periodic_list}
+use Rattle.disk_gen.specs.Plans.{HasPlan}
+
+-- the number of stretches is the least whole number that, times the period, is no less than the steps
+pub record AreLeast (steps period q : ℕ) : Type 0 where
+  pub enough : steps ≤ q * period
+  pub least : (m : ℕ) → steps ≤ m * period → q ≤ m
+
+abbrev pub StretchesAreLeast : ℕ → ℕ → Type 0
+StretchesAreLeast steps period = 1 ≤ period → AreLeast steps period (stretches steps period)
+
+-- the list, where there is a plan, is valid for its book
+abbrev pub PeriodicIsValid : ℕ → ℕ → BookCosts → Type 0
+PeriodicIsValid steps period book = 1 ≤ period → HasPlan steps period book → Valid steps (slots_of book) (periodic_list steps period book)

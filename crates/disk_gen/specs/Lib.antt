@@ -1,0 +1,4 @@
+pub mod Periodic
+pub mod Plans
+pub mod Laws
+pub mod Owed

@@ -1,0 +1,114 @@
+// The periodic list, one action at a time and as a whole.
+ghost use Rattle.std.specs.Prelude.{◌≡◌, ◌≤◌, [], ◌∷◌, MatchOption, IfOk, IfErr, OnOk};
+ghost use Rattle.disk_gen.specs.Periodic.{periodic_list};
+ghost use Rattle.disk_gen.specs.Plans.{HasPlan, IsFault};
+
+use crate::phase::{Phase, next_behind};
+use crate::plans::planned_images;
+use level_book::Book;
+use plan_types::Action;
+use revolve_gen::{GenFault, StretchStream};
+use std::alloc::Global;
+use std::marker::Model;
+
+/// The actions of a periodic list that are still to come. It holds no list: it works each action out from a stack with an entry
+/// for each image on the faster level.
+#[derive(Drop)]
+pub struct Periodic {
+    period: u32,
+    last: u32,
+    stretch: StretchStream,
+    phase: Phase,
+}
+
+impl Model for Periodic {
+    ghost use Rattle.std.specs.Prelude.{List, ◌++◌};
+    ghost use Rattle.plan_types.specs.declared.action.Action.{Action};
+    ghost use Rattle.disk_gen.specs.Owed.{owed_behind, IsOwing};
+
+    ghost Value = { List Action };
+
+    ghost view = { λ p. p.stretch.actions ++ owed_behind p.period p.last p.stretch.slots p.phase };
+
+    ghost invariant = { λ p. IsOwing p.period p.last p.stretch.levels p.stretch.slots p.phase };
+}
+
+impl Periodic {
+    /// The list for so many steps with an image on level 1 every `period` steps, with a stack that has room for an entry for each
+    /// slot of level 0.
+    pub fn new(alloc: Global, steps: u32, period: u32, book: &Book) -> Result<Periodic, GenFault>
+        requires short { steps ≤ 1000000 }
+        requires some { 1 ≤ period }
+        requires small { period ≤ 1000000 }
+        ensures list { IfOk result (λ p. p ≡ periodic_list steps period book.now) }
+        ensures plan { OnOk result (HasPlan steps period book.now) }
+        ensures refused { IfErr result (IsFault steps period book.now) }
+    {
+        let images = planned_images(steps, period, book)?;
+        let slots = book.room(0, steps);
+        let Ok(room) = Vec::with_capacity(alloc, slots as usize) else {
+            return Err(GenFault::Memory);
+        };
+        let mut stretch = StretchStream::on_fastest(slots, room);
+        let last = steps - images * period;
+        if images > 0 {
+            let phase = Phase::Ahead {
+                held: 0,
+                left: images,
+            };
+            return Ok(Periodic {
+                period,
+                last,
+                stretch,
+                phase,
+            });
+        }
+        stretch.begin(0, steps, true);
+        Ok(Periodic {
+            period,
+            last,
+            stretch,
+            phase: Phase::Back { held: 0 },
+        })
+    }
+
+    /// The next action, and None after the last and from then on. It takes no memory.
+    #[tactic(auto, using(crate::proofs::Owing::owed_next, crate::proofs::Owing::owing_same))]
+    pub fn next(&mut self) -> Option<Action>
+        ensures { MatchOption result ((self.old ≡ []) × (self.new ≡ [])) (λ action. self.old ≡ action ∷ self.new) }
+    {
+        if let Some(action) = self.stretch.next() {
+            return Some(action);
+        }
+        let (action, phase) = next_behind(self.period, self.last, &mut self.stretch, self.phase)?;
+        self.phase = phase;
+        Some(action)
+    }
+}
+
+/// The whole list.
+pub fn periodic_list(
+    alloc: Global,
+    steps: u32,
+    period: u32,
+    book: &Book,
+) -> Result<Vec<Action>, GenFault>
+    requires short { steps ≤ 1000000 }
+    requires some { 1 ≤ period }
+    requires small { period ≤ 1000000 }
+    ensures list { IfOk result (λ list. list.items ≡ periodic_list steps period book.now) }
+    ensures plan { OnOk result (HasPlan steps period book.now) }
+    ensures refused { IfErr result (IsFault steps period book.now) }
+{
+    let mut stream = Periodic::new(alloc, steps, period, book)?;
+    // Four actions a step, and two for no steps.
+    let Ok(mut list) = Vec::with_capacity(alloc, (4 * steps as usize).max(2)) else {
+        return Err(GenFault::Memory);
+    };
+    while let Some(action) = stream.next() {
+        if list.push(action).is_err() {
+            return Err(GenFault::Memory);
+        }
+    }
+    Ok(list)
+}

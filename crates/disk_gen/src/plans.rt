@@ -1,0 +1,41 @@
+// Where there is a plan.
+ghost use Rattle.std.specs.Prelude.{◌≡◌, ◌≤◌, IfOk, IfErr, OnOk};
+ghost use Rattle.disk_gen.specs.Periodic.{images};
+ghost use Rattle.disk_gen.specs.Plans.{HasPlan, IsFault};
+
+use level_book::{Book, Slots};
+use revolve_gen::GenFault;
+
+// How many images the slower level has.
+fn images(steps: u32, period: u32) -> u32
+    requires short { steps ≤ 1000000 }
+    requires some { 1 ≤ period }
+    requires small { period ≤ 1000000 }
+    ensures { result ≡ images steps period }
+{
+    ((steps + (period - 1)) / period).saturating_sub(1)
+}
+
+// How many images the slower level has, where there is a plan.
+pub(crate) fn planned_images(steps: u32, period: u32, book: &Book) -> Result<u32, GenFault>
+    requires short { steps ≤ 1000000 }
+    requires some { 1 ≤ period }
+    requires small { period ≤ 1000000 }
+    ensures value { IfOk result (λ n. n ≡ images steps period) }
+    ensures plan { OnOk result (HasPlan steps period book.now) }
+    ensures refused { IfErr result (IsFault steps period book.now) }
+{
+    if book.levels() != 2 {
+        return Err(GenFault::NoPlan(2));
+    }
+    if steps >= 2 && period >= 2 && book.room(0, steps) == 0 {
+        return Err(GenFault::NoPlan(1));
+    }
+    let count = images(steps, period);
+    if let Slots::Count(slots) = book.level(1).slots {
+        if slots < count {
+            return Err(GenFault::NoPlan(4));
+        }
+    }
+    Ok(count)
+}

@@ -1,0 +1,87 @@
+-- The planned list, and that it is in the class.
+use Rattle.std.proofs.Common.{◌≡◌, ◌⊎◌, ℕ, zero, suc, ◌+◌, ◌-◌, ◌*◌, ◌<◌, ◌≤◌, min, List, [], ◌∷◌, ◌++◌, length, map, fold, get_or, refl, sym, ap, subst, ◌∙◌, inl, inr, arith}
+use Rattle.plan_types.specs.declared.action.Action.{Action}
+use Rattle.level_book.specs.declared.book.Level.{Level}
+use Rattle.level_book.specs.declared.book.Slots.{Slots}
+use Rattle.level_book.specs.declared.book.Slots.TheVariants.{Count, Unlimited}
+use Rattle.level_book.specs.BookCosts.{BookCosts, least, both, slots_of, room, total_room}
+use Rattle.revolve_gen.specs.Places.{places_on, level_at}
+use Rattle.revolve_gen.specs.Plans.{HasPlan}
+use Rattle.revolve_gen.specs.Stack.{times, places_used, placed}
+use Rattle.revolve_gen.specs.Multistage.{HasPlaces, HasLevels, IsMultistage, saving}
+use Rattle.revolve_gen.specs.Written.{revolve, revolve_list}
+use Rattle.revolve_gen.proofs.Written.{revolve_counted}
+use Rattle.revolve_gen.proofs.Stacked.{levels_free, uses_its_slots, written_same, read_same, used_same}
+use Rattle.revolve_gen.proofs.Extending.{on_both}
+use Rattle.multistage_gen.specs.Planned.{ComesBefore, IsPlan, IsMultistageList}
+use Rattle.multistage_gen.specs.Ranks.{ArePlanned}
+
+pub revolve_short : (level : ℕ → ℕ) (steps c : ℕ) → HasPlan steps c → steps ≤ 1000000 → length (revolve level steps c) ≤ 16777216
+revolve_short level zero c plan few = omega arith
+revolve_short level (suc n) c plan few = let e = (revolve_counted level (suc n) c plan).actions (omega arith) in omega arith
+
+pub saving_same : (level : ℕ → ℕ) (list : List Action) (fast slow : Level) (p : ℕ) → saving (placed level 0 list) fast slow p ≡ saving list fast slow p
+saving_same level list fast slow p =
+    λ i. times p (written_same level 0 list i) * (slow.write - fast.write) + times p (read_same level 0 list i) * (slow.read - fast.read)
+
+order_same : (s t s' t' p q : ℕ) → s' ≡ s → t' ≡ t → (t < s) ⊎ ((t ≡ s) × (p < q)) → (t' < s') ⊎ ((t' ≡ s') × (p < q))
+order_same s t s' t' p q e f (inl less) = inl (omega arith)
+order_same s t s' t' p q e f (inr tie) = inr (f ∙ tie.0 ∙ sym e, tie.1)
+
+-- the list of Revolve with the planned levels is the planned list
+pub placed_as_planned : (steps : ℕ) (book : BookCosts) (fast slow : Level) (levels : List ℕ) (list : List Action) → list ≡ revolve_list steps book → book.levels ≡ fast ∷ slow ∷ [] →
+    HasPlan steps (total_room book steps) → ArePlanned (room book 0 steps) list fast slow levels → IsMultistageList steps book (placed (λ p. get_or levels p 0) 0 list)
+placed_as_planned steps book fast slow levels list e two plan are =
+    let level : ℕ → ℕ = λ p. get_or levels p 0 in
+    let used = used_same level list in
+    record {
+      fast = fast;
+      slow = slow;
+      two = two;
+      plan = plan;
+      level = level;
+      planned = record {
+        is = ap (placed level 0) e ∙ levels_free steps (total_room book steps) level (level_at (slots_of book));
+        known = λ p h. are.known p (omega arith);
+        many = subst (λ n. places_on level 0 n ≡ min (room book 0 steps) n) (sym used) are.many;
+        order = λ p q hp hq f g. order_same (saving list fast slow p) (saving list fast slow q) _ _ p q (saving_same level list fast slow p) (saving_same level list fast slow q)
+            (are.order p q (omega arith) (omega arith) f g);
+      };
+    }
+
+-- the places on level 0 fit there, and the others on level 1
+fits_first : (s : Slots) (steps used n : ℕ) → n ≡ min (least s steps) used → HasPlaces s n
+fits_first (Count s) steps used n e = omega arith
+fits_first Unlimited steps used n e = tt
+
+fits_second : (s t : Slots) (steps used n m : ℕ) → n ≡ min (least s steps) used → n + m ≡ used → used ≤ least (both (both (Count 0) s) t) steps → HasPlaces t m
+fits_second (Count s) (Count t) steps used n m e all fits = omega arith
+fits_second Unlimited (Count t) steps used n m e all fits = omega arith
+fits_second s Unlimited steps used n m e all fits = tt
+
+two_cases : (P : ℕ → Type 0) → P 0 → P 1 → (k : ℕ) → k < 2 → P k
+two_cases P a b zero h = a
+two_cases P a b (suc zero) h = b
+two_cases P a b (suc (suc k)) h = absurd (omega arith)
+
+-- the levels of the planned list
+pub planned_levels : (steps : ℕ) (book : BookCosts) (list : List Action) (is : IsMultistageList steps book list) → HasLevels steps book is.level list
+planned_levels steps book list is =
+    let plan = is.planned in
+    let level = is.level in
+    let used = places_used list in
+    let slots_are : slots_of book ≡ is.fast.slots ∷ is.slow.slots ∷ [] = ap (map (λ (level : Level). level.slots)) is.two in
+    let many : places_on level 0 used ≡ min (least is.fast.slots steps) used = plan.many ∙ ap (λ slots. min (least (get_or slots 0 (Count 0)) steps) used) slots_are in
+    let room_is = ap (λ slots. least (fold both (Count 0) slots) steps) slots_are in
+    let fits : used ≤ least (both (both (Count 0) is.fast.slots) is.slow.slots) steps = omega (arith, ap places_used plan.is, uses_its_slots steps (total_room book steps) level is.plan) in
+    let first = fits_first is.fast.slots steps used _ many in
+    let second = fits_second is.fast.slots is.slow.slots steps used _ (places_on level 1 used) many (on_both level used plan.known) fits in
+    let each : (k : ℕ) → k < 2 → HasPlaces (get_or (is.fast.slots ∷ is.slow.slots ∷ []) k (Count 0)) (places_on level k used) = two_cases (λ k. HasPlaces (get_or (is.fast.slots ∷ is.slow.slots ∷ []) k (Count 0)) (places_on level k used)) first second in
+    record {
+      is = plan.is;
+      known = plan.known;
+      room = λ k h. subst (λ slots. HasPlaces (get_or slots k (Count 0)) (places_on level k used)) (sym slots_are) (each k h);
+    }
+
+pub planned_in_class : (steps : ℕ) (book : BookCosts) (list : List Action) → IsMultistageList steps book list → IsMultistage steps book list
+planned_in_class steps book list is = record { two = ap length is.two; plan = is.plan; level = is.level; levels = planned_levels steps book list is }

@@ -1,0 +1,5 @@
+use Rattle.multistage_gen.proofs.Unique.{plans_unique}
+use Rattle.multistage_gen.proofs.laws.plans_are_unique.Goals as goal
+
+pub returns : goal.returns
+returns c = plans_unique

@@ -1,0 +1,4 @@
+pub mod Traffic
+pub mod Planned
+pub mod Ranks
+pub mod Threshold

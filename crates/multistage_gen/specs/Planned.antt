@@ -1,0 +1,46 @@
+-- The multistage list that is written, and why there is none. The places that save most stand on the faster level, as Stumm and
+-- Walther have it in "MultiStage approaches for optimal offline checkpointing", SIAM Journal on Scientific Computing 31, 2009.
+use Rattle.std.specs.Prelude.{◌≡◌, ◌≢◌, ◌⊎◌, ℕ, ◌<◌, ◌≤◌, min, List, [], ◌∷◌, length}
+use Rattle.plan_types.specs.declared.action.Action.{Action}
+use Rattle.level_book.specs.declared.book.Level.{Level}
+use Rattle.level_book.specs.BookCosts.{BookCosts, room, total_room}
+use Rattle.revolve_gen.specs.declared.fault.GenFault.{GenFault}
+use Rattle.revolve_gen.specs.declared.fault.GenFault.TheVariants.{NoPlan, Memory}
+use Rattle.revolve_gen.specs.Places.{places_on}
+use Rattle.revolve_gen.specs.Plans.{HasPlan}
+use Rattle.revolve_gen.specs.Stack.{places_used}
+use Rattle.revolve_gen.specs.Multistage.{saving}
+use Rattle.revolve_gen.specs.Written.{revolve}
+
+-- place p comes before place q: it saves more on the faster level, or as much and is the lower one
+abbrev pub ComesBefore : List Action → Level → Level → ℕ → ℕ → Type 0
+ComesBefore list fast slow p q =
+    (saving list fast slow q < saving list fast slow p) ⊎ ((saving list fast slow q ≡ saving list fast slow p) × (p < q))
+
+-- The list is that of Revolve with these levels of its places: as many as level 0 has room for are there, they come before the
+-- others, and the others are on level 1.
+pub record IsPlan (steps : ℕ) (book : BookCosts) (fast slow : Level) (level : ℕ → ℕ) (list : List Action) : Type 0 where
+  pub is : list ≡ revolve level steps (total_room book steps)
+  pub known : (p : ℕ) → p < places_used list → level p < 2
+  pub many : places_on level 0 (places_used list) ≡ min (room book 0 steps) (places_used list)
+  pub order : (p q : ℕ) → p < places_used list → q < places_used list → level p ≡ 0 → level q ≡ 1 → ComesBefore list fast slow p q
+
+-- the list for so many steps and a book of two levels
+pub record IsMultistageList (steps : ℕ) (book : BookCosts) (list : List Action) : Type 0 where
+  pub fast : Level
+  pub slow : Level
+  pub two : book.levels ≡ fast ∷ slow ∷ []
+  pub plan : HasPlan steps (total_room book steps)
+  pub level : ℕ → ℕ
+  pub planned : IsPlan steps book fast slow level list
+
+-- Why there is no list: rule 2, the book hasn't two levels; else rule 1, two steps or more have no slot. Memory can be wanting
+-- only where there is a plan.
+abbrev pub IsFault : ℕ → BookCosts → GenFault → Type 0
+IsFault steps book (NoPlan rule) =
+    ((rule ≡ 2) × (length book.levels ≢ 2)) ⊎ ((rule ≡ 1) × (length book.levels ≡ 2) × (2 ≤ steps) × (total_room book steps ≡ 0))
+IsFault steps book Memory = (length book.levels ≡ 2) × HasPlan steps (total_room book steps)
+
+-- there is one such list at most
+abbrev pub PlansAreUnique : ℕ → BookCosts → Type 0
+PlansAreUnique steps book = (list other : List Action) → IsMultistageList steps book list → IsMultistageList steps book other → list ≡ other

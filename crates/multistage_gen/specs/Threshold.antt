@@ -1,0 +1,32 @@
+-- Why a list of the multistage class costs the least of its class: a threshold parts the places on its two levels. The exchange of
+-- two places that it rests on is our own, and so is its form.
+use Rattle.std.specs.Prelude.{◌≡◌, ◌⊎◌, ℕ, ◌<◌, ◌≤◌, List, [], ◌∷◌}
+use Rattle.plan_types.specs.declared.action.Action.{Action}
+use Rattle.level_book.specs.declared.book.Level.{Level}
+use Rattle.level_book.specs.BookCosts.{BookCosts, room}
+use Rattle.level_book.specs.CostFold.{cost}
+use Rattle.revolve_gen.specs.Places.{places_on}
+use Rattle.revolve_gen.specs.Stack.{places_used}
+use Rattle.revolve_gen.specs.Multistage.{HasLevels, IsMultistage, saving}
+use Rattle.multistage_gen.specs.Planned.{IsMultistageList}
+
+-- The list's places, which stand on these levels, meet the threshold: each used place on level 0 saves at least as much, each on
+-- level 1 would save at most as much, and the threshold is 0 or level 0 has as many used places as it has room for.
+pub record MeetsThreshold (threshold steps : ℕ) (book : BookCosts) (fast slow : Level) (level : ℕ → ℕ) (list : List Action) : Type 0 where
+  pub above : (p : ℕ) → p < places_used list → level p ≡ 0 → threshold ≤ saving list fast slow p
+  pub below : (p : ℕ) → p < places_used list → level p ≡ 1 → saving list fast slow p ≤ threshold
+  pub full : (threshold ≡ 0) ⊎ (places_on level 0 (places_used list) ≡ room book 0 steps)
+
+-- Over a book whose second level costs no less than its first, no list of the class costs less than one whose places meet a
+-- threshold. A list that is in the class has such levels.
+abbrev pub LeastOfTheMultistage : ℕ → BookCosts → Type 0
+LeastOfTheMultistage steps book =
+    (threshold : ℕ) (fast slow : Level) (level : ℕ → ℕ) (list other : List Action) → book.levels ≡ fast ∷ slow ∷ [] →
+    fast.write ≤ slow.write → fast.read ≤ slow.read → HasLevels steps book level list →
+    MeetsThreshold threshold steps book fast slow level list → IsMultistage steps book other → cost list book ≤ cost other book
+
+-- where the second level costs no less than the first, no list of the class costs less than the planned one
+abbrev pub PlannedIsLeast : ℕ → BookCosts → List Action → List Action → Type 0
+PlannedIsLeast steps book list other =
+    (is : IsMultistageList steps book list) → is.fast.write ≤ is.slow.write → is.fast.read ≤ is.slow.read → IsMultistage steps book other →
+    cost list book ≤ cost other book

@@ -1,0 +1,21 @@
+// Laws over the planned lists. Each function does nothing; its contract is the law.
+ghost use Rattle.std.specs.Prelude.{ℕ, List};
+ghost use Rattle.plan_types.specs.declared.action.Action.{Action};
+ghost use Rattle.level_book.specs.BookCosts.{BookCosts};
+ghost use Rattle.multistage_gen.specs.Planned.{PlansAreUnique};
+ghost use Rattle.multistage_gen.specs.Threshold.{LeastOfTheMultistage, PlannedIsLeast};
+
+/// There is at most one planned list for so many steps and a book.
+pub fn plans_are_unique()
+    ensures { (steps : ℕ) (book : BookCosts) → PlansAreUnique steps book }
+{}
+
+/// Where the places of a list of the multistage class meet a threshold, no list of the class costs less.
+pub fn least_of_the_multistage()
+    ensures { (steps : ℕ) (book : BookCosts) → LeastOfTheMultistage steps book }
+{}
+
+/// No list of the multistage class costs less than the planned one.
+pub fn planned_lists_are_least()
+    ensures { (steps : ℕ) (book : BookCosts) (list other : List Action) → PlannedIsLeast steps book list other }
+{}

@@ -1,0 +1,58 @@
+// The levels of the places of a list, by what they save.
+ghost use Rattle.std.specs.Prelude.{◌≡◌, ℕ, ◌+◌, ◌-◌, ◌*◌, ◌≤◌, All, List, [], ◌∷◌, length, IfOk};
+ghost use Rattle.level_book.specs.declared.book.Level.{Level};
+ghost use Rattle.level_book.specs.BookCosts.{room};
+ghost use Rattle.multistage_gen.specs.Ranks.{IsCounted, ranks_from, ArePlanned};
+
+use crate::ranking::{Rank, levels_by_rank};
+use crate::traffic::{PlaceTraffic, places};
+use level_book::{Book, Level};
+use plan_types::Action;
+use std::alloc::{AllocError, Global};
+use std::cmp::Reverse;
+
+// How much less the traffic of a place costs on the faster level.
+fn saving(traffic: &PlaceTraffic, fast: &Level, slow: &Level) -> u64
+    requires { IsCounted traffic.now }
+    ensures { result ≡ traffic.now.writes * (slow.now.write - fast.now.write) + traffic.now.reads * (slow.now.read - fast.now.read) }
+{
+    let write = u64::from(slow.write.saturating_sub(fast.write));
+    let read = u64::from(slow.read.saturating_sub(fast.read));
+    traffic.writes * write + traffic.reads * read
+}
+
+// The ranks of the places with this traffic.
+fn ranks(
+    alloc: Global,
+    traffic: &[PlaceTraffic],
+    fast: &Level,
+    slow: &Level,
+) -> Result<Vec<Rank>, AllocError>
+    requires { All IsCounted traffic.now }
+    ensures { IfOk result (λ ranks. ranks.items ≡ ranks_from fast.now slow.now 0 traffic.now) }
+{
+    let mut ranks = Vec::new(alloc);
+    for (place, of) in traffic.iter().enumerate() {
+        ranks.push(Rank {
+            saving: Reverse(saving(of, fast, slow)),
+            place,
+        })?;
+    }
+    Ok(ranks)
+}
+
+// The level of each place: as many places as have room on level 0 are there, those that save most.
+pub(crate) fn planned_levels(
+    alloc: Global,
+    list: &[Action],
+    steps: u32,
+    book: &Book,
+) -> Result<Vec<u8>, AllocError>
+    requires two { length book.now.levels ≡ 2 }
+    requires few { length list.now ≤ 16777216 }
+    ensures { IfOk result (λ levels. (fast slow : Level) → book.now.levels ≡ fast ∷ slow ∷ [] → ArePlanned (room book.now 0 steps) list.now fast slow levels.items) }
+{
+    let traffic = places(alloc, list)?;
+    let ranks = ranks(alloc, &traffic, book.level(0), book.level(1))?;
+    levels_by_rank(alloc, &ranks, book.room(0, steps) as usize)
+}

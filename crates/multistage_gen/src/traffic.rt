@@ -1,0 +1,80 @@
+// The traffic of the places of a stack.
+ghost use Rattle.std.specs.Prelude.{◌≡◌, ℕ, ◌+◌, ◌<◌, ◌≤◌, [], ◌∷◌, ◌++◌, List, length, slice_get, Some, IfOk, OnOk, vec_len};
+ghost use Rattle.revolve_gen.specs.Stack.{written, read};
+ghost use Rattle.multistage_gen.specs.Traffic.{IsTraffic};
+
+use plan_types::Action;
+use revolve_gen::StackStep;
+use std::alloc::{AllocError, Global};
+
+/// How often the images at a place of the stack are written and read.
+#[derive(Clone, Copy, Debug, PartialEq, Eq)]
+pub struct PlaceTraffic {
+    pub writes: u64,
+    pub reads: u64,
+}
+
+/// The writes and reads of each place of a list. Each Copy and Move counts as one of the newest image, whichever it names.
+pub fn places(alloc: Global, list: &[Action]) -> Result<Vec<PlaceTraffic>, AllocError>
+    requires { length list.now ≤ 16777216 }
+    ensures { IfOk result (λ places. IsTraffic (written 0 list.now) (read 0 list.now) places.items) }
+{
+    let mut places = Vec::new(alloc);
+    let mut held = 0;
+    for action in list {
+        match StackStep::of(action) {
+            StackStep::Push => {
+                write_at(&mut places, held)?;
+                held += 1;
+            }
+            StackStep::Read => read_at(&mut places, held.saturating_sub(1))?,
+            StackStep::Pop => {
+                held = held.saturating_sub(1);
+                read_at(&mut places, held)?;
+            }
+            StackStep::Stay => {}
+        }
+    }
+    Ok(places)
+}
+
+// Puts in the traffic of the next place, where it is the one.
+fn reach(places: &mut Vec<PlaceTraffic>, place: usize) -> Result<(), AllocError>
+    requires { place ≤ vec_len places.old }
+    ensures there { OnOk result ((place < vec_len places.new) × (vec_len places.old ≤ vec_len places.new)) }
+    ensures few { OnOk result (vec_len places.new ≤ vec_len places.old + 1) }
+    ensures old { OnOk result ((p : ℕ) → p < vec_len places.old → slice_get places.new.items p ≡ slice_get places.old.items p) }
+    ensures new { OnOk result ((p : ℕ) → vec_len places.old ≤ p → p < vec_len places.new → (p ≡ place) × (slice_get places.new.items p ≡ Some (record { writes = 0; reads = 0 }))) }
+{
+    if place == places.len() {
+        places.push(PlaceTraffic {
+            writes: 0,
+            reads: 0,
+        })?;
+    }
+    Ok(())
+}
+
+// A place is written once more.
+fn write_at(places: &mut Vec<PlaceTraffic>, place: usize) -> Result<(), AllocError>
+    requires near { place ≤ vec_len places.old }
+    requires small { (ws : List ℕ) × (rs : List ℕ) × IsTraffic ws rs places.old.items × (length ws < 16777216) }
+    ensures ok { OnOk result ((ws rs : List ℕ) → IsTraffic ws rs places.old.items → IsTraffic (ws ++ place ∷ []) rs places.new.items) }
+    ensures there { OnOk result ((place < vec_len places.new) × (vec_len places.old ≤ vec_len places.new)) }
+{
+    reach(places, place)?;
+    places[place].writes += 1;
+    Ok(())
+}
+
+// A place is read once more.
+fn read_at(places: &mut Vec<PlaceTraffic>, place: usize) -> Result<(), AllocError>
+    requires near { place ≤ vec_len places.old }
+    requires small { (ws : List ℕ) × (rs : List ℕ) × IsTraffic ws rs places.old.items × (length rs < 16777216) }
+    ensures ok { OnOk result ((ws rs : List ℕ) → IsTraffic ws rs places.old.items → IsTraffic ws (rs ++ place ∷ []) places.new.items) }
+    ensures there { OnOk result ((place < vec_len places.new) × (vec_len places.old ≤ vec_len places.new)) }
+{
+    reach(places, place)?;
+    places[place].reads += 1;
+    Ok(())
+}
