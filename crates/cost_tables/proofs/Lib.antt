@@ -1,0 +1,10 @@
+pub mod Splits
+pub mod RowReads
+pub mod Greatest
+pub mod AllLevels
+pub mod Pushing
+pub mod Building
+pub mod Pieces
+pub mod Exact
+pub mod Views
+pub mod Least

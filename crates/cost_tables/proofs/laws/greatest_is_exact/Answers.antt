@@ -1,0 +1,5 @@
+use Rattle.cost_tables.proofs.Least.{exact_within}
+use Rattle.cost_tables.proofs.laws.greatest_is_exact.Goals as goal
+
+pub returns : goal.returns
+returns c = exact_within

@@ -1,0 +1,57 @@
+use Rattle.std.proofs.Common.{◌≡◌, ℕ, List, ◌+◌, ◌<◌, ◌≤◌, ◌^◌, arith, sym, ap, ◌∙◌, subst, get_or, length, Vec}
+use Rattle.std.specs.declared.alloc.Global.{Global}
+use Rattle.level_book.specs.BookCosts.{room}
+use Rattle.level_book.specs.UnderTable.{Tables, IsGreatest, write_cost, read_cost}
+use Rattle.cost_tables.specs.declared.rows.Row.{Row}
+use Rattle.cost_tables.specs.Entries.{fresh_in}
+use Rattle.cost_tables.specs.Rows.{AreRows}
+use Rattle.cost_tables.specs.declared.tables.Tables.TheInside.{Inside}
+use Rattle.cost_tables.specs.Built.{AreBuilt, fresh_at, held_at}
+use Rattle.cost_tables.proofs.Views.{tables_seen}
+use Rattle.cost_tables.proofs.AllLevels.{greatest}
+use Rattle.cost_tables.proofs.Building.{read_level, built_more, modest}
+use Rattle.cost_tables.proofs.tables.Tables.build_with.Goals as goal
+
+pub returns-clause-greatest : goal.returns-clause-greatest
+returns-clause-greatest g c =
+    let are = c.loop-k.invariant in
+    let book = c.args.book.now in
+    let made : Inside = record { steps = c.args.steps; rooms = c.loop-k.rooms; levels = c.loop-k.levels } in
+    let all : length book.levels ≤ c.loop-k.k = omega arith in
+    let f : book.forward < 2 ^ 32 = omega arith in
+    let b : book.reverse < 2 ^ 32 = omega arith in
+    let P : Tables → Type 0 = λ t. IsGreatest c.args.steps book t in
+    subst P (sym (tables_seen made)) (greatest c.args.steps book (fresh_at c.loop-k.levels.items) (held_at c.loop-k.levels.items)
+    (modest c.args.steps book c.loop-k.k c.loop-k.levels.items c.loop-k.rooms.items c.loop-k.base.items are all c.requires.fits.few f b)
+    (λ k known. are.are_levels k (omega arith)))
+
+pub level_rows-requires-clause-room : goal.level_rows-requires-clause-room
+level_rows-requires-clause-room g c = λ κs h.
+    let P : ℕ → Type 0 = λ n. n ≤ 64 in
+    subst P (sym c.room-room.ensures) (c.requires.fits.narrow c.loop-k.k (omega arith))
+
+pub loop-k-preserved : goal.loop-k-preserved
+loop-k-preserved g c =
+    let book = c.args.book.now in let k = c.loop-k.k in let level = c.level-level.result.now in
+    let rows = c.in_ok-rows.rows in
+    let w : level.write < 2 ^ 32 = omega arith in
+    let r : level.read < 2 ^ 32 = omega arith in
+    let at = c.level-level.ensures in
+    let write = read_level (λ level. level.write) book.levels k 0 level at in
+    let read = read_level (λ level. level.read) book.levels k 0 level at in
+    let wide = c.room-room.ensures in
+    let R : ℕ → Type 0 = λ n. AreRows n c.forward-forward.result level.write level.read c.deref.result.now rows.items in
+    let F : ℕ → Type 0 = λ n. AreRows (room book k c.args.steps) n level.write level.read c.deref.result.now rows.items in
+    let W : ℕ → Type 0 = λ n. AreRows (room book k c.args.steps) book.forward n level.read c.deref.result.now rows.items in
+    let D : ℕ → Type 0 = λ n. AreRows (room book k c.args.steps) book.forward (write_cost book k) n c.deref.result.now rows.items in
+    let B : List ℕ → Type 0 = λ base. AreRows (room book k c.args.steps) book.forward (write_cost book k) (read_cost book k) base rows.items in
+    let is = subst B c.deref.ensures.value (subst D (sym read) (subst W (sym write) (subst F c.forward-forward.ensures (subst R wide c.in_ok-rows.ensures.rows)))) in
+    let count = c.in_ok-rows.ensures.wide ∙ ap length c.deref.ensures.value ∙ c.loop-k.invariant.base_count in
+    let same = c.deref-in-loop-k.ensures.value in
+    let P : List (Vec Row Global) → Type 0 = λ levels. AreBuilt c.args.steps book (k + 1) levels c.push-in-loop-k.new.self.items c.in_ok-base-2.base.items in
+    let C : List Row → Type 0 = λ rows. (r : ℕ) → r < length rows → get_or c.in_ok-base-2.base.items r 0 ≡ fresh_in rows r c.room-room.result in
+    let V : ℕ → Type 0 = λ n. (r : ℕ) → r < length rows.items → get_or c.in_ok-base-2.base.items r 0 ≡ fresh_in rows.items r n in
+    let W' : ℕ → Type 0 = λ n. n < 2 ^ 32 in
+    subst P (sym c.in_ok-push.ensures.items)
+    (built_more c.args.steps book k c.loop-k.levels.items c.loop-k.rooms.items c.loop-k.base.items rows c.loop-k.invariant c.room-room.result c.push-in-loop-k.new.self.items c.in_ok-base-2.base.items c.in_ok-push-2.ensures.items wide count is
+    (c.in_ok-base-2.ensures.count ∙ ap length same ∙ count) c.in_ok-base-2.ensures.low (subst V wide (subst C same c.in_ok-base-2.ensures.value)) (subst W' (sym write) w) (subst W' (sym read) r))

@@ -1,0 +1,7 @@
+pub mod TableRows
+pub mod Exact
+pub mod Laws
+pub mod Entries
+pub mod Levels
+pub mod Rows
+pub mod Built

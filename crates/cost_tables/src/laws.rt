@@ -1,0 +1,10 @@
+// A law over tables. The function does nothing; its contract is the law.
+ghost use Rattle.std.specs.Prelude.{ℕ};
+ghost use Rattle.level_book.specs.BookCosts.{BookCosts};
+ghost use Rattle.level_book.specs.UnderTable.{Tables};
+ghost use Rattle.cost_tables.specs.Laws.{GreatestIsExact};
+
+/// In the greatest under-table for at most 2,048 steps and a book's costs each entry is attained.
+pub fn greatest_is_exact()
+    ensures { (steps : ℕ) (book : BookCosts) (t : Tables) → GreatestIsExact steps book t }
+{}

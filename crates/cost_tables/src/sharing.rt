@@ -1,0 +1,148 @@
+// The greater part of the splits of the next rows, shared by workers.
+ghost use Rattle.std.specs.Prelude.{◌≡◌, ℕ, ◌+◌, ◌-◌, ◌*◌, ◌/◌, ◌^◌, ◌<◌, ◌≤◌, length, All, IfOk, slice_index, slice_index_or};
+ghost use Rattle.cost_tables.specs.Rows.{partial_in, IsRow, cut_of, IsPiece, AreStarted, ArePieces};
+
+use crate::rows::{Row, least_cost};
+use plan_types::Gate;
+use std::alloc::{AllocError, Global};
+use std::thread;
+use std::thread::Threads;
+
+// For each row that comes next, what its splits over filled rows cost, at some numbers of free slots.
+pub(crate) type Pieces = Vec<Vec<u64>>;
+
+// Where the i-th of so many pieces of a row begins.
+fn cut(room: usize, pieces: usize, i: usize) -> usize
+    requires room { room ≤ 64 }
+    requires pieces { (1 ≤ pieces) × (pieces ≤ 64) }
+    requires i { i ≤ pieces }
+    ensures value { result ≡ cut_of room pieces i }
+    ensures within { result ≤ room }
+{
+    i * room / pieces
+}
+
+// What the splits of row r over filled rows cost, from m = low up to high.
+fn row_piece(
+    alloc: Global,
+    rows: &[Row],
+    r: usize,
+    room: usize,
+    forward: u64,
+    low: usize,
+    high: usize,
+) -> Result<Vec<u64>, AllocError>
+    requires forward { forward < 2 ^ 32 }
+    requires few { r < 2048 }
+    requires r { length rows.now ≤ r }
+    requires shapes { All (IsRow room) rows.now }
+    requires order { low ≤ high }
+    requires within { high ≤ room }
+    ensures { IfOk result (λ costs. IsPiece (partial_in rows.now forward (length rows.now) r) low high costs.items) }
+{
+    let mut costs = Vec::with_capacity(alloc, high - low)?;
+    let filled = rows.len();
+    let started = r - filled;
+    for m in low..high {
+        costs.push(least_cost(rows, r, m, forward, started, filled.max(started)))?;
+    }
+    Ok(costs)
+}
+
+// The same for each of so many rows.
+fn rows_piece(
+    alloc: Global,
+    rows: &[Row],
+    room: usize,
+    forward: u64,
+    count: usize,
+    low: usize,
+    high: usize,
+) -> Result<Pieces, AllocError>
+    requires forward { forward < 2 ^ 32 }
+    requires few { length rows.now + count ≤ 2048 }
+    requires shapes { All (IsRow room) rows.now }
+    requires order { low ≤ high }
+    requires within { high ≤ room }
+    ensures { IfOk result (λ pieces. AreStarted rows.now forward count low high pieces.items) }
+{
+    let mut pieces = Vec::with_capacity(alloc, count)?;
+    for q in 0..count {
+        pieces.push(row_piece(alloc, rows, rows.len() + q, room, forward, low, high)?)?;
+    }
+    Ok(pieces)
+}
+
+// The i-th piece of each row, once the gate is passed.
+fn gated_piece<G: Gate>(
+    alloc: Global,
+    gate: &G,
+    pieces: usize,
+    i: usize,
+    rows: &[Row],
+    room: usize,
+    forward: u64,
+    count: usize,
+) -> Result<Pieces, AllocError>
+    requires forward { forward < 2 ^ 32 }
+    requires few { length rows.now + count ≤ 2048 }
+    requires shapes { All (IsRow room) rows.now }
+    requires room { room ≤ 64 }
+    requires pieces { (1 ≤ pieces) × (pieces ≤ 64) }
+    requires i { i < pieces }
+    ensures { IfOk result (λ p. AreStarted rows.now forward count (cut_of room pieces i) (cut_of room pieces (i + 1)) p.items) }
+{
+    gate.enter(i as u32);
+    let low = cut(room, pieces, i);
+    let high = cut(room, pieces, i + 1);
+    rows_piece(alloc, rows, room, forward, count, low, high)
+}
+
+// All pieces, each filled by a worker.
+pub(crate) fn start_rows<R: Threads + Sync, G: Gate + Sync>(
+    rt: &R,
+    alloc: Global,
+    gate: &G,
+    pieces: usize,
+    rows: &[Row],
+    room: usize,
+    forward: u64,
+    count: usize,
+) -> Result<Vec<Result<Pieces, AllocError>>, AllocError>
+    requires forward { forward < 2 ^ 32 }
+    requires few { length rows.now + count ≤ 2048 }
+    requires shapes { All (IsRow room) rows.now }
+    requires room { room ≤ 64 }
+    requires pieces { (1 ≤ pieces) × (pieces ≤ 64) }
+    ensures long { IfOk result (λ parts. length parts.items ≡ pieces) }
+    ensures each { IfOk result (λ parts. (i : ℕ) (d : _) → i < pieces → IfOk (slice_index_or parts.items i d) (λ p. AreStarted rows.now forward count (cut_of room pieces i) (cut_of room pieces (i + 1)) p.items)) }
+{
+    thread::map_indices(
+        rt,
+        alloc,
+        pieces,
+        &|i| gated_piece(alloc, gate, pieces, i, rows, room, forward, count),
+    )
+}
+
+// All pieces of one row, one after the other.
+pub(crate) fn joined(
+    alloc: Global,
+    parts: &[Result<Pieces, AllocError>],
+    q: usize,
+    room: usize,
+) -> Result<Vec<u64>, AllocError>
+    requires room { room ≤ 64 }
+    requires pieces { (1 ≤ length parts.now) × (length parts.now ≤ 64) }
+    requires long { (i : ℕ) (d : _) → i < length parts.now → IfOk (slice_index_or parts.now i d) (λ p. q < length p.items) }
+    ensures { (cost : ℕ → ℕ) → ArePieces cost q room parts.now → IfOk result (λ costs. IsPiece cost 0 room costs.items) }
+{
+    let mut costs = Vec::with_capacity(alloc, room)?;
+    for part in parts {
+        match part {
+            Ok(pieces) => costs.extend_from_slice(&pieces[q])?,
+            Err(error) => return Err(*error),
+        }
+    }
+    Ok(costs)
+}

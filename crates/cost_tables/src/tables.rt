@@ -1,0 +1,207 @@
+// Tables of least costs.
+ghost use Rattle.std.specs.Prelude.{◌≡◌, ◌↔◌, ℕ, ◌+◌, ◌^◌, ◌<◌, ◌≤◌, true, length, All, IfOk, slice_index};
+ghost use Rattle.level_book.specs.UnderTable.{IsGreatest};
+ghost use Rattle.cost_tables.specs.TableRows.{AreFor, Fits, tables_in, value_of};
+ghost use Rattle.cost_tables.specs.Entries.{entry, fresh_in};
+ghost use Rattle.cost_tables.specs.Rows.{IsRow};
+ghost use Rattle.cost_tables.specs.Built.{first_in};
+
+use crate::cost::Cost;
+use crate::rows::{Costs, NEVER, Row, level_rows};
+use level_book::Book;
+use plan_types::{Gate, NoGate};
+use std::alloc::{AllocError, Global};
+use std::marker::Model;
+use std::thread::Threads;
+
+// What the tables are for at most.
+const MOST_STEPS: u32 = 2048;
+
+const MOST_SLOTS: u32 = 64;
+
+/// Tables of least costs, for a number of steps and the levels of a book.
+#[derive(Drop)]
+pub struct Tables {
+    steps: u32,
+    rooms: Vec<u32>,
+    levels: Vec<Vec<Row>>,
+}
+
+impl Model for Tables {
+    ghost use Rattle.cost_tables.specs.TableRows.{TableRows};
+
+    ghost Value = { TableRows };
+
+    ghost use Rattle.cost_tables.specs.Built.{view_of, AreWhole};
+
+    ghost view = { view_of };
+
+    ghost invariant = { AreWhole };
+}
+
+impl Tables {
+    /// Whether tables for so many steps and a book can be built: for at most 2,048 steps, and at most 64 images on a level.
+    /// It takes no memory.
+    pub fn fits(steps: u32, book: &Book) -> bool
+        ensures { result ≡ true ↔ Fits steps book.now }
+    {
+        if steps > MOST_STEPS {
+            return false;
+        }
+        for k in 0..book.levels() {
+            if book.room(k, steps) > MOST_SLOTS {
+                return false;
+            }
+        }
+        true
+    }
+
+    /// The greatest under-table, which is the same for every number of workers. It is refused for want of memory alone: where
+    /// a thread can't be started, the caller does its work.
+    pub fn build<R: Threads + Sync>(
+        rt: &R,
+        alloc: Global,
+        steps: u32,
+        book: &Book,
+        workers: u32,
+    ) -> Result<Tables, AllocError>
+        requires fits { Fits steps book.now }
+        requires workers { (1 ≤ workers) × (workers ≤ 64) }
+        ensures sizes { IfOk result (AreFor steps book.now) }
+        ensures greatest { IfOk result (λ t. IsGreatest steps book.now (tables_in t)) }
+    {
+        Tables::build_with(rt, alloc, steps, book, workers, &NoGate)
+    }
+
+    /// The same, where each worker passes a gate before it fills a piece. The pieces of a row are as many as the lesser of
+    /// the workers and the level's room.
+    pub fn build_with<R: Threads + Sync, G: Gate + Sync>(
+        rt: &R,
+        alloc: Global,
+        steps: u32,
+        book: &Book,
+        workers: u32,
+        gate: &G,
+    ) -> Result<Tables, AllocError>
+        requires fits { Fits steps book.now }
+        requires workers { (1 ≤ workers) × (workers ≤ 64) }
+        ensures sizes { IfOk result (AreFor steps book.now) }
+        ensures greatest { IfOk result (λ t. IsGreatest steps book.now (tables_in t)) }
+    {
+        let forward = book.forward() as u64;
+        let mut base = first_base(alloc, steps, forward + book.reverse() as u64)?;
+        let mut levels = Vec::new(alloc);
+        let mut rooms = Vec::new(alloc);
+        for k in 0..book.levels() {
+            let level = book.level(k);
+            let room = book.room(k, steps);
+            let costs = Costs {
+                forward,
+                write: level.write as u64,
+                read: level.read as u64,
+            };
+            let rows = level_rows(
+                rt,
+                alloc,
+                gate,
+                workers as usize,
+                &base,
+                room as usize,
+                costs,
+            )?;
+            base = column(alloc, &rows, room as usize)?;
+            levels.push(rows)?;
+            rooms.push(room)?;
+        }
+        Ok(Tables {
+            steps,
+            rooms,
+            levels,
+        })
+    }
+
+    /// The entry of level k for a stretch of l steps and m free slots, with the first state in work. It takes no memory.
+    pub fn fresh(&self, k: u8, l: u32, m: u32) -> Cost
+        requires k { k < length self.now.rooms }
+        requires l { (1 ≤ l) × (l ≤ self.now.steps) }
+        requires m { m ≤ slice_index self.now.rooms k }
+        ensures value { value_of result ≡ (tables_in self.now).fresh k l m }
+        ensures bounded { (v : ℕ) → result ≡ Cost.Number v → v < 2 ^ 61 }
+    {
+        cost_of(self.levels[k as usize][l as usize - 1].fresh[m as usize])
+    }
+
+    /// The same with the first state held on the level, beside the free slots. It takes no memory.
+    pub fn held(&self, k: u8, l: u32, m: u32) -> Cost
+        requires k { k < length self.now.rooms }
+        requires l { (1 ≤ l) × (l ≤ self.now.steps) }
+        requires m { m < slice_index self.now.rooms k }
+        ensures value { value_of result ≡ (tables_in self.now).held k l m }
+        ensures bounded { (v : ℕ) → result ≡ Cost.Number v → v < 2 ^ 61 }
+    {
+        cost_of(self.levels[k as usize][l as usize - 1].held[m as usize])
+    }
+
+    /// For how many steps the tables are.
+    pub fn steps(&self) -> u32
+        ensures { result ≡ self.now.steps }
+    {
+        self.steps
+    }
+
+    /// The number of levels.
+    pub fn levels(&self) -> u8
+        ensures value { result ≡ length self.now.rooms }
+        ensures range { (1 ≤ result) × (result ≤ 4) }
+    {
+        self.rooms.len() as u8
+    }
+
+    /// The most free slots of a level.
+    pub fn room(&self, k: u8) -> u32
+        requires { k < length self.now.rooms }
+        ensures { result ≡ slice_index self.now.rooms k }
+    {
+        self.rooms[k as usize]
+    }
+}
+
+// The entry of a number in memory.
+fn cost_of(n: u64) -> Cost
+    ensures value { value_of result ≡ entry n }
+    ensures bounded { (v : ℕ) → result ≡ Cost.Number v → v < 2 ^ 61 }
+{
+    if n < NEVER {
+        Cost::Number(n)
+    } else {
+        Cost::Never
+    }
+}
+
+// What the stretches cost that can do without an image: one step alone.
+fn first_base(alloc: Global, steps: u32, one: u64) -> Result<Vec<u64>, AllocError>
+    requires { one ≤ 2 ^ 61 }
+    ensures count { IfOk result (λ base. length base.items ≡ steps) }
+    ensures low { IfOk result (λ base. All (λ n. n ≤ 2 ^ 61) base.items) }
+    ensures value { IfOk result (λ base. (r : ℕ) → r < steps → slice_index base.items r ≡ first_in one r) }
+{
+    let mut base = Vec::new(alloc);
+    for r in 0..steps {
+        base.push(if r == 0 { one } else { NEVER })?;
+    }
+    Ok(base)
+}
+
+// The entries of a level with all its slots, where the first state is in work.
+fn column(alloc: Global, rows: &[Row], room: usize) -> Result<Vec<u64>, AllocError>
+    requires { All (IsRow room) rows.now }
+    ensures count { IfOk result (λ column. length column.items ≡ length rows.now) }
+    ensures low { IfOk result (λ column. All (λ n. n ≤ 2 ^ 61) column.items) }
+    ensures value { IfOk result (λ column. (r : ℕ) → r < length rows.now → slice_index column.items r ≡ fresh_in rows.now r room) }
+{
+    let mut column = Vec::new(alloc);
+    for row in rows {
+        column.push(row.fresh[room])?;
+    }
+    Ok(column)
+}

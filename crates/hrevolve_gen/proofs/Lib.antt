@@ -1,0 +1,11 @@
+pub mod Costs
+pub mod PartCosts
+pub mod Images
+pub mod PartNested
+pub mod Standing
+pub mod PartLeads
+pub mod Whole
+pub mod PartReads
+pub mod NoPlans
+pub mod OnePart
+pub mod Greatest

@@ -1,0 +1,5 @@
+use Rattle.hrevolve_gen.proofs.Greatest.{plan_unique}
+use Rattle.hrevolve_gen.proofs.laws.plans_are_unique.Goals as goal
+
+pub returns : goal.returns
+returns c = plan_unique

@@ -1,0 +1,4 @@
+pub mod Written
+pub mod Plans
+pub mod Laws
+pub mod Reading

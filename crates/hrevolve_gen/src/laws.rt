@@ -1,0 +1,16 @@
+// Laws over the lists that are read. Each function does nothing; its contract is the law.
+ghost use Rattle.std.specs.Prelude.{ℕ, List};
+ghost use Rattle.plan_types.specs.declared.action.Action.{Action};
+ghost use Rattle.level_book.specs.BookCosts.{BookCosts};
+ghost use Rattle.level_book.specs.UnderTable.{Tables};
+ghost use Rattle.hrevolve_gen.specs.Laws.{ListIsUnique, PlanIsUnique};
+
+/// At most one list is read from tables.
+pub fn lists_are_unique()
+    ensures { (steps : ℕ) (book : BookCosts) (t : Tables) (list other : List Action) → ListIsUnique steps book t list other }
+{}
+
+/// At most one list is read from tables of the greatest entries, whichever they are.
+pub fn plans_are_unique()
+    ensures { (steps : ℕ) (book : BookCosts) (s t : Tables) (list other : List Action) → PlanIsUnique steps book s t list other }
+{}

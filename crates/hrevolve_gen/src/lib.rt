@@ -1,0 +1,14 @@
+//! The lists of H-Revolve: schedules over several levels of storage, in the nested class and at the cost of the top entry of
+//! tables of least costs. They are read from these from the top entry down. The crate stands on the tables and the book.
+//! `specs/Written.antt` says which list is read, `specs/Plans.antt` where there is none, and `specs/Laws.antt` that a list
+//! is the only one.
+#![tactic(auto)]
+
+mod entries;
+pub mod laws;
+mod list;
+#[cfg(test)]
+mod tests;
+mod writing;
+
+pub use crate::list::hrevolve_list;
