@@ -1,10 +1,12 @@
 -- What a request comes to: one decision, and of a list that is performed that it is valid.
-use Rattle.std.proofs.Common.{◌≡◌, ◌⊎◌, inl, inr, ℕ, ◌+◌, ◌≤◌, ◌++◌, Bool, true, false, cond, nat_le, List, [], ◌∷◌, length, append-nil, Option, None, Some, Result, Ok, Err, IsErrAnd, IfErr, refl, sym, ◌∙◌, ap, subst, arith}
+use Rattle.std.proofs.Common.{◌≡◌, ◌⊎◌, inl, inr, ℕ, ◌+◌, ◌<◌, ◌≤◌, ◌++◌, Bool, true, false, cond, nat_le, List, [], ◌∷◌, length, map, append-nil, Option, None, Some, Result, Ok, Err, IsErrAnd, IfErr, refl, sym, ◌∙◌, ap, subst, arith}
 use Rattle.std.specs.Prelude.{codes, decimal}
-use Rattle.std.proofs.lemmas.Bool.{leb-true, leb-false}
+use Rattle.std.proofs.lemmas.Bool.{leb-true, leb-false, cases_lt}
+use Rattle.std.proofs.lemmas.List.Folds.{fold-map}
+use Rattle.std.proofs.lemmas.List.Sums.{sum_by-append}
 use Rattle.plan_types.specs.declared.action.Action.{Action}
 use Rattle.level_book.specs.declared.book.Slots.{Slots}
-use Rattle.level_book.specs.BookCosts.{BookCosts, slots_of, names_of}
+use Rattle.level_book.specs.BookCosts.{BookCosts, slots_of, names_of, room, total_room, plain}
 use Rattle.level_book.specs.BookFaults.{IsBookText}
 use Rattle.level_book.specs.Valid.{Valid, BrokenAt}
 use Rattle.action_text.specs.ScheduleText.{IsSchedule}
@@ -13,14 +15,39 @@ use Rattle.rv_machine.specs.MachineState.{MachineState}
 use Rattle.reverse_runner.specs.KeepersSeen.{HaveRoom}
 use Rattle.reversal.specs.declared.ended.Ended.{Ended}
 use Rattle.reversal.specs.Request.{Choice}
-use Rattle.reversal.specs.Ending.{no_memory, unreadable, too_long as longer, bad_program, bad_journal, bad_book, bad_text, invalid}
-use Rattle.reversal.specs.Request.{says_raw, stack_pages, Command, run, check, Request}
+use Rattle.reversal.specs.Ending.{no_memory, unreadable, too_long as longer, bad_program, bad_journal, bad_book, bad_text, invalid, bad_certificate, out_of_range, no_plan}
+use Rattle.revolve_gen.specs.Plans.{HasPlan}
+use Rattle.revolve_gen.specs.Written.{revolve_list}
+use Rattle.revolve_gen.proofs.Books.{book_right}
+use Rattle.reversal.specs.Request.{says_raw, stack_pages, Command, run, run_revolve, plan, plan_periodic, check, certify, demo, Request}
 use Rattle.reversal.specs.Inputs.{Input, inputs_of}
 use Rattle.reversal.specs.InputReading.{Reading, all, too_long, not_there, with_front, reading}
-use Rattle.reversal.specs.Deeds.{Job, perform, write, Shown, deeds, bytes_written, steps_made, output, steps_taken}
-use Rattle.reversal.specs.Decision.{Decision, refuse, accept, Need, Read, Judge, Keep, Take, HasBookFault, IsStartOf, HasProgramFault, AreItemsOf, HasJournalFault, DecidesRun, DecidesCheck, DecidesBytes, Decides}
+use Rattle.multistage_gen.specs.Planned.{IsMultistageList}
+use Rattle.multistage_gen.proofs.Unique.{plans_unique}
+use Rattle.level_book.specs.UnderTable.{Tables, IsGreatest}
+use Rattle.hrevolve_gen.specs.Plans as nested
+use Rattle.hrevolve_gen.specs.Written.{IsWritten}
+use Rattle.hrevolve_gen.proofs.Greatest.{plan_unique}
+use Rattle.disk_gen.specs.Periodic.{images, periodic_list}
+use Rattle.disk_gen.specs.Plans.{slots_at, HasSlots}
+use Rattle.reversal.specs.NoPlans.{IsUnperiodic, IsUnnested}
+use Rattle.reversal.specs.declared.kind.PlanKind.{PlanKind}
+use Rattle.reversal.specs.declared.kind.PlanKind.TheVariants.{Revolve, Multistage, Hrevolve}
+use Rattle.reversal.specs.Plans.{list_pieces, plan_pieces, certificate_of}
+use Rattle.reversal.proofs.Planned.{plan_valid, plan_certified}
+use Rattle.reversal.proofs.ReadAgain.{plan_read_again}
+use Rattle.reversal.specs.Demo as demonstration
+use Rattle.reversal.specs.Deeds.{Job, perform, write, demonstrate, Shown, deeds, silent_deed, writing, Deed, bytes_of, bytes_written, steps_made, output, steps_taken}
+use Rattle.reversal.specs.Decision.{Decision, refuse, accept, Need, Read, Judge, Keep, Take, Plan, IsFirstWide, Tabulate, DecidesRunRevolve, DecidesPlan, DecidesPlanRevolve, DecidesPlanMultistage, DecidesPlanHrevolve, DecidesPlanPeriodic, DecidesDemo, HasBookFault, IsStartOf, HasProgramFault, AreItemsOf, HasJournalFault, DecidesRun, DecidesCheck, DecidesCertify, DecidesBytes, Decides}
 use Rattle.reversal.specs.JobReading.{IsRefusal}
-use Rattle.reversal.proofs.Refused.{IsOne, Excludes, book_one, book_fault_one, book_excludes, start_one, program_fault_one, start_excludes, items_one, journal_fault_one, items_exclude, list_one, text_fault_one, list_excludes, IsRefusing, refusing_at, program_refuses, journal_refuses, book_refuses, text_refuses, program_fault_is_other, journal_fault_is_other, text_fault_is_other}
+use Rattle.reversal.proofs.Refused.{IsOne, Excludes, book_one, book_fault_one, book_excludes, start_one, program_fault_one, start_excludes, items_one, journal_fault_one, items_exclude, list_one, text_fault_one, list_excludes, IsRefusing, refusing_at, program_refuses, journal_refuses, book_refuses, text_refuses, program_fault_is_other, journal_fault_is_other, text_fault_is_other, certificate_one, certificate_fault_one, certificate_excludes, certificate_refuses, certificate_fault_is_other}
+use Rattle.bound_cert.specs.declared.certificate.Certificate.{Certificate}
+use Rattle.bound_cert.specs.Meaning.{IsCertificateText}
+use Rattle.bound_cert.specs.Faults.{HasFirstFault as CertificateFirst}
+use Rattle.bound_cert.specs.Accepted.{IsAccepted}
+use Rattle.level_book.specs.CostFold.{forward}
+use Rattle.bound_cert.proofs.Accepting.{none_fewer}
+use Rattle.reversal.proofs.Weighing.{weigh_one, weigh_met, weigh_refusing, IsWeighed, weigh_refuses}
 use Rattle.reversal.proofs.Keeping.{keep_one, keep_met, keep_refusing, keep_refuses, keep_accepts, keep_passes}
 use Rattle.action_text.specs.Faults.{HasFirstFault}
 use Rattle.reversal.proofs.Performing.{bytes_performed, steps_performed}
@@ -77,12 +104,102 @@ check_one steps book schedule c d =
     read_one (IsSchedule (names_of b) schedule) (HasFirstFault (names_of b) schedule) bad_text c d _ _ (list_one book b schedule is_book) (text_fault_one book b schedule is_book) (list_excludes book b schedule is_book) (λ list is_list.
     judge_one steps (slots_of b) list c d _ _ (λ x y. x ∙ sym y)))
 
+certify_one : (steps : ℕ) (book schedule certificate : List ℕ) (c d : Decision) → DecidesCertify steps book schedule certificate c → DecidesCertify steps book schedule certificate d → c ≡ d
+certify_one steps book schedule certificate c d =
+    read_one (IsBookText book) (HasBookFault book) bad_book c d _ _ (book_one book) (book_fault_one book) (book_excludes book) (λ b is_book.
+    read_one (IsSchedule (names_of b) schedule) (HasFirstFault (names_of b) schedule) bad_text c d _ _ (list_one book b schedule is_book) (text_fault_one book b schedule is_book) (list_excludes book b schedule is_book) (λ list is_list.
+    judge_one steps (slots_of b) list c d _ _ (
+    read_one (IsCertificateText certificate) (CertificateFirst certificate) bad_certificate c d _ _ (certificate_one certificate) (certificate_fault_one certificate) (certificate_excludes certificate) (λ k is_certificate.
+    weigh_one steps b list k c d _ _ (λ x y. x ∙ sym y)))))
+
+revolve_one : (options : List Choice) (steps : ℕ) (program : List ℕ) (journal : Option (List ℕ)) (book counts : List ℕ) (c d : Decision) → DecidesRunRevolve options steps program journal book counts c → DecidesRunRevolve options steps program journal book counts d → c ≡ d
+revolve_one options steps program journal book counts c d =
+    let raw = says_raw options in
+    let stack = stack_pages options in
+    read_one (IsBookText book) (HasBookFault book) bad_book c d _ _ (book_one book) (book_fault_one book) (book_excludes book) (λ b is_book.
+    keep_one steps (slots_of b) counts c d _ _ (
+    need_one (HasPlan steps (total_room b steps)) (no_plan steps (total_room b steps) 1) c d _ _ (
+    read_one (IsStartOf raw stack program) (HasProgramFault raw stack program) bad_program c d _ _ (start_one raw stack program) (program_fault_one raw stack program) (start_excludes raw stack program) (λ start is_start.
+    read_one (AreItemsOf journal) (HasJournalFault journal) bad_journal c d _ _ (items_one journal) (journal_fault_one journal) (items_exclude journal) (λ items are_items x y.
+    x ∙ sym y)))))
+
+plan_one : (steps : ℕ) (book : List ℕ) (c d : Decision) → DecidesPlanRevolve steps book c → DecidesPlanRevolve steps book d → c ≡ d
+plan_one steps book c d =
+    read_one (IsBookText book) (HasBookFault book) bad_book c d _ _ (book_one book) (book_fault_one book) (book_excludes book) (λ b is_book.
+    need_one (HasPlan steps (total_room b steps)) (no_plan steps (total_room b steps) 1) c d _ _ (λ x y. x ∙ sym y))
+
+multistage_one : (steps : ℕ) (book : List ℕ) (c d : Decision) → DecidesPlanMultistage steps book c → DecidesPlanMultistage steps book d → c ≡ d
+multistage_one steps book c d =
+    read_one (IsBookText book) (HasBookFault book) bad_book c d _ _ (book_one book) (book_fault_one book) (book_excludes book) (λ b is_book.
+    need_one (length b.levels ≡ 2) (no_plan steps (total_room b steps) 2) c d _ _ (
+    need_one (HasPlan steps (total_room b steps)) (no_plan steps (total_room b steps) 1) c d _ _ (λ x y.
+    x.1.1 ∙ ap (λ l. accept (write (list_pieces (names_of b) l))) (plans_unique steps b x.0 y.0 x.1.0 y.1.0) ∙ sym y.1.1)))
+
+-- two levels that are the first of their kind are one
+one_wide : (steps : ℕ) (book : BookCosts) (k l : ℕ) → IsFirstWide steps book k → IsFirstWide steps book l → k ≡ l
+one_wide steps book k l h g = elim (cases_lt k l) [
+  | inl less ↦ (let small = g.before k less in let wide = h.wide in absurd (omega arith))
+  | inr more ↦ elim (cases_lt l k) [
+    | inl less ↦ (let small = h.before l less in let wide = g.wide in absurd (omega arith))
+    | inr same ↦ (omega arith)
+  ]
+]
+
+tabulate_one : (steps : ℕ) (b : BookCosts) (c d : Decision) (Below Other : Type 0) → (Below → Other → c ≡ d) → Tabulate steps b c Below → Tabulate steps b d Other → c ≡ d
+tabulate_one steps b c d Below Other one h g = elim h [
+  | inl x ↦ elim g [
+    | inl y ↦ x.1.1 ∙ ap (λ k. refuse (out_of_range (room b k steps) 64 9)) (one_wide steps b x.0 y.0 x.1.0 y.1.0) ∙ sym y.1.1
+    | inr y ↦ (let wide = x.1.0.wide in let small = y.0 x.0 x.1.0.within in absurd (omega arith))
+  ]
+  | inr x ↦ elim g [
+    | inl y ↦ (let wide = y.1.0.wide in let small = x.0 y.0 y.1.0.within in absurd (omega arith))
+    | inr y ↦ one x.1 y.1
+  ]
+]
+
+hrevolve_one : (steps : ℕ) (book : List ℕ) (c d : Decision) → DecidesPlanHrevolve steps book c → DecidesPlanHrevolve steps book d → c ≡ d
+hrevolve_one steps book c d =
+    read_one (IsBookText book) (HasBookFault book) bad_book c d _ _ (book_one book) (book_fault_one book) (book_excludes book) (λ b is_book.
+    tabulate_one steps b c d _ _ (
+    need_one (nested.HasPlan steps b) (no_plan steps (total_room b steps) 1) c d _ _ (λ x y.
+    let s = x.1.1 in
+    let t = y.1.1 in
+    s.1.1 ∙ ap (λ l. accept (write (list_pieces (names_of b) l))) (plan_unique steps b x.0 y.0 s.0 t.0 x.1.0 y.1.0 s.1.0 t.1.0) ∙ sym t.1.1)))
+
+kind_one : (kind : PlanKind) (steps : ℕ) (book : List ℕ) (c d : Decision) → DecidesPlan kind steps book c → DecidesPlan kind steps book d → c ≡ d
+kind_one Revolve steps book c d = plan_one steps book c d
+kind_one Multistage steps book c d = multistage_one steps book c d
+kind_one Hrevolve steps book c d = hrevolve_one steps book c d
+
+periodic_one : (steps period : ℕ) (book : List ℕ) (c d : Decision) → DecidesPlanPeriodic steps period book c → DecidesPlanPeriodic steps period book d → c ≡ d
+periodic_one steps period book c d =
+    read_one (IsBookText book) (HasBookFault book) bad_book c d _ _ (book_one book) (book_fault_one book) (book_excludes book) (λ b is_book.
+    need_one (length b.levels ≡ 2) (no_plan steps (total_room b steps) 2) c d _ _ (
+    need_one (2 ≤ steps → 2 ≤ period → 1 ≤ room b 0 steps) (no_plan steps (total_room b steps) 1) c d _ _ (
+    need_one (HasSlots (slots_at b 1) (images steps period)) (no_plan steps (total_room b steps) 4) c d _ _ (λ x y. x ∙ sym y))))
+
+demo_one : (number steps slots : ℕ) (c d : Decision) → DecidesDemo number steps slots c → DecidesDemo number steps slots d → c ≡ d
+demo_one number steps slots c d =
+    need_one (HasPlan steps (total_room (plain slots) steps)) (no_plan steps (total_room (plain slots) steps) 1) c d _ _ (λ x y.
+    x.2 ∙ ap (λ s. accept (demonstrate number s steps slots)) (start_one true 16 (demonstration.program number) x.0 y.0 x.1 y.1) ∙ sym y.2)
+
 bytes_one : (options : List Choice) (command : Command) (bytes : List (List ℕ)) (slots : List ℕ) (c d : Decision) → DecidesBytes options command bytes slots c → DecidesBytes options command bytes slots d → c ≡ d
 bytes_one options (run r) (program ∷ book ∷ schedule ∷ []) slots c d h g = run_one options r.steps program None book schedule slots c d h g
 bytes_one options (run r) (program ∷ journal ∷ book ∷ schedule ∷ []) slots c d h g = run_one options r.steps program (Some journal) book schedule slots c d h g
 bytes_one options (run r) other slots c d h g = absurd h
+bytes_one options (run_revolve r) (program ∷ book ∷ []) slots c d h g = revolve_one options r.steps program None book slots c d h g
+bytes_one options (run_revolve r) (program ∷ journal ∷ book ∷ []) slots c d h g = revolve_one options r.steps program (Some journal) book slots c d h g
+bytes_one options (run_revolve r) other slots c d h g = absurd h
+bytes_one options (plan r) (book ∷ []) slots c d h g = kind_one r.kind r.steps book c d h g
+bytes_one options (plan r) other slots c d h g = absurd h
+bytes_one options (plan_periodic r) (book ∷ []) slots c d h g = periodic_one r.steps r.period book c d h g
+bytes_one options (plan_periodic r) other slots c d h g = absurd h
 bytes_one options (check r) (book ∷ schedule ∷ []) slots c d h g = check_one r.steps book schedule c d h g
 bytes_one options (check r) other slots c d h g = absurd h
+bytes_one options (certify r) (book ∷ schedule ∷ certificate ∷ []) slots c d h g = certify_one r.steps book schedule certificate c d h g
+bytes_one options (certify r) other slots c d h g = absurd h
+bytes_one options (demo r) [] slots c d h g = demo_one r.number r.steps r.slots c d h g
+bytes_one options (demo r) other slots c d h g = absurd h
 
 pub one_decision : (r : Request) (given : List (Option (List ℕ))) (slots : List ℕ) (c d : Decision) → Decides r given slots c → Decides r given slots d → c ≡ d
 one_decision r given slots c d = take_one 1 (inputs_of r.command) given c d _ _ (λ bytes. bytes_one r.options r.command bytes slots c d)
@@ -96,7 +213,7 @@ accepts (accept j) = Unit {0}
 accept_refuse : (j : Job) (e : Ended) → accept j ≡ refuse e → ⊥
 accept_refuse j e h = subst accepts h tt
 
-abbrev job_or : Job → Decision → Job
+abbrev pub job_or : Job → Decision → Job
 job_or i (refuse e) = i
 job_or i (accept j) = j
 
@@ -121,10 +238,14 @@ judge_met steps slots list job Below h = elim h [
   | inr y ↦ y
 ]
 
--- a list that is performed is valid, and a text is written
+pub need_met : (Holds : Type 0) (e : Ended) (job : Job) (Below : Type 0) → Need Holds e (accept job) Below → Holds × Below
+need_met Holds e job Below h = elim h [ inl n ↦ absurd (accept_refuse job e n.1) | inr y ↦ y ]
+
+-- a list that is performed is valid, texts are written, or a demonstration is shown
 pub data IsMet (job : Job) : Type 0 where
   performs : (first : MachineState) (journal : List (List ℕ)) (steps : ℕ) (slots : List Slots) (list : List Action) → Valid steps slots list → job ≡ perform first journal steps slots list → IsMet job
-  writes : (text : List ℕ) → job ≡ write text → IsMet job
+  writes : (texts : List (List ℕ)) → job ≡ write texts → IsMet job
+  shows : (number : ℕ) (first : MachineState) (steps slots : ℕ) → job ≡ demonstrate number first steps slots → IsMet job
 
 run_met : (options : List Choice) (steps : ℕ) (program : List ℕ) (journal : Option (List ℕ)) (book schedule counts : List ℕ) (job : Job) → DecidesRun options steps program journal book schedule counts (accept job) → IsMet job
 run_met options steps program journal book schedule counts job h =
@@ -136,6 +257,56 @@ run_met options steps program journal book schedule counts job h =
     let valid = judge_met _ _ _ job _ list.1 in
     performs start.0 items.0 steps (slots_of b.0) list.0 valid.0 (ap (job_or job) valid.1)
 
+revolve_met : (options : List Choice) (steps : ℕ) (program : List ℕ) (journal : Option (List ℕ)) (book counts : List ℕ) (job : Job) → DecidesRunRevolve options steps program journal book counts (accept job) → IsMet job
+revolve_met options steps program journal book counts job h =
+    let b = read_met _ _ bad_book job _ h in
+    let kept = keep_met steps (slots_of b.0) counts job _ b.1 in
+    let plan = need_met _ _ job _ kept.1 in
+    let start = read_met _ _ bad_program job _ plan.1 in
+    let items = read_met _ _ bad_journal job _ start.1 in
+    performs start.0 items.0 steps (slots_of b.0) (revolve_list steps b.0) (book_right steps b.0 plan.0).0 (ap (job_or job) items.1)
+
+plan_met : (steps : ℕ) (book : List ℕ) (job : Job) → DecidesPlanRevolve steps book (accept job) → IsMet job
+plan_met steps book job h =
+    let b = read_met _ _ bad_book job _ h in
+    let plan = need_met _ _ job _ b.1 in
+    writes _ (ap (job_or job) plan.1)
+
+multistage_met : (steps : ℕ) (book : List ℕ) (job : Job) → DecidesPlanMultistage steps book (accept job) → IsMet job
+multistage_met steps book job h =
+    let b = read_met _ _ bad_book job _ h in
+    let two = need_met _ _ job _ b.1 in
+    let plan = need_met _ _ job _ two.1 in
+    writes _ (ap (job_or job) plan.1.1.1)
+
+pub tabulate_met : (steps : ℕ) (b : BookCosts) (job : Job) (Below : Type 0) → Tabulate steps b (accept job) Below → Below
+tabulate_met steps b job Below h = elim h [ inl n ↦ absurd (accept_refuse job _ n.1.1) | inr y ↦ y.1 ]
+
+hrevolve_met : (steps : ℕ) (book : List ℕ) (job : Job) → DecidesPlanHrevolve steps book (accept job) → IsMet job
+hrevolve_met steps book job h =
+    let b = read_met _ _ bad_book job _ h in
+    let plan = need_met _ _ job _ (tabulate_met steps b.0 job _ b.1) in
+    let read = plan.1.1.1 in
+    writes _ (ap (job_or job) read.1.1)
+
+kind_met : (kind : PlanKind) (steps : ℕ) (book : List ℕ) (job : Job) → DecidesPlan kind steps book (accept job) → IsMet job
+kind_met Revolve steps book job h = plan_met steps book job h
+kind_met Multistage steps book job h = multistage_met steps book job h
+kind_met Hrevolve steps book job h = hrevolve_met steps book job h
+
+periodic_met : (steps period : ℕ) (book : List ℕ) (job : Job) → DecidesPlanPeriodic steps period book (accept job) → IsMet job
+periodic_met steps period book job h =
+    let b = read_met _ _ bad_book job _ h in
+    let two = need_met _ _ job _ b.1 in
+    let fast = need_met _ _ job _ two.1 in
+    let slow = need_met _ _ job _ fast.1 in
+    writes _ (ap (job_or job) slow.1)
+
+demo_met : (number steps slots : ℕ) (job : Job) → DecidesDemo number steps slots (accept job) → IsMet job
+demo_met number steps slots job h =
+    let plan = need_met _ _ job _ h in
+    shows number plan.1.0 steps slots (ap (job_or job) plan.1.2)
+
 check_met : (steps : ℕ) (book schedule : List ℕ) (job : Job) → DecidesCheck steps book schedule (accept job) → IsMet job
 check_met steps book schedule job h =
     let b = read_met _ _ bad_book job _ h in
@@ -143,20 +314,89 @@ check_met steps book schedule job h =
     let valid = judge_met _ _ _ job _ list.1 in
     writes _ (ap (job_or job) valid.1)
 
+-- what a line reads, with what it says
+pub read_said : {A F : Type 0} (IsText : A → Type 0) (HasFault : F → Type 0) (ended : F → Ended) (job : Job) (Below : A → Type 0) → Read IsText HasFault ended (accept job) Below → (x : A) × (IsText x × Below x)
+read_said IsText HasFault ended job Below h = elim h [
+  | inl n ↦ absurd (accept_refuse job (ended n.0) n.2)
+  | inr y ↦ (y.0, (y.1, y.2))
+]
+
+-- a list that is certified is the least
+pub certified_least : (steps : ℕ) (book schedule certificate : List ℕ) (job : Job) → DecidesCertify steps book schedule certificate (accept job) →
+    (b : BookCosts) × IsBookText book b × (list : List Action) × IsSchedule (names_of b) schedule list × Valid steps (slots_of b) list × ((other : List Action) → Valid steps (slots_of b) other → forward list ≤ forward other)
+certified_least steps book schedule certificate job h =
+    let b = read_said (IsBookText book) _ bad_book job _ h in
+    let list = read_said (IsSchedule (names_of b.0) schedule) _ bad_text job _ b.1.1 in
+    let valid = judge_met _ _ _ job _ list.1.1 in
+    let k = read_met _ _ bad_certificate job _ valid.1 in
+    let weighed = weigh_met steps b.0 list.0 k.0 job _ k.1 in
+    (b.0, b.1.0, list.0, list.1.0, valid.0, none_fewer list.0 steps b.0 k.0 weighed.0)
+
+-- a plan is the least, and its certificate is accepted
+pub planned_least : (steps : ℕ) (book : List ℕ) (job : Job) → DecidesPlanRevolve steps book (accept job) →
+    (b : BookCosts) × IsBookText book b × (job ≡ write (plan_pieces steps b)) × Valid steps (slots_of b) (revolve_list steps b) × IsAccepted (revolve_list steps b) steps b (certificate_of steps b)
+    × ((other : List Action) → Valid steps (slots_of b) other → forward (revolve_list steps b) ≤ forward other)
+planned_least steps book job h =
+    let b = read_said (IsBookText book) _ bad_book job _ h in
+    let plan = need_met _ _ job _ b.1.1 in
+    let accepted = plan_certified steps b.0 plan.0 in
+    (b.0, b.1.0, ap (job_or job) plan.1, plan_valid steps b.0 plan.0, accepted, none_fewer (revolve_list steps b.0) steps b.0 (certificate_of steps b.0) accepted)
+
+-- and it is read again as it was written
+pub planned_again : (steps : ℕ) (book : List ℕ) (job : Job) → steps ≤ 1000000 → DecidesPlanRevolve steps book (accept job) →
+    (b : BookCosts) × IsBookText book b × ((shown : Shown) → IsSchedule (names_of b) (output shown job) (revolve_list steps b) × IsCertificateText (output shown job) (certificate_of steps b))
+planned_again steps book job short h =
+    let b = read_said (IsBookText book) _ bad_book job _ h in
+    let plan = need_met _ _ job _ b.1.1 in
+    let P : Shown → Job → Type 0 = λ shown j. IsSchedule (names_of b.0) (output shown j) (revolve_list steps b.0) × IsCertificateText (output shown j) (certificate_of steps b.0) in
+    (b.0, b.1.0, λ shown. subst (P shown) (sym (ap (job_or job) plan.1)) (plan_read_again steps book b.0 short b.1.0 plan.0))
+
+certify_met : (steps : ℕ) (book schedule certificate : List ℕ) (job : Job) → DecidesCertify steps book schedule certificate (accept job) → IsMet job
+certify_met steps book schedule certificate job h =
+    let b = read_met _ _ bad_book job _ h in
+    let list = read_met _ _ bad_text job _ b.1 in
+    let valid = judge_met _ _ _ job _ list.1 in
+    let k = read_met _ _ bad_certificate job _ valid.1 in
+    let weighed = weigh_met steps b.0 list.0 k.0 job _ k.1 in
+    writes _ (ap (job_or job) weighed.1)
+
 bytes_met : (options : List Choice) (command : Command) (bytes : List (List ℕ)) (slots : List ℕ) (job : Job) → DecidesBytes options command bytes slots (accept job) → IsMet job
 bytes_met options (run r) (program ∷ book ∷ schedule ∷ []) slots job h = run_met options r.steps program None book schedule slots job h
 bytes_met options (run r) (program ∷ journal ∷ book ∷ schedule ∷ []) slots job h = run_met options r.steps program (Some journal) book schedule slots job h
 bytes_met options (run r) other slots job h = absurd h
+bytes_met options (run_revolve r) (program ∷ book ∷ []) slots job h = revolve_met options r.steps program None book slots job h
+bytes_met options (run_revolve r) (program ∷ journal ∷ book ∷ []) slots job h = revolve_met options r.steps program (Some journal) book slots job h
+bytes_met options (run_revolve r) other slots job h = absurd h
+bytes_met options (plan r) (book ∷ []) slots job h = kind_met r.kind r.steps book job h
+bytes_met options (plan r) other slots job h = absurd h
+bytes_met options (plan_periodic r) (book ∷ []) slots job h = periodic_met r.steps r.period book job h
+bytes_met options (plan_periodic r) other slots job h = absurd h
 bytes_met options (check r) (book ∷ schedule ∷ []) slots job h = check_met r.steps book schedule job h
 bytes_met options (check r) other slots job h = absurd h
+bytes_met options (certify r) (book ∷ schedule ∷ certificate ∷ []) slots job h = certify_met r.steps book schedule certificate job h
+bytes_met options (certify r) other slots job h = absurd h
+bytes_met options (demo r) [] slots job h = demo_met r.number r.steps r.slots job h
+bytes_met options (demo r) other slots job h = absurd h
+
+-- silent deeds write nothing, and make their forward steps
+pub silent_bytes : (list : List Action) (ds : List Deed) → bytes_written (map silent_deed list ++ ds) ≡ bytes_written ds
+silent_bytes [] ds = refl
+silent_bytes (a ∷ list) ds = silent_bytes list ds
+
+pub silent_steps : (list : List Action) → steps_made (map silent_deed list) ≡ forward list
+silent_steps list = fold-map (λ n (d : Deed). n + d.steps) silent_deed 0 list
 
 met_output : (job : Job) → IsMet job → (shown : Shown) → bytes_written (deeds shown job) ≡ output shown job
 met_output job (performs first journal steps slots list valid is) shown =
     let P : Job → Type 0 = λ j. bytes_written (deeds shown j) ≡ output shown j in
     subst P (sym is) (bytes_performed shown steps slots list valid)
-met_output job (writes text is) shown =
+met_output job (writes texts is) shown =
     let P : Job → Type 0 = λ j. bytes_written (deeds shown j) ≡ output shown j in
-    subst P (sym is) (append-nil (text ++ []) ∙ append-nil text)
+    subst P (sym is) (append-nil (bytes_of texts))
+met_output job (shows number first steps slots is) shown =
+    let P : Job → Type 0 = λ j. bytes_written (deeds shown j) ≡ output shown j in
+    let text = demonstration.summary number first steps slots in
+    subst P (sym is) (silent_bytes (demonstration.demo_list steps slots) (writing (text ∷ []) ∷ []) ∙ append-nil (text ++ []) ∙ append-nil text)
 
 -- the deeds of a job that was decided write its output
 pub deeds_output : (r : Request) (given : List (Option (List ℕ))) (slots : List ℕ) (job : Job) → Decides r given slots (accept job) → (shown : Shown) → bytes_written (deeds shown job) ≡ output shown job
@@ -166,7 +406,10 @@ deeds_output r given slots job h =
 
 pub deeds_steps : (shown : Shown) (job : Job) → steps_made (deeds shown job) ≡ steps_taken job
 deeds_steps shown (perform first journal steps slots list) = steps_performed shown steps list
-deeds_steps shown (write text) = refl
+deeds_steps shown (write texts) = refl
+deeds_steps shown (demonstrate number first steps slots) =
+    sum_by-append (λ (d : Deed). d.steps) (map silent_deed (demonstration.demo_list steps slots)) (writing (demonstration.summary number first steps slots ∷ []) ∷ [])
+    ∙ omega (arith, silent_steps (demonstration.demo_list steps slots))
 
 -- ---- from what was read to a decision
 
@@ -235,6 +478,19 @@ read_passes IsText HasFault ended e Below x is h = elim h [
   | inr below ↦ inr (inr (x, is, below))
 ]
 
+-- the ending is of a book that has no plan for so many steps
+abbrev pub IsUnplanned : ℕ → BookCosts → Ended → Type 0
+IsUnplanned steps b e = (e ≡ no_memory) ⊎ ((HasPlan steps (total_room b steps) → ⊥) × (e ≡ no_plan steps (total_room b steps) 1))
+
+pub plan_refuses : (steps : ℕ) (b : BookCosts) (e : Ended) (Below : Type 0) → IsUnplanned steps b e → (e ≡ no_memory) ⊎ Plan steps b (refuse e) Below
+plan_refuses steps b e Below h = elim h [
+  | inl memory ↦ inl memory
+  | inr none ↦ inr (inl (none.0, refuse_by e (no_plan steps (total_room b steps) 1) none.1))
+]
+
+pub plan_passes : (steps : ℕ) (b : BookCosts) (e : Ended) (Below : Type 0) → HasPlan steps (total_room b steps) → (e ≡ no_memory) ⊎ Below → (e ≡ no_memory) ⊎ Plan steps b (refuse e) Below
+plan_passes steps b e Below has h = elim h [ inl memory ↦ inl memory | inr below ↦ inr (inr (has, below)) ]
+
 -- the ending is of a list that is broken
 abbrev pub IsBroken : ℕ → List Slots → List Action → Ended → Type 0
 IsBroken steps slots list e = (e ≡ no_memory) ⊎ ((e ≡ invalid e.place e.more e.rule) × BrokenAt steps slots list e.place e.rule e.more × (Valid steps slots list → ⊥))
@@ -269,10 +525,19 @@ read_refusing IsText HasFault ended e Below faults below h = elim h [
   | inr y ↦ below y.0 y.2
 ]
 
-judge_refusing : (steps : ℕ) (slots : List Slots) (list : List Action) (e : Ended) (job : Job) → Judge steps slots list (refuse e) (refuse e ≡ accept job) → IsRefusing e
-judge_refusing steps slots list e job h = elim h [
+judge_refusing_by : (steps : ℕ) (slots : List Slots) (list : List Action) (e : Ended) (Below : Type 0) → (Below → IsRefusing e) → Judge steps slots list (refuse e) Below → IsRefusing e
+judge_refusing_by steps slots list e Below below h = elim h [
   | inl n ↦ refusing_at e 8 (ap (λ (x : Ended). x.status) (same_ended e _ n.5)) (omega arith) (omega arith)
-  | inr y ↦ absurd (refuse_accept e job y.1)
+  | inr y ↦ below y.1
+]
+
+judge_refusing : (steps : ℕ) (slots : List Slots) (list : List Action) (e : Ended) (job : Job) → Judge steps slots list (refuse e) (refuse e ≡ accept job) → IsRefusing e
+judge_refusing steps slots list e job = judge_refusing_by steps slots list e _ (λ is. absurd (refuse_accept e job is))
+
+plan_line_refusing : (steps : ℕ) (b : BookCosts) (e : Ended) (Below : Type 0) → (Below → IsRefusing e) → Plan steps b (refuse e) Below → IsRefusing e
+plan_line_refusing steps b e Below below h = elim h [
+  | inl n ↦ refusing_at e 11 (ap (λ (x : Ended). x.status) (same_ended e _ n.1)) (omega arith) (omega arith)
+  | inr y ↦ below y.1
 ]
 
 run_refusing : (options : List Choice) (steps : ℕ) (program : List ℕ) (journal : Option (List ℕ)) (book schedule counts : List ℕ) (e : Ended) → DecidesRun options steps program journal book schedule counts (refuse e) → IsRefusing e
@@ -286,18 +551,93 @@ run_refusing options steps program journal book schedule counts e =
     read_refusing _ _ bad_text e _ (λ f h. text_refuses f (text_fault_is_other (names_of b) schedule f h)) (λ list.
     judge_refusing steps (slots_of b) list e _)))))
 
+revolve_refusing : (options : List Choice) (steps : ℕ) (program : List ℕ) (journal : Option (List ℕ)) (book counts : List ℕ) (e : Ended) → DecidesRunRevolve options steps program journal book counts (refuse e) → IsRefusing e
+revolve_refusing options steps program journal book counts e =
+    let raw = says_raw options in
+    let stack = stack_pages options in
+    read_refusing _ _ bad_book e _ (λ f h. book_refuses f h.1) (λ b.
+    keep_refusing steps (slots_of b) counts e _ (
+    plan_line_refusing steps b e _ (
+    read_refusing _ _ bad_program e _ (λ f h. program_refuses f (program_fault_is_other raw stack program f h)) (λ start.
+    read_refusing _ _ bad_journal e _ (λ f h. journal_refuses f (journal_fault_is_other journal f h)) (λ items is.
+    absurd (refuse_accept e _ is))))))
+
+plan_refusing : (steps : ℕ) (book : List ℕ) (e : Ended) → DecidesPlanRevolve steps book (refuse e) → IsRefusing e
+plan_refusing steps book e =
+    read_refusing _ _ bad_book e _ (λ f h. book_refuses f h.1) (λ b.
+    plan_line_refusing steps b e _ (λ is. absurd (refuse_accept e _ is)))
+
+-- where a line refuses by a rule of plans
+no_plan_refusing : (Holds : Type 0) (steps room rule : ℕ) (e : Ended) (Below : Type 0) → (Below → IsRefusing e) → Need Holds (no_plan steps room rule) (refuse e) Below → IsRefusing e
+no_plan_refusing Holds steps room rule e Below below h = elim h [
+  | inl n ↦ refusing_at e 11 (ap (λ (x : Ended). x.status) (same_ended e _ n.1)) (omega arith) (omega arith)
+  | inr y ↦ below y.1
+]
+
+multistage_refusing : (steps : ℕ) (book : List ℕ) (e : Ended) → DecidesPlanMultistage steps book (refuse e) → IsRefusing e
+multistage_refusing steps book e =
+    read_refusing _ _ bad_book e _ (λ f h. book_refuses f h.1) (λ b.
+    no_plan_refusing _ _ _ _ e _ (
+    plan_line_refusing steps b e _ (λ is. absurd (refuse_accept e _ is.1.1))))
+
+tabulate_refusing : (steps : ℕ) (b : BookCosts) (e : Ended) (Below : Type 0) → (Below → IsRefusing e) → Tabulate steps b (refuse e) Below → IsRefusing e
+tabulate_refusing steps b e Below below h = elim h [
+  | inl n ↦ refusing_at e 10 (ap (λ (x : Ended). x.status) (same_ended e _ n.1.1)) (omega arith) (omega arith)
+  | inr y ↦ below y.1
+]
+
+hrevolve_refusing : (steps : ℕ) (book : List ℕ) (e : Ended) → DecidesPlanHrevolve steps book (refuse e) → IsRefusing e
+hrevolve_refusing steps book e =
+    read_refusing _ _ bad_book e _ (λ f h. book_refuses f h.1) (λ b.
+    tabulate_refusing steps b e _ (
+    no_plan_refusing _ _ _ _ e _ (λ read. let list = read.1.1 in absurd (refuse_accept e _ list.1.1))))
+
+kind_refusing : (kind : PlanKind) (steps : ℕ) (book : List ℕ) (e : Ended) → DecidesPlan kind steps book (refuse e) → IsRefusing e
+kind_refusing Revolve steps book e = plan_refusing steps book e
+kind_refusing Multistage steps book e = multistage_refusing steps book e
+kind_refusing Hrevolve steps book e = hrevolve_refusing steps book e
+
+periodic_refusing : (steps period : ℕ) (book : List ℕ) (e : Ended) → DecidesPlanPeriodic steps period book (refuse e) → IsRefusing e
+periodic_refusing steps period book e =
+    read_refusing _ _ bad_book e _ (λ f h. book_refuses f h.1) (λ b.
+    no_plan_refusing _ _ _ _ e _ (
+    no_plan_refusing _ _ _ _ e _ (
+    no_plan_refusing _ _ _ _ e _ (λ is. absurd (refuse_accept e _ is)))))
+
+demo_refusing : (number steps slots : ℕ) (e : Ended) → DecidesDemo number steps slots (refuse e) → IsRefusing e
+demo_refusing number steps slots e = plan_line_refusing steps (plain slots) e _ (λ is. absurd (refuse_accept e _ is.2))
+
 check_refusing : (steps : ℕ) (book schedule : List ℕ) (e : Ended) → DecidesCheck steps book schedule (refuse e) → IsRefusing e
 check_refusing steps book schedule e =
     read_refusing _ _ bad_book e _ (λ f h. book_refuses f h.1) (λ b.
     read_refusing _ _ bad_text e _ (λ f h. text_refuses f (text_fault_is_other (names_of b) schedule f h)) (λ list.
     judge_refusing steps (slots_of b) list e _))
 
+certify_refusing : (steps : ℕ) (book schedule certificate : List ℕ) (e : Ended) → DecidesCertify steps book schedule certificate (refuse e) → IsRefusing e
+certify_refusing steps book schedule certificate e =
+    read_refusing _ _ bad_book e _ (λ f h. book_refuses f h.1) (λ b.
+    read_refusing _ _ bad_text e _ (λ f h. text_refuses f (text_fault_is_other (names_of b) schedule f h)) (λ list.
+    judge_refusing_by steps (slots_of b) list e _ (
+    read_refusing _ _ bad_certificate e _ (λ f h. certificate_refuses f (certificate_fault_is_other certificate f h)) (λ k.
+    weigh_refusing steps b list k e _ (λ is. absurd (refuse_accept e _ is))))))
+
 pub decided_refusal : (options : List Choice) (command : Command) (bytes : List (List ℕ)) (slots : List ℕ) (e : Ended) → DecidesBytes options command bytes slots (refuse e) → IsRefusing e
 decided_refusal options (run r) (program ∷ book ∷ schedule ∷ []) slots e h = run_refusing options r.steps program None book schedule slots e h
 decided_refusal options (run r) (program ∷ journal ∷ book ∷ schedule ∷ []) slots e h = run_refusing options r.steps program (Some journal) book schedule slots e h
 decided_refusal options (run r) other slots e h = absurd h
+decided_refusal options (run_revolve r) (program ∷ book ∷ []) slots e h = revolve_refusing options r.steps program None book slots e h
+decided_refusal options (run_revolve r) (program ∷ journal ∷ book ∷ []) slots e h = revolve_refusing options r.steps program (Some journal) book slots e h
+decided_refusal options (run_revolve r) other slots e h = absurd h
+decided_refusal options (plan r) (book ∷ []) slots e h = kind_refusing r.kind r.steps book e h
+decided_refusal options (plan r) other slots e h = absurd h
+decided_refusal options (plan_periodic r) (book ∷ []) slots e h = periodic_refusing r.steps r.period book e h
+decided_refusal options (plan_periodic r) other slots e h = absurd h
 decided_refusal options (check r) (book ∷ schedule ∷ []) slots e h = check_refusing r.steps book schedule e h
 decided_refusal options (check r) other slots e h = absurd h
+decided_refusal options (certify r) (book ∷ schedule ∷ certificate ∷ []) slots e h = certify_refusing r.steps book schedule certificate e h
+decided_refusal options (certify r) other slots e h = absurd h
+decided_refusal options (demo r) [] slots e h = demo_refusing r.number r.steps r.slots e h
+decided_refusal options (demo r) other slots e h = absurd h
 
 -- ---- the lines of a run, and of a judgement
 
@@ -348,6 +688,113 @@ pub run_accepted : (options : List Choice) (steps : ℕ) (program : List ℕ) (j
 run_accepted options steps program journal book schedule counts b start items list is_book room is_start are_items is_list valid =
     inr (b, is_book, keep_accepts steps (slots_of b) counts _ _ room (inr (start, is_start, inr (items, are_items, inr (list, is_list, inr (valid, refl))))))
 
+pub revolve_by_book : (options : List Choice) (steps : ℕ) (program : List ℕ) (journal : Option (List ℕ)) (book counts : List ℕ) (e : Ended) → IsRefusal (HasBookFault book) bad_book e → (e ≡ no_memory) ⊎ DecidesRunRevolve options steps program journal book counts (refuse e)
+revolve_by_book options steps program journal book counts e h = read_refuses (IsBookText book) (HasBookFault book) bad_book e _ h
+
+pub revolve_by_keepers : (options : List Choice) (steps : ℕ) (program : List ℕ) (journal : Option (List ℕ)) (book counts : List ℕ) (e : Ended) (b : BookCosts) → IsBookText book b → Keep steps (slots_of b) counts (refuse e) ⊥ →
+    (e ≡ no_memory) ⊎ DecidesRunRevolve options steps program journal book counts (refuse e)
+revolve_by_keepers options steps program journal book counts e b is_book h = inr (inr (b, is_book, keep_refuses steps (slots_of b) counts (refuse e) _ h))
+
+pub revolve_by_plan : (options : List Choice) (steps : ℕ) (program : List ℕ) (journal : Option (List ℕ)) (book counts : List ℕ) (e : Ended) (b : BookCosts) → IsBookText book b → HaveRoom steps (slots_of b) counts → IsUnplanned steps b e →
+    (e ≡ no_memory) ⊎ DecidesRunRevolve options steps program journal book counts (refuse e)
+revolve_by_plan options steps program journal book counts e b is_book room h =
+    read_passes (IsBookText book) (HasBookFault book) bad_book e _ b is_book
+    (keep_passes steps (slots_of b) counts e _ room
+    (plan_refuses steps b e _ h))
+
+pub revolve_by_program : (options : List Choice) (steps : ℕ) (program : List ℕ) (journal : Option (List ℕ)) (book counts : List ℕ) (e : Ended) (b : BookCosts) → IsBookText book b → HaveRoom steps (slots_of b) counts → HasPlan steps (total_room b steps) →
+    IsRefusal (HasProgramFault (says_raw options) (stack_pages options) program) bad_program e → (e ≡ no_memory) ⊎ DecidesRunRevolve options steps program journal book counts (refuse e)
+revolve_by_program options steps program journal book counts e b is_book room has h =
+    read_passes (IsBookText book) (HasBookFault book) bad_book e _ b is_book
+    (keep_passes steps (slots_of b) counts e _ room
+    (plan_passes steps b e _ has
+    (read_refuses (IsStartOf (says_raw options) (stack_pages options) program) (HasProgramFault (says_raw options) (stack_pages options) program) bad_program e _ h)))
+
+pub revolve_by_journal : (options : List Choice) (steps : ℕ) (program : List ℕ) (journal : Option (List ℕ)) (book counts : List ℕ) (e : Ended) (b : BookCosts) (start : MachineState) → IsBookText book b → HaveRoom steps (slots_of b) counts → HasPlan steps (total_room b steps) →
+    IsStartOf (says_raw options) (stack_pages options) program start → IsRefusal (HasJournalFault journal) bad_journal e → (e ≡ no_memory) ⊎ DecidesRunRevolve options steps program journal book counts (refuse e)
+revolve_by_journal options steps program journal book counts e b start is_book room has is_start h =
+    read_passes (IsBookText book) (HasBookFault book) bad_book e _ b is_book
+    (keep_passes steps (slots_of b) counts e _ room
+    (plan_passes steps b e _ has
+    (read_passes (IsStartOf (says_raw options) (stack_pages options) program) (HasProgramFault (says_raw options) (stack_pages options) program) bad_program e _ start is_start
+    (read_refuses (AreItemsOf journal) (HasJournalFault journal) bad_journal e _ h))))
+
+pub revolve_accepted : (options : List Choice) (steps : ℕ) (program : List ℕ) (journal : Option (List ℕ)) (book counts : List ℕ) (b : BookCosts) (start : MachineState) (items : List (List ℕ)) → IsBookText book b → HaveRoom steps (slots_of b) counts → HasPlan steps (total_room b steps) →
+    IsStartOf (says_raw options) (stack_pages options) program start → AreItemsOf journal items → DecidesRunRevolve options steps program journal book counts (accept (perform start items steps (slots_of b) (revolve_list steps b)))
+revolve_accepted options steps program journal book counts b start items is_book room has is_start are_items =
+    inr (b, is_book, keep_accepts steps (slots_of b) counts _ _ room (inr (has, inr (start, is_start, inr (items, are_items, refl)))))
+
+pub plan_by_book : (steps : ℕ) (book : List ℕ) (e : Ended) → IsRefusal (HasBookFault book) bad_book e → (e ≡ no_memory) ⊎ DecidesPlanRevolve steps book (refuse e)
+plan_by_book steps book e h = read_refuses (IsBookText book) (HasBookFault book) bad_book e _ h
+
+pub plan_by_plan : (steps : ℕ) (book : List ℕ) (e : Ended) (b : BookCosts) → IsBookText book b → IsUnplanned steps b e → (e ≡ no_memory) ⊎ DecidesPlanRevolve steps book (refuse e)
+plan_by_plan steps book e b is_book h = read_passes (IsBookText book) (HasBookFault book) bad_book e _ b is_book (plan_refuses steps b e _ h)
+
+pub plan_accepted : (steps : ℕ) (book : List ℕ) (b : BookCosts) → IsBookText book b → HasPlan steps (total_room b steps) → DecidesPlanRevolve steps book (accept (write (plan_pieces steps b)))
+plan_accepted steps book b is_book has = inr (b, is_book, inr (has, refl))
+
+-- the ending is of a book that has no multistage list for so many steps
+abbrev pub IsUnstaged : ℕ → BookCosts → Ended → Type 0
+IsUnstaged steps b e =
+    (e ≡ no_memory)
+    ⊎ ((length b.levels ≡ 2 → ⊥) × (e ≡ no_plan steps (total_room b steps) 2))
+    ⊎ ((length b.levels ≡ 2) × (HasPlan steps (total_room b steps) → ⊥) × (e ≡ no_plan steps (total_room b steps) 1))
+
+pub multistage_by_book : (steps : ℕ) (book : List ℕ) (e : Ended) → IsRefusal (HasBookFault book) bad_book e → (e ≡ no_memory) ⊎ DecidesPlanMultistage steps book (refuse e)
+multistage_by_book steps book e h = read_refuses (IsBookText book) (HasBookFault book) bad_book e _ h
+
+pub multistage_by_plan : (steps : ℕ) (book : List ℕ) (e : Ended) (b : BookCosts) → IsBookText book b → IsUnstaged steps b e → (e ≡ no_memory) ⊎ DecidesPlanMultistage steps book (refuse e)
+multistage_by_plan steps book e b is_book h = elim h [
+  | inl memory ↦ inl memory
+  | inr none ↦ elim none [
+    | inl levels ↦ inr (inr (b, is_book, inl (levels.0, refuse_by e _ levels.1)))
+    | inr slots ↦ inr (inr (b, is_book, inr (slots.0, inl (slots.1, refuse_by e _ slots.2))))
+  ]
+]
+
+pub multistage_accepted : (steps : ℕ) (book : List ℕ) (b : BookCosts) (list : List Action) → IsBookText book b → IsMultistageList steps b list → DecidesPlanMultistage steps book (accept (write (list_pieces (names_of b) list)))
+multistage_accepted steps book b list is_book is = inr (b, is_book, inr (ap length is.two, inr (is.plan, (list, (is, refl)))))
+
+-- ---- the lines of a plan of H-Revolve
+
+pub hrevolve_by_book : (steps : ℕ) (book : List ℕ) (e : Ended) → IsRefusal (HasBookFault book) bad_book e → (e ≡ no_memory) ⊎ DecidesPlanHrevolve steps book (refuse e)
+hrevolve_by_book steps book e h = read_refuses (IsBookText book) (HasBookFault book) bad_book e _ h
+
+pub hrevolve_by_room : (steps : ℕ) (book : List ℕ) (e : Ended) (b : BookCosts) (level : ℕ) → IsBookText book b → IsFirstWide steps b level → e ≡ out_of_range (room b level steps) 64 9 → DecidesPlanHrevolve steps book (refuse e)
+hrevolve_by_room steps book e b level is_book wide is = inr (b, is_book, inl (level, (wide, refuse_by e _ is)))
+
+pub hrevolve_by_plan : (steps : ℕ) (book : List ℕ) (e : Ended) (b : BookCosts) → IsBookText book b → ((k : ℕ) → k < length b.levels → room b k steps ≤ 64) → (e ≡ no_memory) ⊎ IsUnnested steps b e →
+    (e ≡ no_memory) ⊎ DecidesPlanHrevolve steps book (refuse e)
+hrevolve_by_plan steps book e b is_book narrow h = elim h [
+  | inl memory ↦ inl memory
+  | inr none ↦ inr (inr (b, is_book, inr (narrow, inl (none.0, refuse_by e _ none.1))))
+]
+
+pub hrevolve_accepted : (steps : ℕ) (book : List ℕ) (b : BookCosts) (tables : Tables) (list : List Action) → IsBookText book b → ((k : ℕ) → k < length b.levels → room b k steps ≤ 64) → nested.HasPlan steps b → IsGreatest steps b tables →
+    IsWritten steps b tables list → DecidesPlanHrevolve steps book (accept (write (list_pieces (names_of b) list)))
+hrevolve_accepted steps book b tables list is_book narrow has greatest is = inr (b, is_book, inr (narrow, inr (has, (tables, (greatest, (list, (is, refl)))))))
+
+-- ---- the lines of a periodic plan
+
+pub periodic_by_book : (steps period : ℕ) (book : List ℕ) (e : Ended) → IsRefusal (HasBookFault book) bad_book e → (e ≡ no_memory) ⊎ DecidesPlanPeriodic steps period book (refuse e)
+periodic_by_book steps period book e h = read_refuses (IsBookText book) (HasBookFault book) bad_book e _ h
+
+pub periodic_by_plan : (steps period : ℕ) (book : List ℕ) (e : Ended) (b : BookCosts) → IsBookText book b → (e ≡ no_memory) ⊎ IsUnperiodic steps period b e → (e ≡ no_memory) ⊎ DecidesPlanPeriodic steps period book (refuse e)
+periodic_by_plan steps period book e b is_book h = elim h [
+  | inl memory ↦ inl memory
+  | inr none ↦ elim none [
+    | inl levels ↦ inr (inr (b, is_book, inl (levels.0, refuse_by e _ levels.1)))
+    | inr others ↦ elim others [
+      | inl fast ↦ inr (inr (b, is_book, inr (fast.0, inl (fast.1, refuse_by e _ fast.2))))
+      | inr slow ↦ inr (inr (b, is_book, inr (slow.0, inr (slow.1, inl (slow.2, refuse_by e _ slow.3)))))
+    ]
+  ]
+]
+
+pub periodic_accepted : (steps period : ℕ) (book : List ℕ) (b : BookCosts) → IsBookText book b → length b.levels ≡ 2 → (2 ≤ steps → 2 ≤ period → 1 ≤ room b 0 steps) → HasSlots (slots_at b 1) (images steps period) →
+    DecidesPlanPeriodic steps period book (accept (write (list_pieces (names_of b) (periodic_list steps period b))))
+periodic_accepted steps period book b is_book two fast slow = inr (b, is_book, inr (two, inr (fast, inr (slow, refl))))
+
 pub check_by_book : (steps : ℕ) (book schedule : List ℕ) (e : Ended) → IsRefusal (HasBookFault book) bad_book e → (e ≡ no_memory) ⊎ DecidesCheck steps book schedule (refuse e)
 check_by_book steps book schedule e h = read_refuses (IsBookText book) (HasBookFault book) bad_book e _ h
 
@@ -363,5 +810,50 @@ check_by_rules steps book schedule e b list is_book is_list h =
     (judge_refuses steps (slots_of b) list e _ h))
 
 pub check_accepted : (steps : ℕ) (book schedule : List ℕ) (b : BookCosts) (list : List Action) → IsBookText book b → IsSchedule (names_of b) schedule list → Valid steps (slots_of b) list →
-    DecidesCheck steps book schedule (accept (write (codes "valid " ++ decimal (length list) ++ codes "\n")))
+    DecidesCheck steps book schedule (accept (write ((codes "valid " ++ decimal (length list) ++ codes "\n") ∷ [])))
 check_accepted steps book schedule b list is_book is_list valid = inr (b, is_book, inr (list, is_list, inr (valid, refl)))
+
+-- ---- the lines of a certificate
+
+judge_passes : (steps : ℕ) (slots : List Slots) (list : List Action) (e : Ended) (Below : Type 0) → Valid steps slots list → (e ≡ no_memory) ⊎ Below → (e ≡ no_memory) ⊎ Judge steps slots list (refuse e) Below
+judge_passes steps slots list e Below valid h = elim h [
+  | inl memory ↦ inl memory
+  | inr below ↦ inr (inr (valid, below))
+]
+
+pub certify_by_book : (steps : ℕ) (book schedule certificate : List ℕ) (e : Ended) → IsRefusal (HasBookFault book) bad_book e → (e ≡ no_memory) ⊎ DecidesCertify steps book schedule certificate (refuse e)
+certify_by_book steps book schedule certificate e h = read_refuses (IsBookText book) (HasBookFault book) bad_book e _ h
+
+pub certify_by_text : (steps : ℕ) (book schedule certificate : List ℕ) (e : Ended) (b : BookCosts) → IsBookText book b → IsRefusal (HasFirstFault (names_of b) schedule) bad_text e → (e ≡ no_memory) ⊎ DecidesCertify steps book schedule certificate (refuse e)
+certify_by_text steps book schedule certificate e b is_book h =
+    read_passes (IsBookText book) (HasBookFault book) bad_book e _ b is_book
+    (read_refuses (IsSchedule (names_of b) schedule) (HasFirstFault (names_of b) schedule) bad_text e _ h)
+
+pub certify_by_rules : (steps : ℕ) (book schedule certificate : List ℕ) (e : Ended) (b : BookCosts) (list : List Action) → IsBookText book b → IsSchedule (names_of b) schedule list → IsBroken steps (slots_of b) list e →
+    (e ≡ no_memory) ⊎ DecidesCertify steps book schedule certificate (refuse e)
+certify_by_rules steps book schedule certificate e b list is_book is_list h =
+    read_passes (IsBookText book) (HasBookFault book) bad_book e _ b is_book
+    (read_passes (IsSchedule (names_of b) schedule) (HasFirstFault (names_of b) schedule) bad_text e _ list is_list
+    (judge_refuses steps (slots_of b) list e _ h))
+
+pub certify_by_certificate : (steps : ℕ) (book schedule certificate : List ℕ) (e : Ended) (b : BookCosts) (list : List Action) → IsBookText book b → IsSchedule (names_of b) schedule list → Valid steps (slots_of b) list →
+    IsRefusal (CertificateFirst certificate) bad_certificate e → (e ≡ no_memory) ⊎ DecidesCertify steps book schedule certificate (refuse e)
+certify_by_certificate steps book schedule certificate e b list is_book is_list valid h =
+    read_passes (IsBookText book) (HasBookFault book) bad_book e _ b is_book
+    (read_passes (IsSchedule (names_of b) schedule) (HasFirstFault (names_of b) schedule) bad_text e _ list is_list
+    (judge_passes steps (slots_of b) list e _ valid
+    (read_refuses (IsCertificateText certificate) (CertificateFirst certificate) bad_certificate e _ h)))
+
+pub certify_by_weight : (steps : ℕ) (book schedule certificate : List ℕ) (e : Ended) (b : BookCosts) (list : List Action) (k : Certificate) → IsBookText book b → IsSchedule (names_of b) schedule list → Valid steps (slots_of b) list → IsCertificateText certificate k →
+    IsWeighed steps b list k e → (e ≡ no_memory) ⊎ DecidesCertify steps book schedule certificate (refuse e)
+certify_by_weight steps book schedule certificate e b list k is_book is_list valid is_certificate h =
+    read_passes (IsBookText book) (HasBookFault book) bad_book e _ b is_book
+    (read_passes (IsSchedule (names_of b) schedule) (HasFirstFault (names_of b) schedule) bad_text e _ list is_list
+    (judge_passes steps (slots_of b) list e _ valid
+    (read_passes (IsCertificateText certificate) (CertificateFirst certificate) bad_certificate e _ k is_certificate
+    (weigh_refuses steps b list k e _ h))))
+
+pub certify_accepted : (steps : ℕ) (book schedule certificate : List ℕ) (b : BookCosts) (list : List Action) (k : Certificate) → IsBookText book b → IsSchedule (names_of b) schedule list → Valid steps (slots_of b) list → IsCertificateText certificate k →
+    IsAccepted list steps b k → DecidesCertify steps book schedule certificate (accept (write (codes "least valid\n" ∷ [])))
+certify_accepted steps book schedule certificate b list k is_book is_list valid is_certificate accepted =
+    inr (b, is_book, inr (list, is_list, inr (valid, inr (k, is_certificate, inr (accepted, refl)))))

@@ -8,7 +8,7 @@ use Rattle.keepers.specs.Told.{Tells, AddsPrefix}
 use Rattle.schedule_rules.proofs.Judging.{take_one_more}
 use Rattle.reverse_runner.specs.KeepersSeen.{Calls, Called, CalledAtMost}
 use Rattle.reversal.specs.Output.{Adds}
-use Rattle.reversal.specs.Deeds.{Deed, bytes_of, bytes_written, writes_made, steps_made, calls_made, Moment, Did, DidUntil, BreaksOff, AddsAndPart, Job, CallsLevel, FailsAt, DamagedAt, Halts, IsNoImageOf, AllTell, levels_of}
+use Rattle.reversal.specs.Deeds.{Deed, bytes_of, bytes_written, writes_made, steps_made, calls_made, Moment, Did, DidUntil, BreaksOff, AddsAndPart, Job, CallsLevel, FailsAt, DamagedAt, Halts, MayWant, IsNoImageOf, AllTell, levels_of}
 
 -- what is told after two calls
 pub tells_then : {A : Type 0} (x y z : Option A) (P Q R : A → A → Type 0) → ((a b c : A) → P a b → Q b c → R a c) → Tells x y P → Tells y z Q → Tells x z R
@@ -196,8 +196,6 @@ damaged_at job ds i level put got d a c broke gets wrong silent =
     let at = subst P (sym here) (broke.0, subst C (sym broke.1) gets) in
     record { from_one = omega arith; breaks = at.0; gets = at.1; wrong = wrong; silent = silent }
 
--- the deed wanted memory, for which it calls a keeper
-pub halted_at : (ds : List Deed) (i level : ℕ) (d : Deed) (a c : Moment) → ((breaks : BreaksOff ds i a c) × (breaks.next ≡ d)) → CallsLevel d level → Halts ds a c
-halted_at ds i level d a c broke calls =
-    let C : Deed → Type 0 = λ e. CallsLevel e level in
-    record { performed = i; breaks = broke.0; level = level; wants = subst C (sym broke.1) calls }
+-- the deed wanted memory
+pub halted_at : (job : Job) (ds : List Deed) (i : ℕ) (d : Deed) (a c : Moment) → ((breaks : BreaksOff ds i a c) × (breaks.next ≡ d)) → MayWant job d → Halts job ds a c
+halted_at job ds i d a c broke wants = record { performed = i; breaks = broke.0; wants = subst (MayWant job) (sym broke.1) wants }

@@ -7,7 +7,7 @@ use Rattle.reversal.specs.declared.ended.Ended.{Ended}
 use Rattle.reversal.specs.Ending.{no_memory, few_keepers, small_keeper}
 use Rattle.reversal.specs.Deeds.{Job}
 use Rattle.reversal.specs.Decision.{Decision, refuse, accept, IsFirstSmall, Keep}
-use Rattle.reversal.proofs.Refused.{IsRefusing, refusing_for_keepers}
+use Rattle.reversal.proofs.Refused.{IsRefusing, refusing_past}
 
 -- ---- slots enough
 
@@ -72,12 +72,12 @@ keep_refusing steps slots counts e Below below h = elim h [
   | inl few ↦
       let is : refuse e ≡ refuse (few_keepers (length slots) (length counts)) = few.1 in
       let same : e ≡ few_keepers (length slots) (length counts) = cc in
-      refusing_for_keepers e (ap (λ (x : Ended). x.status) same)
+      refusing_past e 16 (ap (λ (x : Ended). x.status) same) (omega arith) (omega arith)
   | inr x ↦ elim x.1 [
     | inl small ↦
         let is : refuse e ≡ refuse (small_keeper small.0 (get_or counts small.0 0)) = small.1.1 in
         let same : e ≡ small_keeper small.0 (get_or counts small.0 0) = cc in
-        refusing_for_keepers e (ap (λ (x : Ended). x.status) same)
+        refusing_past e 16 (ap (λ (x : Ended). x.status) same) (omega arith) (omega arith)
     | inr met ↦ below met.1
   ]
 ]

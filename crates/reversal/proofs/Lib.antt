@@ -13,5 +13,15 @@ pub mod Performing
 pub mod Progress
 pub mod Refused
 pub mod Keeping
+pub mod Weighing
+pub mod Spelled
+pub mod Planned
+pub mod Pieces
+pub mod ReadAgain
 pub mod Deciding
 pub mod Answering
+pub mod Drawing
+pub mod Demonstrating
+pub mod Silent
+pub mod BookTexts
+pub mod ClassPlans

@@ -18,8 +18,13 @@ use Rattle.elf_load.specs.declared.fault.ElfFault.{ElfFault}
 use Rattle.elf_load.specs.declared.fault.ElfFault.TheVariants as program
 use Rattle.elf_load.specs.Faults.{number_of}
 use Rattle.elf_load.proofs.Once.{one_start, one_fault as one_file_fault, programs_have_no_fault, one_raw_start, one_raw_fault, raw_programs_have_no_fault}
+use Rattle.bound_cert.specs.declared.fault.CertFault.{CertFault}
+use Rattle.bound_cert.specs.declared.fault.CertFault.TheVariants as certificate
+use Rattle.bound_cert.specs.Meaning.{IsCertificateText}
+use Rattle.bound_cert.specs.Faults.{HasFirstFault as CertificateFirst}
+use Rattle.bound_cert.proofs.TextLaws.{one_certificate, one_fault as one_certificate_fault, no_fault as certificates_have_no_fault}
 use Rattle.reversal.specs.declared.ended.Ended.{Ended}
-use Rattle.reversal.specs.Ending.{bad_program, bad_journal, bad_book, bad_text}
+use Rattle.reversal.specs.Ending.{bad_program, bad_journal, bad_book, bad_text, bad_certificate}
 use Rattle.reversal.specs.JobReading.{IsRefusal}
 use Rattle.reversal.specs.Decision.{HasBookFault, IsStartOf, HasProgramFault, AreItemsOf, HasJournalFault}
 
@@ -42,15 +47,15 @@ refusing_at e status is above below = record {
   not_memory = λ x. absurd (omega (arith, x, is, above, below));
 }
 
--- a refusal for the keepers
-pub refusing_for_keepers : (e : Ended) → e.status ≡ 16 → IsRefusing e
-refusing_for_keepers e is = record {
-  not_words = λ x. absurd (omega (arith, x, is));
-  not_input = λ x. absurd (omega (arith, x, is));
-  not_keeper = λ x. absurd (omega (arith, x, is));
-  not_damaged = λ x. absurd (omega (arith, x, is));
-  not_sink = λ x. absurd (omega (arith, x, is));
-  not_memory = λ x. absurd (omega (arith, x, is));
+-- a refusal for the certificate or for the keepers
+pub refusing_past : (e : Ended) (status : ℕ) → e.status ≡ status → 14 < status → status < 17 → IsRefusing e
+refusing_past e status is above below = record {
+  not_words = λ x. absurd (omega (arith, x, is, above, below));
+  not_input = λ x. absurd (omega (arith, x, is, above, below));
+  not_keeper = λ x. absurd (omega (arith, x, is, above, below));
+  not_damaged = λ x. absurd (omega (arith, x, is, above, below));
+  not_sink = λ x. absurd (omega (arith, x, is, above, below));
+  not_memory = λ x. absurd (omega (arith, x, is, above, below));
 }
 
 -- ---- faults end a call by a status of theirs
@@ -90,6 +95,10 @@ pub text_refuses : (f : TextFault) → (f ≡ text.Memory → ⊥) → IsRefusin
 text_refuses text.Memory h = absurd (h refl)
 text_refuses (text.At rule line column) h = refusing_at _ 7 refl (omega arith) (omega arith)
 
+pub certificate_refuses : (f : CertFault) → (f ≡ certificate.Memory → ⊥) → IsRefusing (bad_certificate f)
+certificate_refuses certificate.Memory h = absurd (h refl)
+certificate_refuses (certificate.At rule line column) h = refusing_at _ 9 refl (omega arith) (omega arith)
+
 -- ---- want of memory is no fault of the bytes
 
 pub program_fault_is_other : (raw : Bool) (stack : ℕ) (bytes : List ℕ) (f : ElfFault) → HasProgramFault raw stack bytes f → f ≡ program.Memory → ⊥
@@ -102,6 +111,9 @@ journal_fault_is_other (Some bytes) f h e = let P : JournalFault → Type 0 = λ
 
 pub text_fault_is_other : (names : List (List ℕ)) (bytes : List ℕ) (f : TextFault) → HasFirstFault names bytes f → f ≡ text.Memory → ⊥
 text_fault_is_other names bytes f h e = let P : TextFault → Type 0 = λ x. HasFirstFault names bytes x in subst P e h
+
+pub certificate_fault_is_other : (bytes : List ℕ) (f : CertFault) → CertificateFirst bytes f → f ≡ certificate.Memory → ⊥
+certificate_fault_is_other bytes f h e = let P : CertFault → Type 0 = λ x. CertificateFirst bytes x in subst P e h
 
 -- a file that isn't loaded has a fault, or memory ran out
 memory_by_number : (f : ElfFault) → number_of f ≡ 10 → f ≡ program.Memory
@@ -174,3 +186,14 @@ text_fault_one text b bytes is x y h g = one_first_fault (names_of b) (text_name
 
 pub list_excludes : (text : List ℕ) (b : BookCosts) (bytes : List ℕ) → IsBookText text b → Excludes (IsSchedule (names_of b) bytes) (HasFirstFault (names_of b) bytes)
 list_excludes text b bytes is list f h g = schedule_faultless (names_of b) (text_names text b is) bytes list f h g
+
+-- certificates
+
+pub certificate_one : (bytes : List ℕ) → IsOne (IsCertificateText bytes)
+certificate_one bytes a b h g = one_certificate bytes a b h g
+
+pub certificate_fault_one : (bytes : List ℕ) → IsOne (CertificateFirst bytes)
+certificate_fault_one bytes a b h g = one_certificate_fault bytes a b h g
+
+pub certificate_excludes : (bytes : List ℕ) → Excludes (IsCertificateText bytes) (CertificateFirst bytes)
+certificate_excludes bytes c f h g = certificates_have_no_fault bytes c f h g

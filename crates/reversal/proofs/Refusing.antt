@@ -4,7 +4,7 @@ use Rattle.std.specs.Option.{MatchOption}
 use Rattle.std.specs.List.{AllByRecursion, flat_map}
 use Rattle.reversal.specs.declared.ended.Ended.{Ended}
 use Rattle.reversal.specs.declared.bounds.Bounded.{Bounded}
-use Rattle.reversal.specs.Request.{Choice, raw, stack, files, stack_pages}
+use Rattle.reversal.specs.Request.{Choice, raw, stack, workers, files, stack_pages, worker_count}
 use Rattle.reversal.specs.Bounds.{option_numbers, IsWithin, RefusesFirst}
 use Rattle.reversal.proofs.Requests.{all_both}
 
@@ -35,4 +35,13 @@ pub stack_within : (options : List Choice) → AllByRecursion IsWithin (flat_map
 stack_within [] h = (omega arith, omega arith)
 stack_within (raw ∷ options) h = stack_within options h
 stack_within (stack pages ∷ options) h = h.0
+stack_within (workers count ∷ options) h = stack_within options h.1
 stack_within (files level folder ∷ options) h = stack_within options h.1
+
+-- and there are as many workers
+pub workers_within : (options : List Choice) → AllByRecursion IsWithin (flat_map option_numbers options) → (1 ≤ worker_count options) × (worker_count options ≤ 64)
+workers_within [] h = (omega arith, omega arith)
+workers_within (raw ∷ options) h = workers_within options h
+workers_within (stack pages ∷ options) h = workers_within options h.1
+workers_within (workers count ∷ options) h = h.0
+workers_within (files level folder ∷ options) h = workers_within options h.1

@@ -8,10 +8,12 @@ use Rattle.std.proofs.lemmas.Option.{same_Some, none-some, some_pair_parts}
 use Rattle.std.proofs.lemmas.List.Sums.{sum_by-append}
 use Rattle.std.proofs.lemmas.Slice.Eq.{bytes_eq-Decides}
 use Rattle.reversal.specs.declared.request.Request as in_memory
+use Rattle.reversal.specs.declared.kind.PlanKind.{PlanKind}
+use Rattle.reversal.specs.declared.kind.PlanKind.TheVariants.{Revolve, Multistage, Hrevolve}
 use Rattle.reversal.specs.Reading.{Gives, ◌>>=◌, with_or, after_of, number_at}
-use Rattle.reversal.specs.Request.{Choice, raw, stack, files, files_front, option_word, is_raw, is_stack, is_files, FitsWord, AreOptions, Run, Check, Command, run, check, command_words, word_or_dash, IsName, IsScheduleName, MayBeNamed, CanBeSpelled, Request, Says}
-use Rattle.reversal.specs.ChoiceReading.{number_of, stack_of, files_of, choice_of, first_choice, options_at, behind_options, is_like, are_single}
-use Rattle.reversal.specs.RequestReading.{is_name, is_schedule_name, name_or_none, run_of, check_of, command_of, request_read, request_of}
+use Rattle.reversal.specs.Request.{Choice, raw, stack, workers, files, files_front, option_word, is_raw, is_stack, is_workers, is_files, FitsWord, AreOptions, Run, RunRevolve, PlanFor, PlanPeriodic, Check, Certify, Demo, Command, run, run_revolve, plan, plan_periodic, check, certify, demo, kind_word, command_words, word_or_dash, IsName, IsScheduleName, MayBeNamed, CanBeSpelled, Request, Says}
+use Rattle.reversal.specs.ChoiceReading.{number_of, stack_of, workers_of, files_of, choice_of, first_choice, options_at, behind_options, is_like, are_single}
+use Rattle.reversal.specs.RequestReading.{is_name, is_schedule_name, name_or_none, run_of, run_revolve_of, kind_of, plan_for_of, plan_periodic_of, check_of, certify_of, demo_of, any_run_of, of_three_of, of_four_of, command_of, request_read, request_of}
 use Rattle.reversal.proofs.Decimal.{number_again, number_taken}
 use Rattle.reversal.proofs.Steps.{passed, passed_then, bind_some, chosen}
 use Rattle.reversal.proofs.Texts.{after_again, after_taken}
@@ -60,7 +62,12 @@ unfolding choice_of after_of
 choice_again raw h = refl
 choice_again (stack pages) h =
     let rest = after_again (codes "--stack=") (decimal pages) in
-    ap (λ o. with_or o stack_of (after_of (codes "--files=") (codes "--stack=" ++ decimal pages) >>= files_of)) rest ∙ ap (λ o. o >>= λ pages. Some (stack pages)) (number_of_again pages h)
+    ap (λ o. with_or o stack_of (with_or (after_of (codes "--workers=") (codes "--stack=" ++ decimal pages)) workers_of (after_of (codes "--files=") (codes "--stack=" ++ decimal pages) >>= files_of))) rest
+    ∙ ap (λ o. o >>= λ pages. Some (stack pages)) (number_of_again pages h)
+choice_again (workers count) h =
+    let rest = after_again (codes "--workers=") (decimal count) in
+    ap (λ o. with_or o workers_of (after_of (codes "--files=") (codes "--workers=" ++ decimal count) >>= files_of)) rest
+    ∙ ap (λ o. o >>= λ count. Some (workers count)) (number_of_again count h)
 choice_again (files level folder) h =
     ap choice_of (behind_files level folder)
     ∙ ap (λ o. o >>= files_of) (after_again (codes "--files=") (decimal level ++ (codes ":" ++ folder)))
@@ -78,6 +85,14 @@ stack_read word text c e is =
     let P : Choice → Type 0 = λ x. IsWordOf word x in
     subst P same (after_taken (codes "--stack=") word text e ∙ ap (λ r. codes "--stack=" ++ r) said.0, said.1)
 
+workers_read : (word text : List ℕ) (c : Choice) → after_of (codes "--workers=") word ≡ Some text → workers_of text ≡ Some c → IsWordOf word c
+workers_read word text c e is =
+    let number = bind_some (number_of text) _ c is in
+    let same = same_Some (workers number.0) c number.2 in
+    let said = number_of_read text number.0 number.1 in
+    let P : Choice → Type 0 = λ x. IsWordOf word x in
+    subst P same (after_taken (codes "--workers=") word text e ∙ ap (λ r. codes "--workers=" ++ r) said.0, said.1)
+
 files_read : (word text : List ℕ) (c : Choice) → after_of (codes "--files=") word ≡ Some text → files_of text ≡ Some c → IsWordOf word c
 files_read word text c e is =
     let number = bind_some (number_at 18446744073709551615 text) _ c is in
@@ -93,9 +108,14 @@ files_read word text c e is =
       (omega (arith, said.small), λ none. false≢true (sym some.0 ∙ ap (λ l. length l == 0) none)),
     )
 
-other_read : (word : List ℕ) (c : Choice) (o : Option (List ℕ)) → after_of (codes "--stack=") word ≡ o → with_or o stack_of (after_of (codes "--files=") word >>= files_of) ≡ Some c → IsWordOf word c
+last_read : (word : List ℕ) (c : Choice) (o : Option (List ℕ)) → after_of (codes "--workers=") word ≡ o → with_or o workers_of (after_of (codes "--files=") word >>= files_of) ≡ Some c → IsWordOf word c
+last_read word c (Some text) e is = workers_read word text c e is
+last_read word c None e is = let step = bind_some (after_of (codes "--files=") word) files_of c is in files_read word step.0 c step.1 step.2
+
+other_read : (word : List ℕ) (c : Choice) (o : Option (List ℕ)) → after_of (codes "--stack=") word ≡ o →
+    with_or o stack_of (with_or (after_of (codes "--workers=") word) workers_of (after_of (codes "--files=") word >>= files_of)) ≡ Some c → IsWordOf word c
 other_read word c (Some text) e is = stack_read word text c e is
-other_read word c None e is = let step = bind_some (after_of (codes "--files=") word) files_of c is in files_read word step.0 c step.1 step.2
+other_read word c None e is = last_read word c (after_of (codes "--workers=") word) refl is
 
 pub choice_read : (word : List ℕ) (c : Choice) → choice_of word ≡ Some c → IsWordOf word c
 unfolding choice_of
@@ -140,16 +160,25 @@ IsKind p = (c : Choice) → p c ≡ true → is_like c ≡ p
 raw_kind : IsKind is_raw
 raw_kind raw e = refl
 raw_kind (stack pages) e = absurd (false≢true e)
+raw_kind (workers count) e = absurd (false≢true e)
 raw_kind (files level folder) e = absurd (false≢true e)
 
 stack_kind : IsKind is_stack
 stack_kind raw e = absurd (false≢true e)
 stack_kind (stack pages) e = refl
+stack_kind (workers count) e = absurd (false≢true e)
 stack_kind (files level folder) e = absurd (false≢true e)
+
+workers_kind : IsKind is_workers
+workers_kind raw e = absurd (false≢true e)
+workers_kind (stack pages) e = absurd (false≢true e)
+workers_kind (workers count) e = refl
+workers_kind (files level folder) e = absurd (false≢true e)
 
 files_kind : (level : ℕ) → IsKind (is_files level)
 files_kind level raw e = absurd (false≢true e)
 files_kind level (stack pages) e = absurd (false≢true e)
+files_kind level (workers count) e = absurd (false≢true e)
 files_kind level (files k folder) e = ap is_files (sym (eqb-true level k e))
 
 and_parts : (a b : Bool) → (a && b) ≡ true → (a ≡ true) × (b ≡ true)
@@ -181,12 +210,14 @@ alone p c options own h = is_not (list_any p options) (λ any. absurd (omega (ar
 first_alone : (c : Choice) (options : List Choice) → AreOptions (c ∷ options) → list_any (is_like c) options ≡ false
 first_alone raw options h = alone is_raw raw options refl h.one_raw
 first_alone (stack pages) options h = alone is_stack (stack pages) options refl h.one_stack
+first_alone (workers count) options h = alone is_workers (workers count) options refl h.one_workers
 first_alone (files level folder) options h = alone (is_files level) (files level folder) options (eq-eqb level level refl) (h.one_folder level)
 
 others : (c : Choice) (options : List Choice) → AreOptions (c ∷ options) → AreOptions options
 others c options h = record {
   one_raw = omega (arith, counted is_raw c options, h.one_raw);
   one_stack = omega (arith, counted is_stack c options, h.one_stack);
+  one_workers = omega (arith, counted is_workers c options, h.one_workers);
   one_folder = λ level. omega (arith, counted (is_files level) c options, h.one_folder level);
   fit = h.fit.1;
 }
@@ -199,6 +230,7 @@ single_options : (options : List Choice) → are_single options ≡ true → All
 single_options options e fit = record {
   one_raw = single_counts is_raw raw_kind options e;
   one_stack = single_counts is_stack stack_kind options e;
+  one_workers = single_counts is_workers workers_kind options e;
   one_folder = λ level. single_counts (is_files level) (files_kind level) options e;
   fit = fit;
 }
@@ -329,10 +361,65 @@ check_again c h =
     ap (λ b. cond b (number_of (decimal c.steps) >>= λ n. Some (record { book = c.book; schedule = c.schedule; steps = n })) None) names
     ∙ ap (λ o. o >>= λ n. Some (record { book = c.book; schedule = c.schedule; steps = n })) (number_of_again c.steps h.2)
 
+certify_again : (c : Certify) → CanBeSpelled (certify c) → certify_of c.book c.schedule c.certificate (decimal c.steps) ≡ Some c
+unfolding certify_of
+certify_again c h =
+    let names = and_both _ _ (and_both _ _ (name_is c.book h.0) (schedule_name_is c.schedule h.1)) (name_is c.certificate h.2) in
+    ap (λ b. cond b (number_of (decimal c.steps) >>= λ n. Some (record { book = c.book; schedule = c.schedule; certificate = c.certificate; steps = n })) None) names
+    ∙ ap (λ o. o >>= λ n. Some (record { book = c.book; schedule = c.schedule; certificate = c.certificate; steps = n })) (number_of_again c.steps h.3)
+
+run_revolve_again : (c : RunRevolve) → CanBeSpelled (run_revolve c) → run_revolve_of c.program (word_or_dash c.journal) c.book (decimal c.steps) ≡ Some c
+unfolding run_revolve_of
+run_revolve_again c h =
+    let journal = journal_again c.journal h.1 in
+    let names = and_both _ _ (and_both _ _ (name_is c.program h.0) journal.0) (name_is c.book h.2) in
+    ap (λ b. cond b (number_of (decimal c.steps) >>= λ n. Some (record { program = c.program; journal = name_or_none (word_or_dash c.journal); book = c.book; steps = n })) None) names
+    ∙ ap (λ o. o >>= λ n. Some (record { program = c.program; journal = name_or_none (word_or_dash c.journal); book = c.book; steps = n })) (number_of_again c.steps h.3)
+    ∙ λ i. Some (record { program = c.program; journal = journal.1 i; book = c.book; steps = c.steps })
+
+kind_again : (k : PlanKind) → kind_of (kind_word k) ≡ Some k
+unfolding kind_of
+kind_again Revolve = refl
+kind_again Multistage = refl
+kind_again Hrevolve = refl
+
+plan_again : (c : PlanFor) → CanBeSpelled (plan c) → plan_for_of (kind_word c.kind) c.book (decimal c.steps) ≡ Some c
+unfolding plan_for_of
+plan_again c h =
+    ap (λ o. o >>= λ k. cond (is_name c.book) (number_of (decimal c.steps) >>= λ n. Some (record { kind = k; book = c.book; steps = n })) None) (kind_again c.kind)
+    ∙ ap (λ b. cond b (number_of (decimal c.steps) >>= λ n. Some (record { kind = c.kind; book = c.book; steps = n })) None) (name_is c.book h.0)
+    ∙ ap (λ o. o >>= λ n. Some (record { kind = c.kind; book = c.book; steps = n })) (number_of_again c.steps h.1)
+
+periodic_again : (c : PlanPeriodic) → CanBeSpelled (plan_periodic c) → plan_periodic_of c.book (decimal c.steps) (decimal c.period) ≡ Some c
+unfolding plan_periodic_of
+periodic_again c h =
+    ap (λ b. cond b (number_of (decimal c.steps) >>= λ n. number_of (decimal c.period) >>= λ q. Some (record { book = c.book; steps = n; period = q })) None) (name_is c.book h.0)
+    ∙ ap (λ o. o >>= λ n. number_of (decimal c.period) >>= λ q. Some (record { book = c.book; steps = n; period = q })) (number_of_again c.steps h.1)
+    ∙ ap (λ o. o >>= λ q. Some (record { book = c.book; steps = c.steps; period = q })) (number_of_again c.period h.2)
+
+demo_again : (c : Demo) → CanBeSpelled (demo c) → demo_of (decimal c.number) (decimal c.steps) (decimal c.slots) ≡ Some c
+unfolding demo_of
+demo_again c h =
+    ap (λ o. o >>= λ v. number_of (decimal c.steps) >>= λ n. number_of (decimal c.slots) >>= λ s. Some (record { number = v; steps = n; slots = s })) (number_of_again c.number h.0)
+    ∙ ap (λ o. o >>= λ n. number_of (decimal c.slots) >>= λ s. Some (record { number = c.number; steps = n; slots = s })) (number_of_again c.steps h.1)
+    ∙ ap (λ o. o >>= λ s. Some (record { number = c.number; steps = c.steps; slots = s })) (number_of_again c.slots h.2)
+
+-- a run by a named schedule isn't one by the list of Revolve
+any_run_again : (c : Run) → CanBeSpelled (run c) → any_run_of c.program (word_or_dash c.journal) c.book c.schedule (decimal c.steps) ≡ Some (run c)
+any_run_again c h =
+    ap (λ b. cond b (run_revolve_of c.program (word_or_dash c.journal) c.book (decimal c.steps) >>= λ r. Some (run_revolve r)) (run_of c.program (word_or_dash c.journal) c.book c.schedule (decimal c.steps) >>= λ r. Some (run r)))
+    (other_text c.schedule (codes "@revolve") h.3.1)
+    ∙ ap (λ o. o >>= λ r. Some (run r)) (run_again c h)
+
 pub command_again : (c : Command) → CanBeSpelled c → command_of (command_words c) ≡ Some c
 unfolding command_of
-command_again (run c) h = ap (λ o. o >>= λ c. Some (run c)) (run_again c h)
+command_again (run c) h = any_run_again c h
+command_again (run_revolve c) h = ap (λ o. o >>= λ c. Some (run_revolve c)) (run_revolve_again c h)
+command_again (plan c) h = ap (λ o. o >>= λ c. Some (plan c)) (plan_again c h)
+command_again (plan_periodic c) h = ap (λ o. o >>= λ c. Some (plan_periodic c)) (periodic_again c h)
+command_again (demo c) h = ap (λ o. o >>= λ c. Some (demo c)) (demo_again c h)
 command_again (check c) h = ap (λ o. o >>= λ c. Some (check c)) (check_again c h)
+command_again (certify c) h = ap (λ o. o >>= λ c. Some (certify c)) (certify_again c h)
 
 -- the words are those of a command
 pub record IsCommand (words : List (List ℕ)) (c : Command) : Type 0 where
@@ -355,6 +442,74 @@ run_read program journal book schedule steps c e =
       allowed = (name_was program second.0, name.1, name_was book third.1, schedule_name_was schedule last.1, is.1);
     })
 
+run_revolve_read : (program journal book steps : List ℕ) (c : RunRevolve) → run_revolve_of program journal book steps ≡ Some c → IsCommand (codes "run" ∷ program ∷ journal ∷ book ∷ codes "@revolve" ∷ steps ∷ []) (run_revolve c)
+unfolding run_revolve_of
+run_revolve_read program journal book steps c e =
+    let names = passed_then _ _ c e in
+    let last = and_parts _ _ names.0 in
+    let first = and_parts _ _ last.0 in
+    let number = bind_some (number_of steps) _ c names.1 in
+    let is = number_of_read steps number.0 number.1 in
+    let name = journal_read journal first.1 in
+    let P : RunRevolve → Type 0 = λ r. IsCommand (codes "run" ∷ program ∷ journal ∷ book ∷ codes "@revolve" ∷ steps ∷ []) (run_revolve r) in
+    subst P (same_Some _ c number.2) (record {
+      spelled = λ i. codes "run" ∷ program ∷ name.0 i ∷ book ∷ codes "@revolve" ∷ is.0 i ∷ [];
+      allowed = (name_was program first.0, name.1, name_was book last.1, is.1);
+    })
+
+kind_read : (word : List ℕ) (k : PlanKind) → kind_of word ≡ Some k → word ≡ kind_word k
+unfolding kind_of
+kind_read word k e = elim (chosen (bytes_eq word (codes "revolve")) _ _ _ e) [
+  | inl is ↦ (bytes_eq-Decides word (codes "revolve")).0 is.0 ∙ ap kind_word (same_Some Revolve k is.1)
+  | inr other ↦ elim (chosen (bytes_eq word (codes "multistage")) _ _ _ other.1) [
+    | inl is ↦ (bytes_eq-Decides word (codes "multistage")).0 is.0 ∙ ap kind_word (same_Some Multistage k is.1)
+    | inr last ↦ let is = passed_then _ _ k last.1 in (bytes_eq-Decides word (codes "hrevolve")).0 is.0 ∙ ap kind_word (same_Some Hrevolve k is.1)
+  ]
+]
+
+plan_read : (kind book steps : List ℕ) (c : PlanFor) → plan_for_of kind book steps ≡ Some c → IsCommand (codes "plan" ∷ kind ∷ book ∷ steps ∷ []) (plan c)
+unfolding plan_for_of
+plan_read kind book steps c e =
+    let known = bind_some (kind_of kind) _ c e in
+    let named = passed_then _ _ c known.2 in
+    let number = bind_some (number_of steps) _ c named.1 in
+    let is = number_of_read steps number.0 number.1 in
+    let word = kind_read kind known.0 known.1 in
+    let P : PlanFor → Type 0 = λ r. IsCommand (codes "plan" ∷ kind ∷ book ∷ steps ∷ []) (plan r) in
+    subst P (same_Some _ c number.2) (record {
+      spelled = λ i. codes "plan" ∷ word i ∷ book ∷ is.0 i ∷ [];
+      allowed = (name_was book named.0, is.1);
+    })
+
+periodic_read : (book steps period : List ℕ) (c : PlanPeriodic) → plan_periodic_of book steps period ≡ Some c → IsCommand (codes "plan" ∷ codes "periodic" ∷ book ∷ steps ∷ period ∷ []) (plan_periodic c)
+unfolding plan_periodic_of
+periodic_read book steps period c e =
+    let named = passed_then _ _ c e in
+    let first = bind_some (number_of steps) _ c named.1 in
+    let second = bind_some (number_of period) _ c first.2 in
+    let n = number_of_read steps first.0 first.1 in
+    let q = number_of_read period second.0 second.1 in
+    let P : PlanPeriodic → Type 0 = λ r. IsCommand (codes "plan" ∷ codes "periodic" ∷ book ∷ steps ∷ period ∷ []) (plan_periodic r) in
+    subst P (same_Some _ c second.2) (record {
+      spelled = λ i. codes "plan" ∷ codes "periodic" ∷ book ∷ n.0 i ∷ q.0 i ∷ [];
+      allowed = (name_was book named.0, n.1, q.1);
+    })
+
+demo_read : (number steps slots : List ℕ) (c : Demo) → demo_of number steps slots ≡ Some c → IsCommand (codes "demo" ∷ number ∷ steps ∷ slots ∷ []) (demo c)
+unfolding demo_of
+demo_read number steps slots c e =
+    let first = bind_some (number_of number) _ c e in
+    let second = bind_some (number_of steps) _ c first.2 in
+    let third = bind_some (number_of slots) _ c second.2 in
+    let v = number_of_read number first.0 first.1 in
+    let n = number_of_read steps second.0 second.1 in
+    let s = number_of_read slots third.0 third.1 in
+    let P : Demo → Type 0 = λ r. IsCommand (codes "demo" ∷ number ∷ steps ∷ slots ∷ []) (demo r) in
+    subst P (same_Some _ c third.2) (record {
+      spelled = λ i. codes "demo" ∷ v.0 i ∷ n.0 i ∷ s.0 i ∷ [];
+      allowed = (v.1, n.1, s.1);
+    })
+
 check_read : (book schedule steps : List ℕ) (c : Check) → check_of book schedule steps ≡ Some c → IsCommand (codes "check" ∷ book ∷ schedule ∷ steps ∷ []) (check c)
 unfolding check_of
 check_read book schedule steps c e =
@@ -368,22 +523,81 @@ check_read book schedule steps c e =
       allowed = (name_was book parts.0, schedule_name_was schedule parts.1, is.1);
     })
 
+certify_read : (book schedule certificate steps : List ℕ) (c : Certify) → certify_of book schedule certificate steps ≡ Some c → IsCommand (codes "certify" ∷ book ∷ schedule ∷ certificate ∷ steps ∷ []) (certify c)
+unfolding certify_of
+certify_read book schedule certificate steps c e =
+    let names = passed_then _ _ c e in
+    let last = and_parts _ _ names.0 in
+    let parts = and_parts _ _ last.0 in
+    let number = bind_some (number_of steps) _ c names.1 in
+    let is = number_of_read steps number.0 number.1 in
+    let P : Certify → Type 0 = λ r. IsCommand (codes "certify" ∷ book ∷ schedule ∷ certificate ∷ steps ∷ []) (certify r) in
+    subst P (same_Some _ c number.2) (record {
+      spelled = λ i. codes "certify" ∷ book ∷ schedule ∷ certificate ∷ is.0 i ∷ [];
+      allowed = (name_was book parts.0, schedule_name_was schedule parts.1, name_was certificate last.1, is.1);
+    })
+
 -- words that begin with the word of a command
 begun : (name text : List ℕ) (others : List (List ℕ)) (c : Command) → name ≡ text → IsCommand (text ∷ others) c → IsCommand (name ∷ others) c
 begun name text others c e h = record { spelled = ap (λ w. w ∷ others) e ∙ h.spelled; allowed = h.allowed }
+
+any_run_read : (program journal book schedule steps : List ℕ) (c : Command) → any_run_of program journal book schedule steps ≡ Some c → IsCommand (codes "run" ∷ program ∷ journal ∷ book ∷ schedule ∷ steps ∷ []) c
+any_run_read program journal book schedule steps c e =
+    let P : Command → Type 0 = λ x. IsCommand (codes "run" ∷ program ∷ journal ∷ book ∷ schedule ∷ steps ∷ []) x in
+    elim (chosen (bytes_eq schedule (codes "@revolve")) _ _ _ e) [
+      | inl planned ↦
+          let step = bind_some (run_revolve_of program journal book steps) _ c planned.1 in
+          let said = run_revolve_read program journal book steps step.0 step.1 in
+          let same = (bytes_eq-Decides schedule (codes "@revolve")).0 planned.0 in
+          subst P (same_Some _ c step.2) (record { spelled = (λ i. codes "run" ∷ program ∷ journal ∷ book ∷ same i ∷ steps ∷ []) ∙ said.spelled; allowed = said.allowed })
+      | inr listed ↦
+          let step = bind_some (run_of program journal book schedule steps) _ c listed.1 in
+          subst P (same_Some _ c step.2) (run_read program journal book schedule steps step.0 step.1)
+    ]
+
+of_three_read : (name first second third : List ℕ) (c : Command) → of_three_of name first second third ≡ Some c → IsCommand (name ∷ first ∷ second ∷ third ∷ []) c
+of_three_read name first second third c e =
+    let P : Command → Type 0 = λ x. IsCommand (name ∷ first ∷ second ∷ third ∷ []) x in
+    elim (chosen (bytes_eq name (codes "check")) _ _ _ e) [
+      | inl checks ↦
+          let step = bind_some (check_of first second third) _ c checks.1 in
+          subst P (same_Some _ c step.2) (begun name (codes "check") _ _ ((bytes_eq-Decides name (codes "check")).0 checks.0) (check_read first second third step.0 step.1))
+      | inr other ↦ elim (chosen (bytes_eq name (codes "plan")) _ _ _ other.1) [
+        | inl plans ↦
+            let step = bind_some (plan_for_of first second third) _ c plans.1 in
+            subst P (same_Some _ c step.2) (begun name (codes "plan") _ _ ((bytes_eq-Decides name (codes "plan")).0 plans.0) (plan_read first second third step.0 step.1))
+        | inr last ↦
+            let shows = passed_then _ _ c last.1 in
+            let step = bind_some (demo_of first second third) _ c shows.1 in
+            subst P (same_Some _ c step.2) (begun name (codes "demo") _ _ ((bytes_eq-Decides name (codes "demo")).0 shows.0) (demo_read first second third step.0 step.1))
+      ]
+    ]
+
+of_four_read : (name first second third fourth : List ℕ) (c : Command) → of_four_of name first second third fourth ≡ Some c → IsCommand (name ∷ first ∷ second ∷ third ∷ fourth ∷ []) c
+of_four_read name first second third fourth c e =
+    let P : Command → Type 0 = λ x. IsCommand (name ∷ first ∷ second ∷ third ∷ fourth ∷ []) x in
+    elim (chosen (bytes_eq name (codes "certify")) _ _ _ e) [
+      | inl certifies ↦
+          let step = bind_some (certify_of first second third fourth) _ c certifies.1 in
+          subst P (same_Some _ c step.2) (begun name (codes "certify") _ _ ((bytes_eq-Decides name (codes "certify")).0 certifies.0) (certify_read first second third fourth step.0 step.1))
+      | inr other ↦
+          let plans = passed_then _ _ c other.1 in
+          let words = and_parts _ _ plans.0 in
+          let step = bind_some (plan_periodic_of second third fourth) _ c plans.1 in
+          let same = (bytes_eq-Decides first (codes "periodic")).0 words.1 in
+          let said = periodic_read second third fourth step.0 step.1 in
+          subst P (same_Some _ c step.2)
+          (begun name (codes "plan") _ _ ((bytes_eq-Decides name (codes "plan")).0 words.0)
+          (record { spelled = (λ i. codes "plan" ∷ same i ∷ second ∷ third ∷ fourth ∷ []) ∙ said.spelled; allowed = said.allowed }))
+    ]
 
 pub command_read : (words : List (List ℕ)) (c : Command) → command_of words ≡ Some c → IsCommand words c
 unfolding command_of
 command_read (name ∷ program ∷ journal ∷ book ∷ schedule ∷ steps ∷ []) c e =
     let named = passed_then _ _ c e in
-    let step = bind_some (run_of program journal book schedule steps) _ c named.1 in
-    let P : Command → Type 0 = λ x. IsCommand (name ∷ program ∷ journal ∷ book ∷ schedule ∷ steps ∷ []) x in
-    subst P (same_Some _ c step.2) (begun name (codes "run") _ _ ((bytes_eq-Decides name (codes "run")).0 named.0) (run_read program journal book schedule steps step.0 step.1))
-command_read (name ∷ book ∷ schedule ∷ steps ∷ []) c e =
-    let named = passed_then _ _ c e in
-    let step = bind_some (check_of book schedule steps) _ c named.1 in
-    let P : Command → Type 0 = λ x. IsCommand (name ∷ book ∷ schedule ∷ steps ∷ []) x in
-    subst P (same_Some _ c step.2) (begun name (codes "check") _ _ ((bytes_eq-Decides name (codes "check")).0 named.0) (check_read book schedule steps step.0 step.1))
+    begun name (codes "run") _ _ ((bytes_eq-Decides name (codes "run")).0 named.0) (any_run_read program journal book schedule steps c named.1)
+command_read (name ∷ first ∷ second ∷ third ∷ fourth ∷ []) c e = of_four_read name first second third fourth c e
+command_read (name ∷ first ∷ second ∷ third ∷ []) c e = of_three_read name first second third c e
 command_read words c e = absurd cc
 
 -- ---- requests
@@ -393,6 +607,11 @@ no_option : (c : Command) → (word : List ℕ) × (words : List (List ℕ)) × 
 unfolding choice_of after_of
 no_option (run c) = (codes "run", _, refl, refl)
 no_option (check c) = (codes "check", _, refl, refl)
+no_option (certify c) = (codes "certify", _, refl, refl)
+no_option (run_revolve c) = (codes "run", _, refl, refl)
+no_option (plan c) = (codes "plan", _, refl, refl)
+no_option (plan_periodic c) = (codes "plan", _, refl, refl)
+no_option (demo c) = (codes "demo", _, refl, refl)
 
 pub said_is_read : (words : List (List ℕ)) (r : Request) → Says words r → request_read words ≡ Some r
 unfolding request_read

@@ -1,5 +1,5 @@
 -- Inputs that are taken one after the other.
-use Rattle.std.proofs.Common.{◌≡◌, inl, inr, ℕ, zero, suc, ◌+◌, ◌-◌, ◌<◌, ◌≤◌, ◌++◌, Bool, true, false, cond, nat_le, List, [], ◌∷◌, length, map, take, drop, replicate, append-nil, append_assoc, Option, None, Some, IsSomeAnd, refl, sym, ◌∙◌, ap, subst, arith, slice_get, get_or}
+use Rattle.std.proofs.Common.{◌≡◌, inl, inr, ℕ, zero, suc, ◌+◌, ◌-◌, ◌<◌, ◌≤◌, ◌++◌, Bool, true, false, cond, nat_le, List, [], ◌∷◌, length, map, take, drop, replicate, append-nil, append_assoc, Option, None, Some, IsSomeAnd, Vec, Global, refl, sym, ◌∙◌, ap, subst, arith, slice_get, get_or}
 use Rattle.std.specs.FinMap as finmap
 use Rattle.std.specs.List.{AllByRecursion}
 use Rattle.std.proofs.lemmas.Bool.{le-leb, lt-leb, leb-true}
@@ -236,3 +236,8 @@ all_within (i ∷ is) place (Some b ∷ given) = within_or_long i is b place (re
 -- what was read is as much as was wanted, each within its limit
 pub read_within : (is : List Input) (given : List (Option (List ℕ))) (bytes : List (List ℕ)) → reading 1 is given ≡ all bytes → AreWithinLimits is bytes
 read_within is given bytes e = let P : Reading → Type 0 = λ r. if_all r (AreWithinLimits is) in subst P e (all_within is 1 given)
+
+-- the one text of a list as code reads it
+pub one_text : (texts : List (Vec ℕ Global)) (a : Vec ℕ Global) → length texts ≡ 1 → a ≡ get_or texts 0 a → map (λ (t : Vec ℕ Global). t.items) texts ≡ a.items ∷ []
+one_text (x ∷ []) a h e = λ i. (sym e i).items ∷ []
+one_text other a h e = absurd (omega (arith, h))

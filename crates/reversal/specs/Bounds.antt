@@ -3,21 +3,45 @@ use Rattle.std.specs.Prelude.{◌≡◌, ◌⊎◌, ℕ, ◌≤◌, ◌++◌, Li
 use Rattle.std.specs.List.{AllByRecursion, flat_map}
 use Rattle.reversal.specs.declared.ended.Ended.{Ended}
 use Rattle.reversal.specs.declared.bounds.Bounded.{Bounded}
-use Rattle.reversal.specs.Request.{Choice, raw, stack, files, Command, run, check, Request, Says}
+use Rattle.reversal.specs.declared.kind.PlanKind.{PlanKind}
+use Rattle.reversal.specs.declared.kind.PlanKind.TheVariants.{Revolve, Multistage, Hrevolve}
+use Rattle.reversal.specs.Request.{Choice, raw, stack, workers, files, Command, run, run_revolve, plan, plan_periodic, check, certify, demo, Request, Says}
 use Rattle.reversal.specs.Ending.{no_request, out_of_range}
 
--- A number with the rule that gives its bounds: 1 is the number of steps, 4 the number of the stack's pages, and 5 a level.
+-- A number with the rule that gives its bounds: 1 is the number of steps, 2 a period, 3 the number of workers, 4 the number of the
+-- stack's pages, 5 a level, 10 a number of slots, and 11 the number that a program is made from, which has 32 bits.
 abbrev pub steps_bound : ℕ → Bounded
 steps_bound steps = record { number = steps; least = 0; greatest = 1000000; rule = 1 }
+
+-- Plans of H-Revolve are read from tables, which are kept small.
+abbrev pub plan_bound : PlanKind → ℕ → Bounded
+plan_bound Revolve steps = steps_bound steps
+plan_bound Multistage steps = steps_bound steps
+plan_bound Hrevolve steps = record { number = steps; least = 0; greatest = 2048; rule = 1 }
+
+abbrev pub period_bound : ℕ → Bounded
+period_bound period = record { number = period; least = 1; greatest = 1000000; rule = 2 }
+
+abbrev pub slots_bound : ℕ → Bounded
+slots_bound slots = record { number = slots; least = 0; greatest = 1000000; rule = 10 }
+
+abbrev pub seed_bound : ℕ → Bounded
+seed_bound number = record { number = number; least = 0; greatest = 4294967295; rule = 11 }
 
 abbrev pub option_numbers : Choice → List Bounded
 option_numbers raw = []
 option_numbers (stack pages) = record { number = pages; least = 1; greatest = 1024; rule = 4 } ∷ []
+option_numbers (workers count) = record { number = count; least = 1; greatest = 64; rule = 3 } ∷ []
 option_numbers (files level folder) = record { number = level; least = 0; greatest = 3; rule = 5 } ∷ []
 
 abbrev pub command_numbers : Command → List Bounded
 command_numbers (run c) = steps_bound c.steps ∷ []
+command_numbers (run_revolve c) = steps_bound c.steps ∷ []
+command_numbers (plan c) = plan_bound c.kind c.steps ∷ []
+command_numbers (plan_periodic c) = steps_bound c.steps ∷ period_bound c.period ∷ []
 command_numbers (check c) = steps_bound c.steps ∷ []
+command_numbers (certify c) = steps_bound c.steps ∷ []
+command_numbers (demo c) = seed_bound c.number ∷ steps_bound c.steps ∷ slots_bound c.slots ∷ []
 
 -- the numbers of a request, in the order of the words, which is that in which they are tested
 abbrev pub numbers : Request → List Bounded

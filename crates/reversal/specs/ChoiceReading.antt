@@ -4,9 +4,9 @@ use Rattle.std.specs.Prelude.{ℕ, ◌==◌, Bool, true, not, ◌&&◌, if◌the
 use Rattle.std.specs.List.{list_any}
 use Rattle.std.specs.Str.{bytes_eq}
 use Rattle.reversal.specs.declared.options.Choice as in_memory
-use Rattle.reversal.specs.declared.options.Choice.TheVariants.{Raw, Stack, Files}
+use Rattle.reversal.specs.declared.options.Choice.TheVariants.{Raw, Stack, Workers, Files}
 use Rattle.reversal.specs.Reading.{◌>>=◌, with_or, after_of, number_at}
-use Rattle.reversal.specs.Request.{Choice, raw, stack, files, is_raw, is_stack, is_files}
+use Rattle.reversal.specs.Request.{Choice, raw, stack, workers, files, is_raw, is_stack, is_workers, is_files}
 
 -- the number that a whole word is
 unfoldable pub number_of : List ℕ → Option ℕ
@@ -15,6 +15,10 @@ number_of word = number_at 18446744073709551615 word >>= λ read. if length read
 -- the option of the stack, behind the text that it begins with
 abbrev pub stack_of : List ℕ → Option Choice
 stack_of text = number_of text >>= λ pages. Some (stack pages)
+
+-- the option of the workers, likewise
+abbrev pub workers_of : List ℕ → Option Choice
+workers_of text = number_of text >>= λ count. Some (workers count)
 
 -- the option of a level's files, likewise
 abbrev pub files_of : List ℕ → Option Choice
@@ -25,7 +29,7 @@ files_of text =
 unfoldable pub choice_of : List ℕ → Option Choice
 choice_of word =
     if bytes_eq word (codes "--raw") then Some raw
-    else with_or (after_of (codes "--stack=") word) stack_of (after_of (codes "--files=") word >>= files_of)
+    else with_or (after_of (codes "--stack=") word) stack_of (with_or (after_of (codes "--workers=") word) workers_of (after_of (codes "--files=") word >>= files_of))
 
 -- the option that the first word is, and the words behind it
 abbrev pub first_choice : List (List ℕ) → Option (Choice × List (List ℕ))
@@ -46,6 +50,7 @@ behind_options (word ∷ words) = with_or (choice_of word) (λ choice. behind_op
 abbrev pub is_like : Choice → Choice → Bool
 is_like raw = is_raw
 is_like (stack pages) = is_stack
+is_like (workers count) = is_workers
 is_like (files level folder) = is_files level
 
 abbrev pub are_single : List Choice → Bool
@@ -56,4 +61,5 @@ are_single (choice ∷ options) = not (list_any (is_like choice) options) && are
 abbrev pub as_choice : in_memory.Choice → Choice
 as_choice Raw = raw
 as_choice (Stack pages) = stack pages
+as_choice (Workers count) = workers count
 as_choice (Files level folder) = files level folder.now

@@ -6,7 +6,8 @@ use Rattle.level_book.specs.declared.book.Slots.{Slots}
 use Rattle.level_book.specs.declared.book.Slots.TheVariants.{Count}
 use Rattle.reverse_runner.specs.KeepersSeen.{HaveRoom}
 use Rattle.level_book.specs.declared.fault.BookFault.{BookFault}
-use Rattle.level_book.specs.BookCosts.{BookCosts, slots_of, names_of, least}
+use Rattle.level_book.specs.BookCosts.{BookCosts, slots_of, names_of, least, room, total_room, plain}
+use Rattle.level_book.specs.UnderTable.{Tables, IsGreatest}
 use Rattle.level_book.specs.BookFaults.{IsBookText, IsRefused}
 use Rattle.level_book.specs.Valid.{Valid, BrokenAt}
 use Rattle.action_text.specs.ScheduleText.{IsSchedule}
@@ -21,12 +22,28 @@ use Rattle.elf_load.specs.declared.fault.ElfFault.{ElfFault}
 use Rattle.elf_load.specs.Elf.{IsProgram}
 use Rattle.elf_load.specs.Raw.{IsRawProgram}
 use Rattle.elf_load.specs.Faults.{FirstFault as ProgramFirst, FirstRawFault}
+use Rattle.bound_cert.specs.declared.certificate.Certificate.{Certificate}
+use Rattle.bound_cert.specs.declared.certificate.Reason.TheVariants.{ValueDiffers}
+use Rattle.bound_cert.specs.Meaning.{IsCertificateText}
+use Rattle.bound_cert.specs.Faults.{HasFirstFault as CertificateFirst}
+use Rattle.bound_cert.specs.Accepted.{IsAccepted, IsFirstReason}
+use Rattle.revolve_gen.specs.Plans.{HasPlan}
+use Rattle.revolve_gen.specs.Written.{revolve_list}
 use Rattle.reversal.specs.declared.ended.Ended.{Ended}
 use Rattle.reversal.specs.Request.{Choice}
-use Rattle.reversal.specs.Ending.{done, stopped, keeper_failed, damaged, few_keepers, small_keeper, unreadable, too_long, bad_program, bad_journal, bad_book, bad_text, invalid}
-use Rattle.reversal.specs.Request.{says_raw, stack_pages, Command, run, check, Request}
+use Rattle.reversal.specs.Ending.{done, stopped, keeper_failed, damaged, few_keepers, small_keeper, unreadable, too_long, bad_program, bad_journal, bad_book, bad_text, invalid, bad_certificate, out_of_range, no_plan, not_least}
+use Rattle.multistage_gen.specs.Planned.{IsMultistageList}
+use Rattle.hrevolve_gen.specs.Plans as nested
+use Rattle.hrevolve_gen.specs.Written.{IsWritten}
+use Rattle.disk_gen.specs.Periodic.{images, periodic_list}
+use Rattle.disk_gen.specs.Plans.{slots_at, HasSlots}
+use Rattle.reversal.specs.declared.kind.PlanKind.{PlanKind}
+use Rattle.reversal.specs.declared.kind.PlanKind.TheVariants.{Revolve, Multistage, Hrevolve}
+use Rattle.reversal.specs.Request.{run_revolve, plan, plan_periodic, certify, demo, says_raw, stack_pages, Command, run, check, Request}
 use Rattle.reversal.specs.Inputs.{Input, inputs_of, names, contents, asked_count}
-use Rattle.reversal.specs.Deeds.{Job, perform, write, Shown, IsShown, deeds, shown_place, levels_of, Moment, Done, DidUntil, FailsAt, DamagedAt}
+use Rattle.reversal.specs.Plans.{list_pieces, plan_pieces}
+use Rattle.reversal.specs.Demo as demonstration
+use Rattle.reversal.specs.Deeds.{Job, perform, write, demonstrate, Shown, IsShown, deeds, shown_place, levels_of, Moment, Done, DidUntil, FailsAt, DamagedAt}
 
 pub data Decision : Type 0 where
   refuse : Ended → Decision
@@ -47,6 +64,29 @@ abbrev pub Judge : ℕ → List Slots → List Action → Decision → Type 0 �
 Judge steps slots list d below =
     ((place : ℕ) × (rule : ℕ) × (level : ℕ) × BrokenAt steps slots list place rule level × (Valid steps slots list → ⊥) × (d ≡ refuse (invalid place level rule)))
     ⊎ (Valid steps slots list × below)
+
+-- Revolve has a list for so many steps and this book, and the lines below decide, or the call is refused
+abbrev pub Plan : ℕ → BookCosts → Decision → Type 0 → Type 0
+Plan steps book d below = Need (HasPlan steps (total_room book steps)) (no_plan steps (total_room book steps) 1) d below
+
+-- this level of a book is the first on which more than 64 images of a list for so many steps can be held
+pub record IsFirstWide (steps : ℕ) (book : BookCosts) (level : ℕ) : Type 0 where
+  pub within : level < length book.levels
+  pub wide : 64 < room book level steps
+  pub before : (k : ℕ) → k < level → room book k steps ≤ 64
+
+-- Tables are kept small: no level of the book holds more than 64 images, and the lines below decide, or the call is refused for
+-- the first that does, by rule 9.
+abbrev pub Tabulate : ℕ → BookCosts → Decision → Type 0 → Type 0
+Tabulate steps book d below =
+    ((level : ℕ) × (IsFirstWide steps book level × (d ≡ refuse (out_of_range (room book level steps) 64 9))))
+    ⊎ (((k : ℕ) → k < length book.levels → room book k steps ≤ 64) × below)
+
+-- the certificate of a valid list is accepted and the lines below decide, or it is refused for the numbers that differ
+abbrev pub Weigh : ℕ → BookCosts → List Action → Certificate → Decision → Type 0 → Type 0
+Weigh steps book list certificate d below =
+    ((cost : ℕ) × (value : ℕ) × IsFirstReason list steps book certificate (ValueDiffers cost value) × (d ≡ refuse (not_least cost value)))
+    ⊎ (IsAccepted list steps book certificate × below)
 
 -- the keeper of this level is the first that has fewer slots than a run of so many steps can use there
 pub record IsFirstSmall (steps : ℕ) (slots : List Slots) (counts : List ℕ) (level : ℕ) : Type 0 where
@@ -107,21 +147,96 @@ DecidesRun options steps program journal book schedule counts d =
     Judge steps (slots_of b) list d
     (d ≡ accept (perform start items steps (slots_of b) list)))))))
 
+-- the same by the list of Revolve for the book
+abbrev pub DecidesRunRevolve : List Choice → ℕ → List ℕ → Option (List ℕ) → List ℕ → List ℕ → Decision → Type 0
+DecidesRunRevolve options steps program journal book counts d =
+    Read (IsBookText book) (HasBookFault book) bad_book d (λ (b : BookCosts).
+    Keep steps (slots_of b) counts d (
+    Plan steps b d (
+    Read (IsStartOf (says_raw options) (stack_pages options) program) (HasProgramFault (says_raw options) (stack_pages options) program) bad_program d (λ start.
+    Read (AreItemsOf journal) (HasJournalFault journal) bad_journal d (λ items.
+    (d ≡ accept (perform start items steps (slots_of b) (revolve_list steps b))))))))
+
+-- the text of that list and of its certificate
+abbrev pub DecidesPlanRevolve : ℕ → List ℕ → Decision → Type 0
+DecidesPlanRevolve steps book d =
+    Read (IsBookText book) (HasBookFault book) bad_book d (λ (b : BookCosts).
+    Plan steps b d
+    (d ≡ accept (write (plan_pieces steps b))))
+
+-- the text of the multistage list for the two levels of a book
+abbrev pub DecidesPlanMultistage : ℕ → List ℕ → Decision → Type 0
+DecidesPlanMultistage steps book d =
+    Read (IsBookText book) (HasBookFault book) bad_book d (λ (b : BookCosts).
+    Need (length b.levels ≡ 2) (no_plan steps (total_room b steps) 2) d (
+    Plan steps b d
+    ((list : List Action) × (IsMultistageList steps b list × (d ≡ accept (write (list_pieces (names_of b) list)))))))
+
+-- the text of the list of H-Revolve, which is read from the greatest tables
+abbrev pub DecidesPlanHrevolve : ℕ → List ℕ → Decision → Type 0
+DecidesPlanHrevolve steps book d =
+    Read (IsBookText book) (HasBookFault book) bad_book d (λ (b : BookCosts).
+    Tabulate steps b d (
+    Need (nested.HasPlan steps b) (no_plan steps (total_room b steps) 1) d
+    ((tables : Tables) × (IsGreatest steps b tables × ((list : List Action) × (IsWritten steps b tables list × (d ≡ accept (write (list_pieces (names_of b) list)))))))))
+
+-- the text of the list of a kind
+abbrev pub DecidesPlan : PlanKind → ℕ → List ℕ → Decision → Type 0
+DecidesPlan Revolve steps book d = DecidesPlanRevolve steps book d
+DecidesPlan Multistage steps book d = DecidesPlanMultistage steps book d
+DecidesPlan Hrevolve steps book d = DecidesPlanHrevolve steps book d
+
+-- the text of the periodic list for the two levels of a book: the faster has a slot where it is used, the slower has its images
+abbrev pub DecidesPlanPeriodic : ℕ → ℕ → List ℕ → Decision → Type 0
+DecidesPlanPeriodic steps period book d =
+    Read (IsBookText book) (HasBookFault book) bad_book d (λ (b : BookCosts).
+    Need (length b.levels ≡ 2) (no_plan steps (total_room b steps) 2) d (
+    Need (2 ≤ steps → 2 ≤ period → 1 ≤ room b 0 steps) (no_plan steps (total_room b steps) 1) d (
+    Need (HasSlots (slots_at b 1) (images steps period)) (no_plan steps (total_room b steps) 4) d
+    (d ≡ accept (write (list_pieces (names_of b) (periodic_list steps period b)))))))
+
 -- the judgement of a schedule
 abbrev pub DecidesCheck : ℕ → List ℕ → List ℕ → Decision → Type 0
 DecidesCheck steps book schedule d =
     Read (IsBookText book) (HasBookFault book) bad_book d (λ (b : BookCosts).
     Read (IsSchedule (names_of b) schedule) (HasFirstFault (names_of b) schedule) bad_text d (λ list.
     Judge steps (slots_of b) list d
-    (d ≡ accept (write (codes "valid " ++ decimal (length list) ++ codes "\n")))))
+    (d ≡ accept (write ((codes "valid " ++ decimal (length list) ++ codes "\n") ∷ [])))))
+
+-- the same where the list takes the fewest forward steps of all valid lists, by a certificate
+abbrev pub DecidesCertify : ℕ → List ℕ → List ℕ → List ℕ → Decision → Type 0
+DecidesCertify steps book schedule certificate d =
+    Read (IsBookText book) (HasBookFault book) bad_book d (λ (b : BookCosts).
+    Read (IsSchedule (names_of b) schedule) (HasFirstFault (names_of b) schedule) bad_text d (λ list.
+    Judge steps (slots_of b) list d (
+    Read (IsCertificateText certificate) (CertificateFirst certificate) bad_certificate d (λ c.
+    Weigh steps b list c d
+    (d ≡ accept (write (codes "least valid\n" ∷ [])))))))
+
+-- a demonstration, whose program is raw words over a stack of 16 pages
+abbrev pub DecidesDemo : ℕ → ℕ → ℕ → Decision → Type 0
+DecidesDemo number steps slots d =
+    Plan steps (plain slots) d
+    ((first : MachineState) × IsRawProgram (demonstration.program number) 16 first × (d ≡ accept (demonstrate number first steps slots)))
 
 -- what a request comes to by the bytes of its inputs, in the order of the words, and by the slots of the keepers
 abbrev pub DecidesBytes : List Choice → Command → List (List ℕ) → List ℕ → Decision → Type 0
 DecidesBytes options (run c) (program ∷ book ∷ schedule ∷ []) slots d = DecidesRun options c.steps program None book schedule slots d
 DecidesBytes options (run c) (program ∷ journal ∷ book ∷ schedule ∷ []) slots d = DecidesRun options c.steps program (Some journal) book schedule slots d
 DecidesBytes options (run c) _ slots d = ⊥
+DecidesBytes options (run_revolve c) (program ∷ book ∷ []) slots d = DecidesRunRevolve options c.steps program None book slots d
+DecidesBytes options (run_revolve c) (program ∷ journal ∷ book ∷ []) slots d = DecidesRunRevolve options c.steps program (Some journal) book slots d
+DecidesBytes options (run_revolve c) _ slots d = ⊥
+DecidesBytes options (plan c) (book ∷ []) slots d = DecidesPlan c.kind c.steps book d
+DecidesBytes options (plan c) _ slots d = ⊥
+DecidesBytes options (plan_periodic c) (book ∷ []) slots d = DecidesPlanPeriodic c.steps c.period book d
+DecidesBytes options (plan_periodic c) _ slots d = ⊥
 DecidesBytes options (check c) (book ∷ schedule ∷ []) slots d = DecidesCheck c.steps book schedule d
 DecidesBytes options (check c) _ slots d = ⊥
+DecidesBytes options (certify c) (book ∷ schedule ∷ certificate ∷ []) slots d = DecidesCertify c.steps book schedule certificate d
+DecidesBytes options (certify c) _ slots d = ⊥
+DecidesBytes options (demo c) [] slots d = DecidesDemo c.number c.steps c.slots d
+DecidesBytes options (demo c) _ slots d = ⊥
 
 -- and by what is there under their names
 abbrev pub Decides : Request → List (Option (List ℕ)) → List ℕ → Decision → Type 0

@@ -19,14 +19,18 @@ use Rattle.reverse_runner.specs.HoldsJust.{HoldsJust}
 use Rattle.reverse_runner.specs.KeepersSeen.{Calls, calls_of, calls_to, told_by, Called, CalledBetween}
 use Rattle.reverse_runner.specs.Standing.{IsNoImage}
 use Rattle.reversal.specs.Output.{line_of, lines_down, Adds}
+use Rattle.reversal.specs.Demo.{demo_list, summary}
 
 -- What is to be done of a call that isn't refused. A command that is added is a case here, and in the definitions by cases
 -- on jobs below.
 pub data Job : Type 0 where
   -- the actions of a list over the run from a state, with recorded input, a number of steps and the slots of a book
   perform : MachineState → List (List ℕ) → ℕ → List Slots → List Action → Job
-  -- a text, in one piece
-  write : List ℕ → Job
+  -- texts, each in one write
+  write : List (List ℕ) → Job
+  -- Revolve's list over the run from a state, which was made from a number, for so many steps and slots, with images in
+  -- memory of its own and no line written; and then a summary of it
+  demonstrate : (number : ℕ) → MachineState → (steps slots : ℕ) → Job
 
 -- a deed: what it writes, in as many writes as there are pieces; its machine steps; and how often it calls the keepers
 pub record Deed : Type 0 where
@@ -51,29 +55,41 @@ deed_of shown steps action = record {
   calls = calls_of action;
 }
 
+-- the same without lines, and with no call of a keeper that was handed in
+abbrev pub silent_deed : Action → Deed
+silent_deed action = record { pieces = []; steps = steps_of action; calls = no_calls }
+
+-- what is written, in so many pieces, after everything else
+abbrev pub writing : List (List ℕ) → Deed
+writing texts = record { pieces = texts; steps = 0; calls = no_calls }
+
 abbrev pub deeds : Shown → Job → List Deed
 deeds shown (perform first journal steps slots list) = map (deed_of shown steps) list
-deeds shown (write text) = record { pieces = text ∷ []; steps = 0; calls = no_calls } ∷ []
+deeds shown (write texts) = writing texts ∷ []
+deeds shown (demonstrate number first steps slots) = map silent_deed (demo_list steps slots) ++ writing (summary number first steps slots ∷ []) ∷ []
 
--- The place of a deed as an ending has it: the number of the action. A text has no actions, and its place is 0.
+-- The place of a deed as an ending has it: the number of the action. Texts and a summary are no actions, and their place is 0.
 abbrev pub shown_place : Job → ℕ → ℕ
 shown_place (perform first journal steps slots list) place = place
-shown_place (write text) place = 0
+shown_place (write texts) place = 0
+shown_place (demonstrate number first steps slots) place = 0
+
+abbrev pub bytes_of : List (List ℕ) → List ℕ
+bytes_of pieces = flat_map (λ piece. piece) pieces
 
 -- What a job that is done writes in all, and how many steps it takes: for a performed list the lines of the states from
 -- the last to the first, each once, and the list's forward steps.
 abbrev pub output : Shown → Job → List ℕ
 output shown (perform first journal steps slots list) = lines_down shown steps
-output shown (write text) = text
+output shown (write texts) = bytes_of texts
+output shown (demonstrate number first steps slots) = summary number first steps slots
 
 abbrev pub steps_taken : Job → ℕ
 steps_taken (perform first journal steps slots list) = forward list
-steps_taken (write text) = 0
+steps_taken (write texts) = 0
+steps_taken (demonstrate number first steps slots) = forward (demo_list steps slots)
 
 -- ---- what was done
-
-abbrev pub bytes_of : List (List ℕ) → List ℕ
-bytes_of pieces = flat_map (λ piece. piece) pieces
 
 abbrev pub bytes_written : List Deed → List ℕ
 bytes_written ds = flat_map (λ (d : Deed). bytes_of d.pieces) ds
@@ -129,7 +145,8 @@ AllEmpty levels images = (k : ℕ) → k < levels → images k ≡ Some finmap.e
 -- the states that a job shows are those of its run, where the keepers of its levels tell
 abbrev pub IsShown : Job → Shown → Moment → Type 0
 IsShown (perform first journal steps slots list) shown old = AllTell (length slots) old.images → (n : ℕ) → n ≤ steps → shown n ≡ state_number first journal n
-IsShown (write text) shown old = Unit {0}
+IsShown (write texts) shown old = Unit {0}
+IsShown (demonstrate number first steps slots) shown old = Unit {0}
 
 -- A list was performed to its end over keepers that tell and were empty: they hold just the images of the states that it
 -- leaves held.
@@ -137,7 +154,8 @@ abbrev pub LeavesHeld : Job → Moment → Moment → Type 0
 LeavesHeld (perform first journal steps slots list) old new =
     AllEmpty (length slots) old.images → (last : Configuration) → Leads steps slots (start steps slots) list last →
     (k : ℕ) → k < length slots → IsToldAnd (new.images k) (HoldsJust first journal (held_on last k))
-LeavesHeld (write text) old new = Unit {0}
+LeavesHeld (write texts) old new = Unit {0}
+LeavesHeld (demonstrate number first steps slots) old new = Unit {0}
 
 -- ---- how a job ends
 
@@ -185,14 +203,17 @@ pub record FailsAt (ds : List Deed) (place level : ℕ) (old new : Moment) : Typ
   pub breaks : BreaksOff ds (place - 1) old new
   pub calls : CallsLevel breaks.next level
 
--- the pages of a job's states are those of its first one; a text has no states, and nothing is its image
+-- the pages of a job's states are those of its first one; the other jobs get no image
 abbrev pub IsNoImageOf : Job → List ℕ → Type 0
 IsNoImageOf (perform first journal steps slots list) bytes = IsNoImage first bytes
-IsNoImageOf (write text) bytes = Unit {0}
+IsNoImageOf (write texts) bytes = Unit {0}
+IsNoImageOf (demonstrate number first steps slots) bytes = Unit {0}
 
+-- of how many levels the keepers are called
 abbrev pub levels_of : Job → ℕ
 levels_of (perform first journal steps slots list) = length slots
-levels_of (write text) = 0
+levels_of (write texts) = 0
+levels_of (demonstrate number first steps slots) = 0
 
 -- In the deed at this place, which gets an image of a level, bytes came back with another digest than those that were put,
 -- or with the same one, and they are no image of this machine. That never happens where the keepers tell.
@@ -203,13 +224,18 @@ pub record DamagedAt (job : Job) (ds : List Deed) (place level : ℕ) (put got :
   pub wrong : (got ≢ put) ⊎ ((bytes : List ℕ) × ((got ≡ sha256 bytes) × IsNoImageOf job bytes))
   pub silent : AllTell (levels_of job) old.images → ⊥
 
--- some of the deeds were done, from the first on, and the next one wants memory, for which it calls keepers
-pub record Halts (ds : List Deed) (old new : Moment) : Type 0 where
+-- which deeds of a job may want memory: those that call a keeper, and an action over images in memory of its own; no text
+abbrev pub MayWant : Job → Deed → Type 0
+MayWant (perform first journal steps slots list) deed = (level : ℕ) × CallsLevel deed level
+MayWant (write texts) deed = ⊥
+MayWant (demonstrate number first steps slots) deed = deed.pieces ≡ []
+
+-- some of the deeds were done, from the first on, and the next one wants memory
+pub record Halts (job : Job) (ds : List Deed) (old new : Moment) : Type 0 where
   pub performed : ℕ
   pub breaks : BreaksOff ds performed old new
-  pub level : ℕ
-  pub wants : CallsLevel breaks.next level
+  pub wants : MayWant job breaks.next
 
--- the same for a job, of the states that it shows
+-- the same of the states that the job shows
 abbrev pub HaltsShowing : Job → Moment → Moment → Type 0
-HaltsShowing job old new = (shown : Shown) × (IsShown job shown old × Halts (deeds shown job) old new)
+HaltsShowing job old new = (shown : Shown) × (IsShown job shown old × Halts job (deeds shown job) old new)

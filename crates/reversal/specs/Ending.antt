@@ -9,6 +9,8 @@ use Rattle.input_journal.specs.declared.fault.JournalFault.{JournalFault}
 use Rattle.input_journal.specs.declared.fault.JournalFault.TheVariants as journal
 use Rattle.elf_load.specs.declared.fault.ElfFault.{ElfFault}
 use Rattle.elf_load.specs.declared.fault.ElfFault.TheVariants as program
+use Rattle.bound_cert.specs.declared.fault.CertFault.{CertFault}
+use Rattle.bound_cert.specs.declared.fault.CertFault.TheVariants as certificate
 use Rattle.reversal.specs.declared.ended.Ended.{Ended}
 
 -- an ending by its status, its three numbers and its two digests
@@ -86,6 +88,11 @@ bad_text text.Memory = no_memory
 abbrev pub invalid : ℕ → ℕ → ℕ → Ended
 invalid place level rule = ended_by 8 place level rule
 
+-- the bytes of the certificate are none; its line and its column
+abbrev pub bad_certificate : CertFault → Ended
+bad_certificate (certificate.At rule line column) = ended_by 9 line column rule
+bad_certificate certificate.Memory = no_memory
+
 -- a number is out of range; the bound that it passes, and the rule that gives the bound
 abbrev pub out_of_range : ℕ → ℕ → ℕ → Ended
 out_of_range number bound rule = ended_by 10 number bound rule
@@ -93,6 +100,11 @@ out_of_range number bound rule = ended_by 10 number bound rule
 -- the input with this number is longer than its limit: rule 8
 abbrev pub too_long : ℕ → ℕ → Ended
 too_long place limit = out_of_range place limit 8
+
+-- there is no plan for so many steps with the room of the book, by this rule: 1, two steps or more have no slot; 2, the book
+-- hasn't two levels; 4, level 1 has fewer slots than a periodic plan has images there
+abbrev pub no_plan : ℕ → ℕ → ℕ → Ended
+no_plan steps room rule = ended_by 11 steps room rule
 
 -- the keeper of this level failed in the action at this place
 abbrev pub keeper_failed : ℕ → ℕ → Ended
@@ -106,6 +118,10 @@ damaged place level put got = ended_with 13 place level 0 put got
 -- the sink failed in the deed at this place
 abbrev pub stopped : ℕ → Ended
 stopped place = ended_at 14 place
+
+-- the forward steps of the list differ from a number of its certificate: reason 4
+abbrev pub not_least : ℕ → ℕ → Ended
+not_least cost value = ended_by 15 cost value 4
 
 -- the book has more levels than there are keepers: rule 1
 abbrev pub few_keepers : ℕ → ℕ → Ended
@@ -125,13 +141,16 @@ status_name status =
     else (if status == 6 then codes "Book"
     else (if status == 7 then codes "Text"
     else (if status == 8 then codes "Invalid"
+    else (if status == 9 then codes "Certificate"
     else (if status == 10 then codes "Limit"
+    else (if status == 11 then codes "NoPlan"
     else (if status == 12 then codes "Keeper"
     else (if status == 13 then codes "Damaged"
     else (if status == 14 then codes "Sink"
+    else (if status == 15 then codes "NotLeast"
     else (if status == 16 then codes "NoKeeper"
     else (if status == 17 then codes "Memory"
-    else codes "Done"))))))))))))
+    else codes "Done")))))))))))))))
 
 -- the two digests of status 13, as lower-case hexadecimal digits
 abbrev pub digests_text : Ended → List ℕ

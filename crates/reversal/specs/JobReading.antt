@@ -1,33 +1,69 @@
 -- No public clause cites this file. The job that one in memory is, and what holds of it.
-use Rattle.std.specs.Prelude.{◌≡◌, ◌⊎◌, ℕ, ◌≤◌, List}
-use Rattle.level_book.specs.BookCosts.{slots_of}
+use Rattle.std.specs.Prelude.{◌≡◌, ◌⊎◌, ℕ, ◌≤◌, ◌++◌, List, [], ◌∷◌, length, Option, None, Some}
+use Rattle.std.specs.Vec.{vec_capacity}
+use Rattle.std.specs.List.{AllByRecursion}
+use Rattle.level_book.specs.BookCosts.{slots_of, names_of, total_room, plain}
 use Rattle.level_book.specs.Valid.{Valid}
+use Rattle.action_text.specs.Canonical.{HasSpelling}
+use Rattle.bound_cert.specs.declared.certificate.Certificate.{Certificate}
+use Rattle.bound_cert.specs.Canonical as certificate
+use Rattle.revolve_gen.specs.Plans.{HasPlan}
 use Rattle.reverse_runner.specs.KeepersSeen.{HaveRoom}
 use Rattle.reversal.specs.declared.ended.Ended.{Ended}
 use Rattle.reversal.specs.declared.job.Job as in_memory
-use Rattle.reversal.specs.declared.job.Job.TheVariants.{Perform, Write}
+use Rattle.reversal.specs.declared.job.Job.TheVariants.{Perform, Write, Plan, Demonstrate}
+use Rattle.reversal.specs.declared.planning.Plan as plan_in_memory
+use Rattle.reversal.specs.declared.demo.Demonstration as demo_in_memory
 use Rattle.reversal.specs.declared.job.Performance.{Performance}
-use Rattle.reversal.specs.Deeds.{Job, perform, write, Moment, HaltsShowing}
+use Rattle.reversal.specs.ActionsLeft.{left_of}
+use Rattle.reversal.specs.Plans.{list_pieces}
+use Rattle.reversal.specs.Deeds.{Job, perform, write, demonstrate, Moment, HaltsShowing}
 use Rattle.reversal.specs.Decision.{accept, EndsBy}
 use Rattle.reversal.specs.Ending.{no_memory}
 
+-- the line of a certificate, if there is one
+abbrev pub certificate_pieces : Option Certificate → List (List ℕ)
+certificate_pieces None = []
+certificate_pieces (Some c) = certificate.canonical c ∷ []
+
+-- the writes of a plan
+abbrev pub pieces_of : plan_in_memory.Plan → List (List ℕ)
+pieces_of p = list_pieces (names_of p.book) (left_of p.actions) ++ certificate_pieces p.certificate
+
 abbrev pub job_of : in_memory.Job → Job
-job_of (Perform p) = perform p.start p.journal p.steps (slots_of p.book) p.list.items
-job_of (Write text) = write text
+job_of (Perform p) = perform p.start p.journal p.steps (slots_of p.book) (left_of p.actions)
+job_of (Write text) = write (text ∷ [])
+job_of (Plan p) = write (pieces_of p)
+job_of (Demonstrate d) = demonstrate d.number d.start d.steps d.slots
 
 -- a list that is performed is valid
 pub record IsPerformable (p : Performance) : Type 0 where
   pub steps : p.steps ≤ 1000000
-  pub valid : Valid p.steps (slots_of p.book) p.list.items
+  pub few : length (left_of p.actions) ≤ 16777216
+  pub valid : Valid p.steps (slots_of p.book) (left_of p.actions)
+
+-- the actions of a plan have a spelling, and there is room for the longest piece
+pub record IsWritable (p : plan_in_memory.Plan) : Type 0 where
+  pub spelled : AllByRecursion (HasSpelling (names_of p.book)) (left_of p.actions)
+  pub reserved : 5184 ≤ vec_capacity p.piece
+
+pub record IsShowable (d : demo_in_memory.Demonstration) : Type 0 where
+  pub steps : d.steps ≤ 1000000
+  pub slots : d.slots ≤ 1000000
+  pub plan : HasPlan d.steps (total_room (plain d.slots) d.steps)
 
 abbrev pub CanBeDone : in_memory.Job → Type 0
 CanBeDone (Perform p) = IsPerformable p
 CanBeDone (Write text) = Unit {0}
+CanBeDone (Plan p) = IsWritable p
+CanBeDone (Demonstrate d) = IsShowable d
 
 -- keepers with so many slots have room for what a job keeps
 abbrev pub KeepersHaveRoom : in_memory.Job → List ℕ → Type 0
 KeepersHaveRoom (Perform p) counts = HaveRoom p.steps (slots_of p.book) counts
 KeepersHaveRoom (Write text) counts = Unit {0}
+KeepersHaveRoom (Plan p) counts = Unit {0}
+KeepersHaveRoom (Demonstrate d) counts = Unit {0}
 
 -- why bytes aren't read: they have a fault, by which the call ends, or memory ran out
 abbrev pub IsRefusal : {F : Type 0} → (F → Type 0) → (F → Ended) → Ended → Type 0

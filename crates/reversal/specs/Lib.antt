@@ -4,6 +4,8 @@ pub mod Places
 pub mod Inputs
 pub mod Decision
 pub mod Deeds
+pub mod Plans
+pub mod Demo
 pub mod Output
 pub mod Ending
 pub mod Reading
@@ -11,3 +13,6 @@ pub mod ChoiceReading
 pub mod RequestReading
 pub mod InputReading
 pub mod JobReading
+pub mod ActionsLeft
+pub mod DemoReading
+pub mod NoPlans

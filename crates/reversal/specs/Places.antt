@@ -3,7 +3,7 @@ use Rattle.std.specs.Prelude.{ℕ, ◌+◌, ◌-◌, ◌==◌, if◌then◌else�
 use Rattle.std.specs.Option.{option_map}
 use Rattle.reversal.specs.declared.places.KeepAt.{KeepAt}
 use Rattle.reversal.specs.declared.places.KeepAt.TheVariants.{Memory, Folder}
-use Rattle.reversal.specs.Request.{Choice, raw, stack, files, files_front}
+use Rattle.reversal.specs.Request.{Choice, raw, stack, workers, files, files_front}
 
 abbrev pub levels : List ℕ
 levels = 0 ∷ 1 ∷ 2 ∷ 3 ∷ []
@@ -14,6 +14,7 @@ abbrev pub place_from : ℕ → ℕ → List Choice → KeepAt
 place_from level word [] = Memory
 place_from level word (raw ∷ options) = place_from level (word + 1) options
 place_from level word (stack pages ∷ options) = place_from level (word + 1) options
+place_from level word (workers count ∷ options) = place_from level (word + 1) options
 place_from level word (files k folder ∷ options) = if level == k then Folder word (length (files_front level)) else place_from level (word + 1) options
 
 -- the places of all levels, where words are counted from 1
@@ -28,6 +29,7 @@ abbrev pub folder_said : ℕ → List Choice → Option (List ℕ)
 folder_said level [] = None
 folder_said level (raw ∷ options) = folder_said level options
 folder_said level (stack pages ∷ options) = folder_said level options
+folder_said level (workers count ∷ options) = folder_said level options
 folder_said level (files k folder ∷ options) = if level == k then Some folder else folder_said level options
 
 -- what stands at a place of the words

@@ -1,18 +1,28 @@
 -- What the words of a command line ask for: a request, which is a value, and its one spelling. It is options, in the order
 -- of the words, and a command behind them:
 --     run PROGRAM JOURNAL BOOK SCHEDULE N
+--     run PROGRAM JOURNAL BOOK @revolve N
+--     plan revolve BOOK N
+--     plan multistage BOOK N
+--     plan hrevolve BOOK N
+--     plan periodic BOOK N PERIOD
 --     check BOOK SCHEDULE N
+--     certify BOOK SCHEDULE CERTIFICATE N
+--     demo NUMBER N SLOTS
 use Rattle.std.specs.Prelude.{◌≡◌, ◌≢◌, ℕ, ◌<◌, ◌≤◌, ◌^◌, ◌==◌, Bool, true, false, List, [], ◌∷◌, ◌++◌, codes, decimal, map, count_by, Option, None, Some}
 use Rattle.std.specs.List.{AllByRecursion, list_any}
 use Rattle.reversal.specs.declared.words.Words.{Words}
+use Rattle.reversal.specs.declared.kind.PlanKind.{PlanKind}
+use Rattle.reversal.specs.declared.kind.PlanKind.TheVariants.{Revolve, Multistage, Hrevolve}
 
 -- ---- options
 
--- That the program is raw words, how many pages the stack has, and that a level's images are kept in files of a folder. An
--- option that is added is a case here, and in each definition by cases on options.
+-- That the program is raw words, how many pages the stack has, how many workers fill tables of costs, and that a level's images
+-- are kept in files of a folder. An option that is added is a case here, and in each definition by cases on options.
 pub data Choice : Type 0 where
   raw : Choice
   stack : (pages : ℕ) → Choice
+  workers : (count : ℕ) → Choice
   files : (level : ℕ) → (folder : List ℕ) → Choice
 
 -- what stands before the name of the folder
@@ -22,22 +32,32 @@ files_front level = codes "--files=" ++ decimal level ++ codes ":"
 abbrev pub option_word : Choice → List ℕ
 option_word raw = codes "--raw"
 option_word (stack pages) = codes "--stack=" ++ decimal pages
+option_word (workers count) = codes "--workers=" ++ decimal count
 option_word (files level folder) = files_front level ++ folder
 
 abbrev pub is_raw : Choice → Bool
 is_raw raw = true
 is_raw (stack pages) = false
+is_raw (workers count) = false
 is_raw (files level folder) = false
 
 abbrev pub is_stack : Choice → Bool
 is_stack raw = false
 is_stack (stack pages) = true
+is_stack (workers count) = false
 is_stack (files level folder) = false
+
+abbrev pub is_workers : Choice → Bool
+is_workers raw = false
+is_workers (stack pages) = false
+is_workers (workers count) = true
+is_workers (files level folder) = false
 
 -- whether it is the option of this level's files
 abbrev pub is_files : ℕ → Choice → Bool
 is_files level raw = false
 is_files level (stack pages) = false
+is_files level (workers count) = false
 is_files level (files k folder) = level == k
 
 -- ---- commands
@@ -50,25 +70,73 @@ pub record Run : Type 0 where
   pub schedule : List ℕ
   pub steps : ℕ
 
+-- to run a program backward by the list of Revolve for the book, which is worked out on the way
+pub record RunRevolve : Type 0 where
+  pub program : List ℕ
+  pub journal : Option (List ℕ)
+  pub book : List ℕ
+  pub steps : ℕ
+
+-- to write a list of this kind for a book and a number of steps, and its certificate, if it has one
+pub record PlanFor : Type 0 where
+  pub kind : PlanKind
+  pub book : List ℕ
+  pub steps : ℕ
+
+-- to write the periodic list for a book and a number of steps, with an image on the slow level every so many steps
+pub record PlanPeriodic : Type 0 where
+  pub book : List ℕ
+  pub steps : ℕ
+  pub period : ℕ
+
 -- to judge a schedule for a book and a number of steps
 pub record Check : Type 0 where
   pub book : List ℕ
   pub schedule : List ℕ
   pub steps : ℕ
 
+-- to show by a certificate that no list takes fewer forward steps than a schedule
+pub record Certify : Type 0 where
+  pub book : List ℕ
+  pub schedule : List ℕ
+  pub certificate : List ℕ
+  pub steps : ℕ
+
+-- to run a program that is made from a number backward by the list of Revolve, with so many slots of memory
+pub record Demo : Type 0 where
+  pub number : ℕ
+  pub steps : ℕ
+  pub slots : ℕ
+
 -- A command that is added is a case here, and in each definition by cases on commands.
 pub data Command : Type 0 where
   run : Run → Command
+  run_revolve : RunRevolve → Command
+  plan : PlanFor → Command
+  plan_periodic : PlanPeriodic → Command
   check : Check → Command
+  certify : Certify → Command
+  demo : Demo → Command
 
 -- the word of a name that may be left out
 abbrev pub word_or_dash : Option (List ℕ) → List ℕ
 word_or_dash (Some name) = name
 word_or_dash None = codes "-"
 
+-- the word of a kind of plans
+abbrev pub kind_word : PlanKind → List ℕ
+kind_word Revolve = codes "revolve"
+kind_word Multistage = codes "multistage"
+kind_word Hrevolve = codes "hrevolve"
+
 abbrev pub command_words : Command → List (List ℕ)
 command_words (run c) = codes "run" ∷ c.program ∷ word_or_dash c.journal ∷ c.book ∷ c.schedule ∷ decimal c.steps ∷ []
+command_words (run_revolve c) = codes "run" ∷ c.program ∷ word_or_dash c.journal ∷ c.book ∷ codes "@revolve" ∷ decimal c.steps ∷ []
+command_words (plan c) = codes "plan" ∷ kind_word c.kind ∷ c.book ∷ decimal c.steps ∷ []
+command_words (plan_periodic c) = codes "plan" ∷ codes "periodic" ∷ c.book ∷ decimal c.steps ∷ decimal c.period ∷ []
 command_words (check c) = codes "check" ∷ c.book ∷ c.schedule ∷ decimal c.steps ∷ []
+command_words (certify c) = codes "certify" ∷ c.book ∷ c.schedule ∷ c.certificate ∷ decimal c.steps ∷ []
+command_words (demo c) = codes "demo" ∷ decimal c.number ∷ decimal c.steps ∷ decimal c.slots ∷ []
 
 -- ---- requests
 
@@ -80,7 +148,7 @@ pub record Request : Type 0 where
 abbrev pub spelling : Request → List (List ℕ)
 spelling r = map option_word r.options ++ command_words r.command
 
--- A name is any word that isn't empty. The name of a schedule isn't the word @revolve, which no command takes so far.
+-- A name is any word that isn't empty. The name of a schedule isn't the word @revolve, which has a meaning of its own.
 abbrev pub IsName : List ℕ → Type 0
 IsName word = word ≢ []
 
@@ -100,19 +168,26 @@ MayBeNamed None = Unit {0}
 abbrev pub FitsWord : Choice → Type 0
 FitsWord raw = Unit {0}
 FitsWord (stack pages) = IsNumber pages
+FitsWord (workers count) = IsNumber count
 FitsWord (files level folder) = IsNumber level × IsName folder
 
 -- each option stands at most once, and that of files once for each level
 pub record AreOptions (options : List Choice) : Type 0 where
   pub one_raw : count_by is_raw options ≤ 1
   pub one_stack : count_by is_stack options ≤ 1
+  pub one_workers : count_by is_workers options ≤ 1
   pub one_folder : (level : ℕ) → count_by (is_files level) options ≤ 1
   pub fit : AllByRecursion FitsWord options
 
 -- the names and numbers of a command may stand among its words
 abbrev pub CanBeSpelled : Command → Type 0
 CanBeSpelled (run c) = IsName c.program × MayBeNamed c.journal × IsName c.book × IsScheduleName c.schedule × IsNumber c.steps
+CanBeSpelled (run_revolve c) = IsName c.program × MayBeNamed c.journal × IsName c.book × IsNumber c.steps
+CanBeSpelled (plan c) = IsName c.book × IsNumber c.steps
+CanBeSpelled (plan_periodic c) = IsName c.book × IsNumber c.steps × IsNumber c.period
 CanBeSpelled (check c) = IsName c.book × IsScheduleName c.schedule × IsNumber c.steps
+CanBeSpelled (certify c) = IsName c.book × IsScheduleName c.schedule × IsName c.certificate × IsNumber c.steps
+CanBeSpelled (demo c) = IsNumber c.number × IsNumber c.steps × IsNumber c.slots
 
 -- the words say this request
 pub record Says (words : List (List ℕ)) (r : Request) : Type 0 where
@@ -135,4 +210,13 @@ abbrev pub stack_pages : List Choice → ℕ
 stack_pages [] = 16
 stack_pages (raw ∷ options) = stack_pages options
 stack_pages (stack pages ∷ options) = pages
+stack_pages (workers count ∷ options) = stack_pages options
 stack_pages (files level folder ∷ options) = stack_pages options
+
+-- how many workers fill tables of costs: one where nothing is said
+abbrev pub worker_count : List Choice → ℕ
+worker_count [] = 1
+worker_count (raw ∷ options) = worker_count options
+worker_count (stack pages ∷ options) = worker_count options
+worker_count (workers count ∷ options) = count
+worker_count (files level folder ∷ options) = worker_count options

@@ -18,9 +18,14 @@ ghost use Rattle.reversal.specs.JobReading.{job_of, CanBeDone, KeepersHaveRoom, 
 ghost use Rattle.reversal.specs.Request.{run as run_command, check as check_command, says_raw, stack_pages};
 ghost use Rattle.reversal.specs.RequestReading.{request_of, as_run, as_check};
 
+use crate::actions::{Actions, Listed};
+use crate::certifying::decide_certify;
+use crate::demo::decide_demo;
 use crate::ended::Ended;
 use crate::job::{Job, Performance};
 use crate::options::Options;
+use crate::plan_kinds::{decide_plan, decide_plan_periodic};
+use crate::planning::decide_run_revolve;
 use crate::request::{Check, Command, Request, Run};
 use action_text::read_actions;
 use elf_load::{load, load_raw};
@@ -30,6 +35,7 @@ use plan_types::{Action, Line};
 use rv_machine::State;
 use schedule_rules::{Verdict, check};
 use std::alloc::Global;
+use std::thread::Threads;
 
 // The texts that a run is told by.
 #[derive(Clone, Copy)]
@@ -42,7 +48,8 @@ struct Texts<'a> {
 
 /// What a request, whose numbers are within their bounds, comes to by the bytes of its inputs and the numbers of the
 /// keepers' slots.
-pub fn decide(
+pub fn decide<R: Threads + Sync>(
+    rt: &R,
     alloc: Global,
     request: &Request<'_>,
     bytes: &[Vec<u8>],
@@ -57,7 +64,15 @@ pub fn decide(
 {
     match &request.command {
         Command::Run(run) => decide_run(alloc, &request.options, run, bytes, counts),
+        Command::RunRevolve(run) => decide_run_revolve(alloc, &request.options, run, bytes, counts),
+        Command::Plan(plan) => {
+            let workers = request.options.worker_count() as u32;
+            decide_plan(rt, alloc, workers, plan, bytes)
+        }
+        Command::PlanPeriodic(plan) => decide_plan_periodic(alloc, plan, bytes),
         Command::Check(check) => decide_check(alloc, check, bytes),
+        Command::Certify(certify) => decide_certify(alloc, certify, bytes),
+        Command::Demo(demo) => decide_demo(alloc, demo),
     }
 }
 
@@ -127,7 +142,7 @@ fn decide_texts(
         journal,
         steps,
         book,
-        list,
+        actions: Actions::Listed(Listed::new(list)),
     }))
 }
 
@@ -172,7 +187,7 @@ fn valid_line(count: usize) -> Line
 }
 
 // The book that bytes say.
-fn book_in(alloc: Global, bytes: &[u8]) -> Result<Book, Ended>
+pub(crate) fn book_in(alloc: Global, bytes: &[u8]) -> Result<Book, Ended>
     ensures found { IfOk result (IsBookText bytes.now) }
     ensures refused { IfErr result (IsRefusal (HasBookFault bytes.now) bad_book) }
 {
@@ -180,7 +195,7 @@ fn book_in(alloc: Global, bytes: &[u8]) -> Result<Book, Ended>
 }
 
 // Looks for a keeper for each level of the book, with as many slots as a run of so many steps can use there.
-fn keep(steps: u32, book: &Book, counts: &[u32]) -> Result<(), Ended>
+pub(crate) fn keep(steps: u32, book: &Book, counts: &[u32]) -> Result<(), Ended>
     ensures room { OnOk result (HaveRoom steps (slots_of book.now) counts.now) }
     ensures refused { IfErr result (λ e. Keep steps (slots_of book.now) counts.now (refuse e) ⊥) }
 {
@@ -198,7 +213,7 @@ fn keep(steps: u32, book: &Book, counts: &[u32]) -> Result<(), Ended>
 }
 
 // The start state of a program.
-fn start_of(alloc: Global, options: &Options, bytes: &[u8]) -> Result<State, Ended>
+pub(crate) fn start_of(alloc: Global, options: &Options, bytes: &[u8]) -> Result<State, Ended>
     requires { (1 ≤ stack_pages options.now) × (stack_pages options.now ≤ 1024) }
     ensures found { IfOk result (IsStartOf (says_raw options.now) (stack_pages options.now) bytes.now) }
     ensures refused { IfErr result (IsRefusal (HasProgramFault (says_raw options.now) (stack_pages options.now) bytes.now) bad_program) }
@@ -212,7 +227,7 @@ fn start_of(alloc: Global, options: &Options, bytes: &[u8]) -> Result<State, End
 }
 
 // The recorded input; none where there is no journal.
-fn journal_in(alloc: Global, bytes: Option<&[u8]>) -> Result<Journal, Ended>
+pub(crate) fn journal_in(alloc: Global, bytes: Option<&[u8]>) -> Result<Journal, Ended>
     ensures found { IfOk result (AreItemsOf (option_copied bytes.entry)) }
     ensures refused { IfErr result (IsRefusal (HasJournalFault (option_copied bytes.entry)) bad_journal) }
 {
@@ -223,7 +238,7 @@ fn journal_in(alloc: Global, bytes: Option<&[u8]>) -> Result<Journal, Ended>
 }
 
 // The list that the bytes of a schedule say over the levels of a book.
-fn list_in(alloc: Global, bytes: &[u8], book: &Book) -> Result<Vec<Action>, Ended>
+pub(crate) fn list_in(alloc: Global, bytes: &[u8], book: &Book) -> Result<Vec<Action>, Ended>
     requires { length bytes.now ≤ 536870912 }
     ensures found { IfOk result (λ list. IsSchedule (names_of book.now) bytes.now list.items) }
     ensures refused { IfErr result (IsRefusal (HasFirstFault (names_of book.now) bytes.now) bad_text) }
@@ -232,7 +247,7 @@ fn list_in(alloc: Global, bytes: &[u8], book: &Book) -> Result<Vec<Action>, Ende
 }
 
 // Judges a list.
-fn judge(alloc: Global, list: &[Action], steps: u32, book: &Book) -> Result<(), Ended>
+pub(crate) fn judge(alloc: Global, list: &[Action], steps: u32, book: &Book) -> Result<(), Ended>
     requires { steps ≤ 1000000 }
     ensures valid { OnOk result (Valid steps (slots_of book.now) list.now) }
     ensures broken { IfErr result (λ e. (e ≡ no_memory) ⊎ ((e ≡ invalid e.place e.more e.rule)

@@ -1,9 +1,10 @@
 // How a call ended.
 ghost use Rattle.std.specs.Prelude.{◌≡◌, ◌+◌, ◌≤◌, ◌++◌, length, codes, decimal};
 ghost use Rattle.hex.specs.Hex.{encode_lower};
-ghost use Rattle.reversal.specs.Ending.{ended_with, ended_by, ended_at, done, no_request, unreadable, invalid, out_of_range, too_long, keeper_failed, damaged, stopped, few_keepers, small_keeper, no_memory, text_of_ended, digests_text, status_name};
+ghost use Rattle.reversal.specs.Ending.{ended_with, ended_by, ended_at, done, no_request, unreadable, invalid, out_of_range, too_long, no_plan, keeper_failed, damaged, stopped, not_least, few_keepers, small_keeper, no_memory, text_of_ended, digests_text, status_name};
 
 use action_text::TextFault;
+use bound_cert::CertFault;
 use elf_load::ElfFault;
 use input_journal::JournalFault;
 use level_book::BookFault;
@@ -14,17 +15,18 @@ use std::alloc::{AllocError, AllocFailed};
 /// digests.
 #[derive(Clone, Copy, Debug, PartialEq, Eq)]
 pub struct Ended {
-    /// 0 Done, 2 Words, 3 Input, 4 Program, 5 Journal, 6 Book, 7 Text, 8 Invalid, 10 Limit, 12 Keeper, 13 Damaged, 14 Sink,
-    /// 16 NoKeeper, 17 Memory.
+    /// 0 Done, 2 Words, 3 Input, 4 Program, 5 Journal, 6 Book, 7 Text, 8 Invalid, 9 Certificate, 10 Limit, 11 NoPlan,
+    /// 12 Keeper, 13 Damaged, 14 Sink, 15 NotLeast, 16 NoKeeper, 17 Memory.
     pub status: u8,
-    /// The number of the input for 3; what the fault names for 4 and 6; the fault's place in bytes for 5; the line for 7;
-    /// the action for 8 and 12 to 14; the number, or that of the input, for 10; the number of levels for rule 1 of status 16,
-    /// and the level for rule 2.
+    /// The number of the input for 3; what the fault names for 4 and 6; the fault's place in bytes for 5; the line for 7 and 9;
+    /// the action for 8 and 12 to 14; the number, or that of the input, for 10; the steps for 11; the number of levels for
+    /// rule 1 of status 16, and the level for rule 2; the forward steps of the list for 15.
     pub place: u64,
-    /// The second segment for rule 7 of status 4, the column for 7, the level for rule 4 of status 8, the passed bound for 10,
-    /// the level for 12 and 13, the number of keepers for rule 1 of status 16, and of the keeper's slots for rule 2.
+    /// The second segment for rule 7 of status 4, the column for 7 and 9, the level for rule 4 of status 8, the passed bound for 10,
+    /// the room of the book for 11, the level for 12 and 13, the number of keepers for rule 1 of status 16, and of the keeper's slots for rule 2; the number
+    /// that they differ from for 15.
     pub more: u64,
-    /// The rule for 4 to 8, 10 and 16.
+    /// The rule for 4 to 11, 15 and 16.
     pub rule: u16,
     /// The digest of the image that was put, for 13.
     pub put: [u8; 32],
@@ -99,6 +101,13 @@ impl Ended {
         Ended::out_of_range(place, limit as u64, 8)
     }
 
+    /// There is no plan for so many steps with this room, by this rule.
+    pub(crate) fn no_plan(steps: u32, room: u32, rule: u8) -> Ended
+        ensures { result ≡ no_plan steps room rule }
+    {
+        Ended::by(11, steps as u64, room as u64, rule as u16)
+    }
+
     /// The keeper of this level failed in the action at this place.
     pub(crate) fn keeper_failed(place: u64, level: u8) -> Ended
         ensures { result ≡ keeper_failed place level }
@@ -116,6 +125,13 @@ impl Ended {
             got: *got,
             ..Ended::by(13, place, level as u64, 0)
         }
+    }
+
+    /// The forward steps of a valid list differ from a number of its certificate.
+    pub(crate) fn not_least(cost: u64, value: u64) -> Ended
+        ensures { result ≡ not_least cost value }
+    {
+        Ended::by(15, cost, value, 4)
     }
 
     /// The book has more levels than there are keepers.
@@ -240,6 +256,21 @@ impl From<TextFault> for Ended {
     }
 }
 
+impl From<CertFault> for Ended {
+    ghost use Rattle.reversal.specs.Ending.{bad_certificate};
+
+    ghost from_gives = { λ fault e. e ≡ bad_certificate fault };
+
+    fn from(fault: CertFault) -> Ended {
+        match fault {
+            CertFault::At { rule, line, column } => {
+                Ended::by(9, line as u64, column as u64, rule as u16)
+            }
+            CertFault::Memory => Ended::no_memory(),
+        }
+    }
+}
+
 /// Puts the text of an ending into a line, in place of what was there: nothing for status 0, and else `reversal: `, the
 /// status with its name, the place, the further number and the rule, and the two digests for status 13. It takes no memory.
 pub fn ended_text(ended: &Ended, line: &mut Line)
@@ -283,7 +314,7 @@ fn push_digests(line: &mut Line, ended: &Ended)
 }
 
 // Adds a digest as 64 digits.
-fn push_digest(line: &mut Line, digest: &[u8; 32])
+pub(crate) fn push_digest(line: &mut Line, digest: &[u8; 32])
     requires { length line.old ≤ 448 }
     ensures text { line.new ≡ line.old ++ encode_lower digest.now }
     ensures room { length line.new ≡ length line.old + 64 }
@@ -296,7 +327,7 @@ fn push_digest(line: &mut Line, digest: &[u8; 32])
 // The name of a status.
 fn name_of(status: u8) -> &'static [u8]
     ensures name { result.now ≡ status_name status }
-    ensures short { length result.now ≤ 8 }
+    ensures short { length result.now ≤ 11 }
 {
     match status {
         2 => b"Words",
@@ -306,62 +337,15 @@ fn name_of(status: u8) -> &'static [u8]
         6 => b"Book",
         7 => b"Text",
         8 => b"Invalid",
+        9 => b"Certificate",
         10 => b"Limit",
+        11 => b"NoPlan",
         12 => b"Keeper",
         13 => b"Damaged",
         14 => b"Sink",
+        15 => b"NotLeast",
         16 => b"NoKeeper",
         17 => b"Memory",
         _ => b"Done",
-    }
-}
-
-#[cfg(test)]
-mod tests {
-    use super::*;
-    use std::process::Abort;
-
-    // SHA-256 of no bytes.
-    const OF_NO_BYTES: [u8; 32] = [
-        0xe3, 0xb0, 0xc4, 0x42, 0x98, 0xfc, 0x1c, 0x14, 0x9a, 0xfb, 0xf4, 0xc8, 0x99, 0x6f, 0xb9,
-        0x24, 0x27, 0xae, 0x41, 0xe4, 0x64, 0x9b, 0x93, 0x4c, 0xa4, 0x95, 0x99, 0x1b, 0x78, 0x52,
-        0xb8, 0x55,
-    ];
-
-    // An ending has this text.
-    fn says(rt: &impl Abort, ended: Ended, text: &[u8]) {
-        let mut line = Line::new();
-        ended_text(&ended, &mut line);
-        assert_eq!(rt; line.bytes(), text);
-    }
-
-    #[test]
-    fn a_keeper_is_named_by_its_level(rt: HostRuntime) {
-        says(
-            &rt,
-            Ended::keeper_failed(3, 0),
-            b"reversal: 12 Keeper 3 0 0",
-        );
-        says(
-            &rt,
-            Ended::few_keepers(2, 1),
-            b"reversal: 16 NoKeeper 2 1 1",
-        );
-        says(
-            &rt,
-            Ended::small_keeper(1, 0),
-            b"reversal: 16 NoKeeper 1 0 2",
-        );
-    }
-
-    #[test]
-    fn a_damaged_image_is_named_with_two_digests(rt: HostRuntime) {
-        says(
-            &rt,
-            Ended::damaged(6, 0, &NO_DIGEST, &OF_NO_BYTES),
-            b"reversal: 13 Damaged 6 0 0 \
-              put 0000000000000000000000000000000000000000000000000000000000000000 \
-              got e3b0c44298fc1c149afbf4c8996fb92427ae41e4649b934ca495991b7852b855",
-        );
     }
 }

@@ -3,13 +3,13 @@ ghost use Rattle.std.specs.Prelude.{◌≡◌, ◌≢◌, ℕ, ◌+◌, ◌<◌,
 ghost use Rattle.std.specs.FinMap as finmap;
 ghost use Rattle.keepers.specs.Counts.{Rose};
 ghost use Rattle.keepers.specs.Told.{WhereTold};
-ghost use Rattle.reversal.specs.Inputs.{program_input, journal_input, book_input, schedule_input, inputs_of, names};
+ghost use Rattle.reversal.specs.Inputs.{program_input, journal_input, book_input, schedule_input, certificate_input, inputs_of, names};
 ghost use Rattle.reversal.specs.InputReading.{input_of, all, Reads, Stops};
-ghost use Rattle.reversal.specs.Request.{run as run_command};
-ghost use Rattle.reversal.specs.RequestReading.{as_run, as_command};
+ghost use Rattle.reversal.specs.Request.{run as run_command, run_revolve as run_revolve_command};
+ghost use Rattle.reversal.specs.RequestReading.{as_run, as_run_revolve, as_command};
 
 use crate::ended::Ended;
-use crate::request::{Command, Run};
+use crate::request::{Command, Run, RunRevolve};
 use keepers::{InputFault, Inputs, Whole};
 use std::alloc::Global;
 
@@ -21,6 +21,8 @@ const JOURNAL_LIMIT: u32 = 67_108_864;
 const BOOK_LIMIT: u32 = 65_536;
 
 const SCHEDULE_LIMIT: u32 = 536_870_912;
+
+const CERTIFICATE_LIMIT: u32 = 536_870_912;
 
 /// An input that is wanted: its name, and how many bytes it may have.
 #[derive(Clone, Copy, Debug)]
@@ -73,6 +75,15 @@ fn schedule_input(name: &[u8]) -> Input<'_>
     }
 }
 
+fn certificate_input(name: &[u8]) -> Input<'_>
+    ensures { input_of result ≡ certificate_input name.now }
+{
+    Input {
+        name,
+        limit: CERTIFICATE_LIMIT,
+    }
+}
+
 /// Reads the inputs of a command in the order of the words. One that can't be read, or is longer than its limit, is
 /// refused before the next is asked for.
 pub fn read_inputs<I: Inputs>(
@@ -89,10 +100,22 @@ pub fn read_inputs<I: Inputs>(
 {
     match command {
         Command::Run(run) => read_run_inputs(alloc, run, inputs),
+        Command::RunRevolve(run) => read_run_revolve_inputs(alloc, run, inputs),
+        Command::Plan(plan) => read_all(alloc, &[book_input(plan.book)], inputs),
+        Command::PlanPeriodic(plan) => read_all(alloc, &[book_input(plan.book)], inputs),
         Command::Check(check) => {
             let wanted = [book_input(check.book), schedule_input(check.schedule)];
             read_all(alloc, &wanted, inputs)
         }
+        Command::Certify(certify) => {
+            let wanted = [
+                book_input(certify.book),
+                schedule_input(certify.schedule),
+                certificate_input(certify.certificate),
+            ];
+            read_all(alloc, &wanted, inputs)
+        }
+        Command::Demo(_) => read_all(alloc, &[], inputs),
     }
 }
 
@@ -118,6 +141,27 @@ fn read_run_inputs<I: Inputs>(
             read_all(alloc, &wanted, inputs)
         }
         None => read_all(alloc, &[program, book, schedule], inputs),
+    }
+}
+
+// The same for a run by the list of Revolve.
+fn read_run_revolve_inputs<I: Inputs>(
+    alloc: Global,
+    run: &RunRevolve<'_>,
+    inputs: &mut I,
+) -> Result<Vec<Vec<u8>>, Ended>
+    ensures read { IfOk result (λ v. Reads (inputs_of (run_revolve_command (as_run_revolve run.now))) (I.told inputs.old) (I.asked inputs.old) (I.asked inputs.new) (all (map (λ bytes. bytes.items) v.items))) }
+    ensures stops { IfErr result (λ e. Stops (inputs_of (run_revolve_command (as_run_revolve run.now))) (I.told inputs.old) e (I.asked inputs.old) (I.asked inputs.new)) }
+    ensures asked { (k : ℕ) × (I.asked inputs.new ≡ I.asked inputs.old ++ take k (names (inputs_of (run_revolve_command (as_run_revolve run.now))))) }
+    ensures quiet { IfOk result (λ _. I.fault_count inputs.new ≡ I.fault_count inputs.old) }
+    ensures cause { IfErr result (λ e. e.status ≡ 3 → Rose (I.fault_count inputs.old) (I.fault_count inputs.new)) }
+    ensures no_cause { IfErr result (λ e. e.status ≢ 3 → I.fault_count inputs.new ≡ I.fault_count inputs.old) }
+{
+    let program = program_input(run.program);
+    let book = book_input(run.book);
+    match run.journal {
+        Some(name) => read_all(alloc, &[program, journal_input(name), book], inputs),
+        None => read_all(alloc, &[program, book], inputs),
     }
 }
 

@@ -1,5 +1,5 @@
 // What is to be done of a call that isn't refused.
-ghost use Rattle.std.specs.Prelude.{◌≡◌, ◌≢◌, ◌⊎◌, ◌≤◌, ℕ, length, map, Option};
+ghost use Rattle.std.specs.Prelude.{◌≡◌, ◌≢◌, ◌⊎◌, ◌≤◌, ℕ, [], ◌∷◌, length, map, Option};
 ghost use Rattle.keepers.specs.Told.{Images};
 ghost use Rattle.keepers.specs.Counts.{Rose};
 ghost use Rattle.level_book.specs.BookCosts.{slots_of};
@@ -10,15 +10,19 @@ ghost use Rattle.reverse_runner.specs.SessionState.{levels_of};
 ghost use Rattle.reverse_runner.specs.LevelsStand.{AreAlone};
 ghost use Rattle.reverse_runner.specs.Standing.{begun, StandsAt};
 ghost use Rattle.reversal.specs.Deeds.{perform, write, moment, AllTell, AllEmpty};
+ghost use Rattle.reversal.specs.ActionsLeft.{left_of};
 ghost use Rattle.reversal.specs.Decision.{accept, EndsBy, KeepsOthers};
 ghost use Rattle.reversal.specs.Ending.{no_memory};
 ghost use Rattle.reversal.specs.JobReading.{job_of, IsPerformable, CanBeDone, KeepersHaveRoom, Works};
 
+use crate::actions::Actions;
+use crate::demo::Demonstration;
 use crate::ended::Ended;
+use crate::planning::Plan;
 use input_journal::Journal;
 use keepers::{Keeper, Sink};
 use level_book::Book;
-use plan_types::{Action, Line};
+use plan_types::Line;
 use reverse_runner::{LineWriter, RunFault, Session};
 use rv_machine::{State, Steps};
 use std::alloc::Global;
@@ -31,9 +35,13 @@ pub enum Job {
     Perform(Performance),
     /// To write a text in one piece.
     Write(Line),
+    /// To write a plan.
+    Plan(Plan),
+    /// To run a program that is made from a number, and to write a summary.
+    Demonstrate(Demonstration),
 }
 
-/// A list of actions, and the run that it is performed over: its first state, the recorded input, the number of steps and
+/// Some actions, and the run that they are performed over: its first state, the recorded input, the number of steps and
 /// the book.
 #[derive(Drop)]
 pub struct Performance {
@@ -41,7 +49,7 @@ pub struct Performance {
     pub journal: Journal,
     pub steps: u32,
     pub book: Book,
-    pub list: Vec<Action>,
+    pub actions: Actions,
 }
 
 impl Job {
@@ -68,6 +76,8 @@ impl Job {
         match self {
             Job::Perform(performance) => performance.perform(alloc, keepers, out, counter),
             Job::Write(text) => write_text(&text, out),
+            Job::Plan(plan) => plan.write(out),
+            Job::Demonstrate(demonstration) => demonstration.show(alloc, out, counter),
         }
     }
 }
@@ -83,10 +93,10 @@ impl Performance {
     ) -> Ended
         requires can_be_done { IsPerformable self }
         requires room { HaveRoom self.steps (slots_of self.book) (map K.slot_count keepers.old.items) }
-        ensures works { ((result ≡ no_memory) × (out.new ≡ out.old) × (keepers.new ≡ keepers.old) × (counter.new ≡ counter.old)) ⊎ Works (perform self.start self.journal self.steps (slots_of self.book) self.list.items) result
+        ensures works { ((result ≡ no_memory) × (out.new ≡ out.old) × (keepers.new ≡ keepers.old) × (counter.new ≡ counter.old)) ⊎ Works (perform self.start self.journal self.steps (slots_of self.book) (left_of self.actions)) result
             (moment O.told O.call_count K.told K.put_count K.get_count K.free_count out.old keepers.old.items counter.old)
             (moment O.told O.call_count K.told K.put_count K.get_count K.free_count out.new keepers.new.items counter.new) }
-        ensures others { KeepsOthers (accept (perform self.start self.journal self.steps (slots_of self.book) self.list.items)) keepers.old.items keepers.new.items }
+        ensures others { KeepsOthers (accept (perform self.start self.journal self.steps (slots_of self.book) (left_of self.actions))) keepers.old.items keepers.new.items }
         ensures sink_quiet { result.status ≢ 14 → O.fault_count out.new ≡ O.fault_count out.old }
         ensures sink_cause { result.status ≡ 14 → Rose (O.fault_count out.old) (O.fault_count out.new) }
         ensures keepers_quiet { result.status ≢ 12 → (k : ℕ) → by_number 0 K.fault_count keepers.new.items k ≡ by_number 0 K.fault_count keepers.old.items k }
@@ -97,19 +107,19 @@ impl Performance {
             journal,
             steps,
             book,
-            list,
+            mut actions,
         } = self;
         start.is_machine_state();
         match Session::begin(alloc, start, journal, steps, book) {
             Err(_) => Ended::no_memory(),
-            Ok(mut session) => perform_all(&mut session, &list, keepers, out, counter),
+            Ok(mut session) => perform_all(&mut session, &mut actions, keepers, out, counter),
         }
     }
 }
 
 // Writes a text in one piece.
 fn write_text<O: Sink>(text: &Line, out: &mut O) -> Ended
-    ensures works { (steps : ℕ) (calls : Calls) (images : ℕ → Option Images) → EndsBy (accept (write text.now)) result
+    ensures works { (steps : ℕ) (calls : Calls) (images : ℕ → Option Images) → EndsBy (accept (write (text.now ∷ []))) result
         (record { told = O.told out.old; writes = O.call_count out.old; steps = steps; calls = calls; images = images })
         (record { told = O.told out.new; writes = O.call_count out.new; steps = steps; calls = calls; images = images }) }
     ensures statuses { (result.status ≡ 0) ⊎ (result.status ≡ 14) }
@@ -122,10 +132,10 @@ fn write_text<O: Sink>(text: &Line, out: &mut O) -> Ended
     }
 }
 
-// Performs the actions of a valid list from the start.
+// Performs the actions that are still to come, a valid list, from the start.
 fn perform_all<K: Keeper, O: Sink, L: Ledger>(
     session: &mut Session,
-    list: &[Action],
+    actions: &mut Actions,
     keepers: &mut Vec<K>,
     out: &mut O,
     counter: &mut Steps<L>,
@@ -134,21 +144,23 @@ fn perform_all<K: Keeper, O: Sink, L: Ledger>(
     requires stands { (told : ℕ → Option Images) → AllTell (length session.old.situation.slots) told → StandsAt session.old.work session.old told }
     requires alone { (told : ℕ → Option Images) → AllEmpty (length session.old.situation.slots) told → AreAlone (levels_of session.old told) }
     requires state { IsMachineState session.old.work }
-    requires valid { Valid session.old.situation.steps session.old.situation.slots list.now }
+    requires valid { Valid session.old.situation.steps session.old.situation.slots (left_of actions.old) }
+    requires few { length (left_of actions.old) ≤ 16777216 }
     requires room { HaveRoom session.old.situation.steps session.old.situation.slots (map K.slot_count keepers.old.items) }
-    ensures works { Works (perform session.old.work session.old.journal session.old.situation.steps session.old.situation.slots list.now) result
+    ensures works { Works (perform session.old.work session.old.journal session.old.situation.steps session.old.situation.slots (left_of actions.old)) result
         (moment O.told O.call_count K.told K.put_count K.get_count K.free_count out.old keepers.old.items counter.old)
         (moment O.told O.call_count K.told K.put_count K.get_count K.free_count out.new keepers.new.items counter.new) }
-    ensures others { KeepsOthers (accept (perform session.old.work session.old.journal session.old.situation.steps session.old.situation.slots list.now)) keepers.old.items keepers.new.items }
+    ensures others { KeepsOthers (accept (perform session.old.work session.old.journal session.old.situation.steps session.old.situation.slots (left_of actions.old))) keepers.old.items keepers.new.items }
     ensures sink_quiet { result.status ≢ 14 → O.fault_count out.new ≡ O.fault_count out.old }
     ensures sink_cause { result.status ≡ 14 → Rose (O.fault_count out.old) (O.fault_count out.new) }
     ensures keepers_quiet { result.status ≢ 12 → (k : ℕ) → by_number 0 K.fault_count keepers.new.items k ≡ by_number 0 K.fault_count keepers.old.items k }
     ensures keeper_cause { result.status ≡ 12 → Rose (by_number 0 K.fault_count keepers.old.items result.more) (by_number 0 K.fault_count keepers.new.items result.more) }
 {
     let mut writer = LineWriter::new(out);
-    for (i, action) in list.iter().enumerate() {
-        let place = i as u64 + 1;
-        match session.perform(action, keepers, &mut writer, counter) {
+    let mut place = 0;
+    while let Some(action) = actions.next() {
+        place += 1;
+        match session.perform(&action, keepers, &mut writer, counter) {
             Ok(()) => {}
             Err(RunFault::Keeper(level)) => return Ended::keeper_failed(place, level),
             Err(RunFault::Damaged { level, put, got }) => {

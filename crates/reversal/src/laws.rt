@@ -1,8 +1,20 @@
 // Laws of requests and decisions. Each function does nothing; its contract is the law.
-ghost use Rattle.std.specs.Prelude.{◌≡◌, ℕ, List, Option};
+ghost use Rattle.std.specs.Prelude.{◌≡◌, ℕ, ◌≤◌, List, Option};
+ghost use Rattle.plan_types.specs.declared.action.Action.{Action};
+ghost use Rattle.level_book.specs.BookCosts.{BookCosts, slots_of, names_of};
+ghost use Rattle.level_book.specs.BookFaults.{IsBookText};
+ghost use Rattle.level_book.specs.CostFold.{forward, cost};
+ghost use Rattle.level_book.specs.NestedClass.{Nested};
+ghost use Rattle.level_book.specs.Valid.{Valid};
+ghost use Rattle.action_text.specs.ScheduleText.{IsSchedule};
 ghost use Rattle.reversal.specs.Request.{Request, Says};
-ghost use Rattle.reversal.specs.Decision.{Decision, accept, Decides};
-ghost use Rattle.reversal.specs.Deeds.{Job, Shown, deeds, bytes_written, steps_made, output, steps_taken};
+ghost use Rattle.bound_cert.specs.Accepted.{IsAccepted};
+ghost use Rattle.bound_cert.specs.Meaning.{IsCertificateText};
+ghost use Rattle.revolve_gen.specs.Multistage.{IsMultistage};
+ghost use Rattle.revolve_gen.specs.Written.{revolve_list};
+ghost use Rattle.reversal.specs.Decision.{Decision, accept, Decides, DecidesCertify, DecidesPlanRevolve, DecidesPlanMultistage, DecidesPlanHrevolve};
+ghost use Rattle.reversal.specs.Plans.{list_pieces, plan_pieces, certificate_of};
+ghost use Rattle.reversal.specs.Deeds.{Job, write, Shown, deeds, bytes_written, steps_made, output, steps_taken};
 
 /// Words say one request at most.
 pub fn requests_are_unique()
@@ -18,4 +30,44 @@ pub fn decisions_are_unique()
 pub fn deeds_make_the_output()
     ensures bytes { (r : Request) (given : List (Option (List ℕ))) (slots : List ℕ) (job : Job) → Decides r given slots (accept job) → (shown : Shown) → bytes_written (deeds shown job) ≡ output shown job }
     ensures steps { (shown : Shown) (job : Job) → steps_made (deeds shown job) ≡ steps_taken job }
+{}
+
+/// A list that is certified is the least: where a request to certify one comes to its job, the schedule says a valid list,
+/// and no list that is valid for the book takes fewer forward steps.
+pub fn certified_lists_are_least()
+    ensures { (steps : ℕ) (book schedule certificate : List ℕ) (job : Job) → DecidesCertify steps book schedule certificate (accept job) →
+        (b : BookCosts) × IsBookText book b × (list : List Action) × IsSchedule (names_of b) schedule list × Valid steps (slots_of b) list
+        × ((other : List Action) → Valid steps (slots_of b) other → forward list ≤ forward other) }
+{}
+
+/// A plan of Revolve is the least: where a request for one comes to its job, the plan of the book is written; its list is
+/// valid, its certificate is accepted for it, and no list that is valid for the book takes fewer forward steps.
+pub fn revolve_plans_are_least()
+    ensures { (steps : ℕ) (book : List ℕ) (job : Job) → DecidesPlanRevolve steps book (accept job) →
+        (b : BookCosts) × IsBookText book b × (job ≡ write (plan_pieces steps b)) × Valid steps (slots_of b) (revolve_list steps b)
+        × IsAccepted (revolve_list steps b) steps b (certificate_of steps b)
+        × ((other : List Action) → Valid steps (slots_of b) other → forward (revolve_list steps b) ≤ forward other) }
+{}
+
+/// What is written of a plan is read again: as a schedule that says its list, and as a text that says its certificate.
+pub fn plans_are_read_again()
+    ensures { (steps : ℕ) (book : List ℕ) (job : Job) → steps ≤ 1000000 → DecidesPlanRevolve steps book (accept job) →
+        (b : BookCosts) × IsBookText book b × ((shown : Shown) →
+        IsSchedule (names_of b) (output shown job) (revolve_list steps b) × IsCertificateText (output shown job) (certificate_of steps b)) }
+{}
+
+/// A plan of H-Revolve costs the least of its class: where a request for one comes to its job, the text of a list is written
+/// that is in the nested class, and no list of that class costs less by the book.
+pub fn hrevolve_plans_are_least()
+    ensures { (steps : ℕ) (book : List ℕ) (job : Job) → DecidesPlanHrevolve steps book (accept job) →
+        (b : BookCosts) × IsBookText book b × (list : List Action) × (job ≡ write (list_pieces (names_of b) list)) × Nested steps (slots_of b) list
+        × ((other : List Action) → Nested steps (slots_of b) other → cost list b ≤ cost other b) }
+{}
+
+/// A multistage plan costs the least of its class: where a request for one comes to its job, the text of a list is written that
+/// is in the multistage class, and no list of that class costs less by the book.
+pub fn multistage_plans_are_least()
+    ensures { (steps : ℕ) (book : List ℕ) (job : Job) → DecidesPlanMultistage steps book (accept job) →
+        (b : BookCosts) × IsBookText book b × (list : List Action) × (job ≡ write (list_pieces (names_of b) list)) × IsMultistage steps b list
+        × ((other : List Action) → IsMultistage steps b other → cost list b ≤ cost other b) }
 {}

@@ -4,22 +4,26 @@
 //! `Decision` (what that comes to), `Deeds` (what is done). Readers know nothing of runs, and the run nothing of text.
 #![tactic(auto)]
 
+mod actions;
 mod bounds;
+mod certifying;
 mod decision;
+mod demo;
 mod ended;
+mod hrevolve;
 mod inputs;
 mod job;
+mod kind;
 pub mod laws;
+mod line_hasher;
+mod multistage;
 mod number;
-#[cfg(test)]
-mod option_tests;
 mod options;
+mod periodic;
 mod places;
+mod plan_kinds;
+mod planning;
 mod request;
-#[cfg(test)]
-mod storage_tests;
-#[cfg(test)]
-mod tests;
 mod text;
 mod top;
 mod words;

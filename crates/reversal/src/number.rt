@@ -44,35 +44,3 @@ pub fn decimal_at(bytes: &[u8], limit: u64) -> Option<(u64, &[u8])>
 {
     number(bytes, limit)
 }
-
-#[cfg(test)]
-mod tests {
-    use super::*;
-
-    #[test]
-    fn a_number_has_no_leading_zero_and_is_at_most_the_limit(rt: HostRuntime) {
-        let table: [(&[u8], Option<u64>); 10] = [
-            (b"0", Some(0)),
-            (b"7,", Some(7)),
-            (b"1000000", Some(1_000_000)),
-            (b"1000001", None),
-            (b"10000000", None),
-            (b"007", None),
-            (b"00", None),
-            (b"+7", None),
-            (b"x", None),
-            (b"", None),
-        ];
-        for (text, number) in table {
-            assert_eq!(rt; decimal_at(text, 1_000_000).map(|found| found.0), number);
-        }
-    }
-
-    #[test]
-    fn the_greatest_number_of_64_bits_is_read_and_the_next_is_not(rt: HostRuntime) {
-        let greatest = decimal_at(b"18446744073709551615 steps", u64::MAX);
-        assert!(rt; matches!(greatest, Some((u64::MAX, b" steps"))));
-        assert!(rt; decimal_at(b"18446744073709551616", u64::MAX).is_none());
-        assert!(rt; decimal_at(b"99999999999999999999", u64::MAX).is_none());
-    }
-}

@@ -1,9 +1,9 @@
 // The options of a command line.
 ghost use Rattle.std.specs.Prelude.{◌≡◌, map};
 ghost use Rattle.std.specs.List.{list_any};
-ghost use Rattle.reversal.specs.Request.{is_files, says_raw, stack_pages};
+ghost use Rattle.reversal.specs.Request.{is_files, says_raw, stack_pages, worker_count};
 ghost use Rattle.reversal.specs.Reading.{Gives};
-ghost use Rattle.reversal.specs.ChoiceReading.{number_of, stack_of, files_of, choice_of, first_choice, options_at, behind_options, is_like, are_single, as_choice};
+ghost use Rattle.reversal.specs.ChoiceReading.{number_of, stack_of, workers_of, files_of, choice_of, first_choice, options_at, behind_options, is_like, are_single, as_choice};
 
 use crate::number::decimal_at;
 use crate::text::after;
@@ -16,6 +16,8 @@ pub enum Choice<'a> {
     Raw,
     /// The stack has so many pages.
     Stack(u64),
+    /// So many workers fill tables of costs.
+    Workers(u64),
     /// The images of this level are kept in files of the folder with this name.
     Files(u64, &'a [u8]),
 }
@@ -28,6 +30,7 @@ impl Choice<'_> {
         match self {
             Choice::Raw => matches!(other, Choice::Raw),
             Choice::Stack(_) => matches!(other, Choice::Stack(_)),
+            Choice::Workers(_) => matches!(other, Choice::Workers(_)),
             Choice::Files(level, _) => other.is_files(*level),
         }
     }
@@ -45,6 +48,9 @@ impl Choice<'_> {
 
 // How many pages the stack has where nothing is said.
 const STACK_PAGES: u64 = 16;
+
+// How many workers there are where nothing is said.
+const WORKERS: u64 = 1;
 
 /// Options in the order of the words. They take no memory: they are the words, and are read again where they are asked for.
 #[derive(Debug, Drop)]
@@ -104,6 +110,20 @@ impl<'a> Options<'a> {
         }
         STACK_PAGES
     }
+
+    /// How many workers fill tables of costs.
+    pub fn worker_count(&self) -> u64
+        ensures { result ≡ worker_count self.now }
+    {
+        let mut rest = self.words();
+        while let Some((choice, behind)) = next_option(rest) {
+            if let Choice::Workers(count) = choice {
+                return count;
+            }
+            rest = behind;
+        }
+        WORKERS
+    }
 }
 
 // Whether an option of the same kind is among those at the front of the words.
@@ -137,6 +157,14 @@ fn stack_in(text: &[u8]) -> Option<Choice<'_>>
     Some(Choice::Stack(pages))
 }
 
+// The option of the workers, likewise.
+fn workers_in(text: &[u8]) -> Option<Choice<'_>>
+    ensures { Gives as_choice result (workers_of text.now) }
+{
+    let count = number_in(text)?;
+    Some(Choice::Workers(count))
+}
+
 // The option of a level's files, likewise.
 fn files_in(text: &[u8]) -> Option<Choice<'_>>
     ensures { Gives as_choice result (files_of text.now) }
@@ -160,6 +188,9 @@ fn choice_in(word: &[u8]) -> Option<Choice<'_>>
     }
     if let Some(text) = after(word, b"--stack=") {
         return stack_in(text);
+    }
+    if let Some(text) = after(word, b"--workers=") {
+        return workers_in(text);
     }
     let text = after(word, b"--files=")?;
     files_in(text)

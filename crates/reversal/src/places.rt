@@ -55,7 +55,7 @@ pub fn keeper_places(words: &Words) -> [KeepAt; 4]
 
 // The places of all levels, by the options at the front of the words.
 fn places(words: &[Vec<u8>]) -> [KeepAt; 4]
-    requires { length (options_at (map (λ w. w.items) words.now)) ≤ 6 }
+    requires { length (options_at (map (λ w. w.items) words.now)) ≤ 7 }
     ensures { result ≡ places_of (options_at (map (λ w. w.items) words.now)) }
 {
     [
@@ -72,7 +72,7 @@ const FOLDER_START: u32 = 10;
 // Where the images of this level are kept, by the options at the front of the words.
 fn place(level: u64, words: &[Vec<u8>]) -> KeepAt
     requires level { level < 4 }
-    requires few { length (options_at (map (λ w. w.items) words.now)) ≤ 6 }
+    requires few { length (options_at (map (λ w. w.items) words.now)) ≤ 7 }
     ensures { result ≡ place_from level 1 (options_at (map (λ w. w.items) words.now)) }
 {
     let mut word = 1;

@@ -22,10 +22,12 @@ use keepers::{Inputs, Keeper, Sink};
 use rv_machine::Steps;
 use std::alloc::{AllocError, Global};
 use std::sync::ledger::Ledger;
+use std::thread::Threads;
 
 /// Does what the words ask for, and tells how it ended. The words say a request; the request and its inputs come to a
 /// decision, a refusal or a job; and a job is done deed by deed.
-pub fn reversal<I: Inputs, K: Keeper, O: Sink, L: Ledger>(
+pub fn reversal<R: Threads + Sync, I: Inputs, K: Keeper, O: Sink, L: Ledger>(
+    rt: &R,
     alloc: Global,
     words: &Words,
     inputs: &mut I,
@@ -81,14 +83,15 @@ pub fn reversal<I: Inputs, K: Keeper, O: Sink, L: Ledger>(
     if let Some(refusal) = request.refusal() {
         return refusal;
     }
-    match prepared(alloc, &request, inputs, keepers) {
+    match prepared(rt, alloc, &request, inputs, keepers) {
         Ok(job) => job.work(alloc, keepers, out, steps),
         Err(refusal) => refusal,
     }
 }
 
 // The job that a request, whose numbers are within their bounds, comes to by its inputs and the slots of the keepers.
-fn prepared<I: Inputs, K: Keeper>(
+fn prepared<R: Threads + Sync, I: Inputs, K: Keeper>(
+    rt: &R,
     alloc: Global,
     request: &Request<'_>,
     inputs: &mut I,
@@ -108,7 +111,7 @@ fn prepared<I: Inputs, K: Keeper>(
 {
     let bytes = read_inputs(alloc, &request.command, inputs)?;
     let counts = slot_counts(alloc, keepers)?;
-    decide(alloc, request, &bytes, &counts)
+    decide(rt, alloc, request, &bytes, &counts)
 }
 
 // The number of slots of each keeper.

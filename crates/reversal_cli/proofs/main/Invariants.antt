@@ -1,4 +1,4 @@
 use Rattle.reversal_cli.proofs.main.Given as goal
 
 abbrev pub ghosts-called : goal.ghosts-called
-ghosts-called a = record { name = a.blank.name; parts = a.blank.parts }
+ghosts-called g a = record { name = a.blank.name; parts = a.blank.parts }

@@ -1,45 +1,186 @@
-use Rattle.std.proofs.Common.{◌≡◌, ◌⊎◌, inl, inr, List, map, subst, sym, IfOk, IfErr, ℕ}
+use Rattle.std.proofs.Common.{◌≡◌, ◌⊎◌, inl, inr, List, [], ◌∷◌, map, subst, refl, sym, IfOk, IfErr, ℕ, arith}
 use Rattle.std.specs.List.{AllByRecursion}
 use Rattle.reversal.specs.declared.request.Command.{Command}
 use Rattle.reversal.specs.Bounds.{command_numbers, IsWithin}
 use Rattle.reversal.specs.Decision.{accept, refuse, DecidesBytes}
 use Rattle.reversal.specs.Ending.{no_memory}
 use Rattle.reversal.specs.JobReading.{job_of}
+use Rattle.reversal.specs.Inputs.{inputs_of}
+use Rattle.reversal.specs.InputReading.{AreWithinLimits}
+use Rattle.reversal.specs.Request.{demo}
+use Rattle.reversal.specs.RequestReading.{as_demo}
 use Rattle.reversal.specs.RequestReading.{as_command}
 use Rattle.reversal.proofs.Answering.{if_okay, if_error}
-use Rattle.reversal.proofs.Refusing.{all_front, all_after, stack_within}
+use Rattle.reversal.proofs.Refusing.{all_front, all_after, stack_within, workers_within}
 use Rattle.reversal.proofs.decision.decide.Goals as goal
 
+-- a demonstration has no input
+none_given : (bytes : List (List ℕ)) → AreWithinLimits [] bytes → [] ≡ bytes
+none_given [] h = refl
+none_given (b ∷ bytes) h = absurd h
+
 pub decide_run-requires-clause-stack : goal.decide_run-requires-clause-stack
-decide_run-requires-clause-stack c = stack_within c.args.request.now.options (all_front _ _ c.requires.numbers)
+decide_run-requires-clause-stack g c = stack_within c.args.request.now.options (all_front _ _ c.requires.numbers)
 
 pub decide_run-requires-clause-steps : goal.decide_run-requires-clause-steps
-decide_run-requires-clause-steps c =
+decide_run-requires-clause-steps g c =
     let P : Command → Type 0 = λ x. AllByRecursion IsWithin (command_numbers (as_command x)) in
     (subst P c.in-Run.is (all_after _ _ c.requires.numbers)).0.1
 
+pub decide_run_revolve-requires-clause-stack : goal.decide_run_revolve-requires-clause-stack
+decide_run_revolve-requires-clause-stack g c = stack_within c.args.request.now.options (all_front _ _ c.requires.numbers)
+
+pub decide_run_revolve-requires-clause-steps : goal.decide_run_revolve-requires-clause-steps
+decide_run_revolve-requires-clause-steps g c =
+    let P : Command → Type 0 = λ x. AllByRecursion IsWithin (command_numbers (as_command x)) in
+    (subst P c.in-RunRevolve.is (all_after _ _ c.requires.numbers)).0.1
+
+pub overflow_cast-workers : goal.overflow_cast-workers
+overflow_cast-workers g c =
+    let within = workers_within c.args.request.now.options (all_front _ _ c.requires.numbers) in
+    let count = c.worker_count-workers.ensures in
+    omega (arith, within.1, count)
+
+pub decide_plan-requires-clause-workers : goal.decide_plan-requires-clause-workers
+decide_plan-requires-clause-workers g c κs inside =
+    let within = workers_within c.args.request.now.options (all_front _ _ c.requires.numbers) in
+    let count = c.worker_count-workers.ensures in
+    (omega (arith, within.0, count), omega (arith, within.1, count))
+
+pub decide_plan-requires-clause-steps : goal.decide_plan-requires-clause-steps
+decide_plan-requires-clause-steps g c κs inside =
+    let P : Command → Type 0 = λ x. AllByRecursion IsWithin (command_numbers (as_command x)) in
+    (subst P c.in-Plan.is (all_after _ _ c.requires.numbers)).0
+
+pub decide_plan_periodic-requires-clause-steps : goal.decide_plan_periodic-requires-clause-steps
+decide_plan_periodic-requires-clause-steps g c =
+    let P : Command → Type 0 = λ x. AllByRecursion IsWithin (command_numbers (as_command x)) in
+    (subst P c.in-PlanPeriodic.is (all_after _ _ c.requires.numbers)).0.1
+
+pub decide_plan_periodic-requires-clause-some : goal.decide_plan_periodic-requires-clause-some
+decide_plan_periodic-requires-clause-some g c =
+    let P : Command → Type 0 = λ x. AllByRecursion IsWithin (command_numbers (as_command x)) in
+    (subst P c.in-PlanPeriodic.is (all_after _ _ c.requires.numbers)).1.0.0
+
+pub decide_plan_periodic-requires-clause-small : goal.decide_plan_periodic-requires-clause-small
+decide_plan_periodic-requires-clause-small g c =
+    let P : Command → Type 0 = λ x. AllByRecursion IsWithin (command_numbers (as_command x)) in
+    (subst P c.in-PlanPeriodic.is (all_after _ _ c.requires.numbers)).1.0.1
+
+pub decide_demo-requires-clause-number : goal.decide_demo-requires-clause-number
+decide_demo-requires-clause-number g c =
+    let P : Command → Type 0 = λ x. AllByRecursion IsWithin (command_numbers (as_command x)) in
+    (subst P c.in-Demo.is (all_after _ _ c.requires.numbers)).0.1
+
+pub decide_demo-requires-clause-steps : goal.decide_demo-requires-clause-steps
+decide_demo-requires-clause-steps g c =
+    let P : Command → Type 0 = λ x. AllByRecursion IsWithin (command_numbers (as_command x)) in
+    (subst P c.in-Demo.is (all_after _ _ c.requires.numbers)).1.0.1
+
+pub decide_demo-requires-clause-slots : goal.decide_demo-requires-clause-slots
+decide_demo-requires-clause-slots g c =
+    let P : Command → Type 0 = λ x. AllByRecursion IsWithin (command_numbers (as_command x)) in
+    (subst P c.in-Demo.is (all_after _ _ c.requires.numbers)).1.1.0.1
+
 pub decide_check-requires-clause-steps : goal.decide_check-requires-clause-steps
-decide_check-requires-clause-steps c =
+decide_check-requires-clause-steps g c =
     let P : Command → Type 0 = λ x. AllByRecursion IsWithin (command_numbers (as_command x)) in
     (subst P c.in-Check.is (all_after _ _ c.requires.numbers)).0.1
 
+pub decide_certify-requires-clause-steps : goal.decide_certify-requires-clause-steps
+decide_certify-requires-clause-steps g c =
+    let P : Command → Type 0 = λ x. AllByRecursion IsWithin (command_numbers (as_command x)) in
+    (subst P c.in-Certify.is (all_after _ _ c.requires.numbers)).0.1
+
 pub returns-in-Run-clause-refused : goal.returns-in-Run-clause-refused
-returns-in-Run-clause-refused c =
+returns-in-Run-clause-refused g c =
     let bytes : List (List ℕ) = map (λ b. b.items) c.args.bytes.now in
     let P : Command → Type 0 = λ x. IfErr c.decide_run.result (λ e. (e ≡ no_memory) ⊎ DecidesBytes c.args.request.now.options (as_command x) bytes c.args.counts.now (refuse e)) in
     subst P (sym c.in-Run.is) c.decide_run.ensures.refused
 
 pub returns-in-Check-clause-accepted : goal.returns-in-Check-clause-accepted
-returns-in-Check-clause-accepted c =
+returns-in-Check-clause-accepted g c =
     let bytes : List (List ℕ) = map (λ b. b.items) c.args.bytes.now in
     let P : Command → Type 0 = λ x. IfOk c.decide_check.result (λ job. DecidesBytes c.args.request.now.options (as_command x) bytes c.args.counts.now (accept (job_of job))) in
     subst P (sym c.in-Check.is) (if_okay c.decide_check.result _ _ (λ job h. h c.args.counts.now c.args.request.now.options) c.decide_check.ensures.accepted)
 
 pub returns-in-Check-clause-refused : goal.returns-in-Check-clause-refused
-returns-in-Check-clause-refused c =
+returns-in-Check-clause-refused g c =
     let bytes : List (List ℕ) = map (λ b. b.items) c.args.bytes.now in
     let P : Command → Type 0 = λ x. IfErr c.decide_check.result (λ e. (e ≡ no_memory) ⊎ DecidesBytes c.args.request.now.options (as_command x) bytes c.args.counts.now (refuse e)) in
     subst P (sym c.in-Check.is) (if_error c.decide_check.result _ _ (λ e h. elim h [ inl memory ↦ inl memory | inr decides ↦ inr (decides c.args.counts.now c.args.request.now.options) ]) c.decide_check.ensures.refused)
 
 pub returns-in-Check-clause-room : goal.returns-in-Check-clause-room
-returns-in-Check-clause-room c = if_okay c.decide_check.result _ _ (λ job h. h c.args.counts.now) c.decide_check.ensures.room
+returns-in-Check-clause-room g c = if_okay c.decide_check.result _ _ (λ job h. h c.args.counts.now) c.decide_check.ensures.room
+
+pub returns-in-Certify-clause-accepted : goal.returns-in-Certify-clause-accepted
+returns-in-Certify-clause-accepted g c =
+    let bytes : List (List ℕ) = map (λ b. b.items) c.args.bytes.now in
+    let P : Command → Type 0 = λ x. IfOk c.decide_certify.result (λ job. DecidesBytes c.args.request.now.options (as_command x) bytes c.args.counts.now (accept (job_of job))) in
+    subst P (sym c.in-Certify.is) (if_okay c.decide_certify.result _ _ (λ job h. h c.args.counts.now c.args.request.now.options) c.decide_certify.ensures.accepted)
+
+pub returns-in-Certify-clause-refused : goal.returns-in-Certify-clause-refused
+returns-in-Certify-clause-refused g c =
+    let bytes : List (List ℕ) = map (λ b. b.items) c.args.bytes.now in
+    let P : Command → Type 0 = λ x. IfErr c.decide_certify.result (λ e. (e ≡ no_memory) ⊎ DecidesBytes c.args.request.now.options (as_command x) bytes c.args.counts.now (refuse e)) in
+    subst P (sym c.in-Certify.is) (if_error c.decide_certify.result _ _ (λ e h. elim h [ inl memory ↦ inl memory | inr decides ↦ inr (decides c.args.counts.now c.args.request.now.options) ]) c.decide_certify.ensures.refused)
+
+pub returns-in-Certify-clause-room : goal.returns-in-Certify-clause-room
+returns-in-Certify-clause-room g c = if_okay c.decide_certify.result _ _ (λ job h. h c.args.counts.now) c.decide_certify.ensures.room
+
+pub returns-in-RunRevolve-clause-refused : goal.returns-in-RunRevolve-clause-refused
+returns-in-RunRevolve-clause-refused g c =
+    let bytes : List (List ℕ) = map (λ b. b.items) c.args.bytes.now in
+    let P : Command → Type 0 = λ x. IfErr c.decide_run_revolve.result (λ e. (e ≡ no_memory) ⊎ DecidesBytes c.args.request.now.options (as_command x) bytes c.args.counts.now (refuse e)) in
+    subst P (sym c.in-RunRevolve.is) c.decide_run_revolve.ensures.refused
+
+pub returns-in-Plan-clause-accepted : goal.returns-in-Plan-clause-accepted
+returns-in-Plan-clause-accepted g c =
+    let bytes : List (List ℕ) = map (λ b. b.items) c.args.bytes.now in
+    let P : Command → Type 0 = λ x. IfOk c.decide_plan.result (λ job. DecidesBytes c.args.request.now.options (as_command x) bytes c.args.counts.now (accept (job_of job))) in
+    subst P (sym c.in-Plan.is) (if_okay c.decide_plan.result _ _ (λ job h. h c.args.counts.now c.args.request.now.options) c.decide_plan.ensures.accepted)
+
+pub returns-in-Plan-clause-refused : goal.returns-in-Plan-clause-refused
+returns-in-Plan-clause-refused g c =
+    let bytes : List (List ℕ) = map (λ b. b.items) c.args.bytes.now in
+    let P : Command → Type 0 = λ x. IfErr c.decide_plan.result (λ e. (e ≡ no_memory) ⊎ DecidesBytes c.args.request.now.options (as_command x) bytes c.args.counts.now (refuse e)) in
+    subst P (sym c.in-Plan.is) (if_error c.decide_plan.result _ _ (λ e h. elim h [ inl memory ↦ inl memory | inr decides ↦ inr (decides c.args.counts.now c.args.request.now.options) ]) c.decide_plan.ensures.refused)
+
+pub returns-in-Plan-clause-room : goal.returns-in-Plan-clause-room
+returns-in-Plan-clause-room g c = if_okay c.decide_plan.result _ _ (λ job h. h c.args.counts.now) c.decide_plan.ensures.room
+
+pub returns-in-PlanPeriodic-clause-accepted : goal.returns-in-PlanPeriodic-clause-accepted
+returns-in-PlanPeriodic-clause-accepted g c =
+    let bytes : List (List ℕ) = map (λ b. b.items) c.args.bytes.now in
+    let P : Command → Type 0 = λ x. IfOk c.decide_plan_periodic.result (λ job. DecidesBytes c.args.request.now.options (as_command x) bytes c.args.counts.now (accept (job_of job))) in
+    subst P (sym c.in-PlanPeriodic.is) (if_okay c.decide_plan_periodic.result _ _ (λ job h. h c.args.counts.now c.args.request.now.options) c.decide_plan_periodic.ensures.accepted)
+
+pub returns-in-PlanPeriodic-clause-refused : goal.returns-in-PlanPeriodic-clause-refused
+returns-in-PlanPeriodic-clause-refused g c =
+    let bytes : List (List ℕ) = map (λ b. b.items) c.args.bytes.now in
+    let P : Command → Type 0 = λ x. IfErr c.decide_plan_periodic.result (λ e. (e ≡ no_memory) ⊎ DecidesBytes c.args.request.now.options (as_command x) bytes c.args.counts.now (refuse e)) in
+    subst P (sym c.in-PlanPeriodic.is) (if_error c.decide_plan_periodic.result _ _ (λ e h. elim h [ inl memory ↦ inl memory | inr decides ↦ inr (decides c.args.counts.now c.args.request.now.options) ]) c.decide_plan_periodic.ensures.refused)
+
+pub returns-in-PlanPeriodic-clause-room : goal.returns-in-PlanPeriodic-clause-room
+returns-in-PlanPeriodic-clause-room g c = if_okay c.decide_plan_periodic.result _ _ (λ job h. h c.args.counts.now) c.decide_plan_periodic.ensures.room
+
+pub returns-in-Demo-clause-accepted : goal.returns-in-Demo-clause-accepted
+returns-in-Demo-clause-accepted g c =
+    let bytes : List (List ℕ) = map (λ b. b.items) c.args.bytes.now in
+    let W : Command → Type 0 = λ x. AreWithinLimits (inputs_of (as_command x)) bytes in
+    let none = none_given bytes (subst W c.in-Demo.is c.requires.inputs) in
+    let P : Command → Type 0 = λ x. IfOk c.decide_demo.result (λ job. DecidesBytes c.args.request.now.options (as_command x) bytes c.args.counts.now (accept (job_of job))) in
+    let B : List (List ℕ) → Type 0 = λ l. IfOk c.decide_demo.result (λ job. DecidesBytes c.args.request.now.options (demo (as_demo c.in-Demo.demo)) l c.args.counts.now (accept (job_of job))) in
+    subst P (sym c.in-Demo.is) (subst B none c.decide_demo.ensures.accepted)
+
+pub returns-in-Demo-clause-refused : goal.returns-in-Demo-clause-refused
+returns-in-Demo-clause-refused g c =
+    let bytes : List (List ℕ) = map (λ b. b.items) c.args.bytes.now in
+    let W : Command → Type 0 = λ x. AreWithinLimits (inputs_of (as_command x)) bytes in
+    let none = none_given bytes (subst W c.in-Demo.is c.requires.inputs) in
+    let P : Command → Type 0 = λ x. IfErr c.decide_demo.result (λ e. (e ≡ no_memory) ⊎ DecidesBytes c.args.request.now.options (as_command x) bytes c.args.counts.now (refuse e)) in
+    let B : List (List ℕ) → Type 0 = λ l. IfErr c.decide_demo.result (λ e. (e ≡ no_memory) ⊎ DecidesBytes c.args.request.now.options (demo (as_demo c.in-Demo.demo)) l c.args.counts.now (refuse e)) in
+    subst P (sym c.in-Demo.is) (subst B none c.decide_demo.ensures.refused)
+
+pub returns-in-Demo-clause-room : goal.returns-in-Demo-clause-room
+returns-in-Demo-clause-room g c = if_okay c.decide_demo.result _ _ (λ job h. h c.args.counts.now) c.decide_demo.ensures.room

@@ -1,4 +1,4 @@
-use Rattle.std.proofs.Common.{◌≡◌, List, subst}
+use Rattle.std.proofs.Common.{◌≡◌, List, sym, subst}
 use Rattle.std.specs.Option.{option_copied}
 use Rattle.plan_types.specs.declared.action.Action.{Action}
 use Rattle.level_book.specs.BookCosts.{slots_of, names_of}
@@ -7,7 +7,8 @@ use Rattle.action_text.specs.Faults.{HasFirstFault}
 use Rattle.reversal.specs.declared.ended.Ended.{Ended}
 use Rattle.reversal.specs.Ending.{bad_program, bad_journal, bad_book, bad_text}
 use Rattle.reversal.specs.Request.{says_raw, stack_pages}
-use Rattle.reversal.specs.Decision.{refuse, Keep, HasBookFault, HasProgramFault, HasJournalFault}
+use Rattle.reversal.specs.Deeds.{perform}
+use Rattle.reversal.specs.Decision.{refuse, accept, DecidesRun, Keep, HasBookFault, HasProgramFault, HasJournalFault}
 use Rattle.reversal.specs.JobReading.{IsRefusal}
 use Rattle.reversal.proofs.Deciding.{on_error, IsBroken, run_by_book, run_by_keepers, run_by_program, run_by_journal, run_by_text, run_by_rules, run_accepted}
 use Rattle.reversal.proofs.decision.decide_texts.Goals as goal
@@ -61,5 +62,6 @@ pub returns-clause-accepted : goal.returns-clause-accepted
 returns-clause-accepted c =
     let slots = slots_of c.in_ok-book.book in
     let L : List Action → Type 0 = λ l. Valid c.args.steps slots l in
-    run_accepted c.args.options.now c.args.steps c.args.texts.program.now (option_copied c.args.texts.journal) c.args.texts.book.now c.args.texts.schedule.now c.args.counts.now c.in_ok-book.book c.in_ok-start.start c.in_ok-journal.journal c.in_ok-list.list.items
-    c.in_ok-book.ensures.found c.in_ok-keep.ensures.room c.in_ok-start.ensures.found c.in_ok-journal.ensures.found c.in_ok-list.ensures.found (subst L c.deref.ensures.value c.in_ok-judge.ensures.valid)
+    let P : List Action → Type 0 = λ l. DecidesRun c.args.options.now c.args.steps c.args.texts.program.now (option_copied c.args.texts.journal) c.args.texts.book.now c.args.texts.schedule.now c.args.counts.now (accept (perform c.in_ok-start.start c.in_ok-journal.journal c.args.steps slots l)) in
+    subst P (sym c.new.ensures) (run_accepted c.args.options.now c.args.steps c.args.texts.program.now (option_copied c.args.texts.journal) c.args.texts.book.now c.args.texts.schedule.now c.args.counts.now c.in_ok-book.book c.in_ok-start.start c.in_ok-journal.journal c.in_ok-list.list.items
+    c.in_ok-book.ensures.found c.in_ok-keep.ensures.room c.in_ok-start.ensures.found c.in_ok-journal.ensures.found c.in_ok-list.ensures.found (subst L c.deref.ensures.value c.in_ok-judge.ensures.valid))

@@ -1,4 +1,4 @@
-use Rattle.std.proofs.Common.{◌≡◌, ◌++◌, List, length, subst, sym, ap, ◌∙◌, arith}
+use Rattle.std.proofs.Common.{◌≡◌, ◌++◌, List, length, subst, sym, ap, ◌∙◌, arith, [], ◌∷◌}
 use Rattle.std.specs.Prelude.{codes, decimal}
 use Rattle.plan_types.specs.declared.action.Action.{Action}
 use Rattle.level_book.specs.BookCosts.{slots_of, names_of}
@@ -39,6 +39,6 @@ pub returns-clause-accepted : goal.returns-clause-accepted
 returns-clause-accepted c =
     let slots = slots_of c.in_ok-book.book in
     let L : List Action → Type 0 = λ l. Valid c.args.steps slots l in
-    let P : List _ → Type 0 = λ text. DecidesCheck c.args.steps c.args.book.now c.args.schedule.now (accept (write text)) in
+    let P : List _ → Type 0 = λ text. DecidesCheck c.args.steps c.args.book.now c.args.schedule.now (accept (write (text ∷ []))) in
     let long : c.len.result ≡ length c.in_ok-list.list.items = omega (arith, c.len.ensures, c.in_ok-list.list.ok) in
     subst P (sym (c.valid_line.ensures ∙ ap (λ n. codes "valid " ++ decimal n ++ codes "\n") long)) (check_accepted c.args.steps c.args.book.now c.args.schedule.now c.in_ok-book.book c.in_ok-list.list.items c.in_ok-book.ensures.found c.in_ok-list.ensures.found (subst L c.deref.ensures.value c.in_ok-judge.ensures.valid))

@@ -1,4 +1,4 @@
-use Rattle.std.proofs.Common.{◌≡◌, ℕ, ◌≤◌, false, map, take, length, slice_get}
+use Rattle.std.proofs.Common.{◌≡◌, ℕ, ◌≤◌, false, map, take, drop, length, slice_get}
 use Rattle.level_book.specs.Configuration.{start}
 use Rattle.level_book.specs.Valid.{Leads}
 use Rattle.reverse_runner.specs.Handed.{handed}
@@ -6,31 +6,34 @@ use Rattle.reverse_runner.specs.KeepersSeen.{by_number, told_by}
 use Rattle.reverse_runner.specs.LevelsStand.{AreAlone}
 use Rattle.reverse_runner.specs.SessionState.{levels_of, SamePages}
 use Rattle.reverse_runner.specs.Standing.{StandsAt}
+use Rattle.reversal.specs.ActionsLeft.{left_of}
 use Rattle.reversal.specs.Deeds.{perform, deed_of, moment, Did, Shown, IsShown, AllTell, AllEmpty}
 use Rattle.reversal.proofs.Showing.{IsAbove}
 use Rattle.reversal.proofs.job.perform_all.Given as goal
 
--- The actions so far lead to where the session stands. Over keepers that tell its states are those of the run, and over
+-- The actions that are left stand behind those so far. The actions so far lead to where the session stands. Over keepers that tell its states are those of the run, and over
 -- those that were empty there are no other images. The deeds so far were done, with states that are shown. The writer
 -- still writes to the sink, and no count of faults rose.
-abbrev pub invariant-loop-i : goal.invariant-loop-i
-invariant-loop-i g l = record {
+abbrev pub invariant-loop-action : goal.invariant-loop-action
+invariant-loop-action g l = record {
+  rest : left_of l.actions ≡ drop l.place (left_of l.fn.actions);
+  within : l.place ≤ length (left_of l.fn.actions);
   lasts : l.session.ended ≡ false;
   steps : l.session.situation.steps ≡ l.fn.session.situation.steps;
   slots : l.session.situation.slots ≡ l.fn.session.situation.slots;
   journal : l.session.journal ≡ l.fn.session.journal;
-  leads : Leads l.fn.session.situation.steps l.fn.session.situation.slots (start l.fn.session.situation.steps l.fn.session.situation.slots) (take l.i l.list) l.session.situation.at;
+  leads : Leads l.fn.session.situation.steps l.fn.session.situation.slots (start l.fn.session.situation.steps l.fn.session.situation.slots) (take l.place (left_of l.fn.actions)) l.session.situation.at;
   room : map g.K.Keeper.slot_count l.keepers.items ≡ map g.K.Keeper.slot_count l.fn.keepers.items;
   count : length l.session.store ≡ length l.fn.session.situation.slots;
   pages : SamePages l.session.work l.fn.session.work;
   stands : AllTell (length l.fn.session.situation.slots) (told_by g.K.Keeper.told l.fn.keepers.items) → StandsAt l.fn.session.work l.session (told_by g.K.Keeper.told l.keepers.items);
   alone : AllEmpty (length l.fn.session.situation.slots) (told_by g.K.Keeper.told l.fn.keepers.items) → AreAlone (levels_of l.session (told_by g.K.Keeper.told l.keepers.items));
-  above : IsAbove l.fn.session.situation.steps (handed l.fn.session.situation.steps (take l.i l.list)) l.session.situation.at;
+  above : IsAbove l.fn.session.situation.steps (handed l.fn.session.situation.steps (take l.place (left_of l.fn.actions))) l.session.situation.at;
   did :
       (shown : Shown)
-      × (IsShown (perform l.fn.session.work l.fn.session.journal l.fn.session.situation.steps l.fn.session.situation.slots l.list) shown
+      × (IsShown (perform l.fn.session.work l.fn.session.journal l.fn.session.situation.steps l.fn.session.situation.slots (left_of l.fn.actions)) shown
       (moment g.O.Sink.told g.O.Sink.call_count g.K.Keeper.told g.K.Keeper.put_count g.K.Keeper.get_count g.K.Keeper.free_count l.fn.out l.fn.keepers.items l.fn.counter)
-      × Did (take l.i (map (deed_of shown l.fn.session.situation.steps) l.list))
+      × Did (take l.place (map (deed_of shown l.fn.session.situation.steps) (left_of l.fn.actions)))
       (moment g.O.Sink.told g.O.Sink.call_count g.K.Keeper.told g.K.Keeper.put_count g.K.Keeper.get_count g.K.Keeper.free_count l.fn.out l.fn.keepers.items l.fn.counter)
       (moment g.O.Sink.told g.O.Sink.call_count g.K.Keeper.told g.K.Keeper.put_count g.K.Keeper.get_count g.K.Keeper.free_count l.writer.out.now l.keepers.items l.counter));
   reference : l.writer.out.ghost_name ≡ l.initial.writer.out.ghost_name;
@@ -38,3 +41,6 @@ invariant-loop-i g l = record {
   keeper_faults : (k : ℕ) → by_number 0 g.K.Keeper.fault_count l.keepers.items k ≡ by_number 0 g.K.Keeper.fault_count l.fn.keepers.items k;
   others : (k : ℕ) → length l.fn.session.situation.slots ≤ k → slice_get l.keepers.items k ≡ slice_get l.fn.keepers.items k;
 }
+
+abbrev pub decreases-loop-action : goal.decreases-loop-action
+decreases-loop-action g l = length (left_of l.actions)

@@ -1,5 +1,6 @@
-use Rattle.std.proofs.Common.{◌≡◌, ◌≤◌, ◌<◌, ℕ, List, length, map, IsSome, inr, ap, sym, subst, slice_get}
-use Rattle.plan_types.specs.declared.action.Action.{Action}
+use Rattle.std.proofs.Common.{◌≡◌, ◌≤◌, ◌<◌, ℕ, length, map, Some, IsSome, inr, ap, sym, subst, slice_get}
+use Rattle.std.specs.FinMap as finmap
+use Rattle.reversal.specs.ActionsLeft.{left_of}
 use Rattle.reverse_runner.specs.KeepersSeen.{HaveRoom}
 use Rattle.rv_machine.specs.MachineState.{MachineState}
 use Rattle.reverse_runner.specs.SessionState.{SessionState}
@@ -15,6 +16,11 @@ perform_all-requires-clause-stands g c told tells =
     let S : SessionState → Type 0 = λ s. (k : ℕ) → k < length s.situation.slots → IsSome (told k) in
     subst W (sym (ap (λ (s : SessionState). s.work) begun_as)) (c.in-Ok.ensures.stands told (subst S begun_as tells))
 
+pub perform_all-requires-clause-alone : goal.perform_all-requires-clause-alone
+perform_all-requires-clause-alone g c told empty =
+    let S : SessionState → Type 0 = λ s. (k : ℕ) → k < length s.situation.slots → told k ≡ Some finmap.empty in
+    c.in-Ok.ensures.alone told (subst S c.in-Ok.ensures.begun empty)
+
 pub perform_all-requires-clause-room : goal.perform_all-requires-clause-room
 perform_all-requires-clause-room g c =
     let P : SessionState → Type 0 = λ s. HaveRoom s.situation.steps s.situation.slots (map g.K.Keeper.slot_count c.args.keepers.now.items) in
@@ -22,13 +28,10 @@ perform_all-requires-clause-room g c =
 
 pub returns-clause-works : goal.returns-clause-works
 returns-clause-works g c =
-    let P : SessionState → Type 0 = λ s. Works (perform s.work s.journal s.situation.steps s.situation.slots c.args.self.list.items) c.perform_all.result
+    let P : SessionState → Type 0 = λ s. Works (perform s.work s.journal s.situation.steps s.situation.slots (left_of c.args.self.actions)) c.perform_all.result
     (moment g.O.Sink.told g.O.Sink.call_count g.K.Keeper.told g.K.Keeper.put_count g.K.Keeper.get_count g.K.Keeper.free_count c.args.out.now c.args.keepers.now.items c.args.counter.now)
     (moment g.O.Sink.told g.O.Sink.call_count g.K.Keeper.told g.K.Keeper.put_count g.K.Keeper.get_count g.K.Keeper.free_count c.perform_all.new.out c.perform_all.new.keepers.items c.perform_all.new.counter) in
-    let Q : List Action → Type 0 = λ l. Works (perform c.in-Ok.session.work c.in-Ok.session.journal c.in-Ok.session.situation.steps c.in-Ok.session.situation.slots l) c.perform_all.result
-    (moment g.O.Sink.told g.O.Sink.call_count g.K.Keeper.told g.K.Keeper.put_count g.K.Keeper.get_count g.K.Keeper.free_count c.args.out.now c.args.keepers.now.items c.args.counter.now)
-    (moment g.O.Sink.told g.O.Sink.call_count g.K.Keeper.told g.K.Keeper.put_count g.K.Keeper.get_count g.K.Keeper.free_count c.perform_all.new.out c.perform_all.new.keepers.items c.perform_all.new.counter) in
-    inr (subst P c.in-Ok.ensures.begun (subst Q c.deref.ensures.value c.perform_all.ensures.works))
+    inr (subst P c.in-Ok.ensures.begun c.perform_all.ensures.works)
 
 pub returns-clause-others : goal.returns-clause-others
 returns-clause-others g c =

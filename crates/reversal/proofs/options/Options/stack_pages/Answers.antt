@@ -1,6 +1,6 @@
 use Rattle.std.proofs.Common.{◌≡◌, ℕ, ◌∙◌, refl, sym, ap, List, ◌∷◌, map}
 use Rattle.reversal.specs.declared.options.Choice as in_memory
-use Rattle.reversal.specs.declared.options.Choice.TheVariants.{Raw, Stack, Files}
+use Rattle.reversal.specs.declared.options.Choice.TheVariants.{Raw, Stack, Workers, Files}
 use Rattle.reversal.specs.Request.{Choice, stack_pages}
 use Rattle.reversal.specs.ChoiceReading.{options_at, as_choice}
 use Rattle.reversal.proofs.Requests.{one_more, no_more}
@@ -15,6 +15,7 @@ returns-in-Stack c =
 further : (c : in_memory.Choice) (xs : List Choice) → ((pages : ℕ) → c ≡ Stack pages → ⊥) → stack_pages xs ≡ stack_pages (as_choice c ∷ xs)
 further Raw xs h = refl
 further (Stack pages) xs h = absurd (h pages refl)
+further (Workers count) xs h = refl
 further (Files level folder) xs h = refl
 
 pub loop-choice-preserved : goal.loop-choice-preserved

@@ -1,0 +1,78 @@
+-- What is written of a plan of H-Revolve, and of a multistage plan, costs the least of its class.
+use Rattle.std.proofs.Common.{◌≡◌, ℕ, zero, suc, ◌+◌, ◌-◌, ◌*◌, ◌≤◌, Bool, true, false, List, refl, sym, ◌∙◌, ap}
+use Rattle.plan_types.specs.declared.action.Action.{Action}
+use Rattle.level_book.specs.BookCosts.{BookCosts, slots_of, names_of, room}
+use Rattle.level_book.specs.BookFaults.{IsBookText}
+use Rattle.level_book.specs.CostFold.{cost}
+use Rattle.level_book.specs.NestedClass.{Nested}
+use Rattle.level_book.specs.UnderTable.{Entry, number, Tables, sum_of, write_cost, read_cost, top_entry}
+use Rattle.hrevolve_gen.specs.Written.{Part, one, faster, split, Reads, IsWritten}
+use Rattle.hrevolve_gen.proofs.Whole.{written_costs, written_nested}
+use Rattle.revolve_gen.specs.Multistage.{IsMultistage}
+use Rattle.multistage_gen.proofs.Classed.{planned_in_class}
+use Rattle.multistage_gen.proofs.Least.{planned_least}
+use Rattle.class_bounds.proofs.NestedCosts.{nested_least}
+use Rattle.reversal.specs.Deeds.{Job, write}
+use Rattle.reversal.specs.Decision.{accept, DecidesPlanHrevolve, DecidesPlanMultistage}
+use Rattle.reversal.specs.Ending.{bad_book}
+use Rattle.reversal.specs.Plans.{list_pieces}
+use Rattle.reversal.proofs.BookTexts.{some_level, costs_rise}
+use Rattle.reversal.proofs.Deciding.{read_said, need_met, tabulate_met, job_or}
+
+-- the entry of a stretch whose first state is in work, or held
+abbrev entry_of : Tables → Bool → ℕ → ℕ → ℕ → Entry
+entry_of t false = t.fresh
+entry_of t true = t.held
+
+-- an entry that a part is read from is a number
+read_number : (steps : ℕ) (book : BookCosts) (t : Tables) (p : Part) (held : Bool) (k l m : ℕ) → Reads steps book t held k l m p → (v : ℕ) × (entry_of t held k l m ≡ number v)
+read_number steps book t one false k l m is = (book.forward + book.reverse, is.1)
+read_number steps book t one true k l m is = (read_cost book k + book.forward + book.reverse, is.1)
+read_number steps book t (faster p) held zero l m is = absurd is
+read_number steps book t (faster p) false (suc k) l m is =
+    let below = read_number steps book t p false k l (room book k steps) is.2 in
+    (below.0, is.1 ∙ below.1)
+read_number steps book t (faster p) true (suc k) l m is =
+    let below = read_number steps book t p false k l (room book k steps) is.2 in
+    (read_cost book (suc k) + 0 + below.0, is.1 ∙ ap (sum_of (read_cost book (suc k)) (number 0)) below.1)
+read_number steps book t (split j p q) false k l zero is = absurd is
+read_number steps book t (split j p q) false k l (suc m) is =
+    let later = read_number steps book t p false k (l - j) m is.3 in
+    let sooner = read_number steps book t q true k j m is.4 in
+    let n = write_cost book k + j * book.forward in
+    (n + later.0 + sooner.0, is.2 ∙ (λ i. sum_of n (later.1 i) (sooner.1 i)))
+read_number steps book t (split j p q) true k l m is =
+    let later = read_number steps book t p false k (l - j) m is.3 in
+    let sooner = read_number steps book t q true k j m is.4 in
+    let n = read_cost book k + j * book.forward in
+    (n + later.0 + sooner.0, is.2 ∙ (λ i. sum_of n (later.1 i) (sooner.1 i)))
+
+top_number : (steps : ℕ) (book : BookCosts) (t : Tables) (list : List Action) → IsWritten steps book t list → (v : ℕ) × (top_entry steps book t ≡ number v)
+top_number zero book t list is = (0, refl)
+top_number (suc n) book t list is = read_number (suc n) book t is.0 false _ (suc n) _ is.1
+
+-- a plan of H-Revolve is nested, and no nested list costs less
+pub hrevolve_least : (steps : ℕ) (book : List ℕ) (job : Job) → DecidesPlanHrevolve steps book (accept job) →
+    (b : BookCosts) × IsBookText book b × (list : List Action) × (job ≡ write (list_pieces (names_of b) list)) × Nested steps (slots_of b) list × ((other : List Action) → Nested steps (slots_of b) other → cost list b ≤ cost other b)
+hrevolve_least steps book job h =
+    let b = read_said (IsBookText book) _ bad_book job _ h in
+    let plan = need_met _ _ job _ (tabulate_met steps b.0 job _ b.1.1) in
+    let tables = plan.1.0 in
+    let list = plan.1.1.1.0 in
+    let is = plan.1.1.1.1.0 in
+    let some = some_level book b.0 b.1.0 in
+    let top = top_number steps b.0 tables list is in
+    let costs = top.1 ∙ ap (λ n. number n) (sym (written_costs steps b.0 tables list top.0 is top.1)) in
+    (b.0, b.1.0, list, ap (job_or job) plan.1.1.1.1.1, written_nested steps b.0 tables list some is, λ other nested. nested_least steps b.0 tables list other some plan.1.1.0.under costs nested)
+
+-- a multistage plan is in its class, and no list of the class costs less
+pub multistage_least : (steps : ℕ) (book : List ℕ) (job : Job) → DecidesPlanMultistage steps book (accept job) →
+    (b : BookCosts) × IsBookText book b × (list : List Action) × (job ≡ write (list_pieces (names_of b) list)) × IsMultistage steps b list × ((other : List Action) → IsMultistage steps b other → cost list b ≤ cost other b)
+multistage_least steps book job h =
+    let b = read_said (IsBookText book) _ bad_book job _ h in
+    let two = need_met _ _ job _ b.1.1 in
+    let plan = need_met _ _ job _ two.1 in
+    let list = plan.1.0 in
+    let is = plan.1.1.0 in
+    let rise = costs_rise book b.0 is.fast is.slow b.1.0 is.two in
+    (b.0, b.1.0, list, ap (job_or job) plan.1.1.1, planned_in_class steps b.0 list is, λ other member. planned_least steps b.0 list other is rise.0 rise.1 member)

@@ -1,0 +1,127 @@
+-- What is written of a plan is read again, as a schedule and as a certificate.
+use Rattle.std.proofs.Common.{◌≡◌, ◌≢◌, ℕ, zero, suc, ◌+◌, ◌*◌, ◌<◌, ◌≤◌, ◌++◌, Bool, true, false, cond, nat_le, List, [], ◌∷◌, length, map, append_assoc, append-nil, refl, sym, ◌∙◌, ap, subst, arith}
+use Rattle.std.specs.Prelude.{codes, decimal}
+use Rattle.std.specs.List.{AllByRecursion, flat_map}
+use Rattle.std.proofs.lemmas.Bool.{leb-false, eq-eqb, false≢true}
+use Rattle.std.proofs.lemmas.Grind.{flat_map-append}
+use Rattle.std.proofs.lemmas.List.{length-map}
+use Rattle.std.proofs.lemmas.List.Folds.{flat_map-map}
+use Rattle.std.proofs.Math.Nat.{mul-le-mul}
+use Rattle.plan_types.specs.declared.action.Action.{Action}
+use Rattle.plan_types.specs.declared.action.Action.TheVariants.{Forward, Reverse, Copy, Move, EndForward, EndReverse}
+use Rattle.level_book.specs.BookCosts.{BookCosts, names_of, total_room}
+use Rattle.level_book.specs.BookFaults.{IsBookText}
+use Rattle.level_book.specs.Names.{AreNames}
+use Rattle.level_book.proofs.OneBook.{text_names}
+use Rattle.action_text.specs.Canonical.{canonical, HasSpelling, text_of}
+use Rattle.action_text.specs.Laws.{certificate_line}
+use Rattle.action_text.specs.ScheduleText.{IsSchedule}
+use Rattle.action_text.proofs.Spelled.{HasNoEnd, endless, canonical_read}
+use Rattle.binomials.specs.Binomials.{beta}
+use Rattle.binomials.specs.Advances.{IsRepeats, repeats, least_advances}
+use Rattle.binomials.proofs.Advancing.{repeats_found}
+use Rattle.binomials.proofs.Ratio.{repeats_short}
+use Rattle.bound_cert.specs.declared.certificate.Certificate.{Certificate}
+use Rattle.bound_cert.specs.declared.certificate.Certificate.TheVariants.{Revolve}
+use Rattle.bound_cert.specs.Canonical as certificate
+use Rattle.bound_cert.specs.Laws.{IsOtherLine}
+use Rattle.bound_cert.specs.MarkedLines.{is_marked}
+use Rattle.bound_cert.specs.Meaning.{IsCertificateText}
+use Rattle.bound_cert.proofs.Numbers.{at_repeats}
+use Rattle.bound_cert.proofs.Spelled.{said, no_end_said, canonical_read as certificate_read}
+use Rattle.revolve_gen.specs.Plans.{HasPlan}
+use Rattle.revolve_gen.specs.Written.{revolve_list}
+use Rattle.reversal.specs.Plans.{certificate_of, line_of_action, list_pieces, plan_pieces}
+use Rattle.reversal.specs.Deeds.{bytes_of}
+use Rattle.reversal.proofs.Pieces.{pieces_bytes}
+use Rattle.reversal.proofs.Planned.{plan_few, plan_spelled}
+
+-- ---- the text of a plan
+
+plan_text_is : (steps : ℕ) (b : BookCosts) → bytes_of (plan_pieces steps b) ≡ text_of (names_of b) (revolve_list steps b) ++ certificate.canonical (certificate_of steps b)
+plan_text_is steps b =
+    let names = names_of b in
+    let list = revolve_list steps b in
+    let line = certificate.canonical (certificate_of steps b) in
+    let many = length-map list (line_of_action names) in
+    flat_map-append (λ l. l) (list_pieces names list) (line ∷ [])
+    ∙ ap (λ l. l ++ (line ++ [])) (pieces_bytes (length list) (map (line_of_action names) list) (omega (arith, many)) ∙ flat_map-map (λ l. l) (line_of_action names) list)
+    ∙ ap (λ l. text_of names list ++ l) (append-nil line)
+
+-- ---- its numbers
+
+few_repeats : (l c r : ℕ) → 0 < c → 1 ≤ l → IsRepeats l c r → r ≤ l
+few_repeats l c zero some long is = omega arith
+few_repeats l c (suc k) some long is = let short = repeats_short c k (beta c k) l some refl is.above in omega (arith, short)
+
+many_have_text : (steps c : ℕ) → 1 < steps → steps ≤ 1000000 → 1 ≤ c → certificate.HasText (Revolve (repeats steps c) (steps + least_advances steps c))
+many_have_text steps c more short some =
+    let r = repeats steps c in
+    let found = repeats_found steps c (record { some = omega (arith, more); slots = λ none. absurd (omega (arith, none, some)) }) in
+    let few = few_repeats steps c r (omega (arith, some)) (omega (arith, more)) found in
+    let value = at_repeats steps c (omega (arith, more)) some in
+    let small : r ≤ 1000000 = omega (arith, few, short) in
+    let product : r * steps ≤ 1000000 * 1000000 = mul-le-mul small short in
+    (omega (arith, few, short), omega (arith, value, product, short))
+
+has_text_by : (steps : ℕ) (b : BookCosts) (t : Bool) → nat_le steps 1 ≡ t → steps ≤ 1000000 → HasPlan steps (total_room b steps) →
+    certificate.HasText (cond t (Revolve 0 steps) (Revolve (repeats steps (total_room b steps)) (steps + least_advances steps (total_room b steps))))
+has_text_by steps b true e short plan = (omega arith, omega (arith, short))
+has_text_by steps b false e short plan =
+    let above = leb-false steps 1 e in
+    many_have_text steps (total_room b steps) (omega (arith, above)) short (plan (omega (arith, above)))
+
+has_text : (steps : ℕ) (b : BookCosts) → steps ≤ 1000000 → HasPlan steps (total_room b steps) → certificate.HasText (certificate_of steps b)
+has_text steps b short plan = has_text_by steps b (nat_le steps 1) refl short plan
+
+-- ---- as a schedule
+
+-- the certificate is one line behind the list
+one_line : (k v : ℕ) → certificate.canonical (Revolve k v) ≡ flat_map certificate_line (said k v ∷ [])
+one_line k v =
+    ap (λ (bs : List ℕ). codes "#! revolve " ++ (bs ++ 10 ∷ [])) (append_assoc (decimal k) (32 ∷ []) (decimal v))
+    ∙ sym (append-nil (35 ∷ 33 ∷ (said k v ++ 10 ∷ [])))
+
+read_as_schedule : (names : List (List ℕ)) (list : List Action) (c : Certificate) → AreNames names → length list ≤ 16777216 → AllByRecursion (HasSpelling names) list → certificate.HasText c → IsSchedule names (text_of names list ++ certificate.canonical c) list
+read_as_schedule names list (Revolve k v) are few spelled has =
+    let P : List ℕ → Type 0 = λ l. IsSchedule names (text_of names list ++ l) list in
+    subst P (sym (one_line k v)) (canonical_read names are list few spelled (said k v ∷ []) (no_end_said k v (omega (arith, has.0)) has.1, tt))
+
+-- ---- as a certificate
+
+no_tens : (l : List ℕ) → HasNoEnd l → AllByRecursion (λ b. b ≢ 10) l
+no_tens [] h = tt
+no_tens (b ∷ l) h = ((λ e. false≢true (sym h.0 ∙ eq-eqb b 10 e)), no_tens l h.1)
+
+unmarked : (names : List (List ℕ)) (a : Action) → is_marked (canonical names a) ≡ false
+unmarked names (Forward from to keep) = refl
+unmarked names (Reverse from to) = refl
+unmarked names (Copy n k dest) = refl
+unmarked names (Move n k dest) = refl
+unmarked names EndForward = refl
+unmarked names EndReverse = refl
+
+others_pass : (names : List (List ℕ)) (list : List Action) → AreNames names → AllByRecursion (HasSpelling names) list → AllByRecursion IsOtherLine (map (canonical names) list)
+others_pass names [] are spelled = tt
+others_pass names (a ∷ list) are spelled = (record { unmarked = unmarked names a; one_end = no_tens (canonical names a) (endless names a are spelled.0) }, others_pass names list are spelled.1)
+
+read_as_certificate : (names : List (List ℕ)) (list : List Action) (c : Certificate) → AreNames names → AllByRecursion (HasSpelling names) list → certificate.HasText c → IsCertificateText (text_of names list ++ certificate.canonical c) c
+read_as_certificate names list c are spelled has =
+    let P : List ℕ → Type 0 = λ l. IsCertificateText (l ++ certificate.canonical c) c in
+    subst P (flat_map-map (λ line. line ++ 10 ∷ []) (canonical names) list) (certificate_read c has (map (canonical names) list) (others_pass names list are spelled))
+
+-- ---- both
+
+pub plan_read_again : (steps : ℕ) (book : List ℕ) (b : BookCosts) → steps ≤ 1000000 → IsBookText book b → HasPlan steps (total_room b steps) →
+    IsSchedule (names_of b) (bytes_of (plan_pieces steps b)) (revolve_list steps b) × IsCertificateText (bytes_of (plan_pieces steps b)) (certificate_of steps b)
+plan_read_again steps book b short is plan =
+    let names = names_of b in
+    let list = revolve_list steps b in
+    let are = text_names book b is in
+    let spelled = plan_spelled steps b short plan in
+    let has = has_text steps b short plan in
+    let S : List ℕ → Type 0 = λ l. IsSchedule names l list in
+    let C : List ℕ → Type 0 = λ l. IsCertificateText l (certificate_of steps b) in (
+      subst S (sym (plan_text_is steps b)) (read_as_schedule names list (certificate_of steps b) are (plan_few steps b short plan) spelled has),
+      subst C (sym (plan_text_is steps b)) (read_as_certificate names list (certificate_of steps b) are spelled has),
+    )

@@ -1,0 +1,21 @@
+use Rattle.std.proofs.Common.{◌≡◌, inr, refl, ◌∙◌, ap, arith}
+use Rattle.level_book.specs.BookCosts.{BookCosts, plain, total_room}
+use Rattle.revolve_gen.specs.Plans.{HasPlan}
+use Rattle.reversal.proofs.demo.decide_demo.Goals.{else-steps-ge2-via-then-steps-ge2+else-room-eq0, else-steps-ge2-via-else-steps-ge2}
+use Rattle.reversal.proofs.demo.decide_demo.Goals as goal
+
+-- there is a list for so many steps and slots
+planned : (c : goal.In_ok-start) → HasPlan c.args.demo.now.steps (total_room (plain c.args.demo.now.slots) c.args.demo.now.steps)
+planned c two =
+    let room : c.total_room-room.result ≡ total_room (plain c.args.demo.now.slots) c.args.demo.now.steps =
+    c.total_room-room.ensures ∙ ap (λ (b : BookCosts). total_room b c.args.demo.now.steps) c.plain.ensures in
+    elim c.else-steps-ge2.branch [
+      | else-steps-ge2-via-then-steps-ge2+else-room-eq0 w ↦ omega (arith, room, w.if-room-eq0)
+      | else-steps-ge2-via-else-steps-ge2 w ↦ omega (arith, two, w.if-steps-ge2)
+    ]
+
+pub returns-clause-accepted : goal.returns-clause-accepted
+returns-clause-accepted c = inr (planned c, (c.in_ok-start.start, c.in_ok-start.ensures.found, refl))
+
+pub returns-clause-can_be_done : goal.returns-clause-can_be_done
+returns-clause-can_be_done c = record { steps = c.requires.steps; slots = c.requires.slots; plan = planned c }

@@ -1,0 +1,53 @@
+use Rattle.std.proofs.Common.{◌≡◌, ◌⊎◌, inr, List, sym, ◌∙◌, ap, subst, arith}
+use Rattle.std.specs.List.{AllByRecursion}
+use Rattle.plan_types.specs.declared.action.Action.{Action}
+use Rattle.level_book.specs.BookCosts.{slots_of, names_of}
+use Rattle.action_text.specs.Canonical.{HasSpelling}
+use Rattle.cost_tables.specs.TableRows.{tables_in}
+use Rattle.reversal.specs.declared.ended.Ended.{Ended}
+use Rattle.reversal.specs.Deeds.{Job, write}
+use Rattle.reversal.specs.Ending.{bad_book, no_memory, out_of_range}
+use Rattle.reversal.specs.Plans.{list_pieces}
+use Rattle.reversal.specs.NoPlans.{IsUnnested}
+use Rattle.reversal.specs.Decision.{HasBookFault, DecidesPlanHrevolve, accept}
+use Rattle.reversal.specs.JobReading.{IsRefusal}
+use Rattle.reversal.proofs.Spelled.{valid_spelled}
+use Rattle.reversal.proofs.Planned.{as_many}
+use Rattle.reversal.proofs.Deciding.{on_error, hrevolve_by_book, hrevolve_by_room, hrevolve_by_plan, hrevolve_accepted}
+use Rattle.reversal.proofs.hrevolve.hrevolve_text.Goals as goal
+
+pub returns-in_err-book-clause-refused : goal.returns-in_err-book-clause-refused
+returns-in_err-book-clause-refused g c =
+    on_error c.from_residual.result _ _ c.from_residual.ensures.1 (λ e gives.
+    let same : c.in_err-book.field-0.0 ≡ e = cc in
+    let P : Ended → Type 0 = λ x. IsRefusal (HasBookFault c.args.book.now) bad_book x in
+    hrevolve_by_book c.args.steps c.args.book.now e (subst P same c.in_err-book.ensures.refused))
+
+pub build-requires-clause-fits : goal.build-requires-clause-fits
+build-requires-clause-fits g c κs inside = record { few = c.requires.steps; narrow = c.in_default.ensures }
+
+pub list_for-requires-clause-fits : goal.list_for-requires-clause-fits
+list_for-requires-clause-fits g c = record { few = c.requires.steps; narrow = c.in_default.ensures }
+
+pub returns-in-Some-clause-refused : goal.returns-in-Some-clause-refused
+returns-in-Some-clause-refused g c = inr (hrevolve_by_room c.args.steps c.args.book.now _ c.in_ok-book.book c.in-Some.level c.in_ok-book.ensures.found c.in-Some.ensures (c.out_of_range.ensures ∙ ap (λ n. out_of_range n 64 9) c.room.ensures))
+
+pub returns-in_err-list-clause-refused : goal.returns-in_err-list-clause-refused
+returns-in_err-list-clause-refused g c =
+    on_error c.from_residual-in_err-list.result _ _ c.from_residual-in_err-list.ensures.1 (λ e gives.
+    let same : c.in_err-list.field-0.0 ≡ e = cc in
+    let P : Ended → Type 0 = λ x. (x ≡ no_memory) ⊎ IsUnnested c.args.steps c.in_ok-book.book x in
+    hrevolve_by_plan c.args.steps c.args.book.now e c.in_ok-book.book c.in_ok-book.ensures.found c.in_default.ensures (subst P same c.in_err-list.ensures.refused))
+
+pub list_text-requires : goal.list_text-requires
+list_text-requires g c =
+    let b = c.in_ok-book.book in
+    let S : List Action → Type 0 = λ l. AllByRecursion (HasSpelling (names_of b)) l in
+    subst S (sym c.new.ensures) (valid_spelled c.args.steps (slots_of b) (names_of b) c.in_ok-list.list.items (omega (arith, c.requires.steps)) (as_many b) c.in_ok-list.ensures.nested.0)
+
+pub returns-clause-accepted : goal.returns-clause-accepted
+returns-clause-accepted g c =
+    let b = c.in_ok-book.book in
+    let D : Job → Type 0 = λ j. DecidesPlanHrevolve c.args.steps c.args.book.now (accept j) in
+    subst D (sym (c.in_ok-job.ensures.job ∙ ap (λ l. write (list_pieces (names_of b) l)) c.new.ensures))
+    (hrevolve_accepted c.args.steps c.args.book.now b (tables_in c.in_ok-tables.tables) c.in_ok-list.list.items c.in_ok-book.ensures.found c.in_default.ensures c.in_ok-list.ensures.plan c.in_ok-tables.ensures.greatest c.in_ok-list.ensures.list)

@@ -1,0 +1,5 @@
+use Rattle.reversal.proofs.Deciding.{planned_again}
+use Rattle.reversal.proofs.laws.plans_are_read_again.Goals as goal
+
+pub returns : goal.returns
+returns c = planned_again

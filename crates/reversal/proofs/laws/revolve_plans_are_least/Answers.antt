@@ -1,0 +1,5 @@
+use Rattle.reversal.proofs.Deciding.{planned_least}
+use Rattle.reversal.proofs.laws.revolve_plans_are_least.Goals as goal
+
+pub returns : goal.returns
+returns c = planned_least

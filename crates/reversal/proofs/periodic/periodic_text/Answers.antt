@@ -1,0 +1,46 @@
+use Rattle.std.proofs.Common.{◌≡◌, ◌⊎◌, List, sym, ◌∙◌, ap, subst}
+use Rattle.std.specs.List.{AllByRecursion}
+use Rattle.plan_types.specs.declared.action.Action.{Action}
+use Rattle.level_book.specs.BookCosts.{slots_of, names_of}
+use Rattle.action_text.specs.Canonical.{HasSpelling}
+use Rattle.disk_gen.specs.Periodic.{periodic_list}
+use Rattle.disk_gen.proofs.Leading.{periodic_valid}
+use Rattle.reversal.specs.declared.ended.Ended.{Ended}
+use Rattle.reversal.specs.Deeds.{Job, write}
+use Rattle.reversal.specs.Ending.{bad_book, no_memory}
+use Rattle.reversal.specs.Plans.{list_pieces}
+use Rattle.reversal.specs.NoPlans.{IsUnperiodic}
+use Rattle.reversal.specs.Decision.{HasBookFault, DecidesPlanPeriodic, accept}
+use Rattle.reversal.specs.JobReading.{IsRefusal}
+use Rattle.reversal.proofs.Spelled.{valid_spelled}
+use Rattle.reversal.proofs.Planned.{as_many}
+use Rattle.reversal.proofs.Deciding.{on_error, periodic_by_book, periodic_by_plan, periodic_accepted}
+use Rattle.reversal.proofs.periodic.periodic_text.Goals as goal
+
+pub returns-in_err-book-clause-refused : goal.returns-in_err-book-clause-refused
+returns-in_err-book-clause-refused c =
+    on_error c.from_residual.result _ _ c.from_residual.ensures.1 (λ e gives.
+    let same : c.in_err-book.field-0.0 ≡ e = cc in
+    let P : Ended → Type 0 = λ x. IsRefusal (HasBookFault c.args.book.now) bad_book x in
+    periodic_by_book c.args.steps c.args.period c.args.book.now e (subst P same c.in_err-book.ensures.refused))
+
+pub returns-in_err-periodic-clause-refused : goal.returns-in_err-periodic-clause-refused
+returns-in_err-periodic-clause-refused c =
+    on_error c.from_residual-in_err-periodic.result _ _ c.from_residual-in_err-periodic.ensures.1 (λ e gives.
+    let same : c.in_err-periodic.field-0.0 ≡ e = cc in
+    let P : Ended → Type 0 = λ x. (x ≡ no_memory) ⊎ IsUnperiodic c.args.steps c.args.period c.in_ok-book.book x in
+    periodic_by_plan c.args.steps c.args.period c.args.book.now e c.in_ok-book.book c.in_ok-book.ensures.found (subst P same c.in_err-periodic.ensures.refused))
+
+pub list_text-requires : goal.list_text-requires
+list_text-requires c =
+    let b = c.in_ok-book.book in
+    let S : List Action → Type 0 = λ l. AllByRecursion (HasSpelling (names_of b)) l in
+    subst S (sym c.in_ok-periodic.ensures.list) (valid_spelled c.args.steps (slots_of b) (names_of b) (periodic_list c.args.steps c.args.period b) c.requires.steps (as_many b) (periodic_valid c.args.steps c.args.period b c.requires.some c.in_ok-periodic.ensures.plan))
+
+pub returns-clause-accepted : goal.returns-clause-accepted
+returns-clause-accepted c =
+    let b = c.in_ok-book.book in
+    let plan = c.in_ok-periodic.ensures.plan in
+    let D : Job → Type 0 = λ j. DecidesPlanPeriodic c.args.steps c.args.period c.args.book.now (accept j) in
+    subst D (sym (c.in_ok-job.ensures.job ∙ ap (λ l. write (list_pieces (names_of b) l)) c.in_ok-periodic.ensures.list))
+    (periodic_accepted c.args.steps c.args.period c.args.book.now b c.in_ok-book.ensures.found plan.two plan.fast plan.slow)

@@ -1,0 +1,82 @@
+use Rattle.std.proofs.Common.{◌≡◌, ◌∙◌, ℕ, List, map, take, Some, None, refl, sym, ap, subst}
+use Rattle.std.specs.List.{AllByRecursion}
+use Rattle.level_book.specs.BookCosts.{BookCosts, names_of}
+use Rattle.action_text.specs.Canonical.{HasSpelling}
+use Rattle.bound_cert.specs.Canonical as certificate
+use Rattle.keepers.specs.Told.{Tells, AddsPrefix}
+use Rattle.reversal.specs.Output.{Adds}
+use Rattle.reversal.specs.ActionsLeft.{left_of}
+use Rattle.reversal.specs.JobReading.{certificate_pieces}
+use Rattle.reversal.specs.Plans.{line_of_action}
+use Rattle.reversal.specs.Deeds.{bytes_of}
+use Rattle.reversal.proofs.Pieces.{written_none, written_more, written_stopped, written_whole, written_all, written_but_the_last, none_behind, fewer_left, spelled_behind}
+use Rattle.reversal.proofs.planning.Plan.write.Goals as goal
+
+pub loop-out-init : goal.loop-out-init
+loop-out-init g c =
+    let plan = c.args.self in
+    record {
+      so_far = written_none (line_of_action (names_of plan.book)) (certificate_pieces plan.certificate) (left_of plan.actions) (g.O.Sink.told c.args.out.now) (g.O.Sink.call_count c.args.out.now);
+      spelled = c.requires.spelled;
+      room = c.requires.reserved;
+      book = refl;
+      certificate = refl;
+      faults = refl;
+    }
+
+pub loop-out-smaller : goal.loop-out-smaller
+loop-out-smaller g c = fewer_left (left_of c.loop-out.self.actions) (left_of c.next_piece.new.self.actions) (c.loop-out-test.ensures.some.0 refl) c.next_piece.ensures.left
+
+pub loop-out-preserved : goal.loop-out-preserved
+loop-out-preserved g c =
+    let inv = c.loop-out.invariant in
+    let rest = left_of c.loop-out.self.actions in
+    let f = line_of_action (names_of c.args.self.book) in
+    let is = c.next_piece.ensures.piece ∙ ap (λ b. bytes_of (take 64 (map (line_of_action (names_of b)) rest))) inv.book in
+    let P : List ℕ → Type 0 = λ l. Tells (g.O.Sink.told c.loop-out.out) (g.O.Sink.told c.write.new.self) (Adds l) in
+    let B : BookCosts → Type 0 = λ b. AllByRecursion (HasSpelling (names_of b)) (left_of c.next_piece.new.self.actions) in
+    record {
+      so_far = written_more f _ _ rest (left_of c.next_piece.new.self.actions) c.next_piece.new.self.piece.items (g.O.Sink.told c.args.out.now) (g.O.Sink.told c.loop-out.out) (g.O.Sink.told c.write.new.self) _ _ _ inv.so_far
+          (c.loop-out-test.ensures.some.0 refl) c.next_piece.ensures.left is (subst P c.deref.ensures.value c.in-Ok.ensures.ok) c.in-Ok.ensures.calls;
+      spelled = subst B (sym c.next_piece.ensures.kept.0) (spelled_behind (names_of c.loop-out.self.book) rest (left_of c.next_piece.new.self.actions) c.next_piece.ensures.left inv.spelled);
+      room = c.next_piece.ensures.capacity;
+      book = c.next_piece.ensures.kept.0 ∙ inv.book;
+      certificate = c.next_piece.ensures.kept.1 ∙ inv.certificate;
+      faults = c.in-Ok.ensures.quiet ∙ inv.faults;
+    }
+
+pub returns-in-Err-clause-works : goal.returns-in-Err-clause-works
+returns-in-Err-clause-works g c steps calls images =
+    let inv = c.loop-out.invariant in
+    let rest = left_of c.loop-out.self.actions in
+    let f = line_of_action (names_of c.args.self.book) in
+    let is = c.next_piece.ensures.piece ∙ ap (λ b. bytes_of (take 64 (map (line_of_action (names_of b)) rest))) inv.book in
+    let P : List ℕ → Type 0 = λ l. Tells (g.O.Sink.told c.loop-out.out) (g.O.Sink.told c.write.new.self) (AddsPrefix l) in
+    written_stopped f _ _ rest c.next_piece.new.self.piece.items _ (g.O.Sink.told c.args.out.now) (g.O.Sink.told c.loop-out.out) (g.O.Sink.told c.write.new.self) _ _ _ steps calls images inv.so_far
+    (c.loop-out-test.ensures.some.0 refl) is c.stopped.ensures (subst P c.deref.ensures.value c.in-Err.ensures.refused) c.in-Err.ensures.calls
+
+pub returns-in_default-clause-works : goal.returns-in_default-clause-works
+returns-in_default-clause-works g c steps calls images =
+    let inv = c.loop-out.invariant in
+    let f = line_of_action (names_of c.args.self.book) in
+    let none = none_behind (left_of c.loop-out.self.actions) (λ some. c.loop-out-test.ensures.some.1 some) in
+    let same : c.args.self.certificate ≡ None = sym (c.next_piece.ensures.kept.1 ∙ inv.certificate) ∙ c.in_default.is in
+    written_whole f _ _ (left_of c.loop-out.self.actions) _ (g.O.Sink.told c.args.out.now) (g.O.Sink.told c.loop-out.out) _ _ steps calls images inv.so_far none (ap certificate_pieces same) c.done.ensures
+
+pub returns-in-Ok-print_certificate-clause-works : goal.returns-in-Ok-print_certificate-clause-works
+returns-in-Ok-print_certificate-clause-works g c steps calls images =
+    let inv = c.loop-out.invariant in
+    let f = line_of_action (names_of c.args.self.book) in
+    let none = none_behind (left_of c.loop-out.self.actions) (λ some. c.loop-out-test.ensures.some.1 some) in
+    let same : c.args.self.certificate ≡ Some c.in-Some.certificate = sym (c.next_piece.ensures.kept.1 ∙ inv.certificate) ∙ c.in-Some.is in
+    written_all f _ _ (left_of c.loop-out.self.actions) (certificate.canonical c.in-Some.certificate) _ (g.O.Sink.told c.args.out.now) (g.O.Sink.told c.loop-out.out) (g.O.Sink.told c.print_certificate.new.out) _ _ _ steps calls images inv.so_far none
+    (ap certificate_pieces same) c.done-in-Ok-print_certificate.ensures c.in-Ok-print_certificate.ensures.ok c.in-Ok-print_certificate.ensures.calls
+
+pub returns-clause-works : goal.returns-clause-works
+returns-clause-works g c steps calls images =
+    let inv = c.loop-out.invariant in
+    let f = line_of_action (names_of c.args.self.book) in
+    let none = none_behind (left_of c.loop-out.self.actions) (λ some. c.loop-out-test.ensures.some.1 some) in
+    let same : c.args.self.certificate ≡ Some c.in-Some.certificate = sym (c.next_piece.ensures.kept.1 ∙ inv.certificate) ∙ c.in-Some.is in
+    written_but_the_last f _ _ (left_of c.loop-out.self.actions) (certificate.canonical c.in-Some.certificate) _ (g.O.Sink.told c.args.out.now) (g.O.Sink.told c.loop-out.out) (g.O.Sink.told c.print_certificate.new.out) _ _ _ steps calls images inv.so_far none
+    (ap certificate_pieces same) c.stopped-in-Err-print_certificate.ensures c.in-Err-print_certificate.ensures.refused c.in-Err-print_certificate.ensures.calls

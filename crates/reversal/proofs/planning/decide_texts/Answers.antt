@@ -1,0 +1,67 @@
+use Rattle.std.proofs.Common.{◌≡◌, ◌≤◌, sym, subst, List, length}
+use Rattle.std.specs.Option.{option_copied}
+use Rattle.plan_types.specs.declared.action.Action.{Action}
+use Rattle.level_book.specs.BookCosts.{slots_of}
+use Rattle.reversal.specs.declared.ended.Ended.{Ended}
+use Rattle.reversal.specs.Deeds.{perform}
+use Rattle.reversal.specs.Ending.{bad_book, bad_program, bad_journal}
+use Rattle.reversal.specs.Request.{says_raw, stack_pages}
+use Rattle.reversal.specs.Decision.{Keep, refuse, accept, HasBookFault, HasProgramFault, HasJournalFault, DecidesRunRevolve}
+use Rattle.reversal.specs.JobReading.{IsRefusal}
+use Rattle.level_book.specs.Valid.{Valid}
+use Rattle.reversal.proofs.Planned.{plan_valid, plan_few}
+use Rattle.reversal.proofs.Deciding.{on_error, IsUnplanned, revolve_by_book, revolve_by_keepers, revolve_by_plan, revolve_by_program, revolve_by_journal, revolve_accepted}
+use Rattle.reversal.proofs.planning.decide_texts.Goals as goal
+
+pub returns-in_err-book-clause-refused : goal.returns-in_err-book-clause-refused
+returns-in_err-book-clause-refused c =
+    on_error c.from_residual.result _ _ c.from_residual.ensures.1 (λ e gives.
+    let same : c.in_err-book.field-0.0 ≡ e = cc in
+    let P : Ended → Type 0 = λ x. IsRefusal (HasBookFault c.args.texts.book.now) bad_book x in
+    revolve_by_book c.args.options.now c.args.steps c.args.texts.program.now (option_copied c.args.texts.journal) c.args.texts.book.now c.args.counts.now e (subst P same c.in_err-book.ensures.refused))
+
+pub returns-in_err-keep-clause-refused : goal.returns-in_err-keep-clause-refused
+returns-in_err-keep-clause-refused c =
+    on_error c.from_residual-in_err-keep.result _ _ c.from_residual-in_err-keep.ensures.1 (λ e gives.
+    let same : c.in_err-keep.field-0.0 ≡ e = cc in
+    let P : Ended → Type 0 = λ x. Keep c.args.steps (slots_of c.in_ok-book.book) c.args.counts.now (refuse x) ⊥ in
+    revolve_by_keepers c.args.options.now c.args.steps c.args.texts.program.now (option_copied c.args.texts.journal) c.args.texts.book.now c.args.counts.now e c.in_ok-book.book c.in_ok-book.ensures.found (subst P same c.in_err-keep.ensures.refused))
+
+pub returns-in_err-revolve-clause-refused : goal.returns-in_err-revolve-clause-refused
+returns-in_err-revolve-clause-refused c =
+    on_error c.from_residual-in_err-revolve.result _ _ c.from_residual-in_err-revolve.ensures.1 (λ e gives.
+    let same : c.in_err-revolve.field-0.0 ≡ e = cc in
+    let P : Ended → Type 0 = λ x. IsUnplanned c.args.steps c.in_ok-book.book x in
+    revolve_by_plan c.args.options.now c.args.steps c.args.texts.program.now (option_copied c.args.texts.journal) c.args.texts.book.now c.args.counts.now e c.in_ok-book.book c.in_ok-book.ensures.found c.in_ok-keep.ensures.room (subst P same c.in_err-revolve.ensures.refused))
+
+pub returns-in_err-start-clause-refused : goal.returns-in_err-start-clause-refused
+returns-in_err-start-clause-refused c =
+    on_error c.from_residual-in_err-start.result _ _ c.from_residual-in_err-start.ensures.1 (λ e gives.
+    let same : c.in_err-start.field-0.0 ≡ e = cc in
+    let P : Ended → Type 0 = λ x. IsRefusal (HasProgramFault (says_raw c.args.options.now) (stack_pages c.args.options.now) c.args.texts.program.now) bad_program x in
+    revolve_by_program c.args.options.now c.args.steps c.args.texts.program.now (option_copied c.args.texts.journal) c.args.texts.book.now c.args.counts.now e c.in_ok-book.book c.in_ok-book.ensures.found c.in_ok-keep.ensures.room c.in_ok-revolve.ensures.plan (subst P same c.in_err-start.ensures.refused))
+
+pub returns-in_err-journal-clause-refused : goal.returns-in_err-journal-clause-refused
+returns-in_err-journal-clause-refused c =
+    on_error c.from_residual-in_err-journal.result _ _ c.from_residual-in_err-journal.ensures.1 (λ e gives.
+    let same : c.in_err-journal.field-0.0 ≡ e = cc in
+    let P : Ended → Type 0 = λ x. IsRefusal (HasJournalFault (option_copied c.args.texts.journal)) bad_journal x in
+    revolve_by_journal c.args.options.now c.args.steps c.args.texts.program.now (option_copied c.args.texts.journal) c.args.texts.book.now c.args.counts.now e c.in_ok-book.book c.in_ok-start.start c.in_ok-book.ensures.found c.in_ok-keep.ensures.room c.in_ok-revolve.ensures.plan c.in_ok-start.ensures.found (subst P same c.in_err-journal.ensures.refused))
+
+pub returns-clause-accepted : goal.returns-clause-accepted
+returns-clause-accepted c =
+    let P : List Action → Type 0 = λ l. DecidesRunRevolve c.args.options.now c.args.steps c.args.texts.program.now (option_copied c.args.texts.journal) c.args.texts.book.now c.args.counts.now (accept (perform c.in_ok-start.start c.in_ok-journal.journal c.args.steps (slots_of c.in_ok-book.book) l)) in
+    subst P (sym c.in_ok-revolve.ensures.list)
+    (revolve_accepted c.args.options.now c.args.steps c.args.texts.program.now (option_copied c.args.texts.journal) c.args.texts.book.now c.args.counts.now c.in_ok-book.book c.in_ok-start.start c.in_ok-journal.journal
+    c.in_ok-book.ensures.found c.in_ok-keep.ensures.room c.in_ok-revolve.ensures.plan c.in_ok-start.ensures.found c.in_ok-journal.ensures.found)
+
+pub returns-clause-can_be_done : goal.returns-clause-can_be_done
+returns-clause-can_be_done c =
+    let b = c.in_ok-book.book in
+    let F : List Action → Type 0 = λ l. length l ≤ 16777216 in
+    let V : List Action → Type 0 = λ l. Valid c.args.steps (slots_of b) l in
+    record {
+      steps = c.requires.steps;
+      few = subst F (sym c.in_ok-revolve.ensures.list) (plan_few c.args.steps b c.requires.steps c.in_ok-revolve.ensures.plan);
+      valid = subst V (sym c.in_ok-revolve.ensures.list) (plan_valid c.args.steps b c.in_ok-revolve.ensures.plan);
+    }

@@ -1,0 +1,47 @@
+use Rattle.std.proofs.Common.{◌≡◌, ◌++◌, List, [], ◌∷◌, sym, subst}
+use Rattle.std.specs.List.{AllByRecursion}
+use Rattle.plan_types.specs.declared.action.Action.{Action}
+use Rattle.level_book.specs.BookCosts.{names_of}
+use Rattle.action_text.specs.Canonical.{HasSpelling}
+use Rattle.bound_cert.specs.declared.certificate.Certificate.{Certificate}
+use Rattle.bound_cert.specs.Canonical as certificate
+use Rattle.reversal.specs.declared.ended.Ended.{Ended}
+use Rattle.reversal.specs.Deeds.{write}
+use Rattle.reversal.specs.Ending.{bad_book}
+use Rattle.reversal.specs.Plans.{list_pieces, certificate_of}
+use Rattle.reversal.specs.Decision.{HasBookFault, DecidesPlanRevolve, accept}
+use Rattle.reversal.specs.JobReading.{IsRefusal}
+use Rattle.reversal.proofs.Planned.{plan_spelled, certificate_is}
+use Rattle.reversal.proofs.Deciding.{on_error, IsUnplanned, plan_by_book, plan_by_plan, plan_accepted}
+use Rattle.reversal.proofs.planning.revolve_text.Goals as goal
+
+pub returns-in_err-book-clause-refused : goal.returns-in_err-book-clause-refused
+returns-in_err-book-clause-refused c =
+    on_error c.from_residual.result _ _ c.from_residual.ensures.1 (λ e gives.
+    let same : c.in_err-book.field-0.0 ≡ e = cc in
+    let P : Ended → Type 0 = λ x. IsRefusal (HasBookFault c.args.book.now) bad_book x in
+    plan_by_book c.args.steps c.args.book.now e (subst P same c.in_err-book.ensures.refused))
+
+pub returns-in_err-revolve-clause-refused : goal.returns-in_err-revolve-clause-refused
+returns-in_err-revolve-clause-refused c =
+    on_error c.from_residual-in_err-revolve.result _ _ c.from_residual-in_err-revolve.ensures.1 (λ e gives.
+    let same : c.in_err-revolve.field-0.0 ≡ e = cc in
+    let P : Ended → Type 0 = λ x. IsUnplanned c.args.steps c.in_ok-book.book x in
+    plan_by_plan c.args.steps c.args.book.now e c.in_ok-book.book c.in_ok-book.ensures.found (subst P same c.in_err-revolve.ensures.refused))
+
+pub returns-clause-accepted : goal.returns-clause-accepted
+returns-clause-accepted c =
+    let b = c.in_ok-book.book in
+    let M : Certificate → Type 0 = λ k. DecidesPlanRevolve c.args.steps c.args.book.now (accept (write (list_pieces (names_of b) c.in_ok-revolve.revolve ++ certificate.canonical k ∷ []))) in
+    let is = certificate_is c.args.steps b c.certify_revolve-certificate.result c.certify_revolve-certificate.ensures.few c.certify_revolve-certificate.ensures.more in
+    subst M (sym is) (let N : List Action → Type 0 = λ l. DecidesPlanRevolve c.args.steps c.args.book.now (accept (write (list_pieces (names_of b) l ++ certificate.canonical (certificate_of c.args.steps b) ∷ []))) in
+    subst N (sym c.in_ok-revolve.ensures.list) (plan_accepted c.args.steps c.args.book.now b c.in_ok-book.ensures.found c.in_ok-revolve.ensures.plan))
+
+pub returns-clause-can_be_done : goal.returns-clause-can_be_done
+returns-clause-can_be_done c =
+    let b = c.in_ok-book.book in
+    let S : List Action → Type 0 = λ l. AllByRecursion (HasSpelling (names_of b)) l in
+    record {
+      spelled = subst S (sym c.in_ok-revolve.ensures.list) (plan_spelled c.args.steps b c.requires.steps c.in_ok-revolve.ensures.plan);
+      reserved = c.in_ok-piece.ensures.capacity;
+    }

@@ -1,0 +1,25 @@
+-- No public clause cites this file. A demonstration at its start, and one that breaks off.
+use Rattle.std.specs.Prelude.{◌≡◌, ℕ, ◌+◌, List, map, take, slice_get, Some}
+use Rattle.plan_types.specs.declared.action.Action.{Action}
+use Rattle.level_book.specs.CostFold.{forward}
+use Rattle.level_book.specs.Valid.{Valid}
+use Rattle.keepers.specs.KeeperState.{KeeperState}
+use Rattle.rv_machine.specs.MachineState.{IsMachineState}
+use Rattle.reverse_runner.specs.KeepersSeen.{HaveRoom, told_by}
+use Rattle.reverse_runner.specs.Standing.{begun, StandsAt}
+use Rattle.reversal.specs.declared.demo.Demonstrated.{Demonstrated}
+
+-- A run: the session is at its start, and stands there over the keeper, which has room; a valid list is still to come.
+pub record IsAtStart (d : Demonstrated) : Type 0 where
+  pub state : IsMachineState d.session.work
+  pub begun_so : d.session ≡ begun d.session.work d.session.journal d.session.situation.steps d.session.situation.slots
+  pub stands : StandsAt d.session.work d.session (told_by (λ (k : KeeperState). Some k.images) d.keepers.items)
+  pub room : HaveRoom d.session.situation.steps d.session.situation.slots (map (λ (k : KeeperState). k.slots) d.keepers.items)
+  pub valid : Valid d.session.situation.steps d.session.situation.slots d.actions
+
+-- some actions of the list were performed, and the count of steps rose by their forward steps; the next one was not
+pub record BreaksWithin (list : List Action) (old new : ℕ) : Type 0 where
+  pub performed : ℕ
+  pub next : Action
+  pub there : slice_get list performed ≡ Some next
+  pub counted : new ≡ old + forward (take performed list)

@@ -1,0 +1,19 @@
+-- No public clause cites this file. Why there is no plan, as the steps of deciding answer it.
+use Rattle.std.specs.Prelude.{◌≡◌, ◌⊎◌, ℕ, ◌≤◌, length}
+use Rattle.level_book.specs.BookCosts.{BookCosts, room, total_room}
+use Rattle.disk_gen.specs.Periodic.{images}
+use Rattle.disk_gen.specs.Plans.{slots_at, HasSlots}
+use Rattle.hrevolve_gen.specs.Plans as nested
+use Rattle.reversal.specs.declared.ended.Ended.{Ended}
+use Rattle.reversal.specs.Ending.{no_plan}
+
+-- no periodic one
+abbrev pub IsUnperiodic : ℕ → ℕ → BookCosts → Ended → Type 0
+IsUnperiodic steps period b e =
+    ((length b.levels ≡ 2 → ⊥) × (e ≡ no_plan steps (total_room b steps) 2))
+    ⊎ (((length b.levels ≡ 2) × ((2 ≤ steps → 2 ≤ period → 1 ≤ room b 0 steps) → ⊥) × (e ≡ no_plan steps (total_room b steps) 1))
+    ⊎ ((length b.levels ≡ 2) × (2 ≤ steps → 2 ≤ period → 1 ≤ room b 0 steps) × (HasSlots (slots_at b 1) (images steps period) → ⊥) × (e ≡ no_plan steps (total_room b steps) 4)))
+
+-- none of H-Revolve
+abbrev pub IsUnnested : ℕ → BookCosts → Ended → Type 0
+IsUnnested steps b e = (nested.HasPlan steps b → ⊥) × (e ≡ no_plan steps (total_room b steps) 1)

@@ -1,0 +1,35 @@
+-- What is written of the list of Revolve for a book: its text and its certificate, which say it again.
+use Rattle.std.specs.Prelude.{ℕ, suc, zero, List, [], ◌∷◌, ◌++◌, length, map, take, drop, cond, nat_le, ◌+◌}
+use Rattle.std.specs.List.{flat_map}
+use Rattle.plan_types.specs.declared.action.Action.{Action}
+use Rattle.level_book.specs.BookCosts.{BookCosts, names_of, total_room}
+use Rattle.action_text.specs.Canonical.{canonical}
+use Rattle.binomials.specs.Advances.{repeats, least_advances}
+use Rattle.revolve_gen.specs.Written.{revolve_list}
+use Rattle.bound_cert.specs.declared.certificate.Certificate.{Certificate}
+use Rattle.bound_cert.specs.declared.certificate.Certificate.TheVariants.{Revolve}
+use Rattle.bound_cert.specs.Canonical as certificate
+
+-- The certificate of Revolve's list: its number of repeats, and its forward steps. For no step and for one these are known
+-- without a number of repeats.
+abbrev pub certificate_of : ℕ → BookCosts → Certificate
+certificate_of steps book =
+    cond (nat_le steps 1) (Revolve 0 steps) (Revolve (repeats steps (total_room book steps)) (steps + least_advances steps (total_room book steps)))
+
+-- the spelling of an action and a line end
+abbrev pub line_of_action : List (List ℕ) → Action → List ℕ
+line_of_action names action = canonical names action ++ 10 ∷ []
+
+-- The lines of a list, in pieces of sixty-four, each of which is one write; the last may have fewer. The number is no less
+-- than that of the lines, and only bounds the recursion.
+abbrev pub in_pieces : ℕ → List (List ℕ) → List (List ℕ)
+in_pieces zero lines = []
+in_pieces (suc more) [] = []
+in_pieces (suc more) (line ∷ lines) = flat_map (λ l. l) (take 64 (line ∷ lines)) ∷ in_pieces more (drop 64 (line ∷ lines))
+
+abbrev pub list_pieces : List (List ℕ) → List Action → List (List ℕ)
+list_pieces names list = in_pieces (length list) (map (line_of_action names) list)
+
+-- the writes of a plan: the text of the list, and the line of its certificate
+abbrev pub plan_pieces : ℕ → BookCosts → List (List ℕ)
+plan_pieces steps book = list_pieces (names_of book) (revolve_list steps book) ++ certificate.canonical (certificate_of steps book) ∷ []

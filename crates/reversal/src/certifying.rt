@@ -1,0 +1,104 @@
+// Whether a list takes the fewest forward steps of all valid lists, by its certificate.
+ghost use Rattle.std.specs.Prelude.{◌≡◌, ◌⊎◌, ℕ, ◌≤◌, List, length, map, codes, IfOk, IfErr, OnOk};
+ghost use Rattle.level_book.specs.BookCosts.{slots_of};
+ghost use Rattle.level_book.specs.Valid.{Valid};
+ghost use Rattle.bound_cert.specs.declared.certificate.Reason.{Reason};
+ghost use Rattle.bound_cert.specs.Meaning.{IsCertificateText};
+ghost use Rattle.bound_cert.specs.Faults.{HasFirstFault};
+ghost use Rattle.bound_cert.specs.Accepted.{IsAccepted, IsFirstReason};
+ghost use Rattle.reversal.specs.Request.{Choice};
+ghost use Rattle.reversal.specs.Decision.{accept, refuse, DecidesCertify, DecidesBytes};
+ghost use Rattle.reversal.specs.Ending.{no_memory, bad_certificate, not_least};
+ghost use Rattle.reversal.specs.Inputs.{inputs_of};
+ghost use Rattle.reversal.specs.InputReading.{AreWithinLimits};
+ghost use Rattle.reversal.specs.JobReading.{job_of, CanBeDone, KeepersHaveRoom, IsRefusal};
+ghost use Rattle.reversal.specs.Request.{certify as certify_command};
+ghost use Rattle.reversal.specs.RequestReading.{as_certify};
+
+use crate::decision::{book_in, judge, list_in};
+use crate::ended::Ended;
+use crate::job::Job;
+use crate::request::Certify;
+use bound_cert::{CertVerdict, Certificate, Class, Reason, check_certificate, read_certificate};
+use level_book::Book;
+use plan_types::{Action, Line};
+use std::alloc::Global;
+
+/// What a request for a proof that a list is least comes to by the bytes of its inputs.
+pub fn decide_certify(alloc: Global, certify: &Certify<'_>, bytes: &[Vec<u8>]) -> Result<Job, Ended>
+    requires steps { certify.now.steps ≤ 1000000 }
+    requires inputs { AreWithinLimits (inputs_of (certify_command (as_certify certify.now))) (map (λ b. b.items) bytes.now) }
+    ensures accepted { IfOk result (λ job. (slots : List ℕ) → (options : List Choice) → DecidesBytes options (certify_command (as_certify certify.now)) (map (λ b. b.items) bytes.now) slots (accept (job_of job))) }
+    ensures can_be_done { IfOk result CanBeDone }
+    ensures room { IfOk result (λ job. (counts : List ℕ) → KeepersHaveRoom job counts) }
+    ensures refused { IfErr result (λ e. (e ≡ no_memory) ⊎ ((slots : List ℕ) → (options : List Choice) → DecidesBytes options (certify_command (as_certify certify.now)) (map (λ b. b.items) bytes.now) slots (refuse e))) }
+{
+    let [book, schedule, certificate] = bytes else {
+        unreachable!()
+    };
+    certify_texts(alloc, certify.steps as u32, book, schedule, certificate)
+}
+
+fn certify_texts(
+    alloc: Global,
+    steps: u32,
+    book: &[u8],
+    schedule: &[u8],
+    certificate: &[u8],
+) -> Result<Job, Ended>
+    requires steps { steps ≤ 1000000 }
+    requires short { length schedule.now ≤ 536870912 }
+    requires small { length certificate.now ≤ 536870912 }
+    ensures accepted { IfOk result (λ job. DecidesCertify steps book.now schedule.now certificate.now (accept (job_of job))) }
+    ensures can_be_done { IfOk result CanBeDone }
+    ensures room { IfOk result (λ job. (counts : List ℕ) → KeepersHaveRoom job counts) }
+    ensures refused { IfErr result (λ e. (e ≡ no_memory) ⊎ DecidesCertify steps book.now schedule.now certificate.now (refuse e)) }
+{
+    let book = book_in(alloc, book)?;
+    let list = list_in(alloc, schedule, &book)?;
+    judge(alloc, &list, steps, &book)?;
+    let certificate = certificate_in(certificate, steps, &book)?;
+    weigh(alloc, &list, steps, &book, &certificate)?;
+    Ok(Job::Write(least_line()))
+}
+
+// What is written of a list that is least.
+fn least_line() -> Line
+    ensures { result ≡ codes "least valid\n" }
+{
+    let mut line = Line::new();
+    line.push(b"least valid\n");
+    line
+}
+
+// The certificate that bytes say.
+fn certificate_in(bytes: &[u8], steps: u32, book: &Book) -> Result<Certificate, Ended>
+    requires { length bytes.now ≤ 536870912 }
+    ensures found { IfOk result (IsCertificateText bytes.now) }
+    ensures refused { IfErr result (IsRefusal (HasFirstFault bytes.now) bad_certificate) }
+{
+    Ok(read_certificate(bytes, steps, book)?)
+}
+
+// Weighs a valid list by its certificate.
+fn weigh(
+    alloc: Global,
+    list: &[Action],
+    steps: u32,
+    book: &Book,
+    certificate: &Certificate,
+) -> Result<(), Ended>
+    requires steps { steps ≤ 1000000 }
+    requires few { length list.now ≤ 16777216 }
+    requires valid { Valid steps (slots_of book.now) list.now }
+    ensures accepted { OnOk result (IsAccepted list.now steps book.now certificate.now) }
+    ensures refused { IfErr result (λ e. (e ≡ no_memory) ⊎ ((e ≡ not_least e.place e.more) × IsFirstReason list.now steps book.now certificate.now (Reason.ValueDiffers e.place e.more))) }
+{
+    match check_certificate(alloc, list, steps, book, certificate)? {
+        CertVerdict::Least(Class::Valid) => Ok(()),
+        CertVerdict::Not(Reason::ValueDiffers { cost, value }) => {
+            Err(Ended::not_least(cost, value))
+        }
+        CertVerdict::Not(Reason::Invalid) => unreachable!(),
+    }
+}

@@ -1,0 +1,309 @@
+// A demonstration: a run backward of a program that is made from a number.
+ghost use Rattle.std.specs.Prelude.{◌≡◌, ◌≢◌, ◌⊎◌, ◌↔◌, ℕ, ◌+◌, ◌*◌, ◌%◌, ◌^◌, ◌<◌, ◌≤◌, ◌++◌, List, [], ◌∷◌, length, Option, decimal, MatchOption, IfOk, IfErr, OnOk};
+ghost use Rattle.std.specs.Int.{w32, to_le_bytes};
+ghost use Rattle.keepers.specs.Told.{Images};
+ghost use Rattle.keepers.specs.Counts.{Rose};
+ghost use Rattle.plan_types.specs.declared.action.Action.{Action};
+ghost use Rattle.level_book.specs.BookCosts.{slots_of, total_room, plain};
+ghost use Rattle.level_book.specs.CostFold.{forward};
+ghost use Rattle.level_book.specs.Valid.{Valid};
+ghost use Rattle.elf_load.specs.Raw.{IsRawProgram};
+ghost use Rattle.revolve_gen.specs.Plans.{HasPlan};
+ghost use Rattle.rv_machine.specs.MachineState.{MachineState};
+ghost use Rattle.rv_machine.specs.States.{state_number};
+ghost use Rattle.reverse_runner.specs.KeepersSeen.{Calls, told_by};
+ghost use Rattle.reverse_runner.specs.Standing.{begun, StandsAt};
+ghost use Rattle.sha2.specs.Sha256.{sha256};
+ghost use Rattle.reversal.specs.DemoReading.{IsAtStart, BreaksWithin};
+ghost use Rattle.reversal.specs.Request.{Choice};
+ghost use Rattle.reversal.specs.Deeds.{demonstrate};
+ghost use Rattle.reversal.specs.Decision.{accept, refuse, DecidesDemo, DecidesBytes};
+ghost use Rattle.rv_decode.specs.Ranges.{HasRanges};
+ghost use Rattle.rv_decode.specs.Words.{word_of};
+ghost use Rattle.reversal.specs.Demo.{drawn, instruction_of, program, demo_list, summary_text};
+ghost use Rattle.reversal.specs.Output.{lines_down};
+ghost use Rattle.reversal.specs.Ending.{no_memory};
+ghost use Rattle.reversal.specs.JobReading.{job_of, IsShowable, CanBeDone, KeepersHaveRoom, Works};
+ghost use Rattle.reversal.specs.Request.{demo as demo_command};
+ghost use Rattle.reversal.specs.RequestReading.{as_demo};
+
+use crate::ended::{Ended, push_digest};
+use crate::job::Job;
+use crate::line_hasher::LineHasher;
+use crate::request::Demo;
+use elf_load::load_raw;
+use input_journal::Journal;
+use keepers::{MemoryKeeper, Sink};
+use level_book::Book;
+use pebble_bound::least_forward;
+use plan_types::Line;
+use reverse_runner::Session;
+use revolve_gen::{GenFault, Revolve};
+use rv_decode::{Inst, encode};
+use rv_machine::{State, Steps};
+use std::alloc::{AllocError, Global};
+use std::sync::ledger::Ledger;
+
+// The length of the program, in bytes, and the pages of its stack.
+const PROGRAM: usize = 8_192;
+
+const STACK: u32 = 16;
+
+// How many of the program's instructions are drawn.
+const DRAWS: u32 = 62;
+
+/// What a request for a demonstration comes to.
+pub fn decide_demo(alloc: Global, demo: &Demo) -> Result<Job, Ended>
+    requires number { demo.now.number ≤ 4294967295 }
+    requires steps { demo.now.steps ≤ 1000000 }
+    requires slots { demo.now.slots ≤ 1000000 }
+    ensures accepted { IfOk result (λ job. DecidesDemo demo.now.number demo.now.steps demo.now.slots (accept (job_of job))) }
+    ensures can_be_done { IfOk result CanBeDone }
+    ensures room { IfOk result (λ job. (counts : List ℕ) → KeepersHaveRoom job counts) }
+    ensures refused { IfErr result (λ e. (e ≡ no_memory) ⊎ DecidesDemo demo.now.number demo.now.steps demo.now.slots (refuse e)) }
+{
+    let number = demo.number as u32;
+    let steps = demo.steps as u32;
+    let slots = demo.slots as u32;
+    let room = Book::plain(slots).total_room(steps);
+    if steps >= 2 && room == 0 {
+        return Err(Ended::no_plan(steps, room, 1));
+    }
+    let start = start_of(alloc, number)?;
+    Ok(Job::Demonstrate(Demonstration {
+        number,
+        start,
+        steps,
+        slots,
+    }))
+}
+
+// The first state of the program that is made from a number. Its bytes are words and few, so memory alone can be wanting.
+fn start_of(alloc: Global, number: u32) -> Result<State, Ended>
+    ensures found { IfOk result (IsRawProgram (program number) 16) }
+    ensures refused { IfErr result (λ e. e ≡ no_memory) }
+{
+    let bytes = program(alloc, number)?;
+    match load_raw(alloc, &bytes, STACK) {
+        Ok(start) => Ok(start),
+        Err(_) => Err(Ended::no_memory()),
+    }
+}
+
+// The program that is made from a number.
+fn program(alloc: Global, number: u32) -> Result<Vec<u8>, AllocError>
+    ensures { IfOk result (λ bytes. bytes.items ≡ program number) }
+{
+    let mut bytes = Vec::with_capacity(alloc, PROGRAM)?;
+    push_instruction(
+        &mut bytes,
+        &Inst::Lui {
+            rd: 5,
+            imm: 0x11000,
+        },
+    )?;
+    let mut v = number;
+    for _ in 0..DRAWS {
+        v = drawn(v);
+        push_instruction(&mut bytes, &instruction(v))?;
+    }
+    push_instruction(
+        &mut bytes,
+        &Inst::Jal {
+            rd: 0,
+            imm: 0xffff_ff08,
+        },
+    )?;
+    bytes.resize(PROGRAM, 0)?;
+    Ok(bytes)
+}
+
+// The number that is drawn behind a number.
+fn drawn(v: u32) -> u32
+    ensures { result ≡ drawn v }
+{
+    v.wrapping_mul(1_664_525).wrapping_add(1_013_904_223)
+}
+
+// The instruction of a drawn number.
+fn instruction(v: u32) -> Inst
+    ensures instruction { result ≡ instruction_of v }
+    ensures ranges { HasRanges result }
+{
+    let c = (8 + (v >> 14) % 8) as u8;
+    let a = (8 + (v >> 8) % 8) as u8;
+    let b = (8 + (v >> 11) % 8) as u8;
+    let m = (v >> 17) % 2048;
+    match (v >> 28) % 4 {
+        0 => Inst::Addi {
+            rd: c,
+            rs1: a,
+            imm: m,
+        },
+        1 => Inst::Xor {
+            rd: c,
+            rs1: a,
+            rs2: b,
+        },
+        2 => Inst::Sw {
+            rs1: 5,
+            rs2: b,
+            imm: 4 * (m % 512),
+        },
+        _ => Inst::Add {
+            rd: c,
+            rs1: a,
+            rs2: b,
+        },
+    }
+}
+
+// Adds the word of an instruction, the lowest byte first.
+fn push_instruction(bytes: &mut Vec<u8>, inst: &Inst) -> Result<(), AllocError>
+    requires { HasRanges inst.now }
+    ensures { OnOk result (bytes.new.items ≡ bytes.old.items ++ to_le_bytes w32 (word_of inst.now)) }
+{
+    bytes.extend_from_slice(&encode(inst).to_le_bytes())
+}
+
+/// A program that was made from a number, at its first state, and how it is to be run.
+#[derive(Drop)]
+pub struct Demonstration {
+    pub number: u32,
+    pub start: State,
+    pub steps: u32,
+    pub slots: u32,
+}
+
+impl Demonstration {
+    /// Runs the program backward by the list of Revolve, with images in memory, and writes a summary. Where memory runs out
+    /// before the first action, nothing was done.
+    pub fn show<O: Sink, L: Ledger>(
+        self,
+        alloc: Global,
+        out: &mut O,
+        counter: &mut Steps<L>,
+    ) -> Ended
+        requires { IsShowable self }
+        ensures works { (calls : Calls) (images : ℕ → Option Images) → ((result ≡ no_memory) × (out.new ≡ out.old) × (counter.new ≡ counter.old)) ⊎ Works (demonstrate self.number self.start self.steps self.slots) result
+            (record { told = O.told out.old; writes = O.call_count out.old; steps = counter.old; calls = calls; images = images })
+            (record { told = O.told out.new; writes = O.call_count out.new; steps = counter.new; calls = calls; images = images }) }
+        ensures statuses { (result.status ≡ 0) ⊎ (result.status ≡ 14) ⊎ (result.status ≡ 17) }
+        ensures quiet { result.status ≢ 14 → O.fault_count out.new ≡ O.fault_count out.old }
+        ensures cause { result.status ≡ 14 → Rose (O.fault_count out.old) (O.fault_count out.new) }
+    {
+        let Demonstration {
+            number,
+            start,
+            steps,
+            slots,
+        } = self;
+        let Ok(mut run) = Demonstrated::begin(alloc, start, steps, slots) else {
+            return Ended::no_memory();
+        };
+        let Some(digest) = run.digest(counter) else {
+            return Ended::no_memory();
+        };
+        match out.write(summary(number, steps, slots, &digest).bytes()) {
+            Ok(()) => Ended::done(),
+            Err(_) => Ended::stopped(0),
+        }
+    }
+}
+
+/// A run that is shown: its session, the list of Revolve, and one keeper in memory.
+#[derive(Drop)]
+pub struct Demonstrated {
+    pub session: Session,
+    pub actions: Revolve,
+    pub keepers: Vec<MemoryKeeper>,
+}
+
+impl Demonstrated {
+    // A run from a state at its start.
+    fn begin(
+        alloc: Global,
+        start: State,
+        steps: u32,
+        slots: u32,
+    ) -> Result<Demonstrated, AllocError>
+        requires steps { steps ≤ 1000000 }
+        requires slots { slots ≤ 1000000 }
+        requires plan { HasPlan steps (total_room (plain slots) steps) }
+        ensures start { IfOk result IsAtStart }
+        ensures session { IfOk result (λ d. d.session ≡ begun start [] steps (slots_of (plain slots))) }
+        ensures list { IfOk result (λ d. d.actions ≡ demo_list steps slots) }
+    {
+        let book = Book::plain(slots);
+        let actions = match Revolve::new(alloc, steps, &book) {
+            Ok(actions) => actions,
+            Err(GenFault::Memory) => return Err(AllocError),
+            Err(GenFault::NoPlan(_)) => unreachable!(),
+        };
+        let mut keepers = Vec::with_capacity(alloc, 1)?;
+        keepers.push(MemoryKeeper::new(alloc, slots))?;
+        start.is_machine_state();
+        let session = Session::begin(alloc, start, Journal::none(alloc), steps, book)?;
+        Ok(Demonstrated {
+            session,
+            actions,
+            keepers,
+        })
+    }
+
+    // Performs the list, and gives the SHA-256 of the lines of the states, from the last to the first. The keeper is told
+    // no call to fail, so memory alone can be wanting.
+    fn digest<L: Ledger>(&mut self, counter: &mut Steps<L>) -> Option<[u8; 32]>
+        requires { IsAtStart self.old }
+        ensures { MatchOption result (BreaksWithin self.old.actions counter.old counter.new)
+            (λ digest. (digest ≡ sha256 (lines_down (state_number self.old.session.work self.old.session.journal) self.old.session.situation.steps)) × (counter.new ≡ counter.old + forward self.old.actions)) }
+    {
+        let mut hasher = LineHasher::new();
+        while let Some(action) = self.actions.next() {
+            self.session
+                .perform(&action, &mut self.keepers, &mut hasher, counter)
+                .ok()?;
+        }
+        Some(hasher.finalize())
+    }
+}
+
+// What is written of a run.
+fn summary(number: u32, steps: u32, slots: u32, digest: &[u8; 32]) -> Line
+    requires steps { steps ≤ 1000000 }
+    requires slots { slots ≤ 1000000 }
+    requires plan { HasPlan steps (total_room (plain slots) steps) }
+    ensures { result ≡ summary_text number steps slots (forward (demo_list steps slots)) digest.now }
+{
+    let mut line = Line::new();
+    push_number(&mut line, b"demo ", number as u64);
+    push_number(&mut line, b" ", steps as u64);
+    push_number(&mut line, b" ", slots as u64);
+    push_number(&mut line, b"\nforward ", forward_steps(steps, slots));
+    push_number(&mut line, b"\nlines ", steps as u64 + 1);
+    line.push(b"\nsha256 ");
+    push_digest(&mut line, digest);
+    line.push(b"\n");
+    line
+}
+
+// Adds a text and a number.
+fn push_number(line: &mut Line, before: &[u8], n: u64)
+    requires { length line.old + length before.now ≤ 400 }
+    ensures text { line.new ≡ line.old ++ before.now ++ decimal n }
+    ensures short { length line.new ≤ length line.old + length before.now + 20 }
+{
+    line.push(before);
+    line.push_decimal(n);
+}
+
+// The forward steps of the list.
+fn forward_steps(steps: u32, slots: u32) -> u64
+    requires steps { steps ≤ 1000000 }
+    requires slots { slots ≤ 1000000 }
+    requires plan { HasPlan steps (total_room (plain slots) steps) }
+    ensures { result ≡ forward (demo_list steps slots) }
+{
+    let room = Book::plain(slots).total_room(steps);
+    least_forward(steps, room).unwrap()
+}

@@ -1,0 +1,82 @@
+// The list of H-Revolve for the levels of a book, as text.
+ghost use Rattle.std.specs.Prelude.{◌≡◌, ◌⊎◌, ℕ, ◌<◌, ◌≤◌, List, length, IfOk, IfErr, IfNone, OnOk, MatchOption};
+ghost use Rattle.level_book.specs.BookCosts.{room, slots_of};
+ghost use Rattle.level_book.specs.NestedClass.{Nested};
+ghost use Rattle.level_book.specs.UnderTable.{IsGreatest};
+ghost use Rattle.cost_tables.specs.TableRows.{AreFor, Fits, tables_in};
+ghost use Rattle.hrevolve_gen.specs.Written.{IsWritten};
+ghost use Rattle.hrevolve_gen.specs.Plans.{HasPlan};
+ghost use Rattle.reversal.specs.Decision.{accept, refuse, IsFirstWide, DecidesPlanHrevolve};
+ghost use Rattle.reversal.specs.Ending.{no_memory, out_of_range};
+ghost use Rattle.reversal.specs.JobReading.{job_of, CanBeDone, KeepersHaveRoom};
+ghost use Rattle.reversal.specs.NoPlans.{IsUnnested};
+
+use crate::actions::{Actions, Listed};
+use crate::decision::book_in;
+use crate::ended::Ended;
+use crate::job::Job;
+use crate::planning::list_text;
+use cost_tables::Tables;
+use hrevolve_gen::hrevolve_list;
+use level_book::Book;
+use plan_types::Action;
+use revolve_gen::GenFault;
+use std::alloc::Global;
+use std::thread::Threads;
+
+// How many images of a level tables count at most.
+const MOST_IMAGES: u32 = 64;
+
+/// What a plan of H-Revolve comes to by the bytes of its book: the text of its list, whatever the number of workers.
+pub fn hrevolve_text<R: Threads + Sync>(
+    rt: &R,
+    alloc: Global,
+    workers: u32,
+    steps: u32,
+    book: &[u8],
+) -> Result<Job, Ended>
+    requires workers { (1 ≤ workers) × (workers ≤ 64) }
+    requires steps { steps ≤ 2048 }
+    ensures accepted { IfOk result (λ job. DecidesPlanHrevolve steps book.now (accept (job_of job))) }
+    ensures can_be_done { IfOk result CanBeDone }
+    ensures room { IfOk result (λ job. (counts : List ℕ) → KeepersHaveRoom job counts) }
+    ensures refused { IfErr result (λ e. (e ≡ no_memory) ⊎ DecidesPlanHrevolve steps book.now (refuse e)) }
+{
+    let book = book_in(alloc, book)?;
+    if let Some(level) = first_wide(steps, &book) {
+        return Err(Ended::out_of_range(book.room(level, steps) as u64, MOST_IMAGES as u64, 9));
+    }
+    let tables = Tables::build(rt, alloc, steps, &book, workers)?;
+    let list = list_for(alloc, &tables, steps, &book)?;
+    let job = list_text(alloc, Actions::Listed(Listed::new(list)), book)?;
+    Ok(job)
+}
+
+// The first level on which more images can be held than tables count.
+fn first_wide(steps: u32, book: &Book) -> Option<u8>
+    ensures { MatchOption result ((k : ℕ) → k < length book.now.levels → room book.now k steps ≤ 64) (IsFirstWide steps book.now) }
+{
+    for level in 0..book.levels() {
+        if book.room(level, steps) > MOST_IMAGES {
+            return Some(level);
+        }
+    }
+    None
+}
+
+// The list that is read from the tables for so many steps and a book.
+fn list_for(alloc: Global, tables: &Tables, steps: u32, book: &Book) -> Result<Vec<Action>, Ended>
+    requires fits { Fits steps book.now }
+    requires sizes { AreFor steps book.now tables.now }
+    requires greatest { IsGreatest steps book.now (tables_in tables.now) }
+    ensures list { IfOk result (λ list. IsWritten steps book.now (tables_in tables.now) list.items) }
+    ensures nested { IfOk result (λ list. Nested steps (slots_of book.now) list.items) }
+    ensures plan { OnOk result (HasPlan steps book.now) }
+    ensures refused { IfErr result (λ e. (e ≡ no_memory) ⊎ IsUnnested steps book.now e) }
+{
+    match hrevolve_list(alloc, tables, steps, book) {
+        Ok(list) => Ok(list),
+        Err(GenFault::NoPlan(_)) => Err(Ended::no_plan(steps, book.total_room(steps), 1)),
+        Err(GenFault::Memory) => Err(Ended::no_memory()),
+    }
+}

@@ -1,0 +1,11 @@
+// The kinds of plans that are made by name.
+/// Which list a plan has.
+#[derive(Clone, Copy, Debug)]
+pub enum PlanKind {
+    /// The list of Revolve.
+    Revolve,
+    /// The multistage list.
+    Multistage,
+    /// The list of H-Revolve.
+    Hrevolve,
+}

@@ -1,0 +1,51 @@
+// The periodic list for the two levels of a book, as text.
+ghost use Rattle.std.specs.Prelude.{◌≡◌, ◌⊎◌, ℕ, ◌≤◌, List, IfOk, IfErr, OnOk};
+ghost use Rattle.level_book.specs.BookCosts.{total_room};
+ghost use Rattle.disk_gen.specs.Periodic.{periodic_list};
+ghost use Rattle.disk_gen.specs.Plans.{HasPlan};
+ghost use Rattle.reversal.specs.Decision.{accept, refuse, DecidesPlanPeriodic};
+ghost use Rattle.reversal.specs.Ending.{no_memory};
+ghost use Rattle.reversal.specs.JobReading.{job_of, CanBeDone, KeepersHaveRoom};
+ghost use Rattle.reversal.specs.NoPlans.{IsUnperiodic};
+
+use crate::actions::Actions;
+use crate::decision::book_in;
+use crate::ended::Ended;
+use crate::job::Job;
+use crate::planning::list_text;
+use disk_gen::Periodic;
+use level_book::Book;
+use revolve_gen::GenFault;
+use std::alloc::Global;
+
+/// What a periodic plan comes to by the bytes of its book: the text of its list.
+pub fn periodic_text(alloc: Global, steps: u32, period: u32, book: &[u8]) -> Result<Job, Ended>
+    requires steps { steps ≤ 1000000 }
+    requires some { 1 ≤ period }
+    requires small { period ≤ 1000000 }
+    ensures accepted { IfOk result (λ job. DecidesPlanPeriodic steps period book.now (accept (job_of job))) }
+    ensures can_be_done { IfOk result CanBeDone }
+    ensures room { IfOk result (λ job. (counts : List ℕ) → KeepersHaveRoom job counts) }
+    ensures refused { IfErr result (λ e. (e ≡ no_memory) ⊎ DecidesPlanPeriodic steps period book.now (refuse e)) }
+{
+    let book = book_in(alloc, book)?;
+    let periodic = periodic_for(alloc, steps, period, &book)?;
+    let job = list_text(alloc, Actions::Periodic(periodic), book)?;
+    Ok(job)
+}
+
+// The periodic list for so many steps, a period and a book.
+fn periodic_for(alloc: Global, steps: u32, period: u32, book: &Book) -> Result<Periodic, Ended>
+    requires steps { steps ≤ 1000000 }
+    requires some { 1 ≤ period }
+    requires small { period ≤ 1000000 }
+    ensures list { IfOk result (λ p. p ≡ periodic_list steps period book.now) }
+    ensures plan { OnOk result (HasPlan steps period book.now) }
+    ensures refused { IfErr result (λ e. (e ≡ no_memory) ⊎ IsUnperiodic steps period book.now e) }
+{
+    match Periodic::new(alloc, steps, period, book) {
+        Ok(periodic) => Ok(periodic),
+        Err(GenFault::NoPlan(rule)) => Err(Ended::no_plan(steps, book.total_room(steps), rule)),
+        Err(GenFault::Memory) => Err(Ended::no_memory()),
+    }
+}

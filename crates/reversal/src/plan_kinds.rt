@@ -1,0 +1,84 @@
+// What requests for plans come to.
+ghost use Rattle.std.specs.Prelude.{◌≡◌, ◌⊎◌, ℕ, ◌≤◌, List, map, IfOk, IfErr};
+ghost use Rattle.std.specs.List.{AllByRecursion};
+ghost use Rattle.reversal.specs.Request.{Choice, plan as plan_command, plan_periodic as plan_periodic_command};
+ghost use Rattle.reversal.specs.Bounds.{plan_bound, IsWithin};
+ghost use Rattle.reversal.specs.Decision.{accept, refuse, DecidesPlan, DecidesBytes};
+ghost use Rattle.reversal.specs.Ending.{no_memory};
+ghost use Rattle.reversal.specs.Inputs.{inputs_of};
+ghost use Rattle.reversal.specs.InputReading.{AreWithinLimits};
+ghost use Rattle.reversal.specs.JobReading.{job_of, CanBeDone, KeepersHaveRoom};
+ghost use Rattle.reversal.specs.RequestReading.{as_plan, as_plan_periodic};
+
+use crate::ended::Ended;
+use crate::hrevolve::hrevolve_text;
+use crate::job::Job;
+use crate::kind::PlanKind;
+use crate::multistage::multistage_text;
+use crate::periodic::periodic_text;
+use crate::planning::revolve_text;
+use crate::request::{PlanFor, PlanPeriodic};
+use std::alloc::Global;
+use std::thread::Threads;
+
+/// What a request for a plan of some kind comes to by the bytes of its inputs, with so many workers where it takes tables.
+pub fn decide_plan<R: Threads + Sync>(
+    rt: &R,
+    alloc: Global,
+    workers: u32,
+    plan: &PlanFor<'_>,
+    bytes: &[Vec<u8>],
+) -> Result<Job, Ended>
+    requires workers { (1 ≤ workers) × (workers ≤ 64) }
+    requires steps { IsWithin (plan_bound plan.now.kind plan.now.steps) }
+    requires inputs { AreWithinLimits (inputs_of (plan_command (as_plan plan.now))) (map (λ b. b.items) bytes.now) }
+    ensures accepted { IfOk result (λ job. (slots : List ℕ) → (options : List Choice) → DecidesBytes options (plan_command (as_plan plan.now)) (map (λ b. b.items) bytes.now) slots (accept (job_of job))) }
+    ensures can_be_done { IfOk result CanBeDone }
+    ensures room { IfOk result (λ job. (counts : List ℕ) → KeepersHaveRoom job counts) }
+    ensures refused { IfErr result (λ e. (e ≡ no_memory) ⊎ ((slots : List ℕ) → (options : List Choice) → DecidesBytes options (plan_command (as_plan plan.now)) (map (λ b. b.items) bytes.now) slots (refuse e))) }
+{
+    let [book] = bytes else { unreachable!() };
+    kind_text(rt, alloc, workers, plan.kind, plan.steps as u32, book)
+}
+
+// The text of a plan of this kind.
+fn kind_text<R: Threads + Sync>(
+    rt: &R,
+    alloc: Global,
+    workers: u32,
+    kind: PlanKind,
+    steps: u32,
+    book: &[u8],
+) -> Result<Job, Ended>
+    requires workers { (1 ≤ workers) × (workers ≤ 64) }
+    requires steps { IsWithin (plan_bound kind steps) }
+    ensures accepted { IfOk result (λ job. DecidesPlan kind steps book.now (accept (job_of job))) }
+    ensures can_be_done { IfOk result CanBeDone }
+    ensures room { IfOk result (λ job. (counts : List ℕ) → KeepersHaveRoom job counts) }
+    ensures refused { IfErr result (λ e. (e ≡ no_memory) ⊎ DecidesPlan kind steps book.now (refuse e)) }
+{
+    match kind {
+        PlanKind::Revolve => revolve_text(alloc, steps, book),
+        PlanKind::Multistage => multistage_text(alloc, steps, book),
+        PlanKind::Hrevolve => hrevolve_text(rt, alloc, workers, steps, book),
+    }
+}
+
+/// What a request for a periodic plan comes to by the bytes of its inputs.
+pub fn decide_plan_periodic(
+    alloc: Global,
+    plan: &PlanPeriodic<'_>,
+    bytes: &[Vec<u8>],
+) -> Result<Job, Ended>
+    requires steps { plan.now.steps ≤ 1000000 }
+    requires some { 1 ≤ plan.now.period }
+    requires small { plan.now.period ≤ 1000000 }
+    requires inputs { AreWithinLimits (inputs_of (plan_periodic_command (as_plan_periodic plan.now))) (map (λ b. b.items) bytes.now) }
+    ensures accepted { IfOk result (λ job. (slots : List ℕ) → (options : List Choice) → DecidesBytes options (plan_periodic_command (as_plan_periodic plan.now)) (map (λ b. b.items) bytes.now) slots (accept (job_of job))) }
+    ensures can_be_done { IfOk result CanBeDone }
+    ensures room { IfOk result (λ job. (counts : List ℕ) → KeepersHaveRoom job counts) }
+    ensures refused { IfErr result (λ e. (e ≡ no_memory) ⊎ ((slots : List ℕ) → (options : List Choice) → DecidesBytes options (plan_periodic_command (as_plan_periodic plan.now)) (map (λ b. b.items) bytes.now) slots (refuse e))) }
+{
+    let [book] = bytes else { unreachable!() };
+    periodic_text(alloc, plan.steps as u32, plan.period as u32, book)
+}

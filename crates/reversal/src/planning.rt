@@ -1,0 +1,242 @@
+// The list of Revolve for a book: a run by it, or its text with its certificate.
+ghost use Rattle.std.specs.Prelude.{◌≡◌, ◌≢◌, ◌⊎◌, ◌↔◌, ℕ, ◌+◌, ◌≤◌, ◌++◌, List, [], ◌∷◌, map, take, drop, true, false, Option, IsTrue, IfOk, IfErr, OnOk};
+ghost use Rattle.std.specs.List.{AllByRecursion};
+ghost use Rattle.std.specs.Option.{option_copied};
+ghost use Rattle.std.specs.Vec.{vec_len, vec_capacity};
+ghost use Rattle.plan_types.specs.declared.action.Action.{Action};
+ghost use Rattle.keepers.specs.Told.{Images};
+ghost use Rattle.keepers.specs.Counts.{Rose};
+ghost use Rattle.level_book.specs.BookCosts.{names_of, total_room};
+ghost use Rattle.action_text.specs.Canonical.{HasSpelling};
+ghost use Rattle.revolve_gen.specs.Plans.{HasPlan};
+ghost use Rattle.revolve_gen.specs.Written.{revolve_list};
+ghost use Rattle.reverse_runner.specs.KeepersSeen.{Calls};
+ghost use Rattle.reversal.specs.Request.{Choice};
+ghost use Rattle.reversal.specs.Deeds.{write, bytes_of};
+ghost use Rattle.reversal.specs.Decision.{accept, refuse, EndsBy, DecidesRunRevolve, DecidesPlanRevolve, DecidesBytes};
+ghost use Rattle.reversal.specs.Ending.{no_memory, no_plan};
+ghost use Rattle.reversal.specs.Inputs.{inputs_of};
+ghost use Rattle.reversal.specs.InputReading.{AreWithinLimits};
+ghost use Rattle.reversal.specs.ActionsLeft.{left_of};
+ghost use Rattle.reversal.specs.JobReading.{job_of, pieces_of, IsWritable, CanBeDone, KeepersHaveRoom};
+ghost use Rattle.reversal.specs.Plans.{line_of_action, list_pieces};
+ghost use Rattle.reversal.specs.Request.{run_revolve as run_revolve_command, stack_pages};
+ghost use Rattle.reversal.specs.RequestReading.{as_run_revolve};
+
+use crate::actions::Actions;
+use crate::decision::{book_in, journal_in, keep, start_of};
+use crate::ended::Ended;
+use crate::job::{Job, Performance};
+use crate::options::Options;
+use crate::request::RunRevolve;
+use action_text::print_action;
+use bound_cert::{Certificate, certify_revolve, print_certificate};
+use keepers::Sink;
+use level_book::Book;
+use plan_types::Line;
+use revolve_gen::{GenFault, Revolve};
+use std::alloc::{AllocError, Global};
+
+// How many lines of a plan are written at once, and how many bytes they have at most.
+const LINES: usize = 64;
+
+const PIECE: usize = 5_184;
+
+// The texts that a run by the list of Revolve is told by.
+#[derive(Clone, Copy)]
+struct Texts<'a> {
+    program: &'a [u8],
+    journal: Option<&'a [u8]>,
+    book: &'a [u8],
+}
+
+/// What a request for a run by the list of Revolve comes to by the bytes of its inputs and the numbers of the keepers' slots.
+pub fn decide_run_revolve(
+    alloc: Global,
+    options: &Options,
+    run: &RunRevolve<'_>,
+    bytes: &[Vec<u8>],
+    counts: &[u32],
+) -> Result<Job, Ended>
+    requires stack { (1 ≤ stack_pages options.now) × (stack_pages options.now ≤ 1024) }
+    requires steps { run.now.steps ≤ 1000000 }
+    requires inputs { AreWithinLimits (inputs_of (run_revolve_command (as_run_revolve run.now))) (map (λ b. b.items) bytes.now) }
+    ensures accepted { IfOk result (λ job. DecidesBytes options.now (run_revolve_command (as_run_revolve run.now)) (map (λ b. b.items) bytes.now) counts.now (accept (job_of job))) }
+    ensures can_be_done { IfOk result CanBeDone }
+    ensures room { IfOk result (λ job. KeepersHaveRoom job counts.now) }
+    ensures refused { IfErr result (λ e. (e ≡ no_memory) ⊎ DecidesBytes options.now (run_revolve_command (as_run_revolve run.now)) (map (λ b. b.items) bytes.now) counts.now (refuse e)) }
+{
+    let steps = run.steps as u32;
+    match bytes {
+        [program, book] => {
+            let texts = Texts {
+                program,
+                journal: None,
+                book,
+            };
+            decide_texts(alloc, options, steps, texts, counts)
+        }
+        [program, journal, book] => {
+            let texts = Texts {
+                program,
+                journal: Some(journal),
+                book,
+            };
+            decide_texts(alloc, options, steps, texts, counts)
+        }
+        _ => unreachable!(),
+    }
+}
+
+fn decide_texts(
+    alloc: Global,
+    options: &Options,
+    steps: u32,
+    texts: Texts<'_>,
+    counts: &[u32],
+) -> Result<Job, Ended>
+    requires stack { (1 ≤ stack_pages options.now) × (stack_pages options.now ≤ 1024) }
+    requires steps { steps ≤ 1000000 }
+    ensures accepted { IfOk result (λ job. DecidesRunRevolve options.now steps texts.entry.program.now (option_copied texts.entry.journal) texts.entry.book.now counts.now (accept (job_of job))) }
+    ensures can_be_done { IfOk result CanBeDone }
+    ensures room { IfOk result (λ job. KeepersHaveRoom job counts.now) }
+    ensures refused { IfErr result (λ e. (e ≡ no_memory) ⊎ DecidesRunRevolve options.now steps texts.entry.program.now (option_copied texts.entry.journal) texts.entry.book.now counts.now (refuse e)) }
+{
+    let book = book_in(alloc, texts.book)?;
+    keep(steps, &book, counts)?;
+    let revolve = revolve_for(alloc, steps, &book)?;
+    let start = start_of(alloc, options, texts.program)?;
+    let journal = journal_in(alloc, texts.journal)?;
+    Ok(Job::Perform(Performance {
+        start,
+        journal,
+        steps,
+        book,
+        actions: Actions::Streamed(revolve),
+    }))
+}
+
+/// What a plan of Revolve comes to by the bytes of its book: the text of its list, and of its certificate.
+pub fn revolve_text(alloc: Global, steps: u32, book: &[u8]) -> Result<Job, Ended>
+    requires steps { steps ≤ 1000000 }
+    ensures accepted { IfOk result (λ job. DecidesPlanRevolve steps book.now (accept (job_of job))) }
+    ensures can_be_done { IfOk result CanBeDone }
+    ensures room { IfOk result (λ job. (counts : List ℕ) → KeepersHaveRoom job counts) }
+    ensures refused { IfErr result (λ e. (e ≡ no_memory) ⊎ DecidesPlanRevolve steps book.now (refuse e)) }
+{
+    let book = book_in(alloc, book)?;
+    let revolve = revolve_for(alloc, steps, &book)?;
+    let certificate = certify_revolve(steps, &book);
+    let piece = Vec::with_capacity(alloc, PIECE)?;
+    Ok(Job::Plan(Plan {
+        actions: Actions::Streamed(revolve),
+        book,
+        certificate: Some(certificate),
+        piece,
+    }))
+}
+
+/// The text of some actions over the levels of a book, without a certificate.
+pub fn list_text(alloc: Global, actions: Actions, book: Book) -> Result<Job, AllocError>
+    requires { AllByRecursion (HasSpelling (names_of book)) (left_of actions) }
+    ensures job { IfOk result (λ job. job_of job ≡ write (list_pieces (names_of book) (left_of actions))) }
+    ensures can_be_done { IfOk result CanBeDone }
+    ensures room { IfOk result (λ job. (counts : List ℕ) → KeepersHaveRoom job counts) }
+{
+    let piece = Vec::with_capacity(alloc, PIECE)?;
+    Ok(Job::Plan(Plan {
+        actions,
+        book,
+        certificate: None,
+        piece,
+    }))
+}
+
+// The list of Revolve for so many steps and a book.
+fn revolve_for(alloc: Global, steps: u32, book: &Book) -> Result<Revolve, Ended>
+    requires { steps ≤ 1000000 }
+    ensures list { IfOk result (λ r. r ≡ revolve_list steps book.now) }
+    ensures plan { OnOk result (HasPlan steps (total_room book.now steps)) }
+    ensures refused { IfErr result (λ e. (e ≡ no_memory) ⊎ ((HasPlan steps (total_room book.now steps) → ⊥) × (e ≡ no_plan steps (total_room book.now steps) 1))) }
+{
+    match Revolve::new(alloc, steps, book) {
+        Ok(revolve) => Ok(revolve),
+        Err(GenFault::NoPlan(_)) => Err(Ended::no_plan(steps, book.total_room(steps), 1)),
+        Err(GenFault::Memory) => Err(Ended::no_memory()),
+    }
+}
+
+/// A list over the levels of a book, and its certificate, if there is one. The piece has the lines that are written next.
+#[derive(Drop)]
+pub struct Plan {
+    pub actions: Actions,
+    pub book: Book,
+    pub certificate: Option<Certificate>,
+    pub piece: Vec<u8>,
+}
+
+impl Plan {
+    /// Writes the text of the list, in pieces of sixty-four lines, and then the line of the certificate, if there is one.
+    pub fn write<O: Sink>(mut self, out: &mut O) -> Ended
+        requires { IsWritable self }
+        ensures works { (steps : ℕ) (calls : Calls) (images : ℕ → Option Images) → EndsBy (accept (write (pieces_of self))) result
+            (record { told = O.told out.old; writes = O.call_count out.old; steps = steps; calls = calls; images = images })
+            (record { told = O.told out.new; writes = O.call_count out.new; steps = steps; calls = calls; images = images }) }
+        ensures statuses { (result.status ≡ 0) ⊎ (result.status ≡ 14) }
+        ensures quiet { result.status ≢ 14 → O.fault_count out.new ≡ O.fault_count out.old }
+        ensures cause { result.status ≡ 14 → Rose (O.fault_count out.old) (O.fault_count out.new) }
+    {
+        while self.next_piece() {
+            match out.write(&self.piece) {
+                Ok(()) => {}
+                Err(_) => return Ended::stopped(0),
+            }
+        }
+        let Some(certificate) = &self.certificate else {
+            return Ended::done();
+        };
+        match print_certificate(certificate, out) {
+            Ok(()) => Ended::done(),
+            Err(_) => Ended::stopped(0),
+        }
+    }
+
+    // Puts the lines of the next actions into the piece, in place of what was there, and tells whether there are any.
+    fn next_piece(&mut self) -> bool
+        requires spelled { AllByRecursion (HasSpelling (names_of self.old.book)) (left_of self.old.actions) }
+        requires reserved { 5184 ≤ vec_capacity self.old.piece }
+        ensures some { IsTrue result ↔ (left_of self.old.actions ≢ []) }
+        ensures piece { self.new.piece.items ≡ bytes_of (take 64 (map (line_of_action (names_of self.old.book)) (left_of self.old.actions))) }
+        ensures left { left_of self.new.actions ≡ drop 64 (left_of self.old.actions) }
+        ensures kept { (self.new.book ≡ self.old.book) × (self.new.certificate ≡ self.old.certificate) }
+        ensures capacity { 5184 ≤ vec_capacity self.new.piece }
+    {
+        self.piece.clear();
+        let mut line = Line::new();
+        let mut count = 0;
+        while count < LINES && self.push_line(&mut line) {
+            count += 1;
+        }
+        count > 0
+    }
+
+    // Adds the line of the next action to the piece, and tells whether there is one. The line is made in `line`.
+    fn push_line(&mut self, line: &mut Line) -> bool
+        requires spelled { AllByRecursion (HasSpelling (names_of self.old.book)) (left_of self.old.actions) }
+        requires reserved { vec_len self.old.piece + 81 ≤ vec_capacity self.old.piece }
+        ensures more { result ≡ true → (action : Action) × (left_of self.old.actions ≡ action ∷ left_of self.new.actions)
+            × (self.new.piece.items ≡ self.old.piece.items ++ line_of_action (names_of self.old.book) action) }
+        ensures none { result ≡ false → (left_of self.old.actions ≡ []) × (left_of self.new.actions ≡ []) × (self.new.piece ≡ self.old.piece) }
+        ensures kept { (self.new.book ≡ self.old.book) × (self.new.certificate ≡ self.old.certificate) }
+        ensures short { vec_len self.new.piece ≤ vec_len self.old.piece + 81 }
+        ensures capacity { vec_capacity self.old.piece ≤ vec_capacity self.new.piece }
+    {
+        let Some(action) = self.actions.next() else {
+            return false;
+        };
+        print_action(&action, &self.book, line);
+        line.push(b"\n");
+        self.piece.extend_from_slice(line.bytes()).unwrap();
+        true
+    }
+}

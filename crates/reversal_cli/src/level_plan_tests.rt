@@ -1,0 +1,213 @@
+// Calls that write plans over several levels, and each way to be refused. The lists were written down by the rules by hand, and
+// that of H-Revolve for six steps by another program.
+use crate::calls::{NO_SLOT, NO_STEPS, Named, TWO_LEVELS, TWO_SLOTS, call, ends};
+use keepers::MemorySink;
+use std::alloc::Global;
+use std::process::Abort;
+use std::test::Fail;
+use std::thread::Threads;
+
+// A slot of memory and any number of disk; one of disk; and too many of memory for tables.
+const ANY_DISK: &[u8] =
+    b"{\"forward\":1,\"reverse\":1,\"levels\":[{\"name\":\"RAM\",\"slots\":1,\"write\":0,\"read\":0},{\"name\":\"DISK\",\"slots\":null,\"write\":2,\"read\":1}]}";
+
+const WIDE: &[u8] =
+    b"{\"forward\":1,\"reverse\":1,\"levels\":[{\"name\":\"RAM\",\"slots\":65,\"write\":0,\"read\":0}]}";
+
+const FILES: [Named<'static>; 5] = [
+    (b"none", NO_SLOT),
+    (b"two", TWO_SLOTS),
+    (b"levels", TWO_LEVELS),
+    (b"disk", ANY_DISK),
+    (b"wide", WIDE),
+];
+
+// A call is done, and writes this.
+fn writes(
+    rt: &(impl Abort + Threads + Sync),
+    alloc: Global,
+    line: &str,
+    text: &[u8],
+) -> Result<(), Fail> {
+    let mut out = MemorySink::new(alloc, 4096)?;
+    assert_eq!(rt;
+        call(rt, alloc, line, &FILES, &mut out)?.status,
+        0,
+        "of {line}"
+    );
+    assert_eq!(rt; out.bytes(), text, "of {line}");
+    Ok(())
+}
+
+// The list for four steps with a slot of memory and one of disk: the image that is read twice stands in memory.
+const FOUR_STEPS_TWO_LEVELS: &[u8] = b"Forward(0, 1, True, False, DISK)
+Forward(1, 3, True, False, RAM)
+Forward(3, 4, False, True, WORK)
+EndForward()
+Reverse(4, 3, True)
+Copy(1, RAM, WORK)
+Forward(1, 2, False, False, NONE)
+Forward(2, 3, False, True, WORK)
+Reverse(3, 2, True)
+Move(1, RAM, WORK)
+Forward(1, 2, False, True, WORK)
+Reverse(2, 1, True)
+Move(0, DISK, WORK)
+Forward(0, 1, False, True, WORK)
+Reverse(1, 0, True)
+EndReverse()
+";
+
+#[test]
+fn a_multistage_plan_is_its_list_alone(rt: HostRuntime) -> Result<(), Fail> {
+    let alloc = rt.alloc();
+    writes(
+        &rt,
+        alloc,
+        "plan multistage levels 4",
+        FOUR_STEPS_TWO_LEVELS,
+    )?;
+    writes(&rt, alloc, "plan multistage levels 0", NO_STEPS)?;
+    ends(
+        &rt,
+        alloc,
+        "plan multistage two 4",
+        &FILES,
+        b"11 NoPlan 4 2 2",
+    )?;
+    ends(
+        &rt,
+        alloc,
+        "plan multistage none 1",
+        &FILES,
+        b"11 NoPlan 1 0 2",
+    )
+}
+
+// The periodic list for seven steps with an image on disk every three steps and a slot of memory.
+const SEVEN_STEPS_PERIOD_THREE: &[u8] = b"Forward(0, 3, True, False, DISK)
+Forward(3, 6, True, False, DISK)
+Forward(6, 7, False, True, WORK)
+EndForward()
+Reverse(7, 6, True)
+Move(3, DISK, WORK)
+Forward(3, 5, True, False, RAM)
+Forward(5, 6, False, True, WORK)
+Reverse(6, 5, True)
+Copy(3, RAM, WORK)
+Forward(3, 4, False, False, NONE)
+Forward(4, 5, False, True, WORK)
+Reverse(5, 4, True)
+Move(3, RAM, WORK)
+Forward(3, 4, False, True, WORK)
+Reverse(4, 3, True)
+Move(0, DISK, WORK)
+Forward(0, 2, True, False, RAM)
+Forward(2, 3, False, True, WORK)
+Reverse(3, 2, True)
+Copy(0, RAM, WORK)
+Forward(0, 1, False, False, NONE)
+Forward(1, 2, False, True, WORK)
+Reverse(2, 1, True)
+Move(0, RAM, WORK)
+Forward(0, 1, False, True, WORK)
+Reverse(1, 0, True)
+EndReverse()
+";
+
+#[test]
+fn a_periodic_plan_is_its_list(rt: HostRuntime) -> Result<(), Fail> {
+    let alloc = rt.alloc();
+    writes(
+        &rt,
+        alloc,
+        "plan periodic disk 7 3",
+        SEVEN_STEPS_PERIOD_THREE,
+    )?;
+    writes(&rt, alloc, "plan periodic disk 0 3", NO_STEPS)?;
+    ends(
+        &rt,
+        alloc,
+        "plan periodic levels 7 3",
+        &FILES,
+        b"11 NoPlan 7 2 4",
+    )?;
+    ends(
+        &rt,
+        alloc,
+        "plan periodic two 7 3",
+        &FILES,
+        b"11 NoPlan 7 2 2",
+    )?;
+    ends(
+        &rt,
+        alloc,
+        "plan periodic disk 7 0",
+        &FILES,
+        b"10 Limit 0 1 2",
+    )?;
+    ends(
+        &rt,
+        alloc,
+        "plan periodic disk 7 1000001",
+        &FILES,
+        b"10 Limit 1000001 1000000 2",
+    )
+}
+
+// The list of H-Revolve for six steps with a slot of memory and one of disk.
+const SIX_STEPS: &[u8] = b"Forward(0, 2, True, False, DISK)
+Forward(2, 5, True, False, RAM)
+Forward(5, 6, False, True, WORK)
+EndForward()
+Reverse(6, 5, True)
+Copy(2, RAM, WORK)
+Forward(2, 4, False, False, NONE)
+Forward(4, 5, False, True, WORK)
+Reverse(5, 4, True)
+Copy(2, RAM, WORK)
+Forward(2, 3, False, False, NONE)
+Forward(3, 4, False, True, WORK)
+Reverse(4, 3, True)
+Move(2, RAM, WORK)
+Forward(2, 3, False, True, WORK)
+Reverse(3, 2, True)
+Move(0, DISK, WORK)
+Forward(0, 1, True, False, RAM)
+Forward(1, 2, False, True, WORK)
+Reverse(2, 1, True)
+Move(0, RAM, WORK)
+Forward(0, 1, False, True, WORK)
+Reverse(1, 0, True)
+EndReverse()
+";
+
+#[test]
+fn a_plan_of_h_revolve_is_the_same_for_each_number_of_workers(rt: HostRuntime) -> Result<(), Fail> {
+    let alloc = rt.alloc();
+    writes(&rt, alloc, "plan hrevolve levels 6", SIX_STEPS)?;
+    writes(&rt, alloc, "--workers=4 plan hrevolve levels 6", SIX_STEPS)?;
+    writes(&rt, alloc, "--workers=64 plan hrevolve levels 6", SIX_STEPS)?;
+    writes(&rt, alloc, "plan hrevolve none 0", NO_STEPS)
+}
+
+#[test]
+fn a_plan_of_h_revolve_is_refused_by_its_limits_and_without_a_slot(
+    rt: HostRuntime,
+) -> Result<(), Fail> {
+    let table: [(&str, &[u8]); 6] = [
+        ("plan hrevolve none 2", b"11 NoPlan 2 0 1"),
+        ("plan hrevolve levels 2049", b"10 Limit 2049 2048 1"),
+        ("plan hrevolve wide 100", b"10 Limit 65 64 9"),
+        ("--workers=0 plan hrevolve levels 6", b"10 Limit 0 1 3"),
+        ("--workers=65 plan hrevolve levels 6", b"10 Limit 65 64 3"),
+        (
+            "--workers=4 --workers=4 plan hrevolve levels 6",
+            b"2 Words 0 0 0",
+        ),
+    ];
+    for (line, text) in table {
+        ends(&rt, rt.alloc(), line, &FILES, text)?;
+    }
+    Ok(())
+}
