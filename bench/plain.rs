@@ -5,6 +5,8 @@
 //   plain check SCHEDULE N SLOTS    reads a schedule and judges it, and writes how many actions it has
 //   plain read FILE                 reads a file, and writes how many bytes it has
 //   plain steps FILE N              takes N steps of a program of raw words, and writes where it stands
+//   plain costs N SLOTS SLOTS      fills the tables of least costs for two levels, the second of which costs 2 to write and 1 to read
+//   plain hash TIMES BYTES          takes the SHA-256 of so many bytes so many times, and writes the last one's first number
 use std::env;
 use std::fs;
 use std::io::{self, BufWriter, Write};
@@ -24,12 +26,18 @@ fn beta(slots: u64, times: i64) -> u64 {
 }
 
 fn split(steps: u64, slots: u64) -> u64 {
-    let mut times = 0;
-    while beta(slots, times) < steps {
-        times += 1;
+    // With one slot only the last step is split off.
+    if slots == 1 {
+        return steps - 1;
     }
-    let after = beta(slots - 1, times);
-    1.max(beta(slots, times - 2)).max(steps.saturating_sub(after))
+    // beta(slots, times), from the one before
+    let (mut times, mut value) = (0, 1);
+    while value < steps {
+        times += 1;
+        value = value * (slots + times) / times;
+    }
+    let after = beta(slots - 1, times as i64);
+    1.max(beta(slots, times as i64 - 2)).max(steps.saturating_sub(after))
 }
 
 struct Stretch {
@@ -271,6 +279,117 @@ fn steps(path: &str, count: u64) -> Option<(u32, u32)> {
     Some((pc, x[10]))
 }
 
+// ---- SHA-256, without the processor's instructions for it
+
+const ROUNDS: [u32; 64] = [
+    0x428a2f98, 0x71374491, 0xb5c0fbcf, 0xe9b5dba5, 0x3956c25b, 0x59f111f1, 0x923f82a4, 0xab1c5ed5,
+    0xd807aa98, 0x12835b01, 0x243185be, 0x550c7dc3, 0x72be5d74, 0x80deb1fe, 0x9bdc06a7, 0xc19bf174,
+    0xe49b69c1, 0xefbe4786, 0x0fc19dc6, 0x240ca1cc, 0x2de92c6f, 0x4a7484aa, 0x5cb0a9dc, 0x76f988da,
+    0x983e5152, 0xa831c66d, 0xb00327c8, 0xbf597fc7, 0xc6e00bf3, 0xd5a79147, 0x06ca6351, 0x14292967,
+    0x27b70a85, 0x2e1b2138, 0x4d2c6dfc, 0x53380d13, 0x650a7354, 0x766a0abb, 0x81c2c92e, 0x92722c85,
+    0xa2bfe8a1, 0xa81a664b, 0xc24b8b70, 0xc76c51a3, 0xd192e819, 0xd6990624, 0xf40e3585, 0x106aa070,
+    0x19a4c116, 0x1e376c08, 0x2748774c, 0x34b0bcb5, 0x391c0cb3, 0x4ed8aa4a, 0x5b9cca4f, 0x682e6ff3,
+    0x748f82ee, 0x78a5636f, 0x84c87814, 0x8cc70208, 0x90befffa, 0xa4506ceb, 0xbef9a3f7, 0xc67178f2,
+];
+
+fn compress(state: &mut [u32; 8], block: &[u8]) {
+    let mut w = [0u32; 64];
+    for (word, bytes) in w.iter_mut().zip(block.chunks_exact(4)) {
+        *word = u32::from_be_bytes(bytes.try_into().unwrap());
+    }
+    for t in 16..64 {
+        let a = w[t - 15].rotate_right(7) ^ w[t - 15].rotate_right(18) ^ w[t - 15] >> 3;
+        let b = w[t - 2].rotate_right(17) ^ w[t - 2].rotate_right(19) ^ w[t - 2] >> 10;
+        w[t] = w[t - 16].wrapping_add(a).wrapping_add(w[t - 7]).wrapping_add(b);
+    }
+    let [mut a, mut b, mut c, mut d, mut e, mut f, mut g, mut h] = *state;
+    for t in 0..64 {
+        let s1 = e.rotate_right(6) ^ e.rotate_right(11) ^ e.rotate_right(25);
+        let t1 = h.wrapping_add(s1).wrapping_add(e & f ^ !e & g).wrapping_add(ROUNDS[t]).wrapping_add(w[t]);
+        let s0 = a.rotate_right(2) ^ a.rotate_right(13) ^ a.rotate_right(22);
+        let t2 = s0.wrapping_add(a & b ^ a & c ^ b & c);
+        (h, g, f, e, d, c, b, a) = (g, f, e, d.wrapping_add(t1), c, b, a, t1.wrapping_add(t2));
+    }
+    for (old, new) in state.iter_mut().zip([a, b, c, d, e, f, g, h]) {
+        *old = old.wrapping_add(new);
+    }
+}
+
+fn sha256(bytes: &[u8]) -> [u8; 32] {
+    let mut state = [
+        0x6a09e667, 0xbb67ae85, 0x3c6ef372, 0xa54ff53a, 0x510e527f, 0x9b05688c, 0x1f83d9ab, 0x5be0cd19,
+    ];
+    let blocks = bytes.chunks_exact(64);
+    let mut rest = blocks.remainder().to_vec();
+    blocks.for_each(|block| compress(&mut state, block));
+    rest.push(0x80);
+    rest.resize((rest.len() + 8).next_multiple_of(64) - 8, 0);
+    rest.extend((bytes.len() as u64 * 8).to_be_bytes());
+    rest.chunks_exact(64).for_each(|block| compress(&mut state, block));
+    let mut digest = [0; 32];
+    for (part, word) in digest.chunks_exact_mut(4).zip(state) {
+        part.copy_from_slice(&word.to_be_bytes());
+    }
+    digest
+}
+
+fn hash(times: u32, bytes: usize) -> u8 {
+    let mut bytes = vec![1u8; bytes];
+    let mut last = 0;
+    for _ in 0..times {
+        last = sha256(&bytes)[0];
+        // The next digest is of other bytes.
+        if let Some(first) = bytes.first_mut() {
+            *first = last;
+        }
+    }
+    last
+}
+
+// ---- tables of least costs
+
+// A level: its slots, and what it costs to write and to read an image there.
+#[derive(Clone, Copy)]
+struct LevelCosts {
+    slots: usize,
+    write: u64,
+    read: u64,
+}
+
+// Above every cost.
+const NEVER: u64 = 1 << 61;
+
+// The least costs of reversing 1 to `steps` steps with so many free slots of a level, in the rows `fresh` and `held`: with the
+// first state in work, and with it held on the level. `below` is what the faster level alone costs.
+fn level_costs(level: LevelCosts, below: &[u64]) -> (Vec<Vec<u64>>, Vec<Vec<u64>>) {
+    let steps = below.len() - 1;
+    let mut fresh = vec![vec![NEVER; steps + 1]; level.slots + 1];
+    let mut held = vec![vec![NEVER; steps + 1]; level.slots + 1];
+    for l in 1..=steps {
+        for m in 0..level.slots {
+            let split = (1..l).map(|j| j as u64 + fresh[m][l - j] + held[m][j]).min().unwrap_or(NEVER);
+            held[m][l] = level.read + below[l].min(split);
+        }
+        fresh[0][l] = below[l];
+        for m in 1..=level.slots {
+            let split = (1..l).map(|j| j as u64 + fresh[m - 1][l - j] + held[m - 1][j]).min().unwrap_or(NEVER);
+            fresh[m][l] = below[l].min(level.write + split);
+        }
+    }
+    (fresh, held)
+}
+
+// The least cost for two levels, by filling the tables of both.
+fn least_cost(steps: usize, levels: [LevelCosts; 2]) -> u64 {
+    let mut below = vec![NEVER; steps + 1];
+    below[1] = 2;
+    for level in levels {
+        let (fresh, _) = level_costs(level, &below);
+        below = fresh[level.slots].clone();
+    }
+    below[steps]
+}
+
 fn done(words: &[String]) -> Option<()> {
     let words: Vec<&str> = words.iter().map(String::as_str).collect();
     let mut out = BufWriter::with_capacity(1 << 20, io::stdout());
@@ -283,6 +402,12 @@ fn done(words: &[String]) -> Option<()> {
             let (pc, x10) = steps(path, n.parse().ok()?)?;
             writeln!(out, "pc {pc:08x} x10 {x10:08x}").ok()?
         }
+        ["costs", n, fast, slow] => {
+            let fast = LevelCosts { slots: fast.parse().ok()?, write: 0, read: 0 };
+            let slow = LevelCosts { slots: slow.parse().ok()?, write: 2, read: 1 };
+            writeln!(out, "{}", least_cost(n.parse().ok()?, [fast, slow])).ok()?
+        }
+        ["hash", times, bytes] => writeln!(out, "{}", hash(times.parse().ok()?, bytes.parse().ok()?)).ok()?,
         _ => return None,
     }
     out.flush().ok()
