@@ -1,0 +1,5 @@
+pub mod Fronts
+pub mod Looking
+pub mod Naming
+pub mod Turning
+pub mod Ways

@@ -1,0 +1,254 @@
+-- What is known of a session, of the count of steps and of the keepers on the way through a valid list.
+use Rattle.std.proofs.Common.{◌≡◌, inl, inr, ℕ, zero, suc, ◌+◌, ◌-◌, ◌^◌, ◌<◌, ◌≤◌, min, false, true, cond, List, [], ◌∷◌, length, map, take, sum_by, Option, Some, Contains, Result, Ok, Err, OnOk, OnErr, refl, sym, ◌∙◌, ap, subst, arith, slice_get}
+use Rattle.std.proofs.lemmas.List.{length-take-le, take_all}
+use Rattle.std.proofs.lemmas.List.Sums.{sum_by-append}
+use Rattle.plan_types.specs.declared.action.Action.{Action}
+use Rattle.level_book.specs.declared.book.Slots.{Slots}
+use Rattle.level_book.specs.Configuration.{Configuration, start}
+use Rattle.level_book.specs.Moves.{Goes}
+use Rattle.level_book.specs.Rules.{rule, levels_named}
+use Rattle.level_book.specs.Valid.{Leads, Valid}
+use Rattle.level_book.specs.CostFold.{steps_of, forward, is_write, is_read}
+use Rattle.keepers.specs.Counts.{raised}
+use Rattle.keepers.specs.Told.{Images}
+use Rattle.schedule_rules.specs.Situation.{Situation}
+use Rattle.schedule_rules.specs.After.{after}
+use Rattle.schedule_rules.specs.Reached.{IsSound}
+use Rattle.schedule_rules.proofs.Moving.{goes}
+use Rattle.schedule_rules.proofs.Judging.{kept_on_the_way, goes_on, take_one_more}
+use Rattle.schedule_rules.proofs.Reaching.{sound_on, sound_start, leads_unique}
+use Rattle.rv_machine.specs.MachineState.{MachineState, IsMachineState}
+use Rattle.reverse_runner.specs.Acts.{Holdings, Acts}
+use Rattle.reverse_runner.specs.KeepersSeen.{Calls, Called, CalledAtMost, by_number, told_by, calls_to, calls_of, is_release, HaveRoom}
+use Rattle.reverse_runner.specs.SessionState.{SessionState, SamePages, holdings_of}
+use Rattle.reverse_runner.specs.Standing.{StandsAt, Performs, Ends, IsDamage}
+use Rattle.reverse_queries.specs.Performing.{calls_of_all, done_after, PerformsAll, RefusedIn, IsDamaged}
+use Rattle.reverse_queries.proofs.Fronts.{is_within}
+use Rattle.reverse_queries.proofs.Naming.{past_is_unnamed, acts_keep_pages}
+use Rattle.reverse_queries.proofs.Turning.{Turns, turns_start, turns_on}
+
+-- the first i actions of a list were performed
+pub record Way {K : Type 0} (told : K → Option Images) (puts gets frees slots faults : K → ℕ) (list : List Action) (i : ℕ) (old new : SessionState) (ks ls : List K) (before after : ℕ) : Type 0 where
+  pub performs : PerformsAll old (take i list) new
+  pub counted : after ≡ before + forward (take i list)
+  pub called : Called (calls_of_all (take i list)) (calls_to puts gets frees ks) (calls_to puts gets frees ls)
+  pub room : map slots ls ≡ map slots ks
+  pub quiet : (k : ℕ) → by_number 0 faults ls k ≡ by_number 0 faults ks k
+  pub others : (k : ℕ) → length old.situation.slots ≤ k → slice_get ls k ≡ slice_get ks k
+  pub pages : SamePages new.work old.work
+  pub stands : (first : MachineState) → IsMachineState first → StandsAt first old (told_by told ks) → StandsAt first new (told_by told ls)
+  pub turns : Turns old.situation.steps new.situation.at
+
+no_more : (a : ℕ) → a ≡ raised a 0
+no_more a = omega arith
+
+pub way_start : {K : Type 0} (told : K → Option Images) (puts gets frees slots faults : K → ℕ) (list : List Action) (old : SessionState) (ks : List K) (n : ℕ) →
+    old.situation.at ≡ start old.situation.steps old.situation.slots → old.ended ≡ false → Way told puts gets frees slots faults list 0 old old ks ks n n
+way_start told puts gets frees slots faults list old ks n at lasts = record {
+  performs = record { leads = refl; steps = refl; slots = refl; journal = refl; done = refl; lasts = lasts };
+  counted = omega arith;
+  called = record { put_calls = λ k. no_more _; get_calls = λ k. no_more _; free_calls = λ k. no_more _ };
+  room = refl;
+  quiet = λ k. refl;
+  others = λ k past. refl;
+  pages = refl;
+  stands = λ first is stands. stands;
+  turns = turns_start old.situation.steps old.situation.slots old.situation.at at;
+}
+
+-- ---- one action more
+
+done_more : (done n m : ℕ) → m ≡ n + 1 → min (done_after done n + 1) (2 ^ 64 - 1) ≡ done_after done m
+done_more done zero zero e = absurd (omega (arith, e))
+done_more done zero (suc m) e = omega (arith, e)
+done_more done (suc n) zero e = absurd (omega (arith, e))
+done_more done (suc n) (suc m) e = omega (arith, e)
+
+raised_then : (a b c j k l : ℕ) → b ≡ raised a j → c ≡ raised b k → l ≡ j + k → c ≡ raised a l
+raised_then a b c j k l e f same = omega (arith, e, f, same)
+
+most_then : (a b c j k l : ℕ) → b ≡ raised a j → b ≤ c → c ≤ raised b k → l ≡ j + k → (a ≤ c) × (c ≤ raised a l)
+most_then a b c j k l e least most same = (omega (arith, e, least), omega (arith, e, most, same))
+
+-- a count over a list that goes on by one
+count_more : {A : Type 0} (f : A → ℕ) (list : List A) (i : ℕ) (a : A) → slice_get list i ≡ Some a → sum_by f (take (i + 1) list) ≡ sum_by f (take i list) + f a
+count_more f list i a at = ap (sum_by f) (take_one_more list i a at) ∙ sum_by-append f (take i list) (a ∷ []) ∙ last (sum_by f (take i list)) (f a)
+  where
+    last : (n m : ℕ) → n + (0 + m) ≡ n + m
+    last n m = omega arith
+
+pub called_more : (list : List Action) (i : ℕ) (a : Action) (x y z : Calls) → slice_get list i ≡ Some a → Called (calls_of_all (take i list)) x y → Called (calls_of a) y z → Called (calls_of_all (take (i + 1) list)) x z
+called_more list i a x y z at first second = record {
+  put_calls = λ k. raised_then _ _ _ _ _ _ (first.put_calls k) (second.put_calls k) (count_more (λ b. cond (is_write k b) 1 0) list i a at);
+  get_calls = λ k. raised_then _ _ _ _ _ _ (first.get_calls k) (second.get_calls k) (count_more (λ b. cond (is_read k b) 1 0) list i a at);
+  free_calls = λ k. raised_then _ _ _ _ _ _ (first.free_calls k) (second.free_calls k) (count_more (λ b. cond (is_release k b) 1 0) list i a at);
+}
+
+pub most_more : (list : List Action) (i : ℕ) (a : Action) (x y z : Calls) → slice_get list i ≡ Some a → Called (calls_of_all (take i list)) x y → CalledAtMost (calls_of a) y z → CalledAtMost (calls_of_all (take (i + 1) list)) x z
+most_more list i a x y z at first second = record {
+  put_calls = λ k. most_then _ _ _ _ _ _ (first.put_calls k) (second.put_calls k).0 (second.put_calls k).1 (count_more (λ b. cond (is_write k b) 1 0) list i a at);
+  get_calls = λ k. most_then _ _ _ _ _ _ (first.get_calls k) (second.get_calls k).0 (second.get_calls k).1 (count_more (λ b. cond (is_read k b) 1 0) list i a at);
+  free_calls = λ k. most_then _ _ _ _ _ _ (first.free_calls k) (second.free_calls k).0 (second.free_calls k).1 (count_more (λ b. cond (is_release k b) 1 0) list i a at);
+}
+
+-- where the list leads from the start of the session
+pub leads_from : (old : SessionState) (list : List Action) (c : Configuration) → old.situation.at ≡ start old.situation.steps old.situation.slots →
+    Leads old.situation.steps old.situation.slots old.situation.at list c → Leads old.situation.steps old.situation.slots (start old.situation.steps old.situation.slots) list c
+leads_from old list c at leads = let P : Configuration → Type 0 = λ x. Leads old.situation.steps old.situation.slots x list c in subst P at leads
+
+pub is_sound : (old mid : SessionState) (list : List Action) → old.situation.at ≡ start old.situation.steps old.situation.slots → PerformsAll old list mid → IsSound old.situation.steps old.situation.slots mid.situation.at
+is_sound old mid list at performs =
+    sound_on old.situation.steps old.situation.slots (start old.situation.steps old.situation.slots) list mid.situation.at (sound_start old.situation.steps old.situation.slots)
+    (leads_from old list mid.situation.at at performs.leads)
+
+-- where an action of the session goes
+pub goes_from : (old mid new : SessionState) (front : List Action) (a : Action) → PerformsAll old front mid → Performs mid a new → Goes old.situation.steps old.situation.slots mid.situation.at a new.situation.at
+goes_from old mid new front a so_far performs =
+    let N : ℕ → Type 0 = λ n. Goes n old.situation.slots mid.situation.at a new.situation.at in
+    let S : List Slots → Type 0 = λ s. Goes mid.situation.steps s mid.situation.at a new.situation.at in
+    subst N so_far.steps (subst S so_far.slots performs.goes)
+
+pub performs_more : (old mid new : SessionState) (list : List Action) (i : ℕ) (a : Action) → old.situation.at ≡ start old.situation.steps old.situation.slots → slice_get list i ≡ Some a →
+    PerformsAll old (take i list) mid → Performs mid a new → PerformsAll old (take (i + 1) list) new
+performs_more old mid new list i a start_ at so_far performs =
+    let within = is_within list i a at in
+    let steps = old.situation.steps in
+    let slots = old.situation.slots in
+    let B : Configuration → Type 0 = λ x. Leads steps slots x (take (i + 1) list) new.situation.at in
+    let here : length (take i list) ≡ i = length-take-le i list (omega (arith, within)) in
+    let there : length (take (i + 1) list) ≡ i + 1 = length-take-le (i + 1) list (omega (arith, within)) in
+    record {
+      leads = subst B (sym start_) (goes_on steps slots list i mid.situation a new.situation.at so_far.steps so_far.slots at (leads_from old (take i list) mid.situation.at start_ so_far.leads) performs.goes);
+      steps = performs.steps ∙ so_far.steps;
+      slots = performs.slots ∙ so_far.slots;
+      journal = performs.journal ∙ so_far.journal;
+      done = performs.done ∙ ap (λ n. min (n + 1) (2 ^ 64 - 1)) so_far.done ∙ done_more old.done (length (take i list)) (length (take (i + 1) list)) (there ∙ ap (λ n. n + 1) (sym here));
+      lasts = performs.lasts;
+    }
+
+-- the next action breaks no rule, and there is room
+pub may_perform : {K : Type 0} (told : K → Option Images) (puts gets frees slots faults : K → ℕ) (list : List Action) (i : ℕ) (old mid : SessionState) (ks ls : List K) (before after : ℕ) (a : Action) →
+    old.situation.at ≡ start old.situation.steps old.situation.slots → Valid old.situation.steps old.situation.slots list → slice_get list i ≡ Some a →
+    Way told puts gets frees slots faults list i old mid ks ls before after → rule mid.situation.steps mid.situation.slots mid.situation.at a ≡ 0
+may_perform told puts gets frees slots faults list i old mid ks ls before after a start_ valid at way =
+    let performs = way.performs in
+    (λ j. rule (performs.steps j) (performs.slots j) mid.situation.at a)
+    ∙ kept_on_the_way old.situation.steps old.situation.slots list i mid.situation.at a valid.0 at (leads_from old (take i list) mid.situation.at start_ performs.leads) valid.1
+
+pub has_room : {K : Type 0} (told : K → Option Images) (puts gets frees slots faults : K → ℕ) (list : List Action) (i : ℕ) (old mid : SessionState) (ks ls : List K) (before after : ℕ) →
+    HaveRoom old.situation.steps old.situation.slots (map slots ks) → Way told puts gets frees slots faults list i old mid ks ls before after → HaveRoom mid.situation.steps mid.situation.slots (map slots ls)
+has_room told puts gets frees slots faults list i old mid ks ls before after room way =
+    let N : ℕ → Type 0 = λ n. HaveRoom n mid.situation.slots (map slots ls) in
+    let S : List Slots → Type 0 = λ s. HaveRoom old.situation.steps s (map slots ls) in
+    let C : List ℕ → Type 0 = λ l. HaveRoom old.situation.steps old.situation.slots l in
+    subst N (sym way.performs.steps) (subst S (sym way.performs.slots) (subst C (sym way.room) room))
+
+-- what becomes of the keepers where an action was performed
+pub record Went {K : Type 0} (told : K → Option Images) (puts gets frees slots faults : K → ℕ) (mid new : SessionState) (a : Action) (ls ms : List K) (after last : ℕ) : Type 0 where
+  pub performs : Performs mid a new
+  pub acts : Acts mid.journal a (holdings_of mid (told_by told ls)) (holdings_of new (told_by told ms))
+  pub counted : last ≡ after + steps_of a
+  pub called : Called (calls_of a) (calls_to puts gets frees ls) (calls_to puts gets frees ms)
+  pub room : map slots ms ≡ map slots ls
+  pub quiet : (k : ℕ) → by_number 0 faults ms k ≡ by_number 0 faults ls k
+  pub others : (k : ℕ) → (Contains (levels_named a) k → ⊥) → slice_get ms k ≡ slice_get ls k
+  pub stands : (first : MachineState) → IsMachineState first → StandsAt first mid (told_by told ls) → StandsAt first new (told_by told ms)
+
+pub way_on : {K : Type 0} (told : K → Option Images) (puts gets frees slots faults : K → ℕ) (list : List Action) (i : ℕ) (old mid new : SessionState) (ks ls ms : List K) (before after last : ℕ) (a : Action) →
+    old.situation.at ≡ start old.situation.steps old.situation.slots → slice_get list i ≡ Some a → Way told puts gets frees slots faults list i old mid ks ls before after →
+    Went told puts gets frees slots faults mid new a ls ms after last → Way told puts gets frees slots faults list (i + 1) old new ks ms before last
+way_on told puts gets frees slots faults list i old mid new ks ls ms before after last a start_ at way went =
+    let goes = goes_from old mid new (take i list) a way.performs went.performs in
+    let steps = count_more steps_of list i a at in
+    record {
+      performs = performs_more old mid new list i a start_ at way.performs went.performs;
+      counted = (let one = way.counted in let two = went.counted in omega (arith, one, two, steps));
+      called = called_more list i a _ _ _ at way.called went.called;
+      room = went.room ∙ way.room;
+      quiet = λ k. went.quiet k ∙ way.quiet k;
+      others = λ k past. went.others k (past_is_unnamed old.situation.steps old.situation.slots mid.situation.at a new.situation.at k goes past) ∙ way.others k past;
+      pages = acts_keep_pages mid.journal a _ _ went.acts ∙ way.pages;
+      stands = λ first is stands. went.stands first is (way.stands first is stands);
+      turns = turns_on old.situation.steps old.situation.slots mid.situation.at a new.situation.at goes way.turns;
+    }
+
+-- ---- a refusal
+
+pub refused_in : {K : Type 0} (told : K → Option Images) (puts gets frees slots faults : K → ℕ) (list front : List Action) (i : ℕ) (old mid new : SessionState) (ks ls ms : List K) (before after last : ℕ) (a : Action) →
+    slice_get list i ≡ Some a → take i front ≡ take i list → take (i + 1) front ≡ take (i + 1) list → i < length front →
+    Way told puts gets frees slots faults list i old mid ks ls before after → Ends mid new → last ≡ after →
+    CalledAtMost (calls_of a) (calls_to puts gets frees ls) (calls_to puts gets frees ms) → RefusedIn front old new before last (calls_to puts gets frees ks) (calls_to puts gets frees ms)
+refused_in told puts gets frees slots faults list front i old mid new ks ls ms before after last a at here there inside way ends still most =
+    let within = is_within list i a at in
+    let C : Configuration → Type 0 = λ x. Leads old.situation.steps old.situation.slots old.situation.at (take i list) x in
+    let L : List Action → Type 0 = λ l. Leads old.situation.steps old.situation.slots old.situation.at l new.situation.at in
+    let M : List Action → Type 0 = λ l. CalledAtMost (calls_of_all l) (calls_to puts gets frees ks) (calls_to puts gets frees ms) in
+    record {
+      place = i;
+      within = inside;
+      leads = subst L (sym here) (subst C (sym (ap (λ (s : Situation). s.at) ends.situation)) way.performs.leads);
+      done = ends.done ∙ way.performs.done ∙ ap (done_after old.done) (length-take-le i list (omega (arith, within)));
+      over = ends.over;
+      counted = still ∙ way.counted ∙ ap (λ l. before + forward l) (sym here);
+      called = subst M (sym there) (most_more list i a _ _ _ at way.called most);
+    }
+
+-- what was wrong with the bytes that came back
+pub damaged_of : (first : MachineState) (a : Action) (s : Holdings) (k : ℕ) (put got : List ℕ) → SamePages s.work first → IsDamage a s k put got → IsDamaged first put got
+damaged_of first a s k put got pages damage = record {
+  bytes = damage.bytes;
+  digest = damage.got_digest;
+  wrong = elim damage.wrong [
+    | inl other ↦ inl other
+    | inr none ↦ inr (λ state is same. none state is (same ∙ sym pages))
+  ];
+}
+
+-- a whole valid list leads to the end
+pub at_end : {K : Type 0} (told : K → Option Images) (puts gets frees slots faults : K → ℕ) (list : List Action) (i : ℕ) (old new : SessionState) (ks ls : List K) (before after : ℕ) →
+    old.situation.at ≡ start old.situation.steps old.situation.slots → Valid old.situation.steps old.situation.slots list → length list ≤ i →
+    Way told puts gets frees slots faults list i old new ks ls before after → new.situation.at.ended ≡ true
+at_end told puts gets frees slots faults list i old new ks ls before after start_ valid all way =
+    let P : List Action → Type 0 = λ l. Leads old.situation.steps old.situation.slots (start old.situation.steps old.situation.slots) l new.situation.at in
+    let leads = subst P (take_all i list all) (leads_from old (take i list) new.situation.at start_ way.performs.leads) in
+    ap (λ (c : Configuration). c.ended) (leads_unique old.situation.steps old.situation.slots (start old.situation.steps old.situation.slots) list new.situation.at valid.0 leads valid.1) ∙ valid.2
+
+-- a level past those of the book isn't named by an action that breaks no rule
+pub past_levels : (old mid : SessionState) (front : List Action) (a : Action) (k : ℕ) → PerformsAll old front mid → rule mid.situation.steps mid.situation.slots mid.situation.at a ≡ 0 →
+    length old.situation.slots ≤ k → Contains (levels_named a) k → ⊥
+past_levels old mid front a k performs rule_is past named =
+    let same = ap (λ (s : List Slots). length s) performs.slots in
+    past_is_unnamed mid.situation.steps mid.situation.slots mid.situation.at a (after mid.situation.at a) k (goes mid.situation.steps mid.situation.slots mid.situation.at a rule_is) (omega (arith, past, same)) named
+
+-- a fact holds where there is an error, and where there is none
+pub on_err_always : {T E P : Type 0} (r : Result T E) → P → OnErr r P
+on_err_always (Ok x) p = tt
+on_err_always (Err e) p = p
+
+pub on_ok_always : {T E P : Type 0} (r : Result T E) → P → OnOk r P
+on_ok_always (Ok x) p = p
+on_ok_always (Err e) p = tt
+
+-- the next action goes somewhere
+pub may_go : {K : Type 0} (told : K → Option Images) (puts gets frees slots faults : K → ℕ) (list : List Action) (i : ℕ) (old mid : SessionState) (ks ls : List K) (before after' : ℕ) (a : Action) →
+    old.situation.at ≡ start old.situation.steps old.situation.slots → Valid old.situation.steps old.situation.slots list → slice_get list i ≡ Some a →
+    Way told puts gets frees slots faults list i old mid ks ls before after' → Goes old.situation.steps old.situation.slots mid.situation.at a (after mid.situation.at a)
+may_go told puts gets frees slots faults list i old mid ks ls before after' a start_ valid at way =
+    goes old.situation.steps old.situation.slots mid.situation.at a
+    (kept_on_the_way old.situation.steps old.situation.slots list i mid.situation.at a valid.0 at (leads_from old (take i list) mid.situation.at start_ way.performs.leads) valid.1)
+
+-- the count of steps after one action more
+pub counted_more : (list : List Action) (i : ℕ) (a : Action) (before mid last : ℕ) → slice_get list i ≡ Some a → mid ≡ before + forward (take i list) → last ≡ mid + steps_of a → last ≡ before + forward (take (i + 1) list)
+counted_more list i a before mid last at one two = let more = count_more steps_of list i a at in omega (arith, one, two, more)
+
+pub on_err_three : {T E A B C P : Type 0} (r : Result T E) → (A → B → C → P) → OnErr r A → OnErr r B → OnErr r C → OnErr r P
+on_err_three (Ok x) f a b c = tt
+on_err_three (Err e) f a b c = f a b c
+
+-- a fault that is passed on is that of the call
+pub same_fault : {T U E : Type 0} (r : Result T E) (s : Result U E) (x y z : E) → r ≡ Err x → s ≡ Err y → y ≡ x → s ≡ Err z → r ≡ Err z
+same_fault r s x y z first second same last = cc
+
+-- no result is both
+pub not_both : {T E : Type 0} (r : Result T E) (x : T) (y : E) → r ≡ Ok x → r ≡ Err y → ⊥
+not_both r x y first second = cc

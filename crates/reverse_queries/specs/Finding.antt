@@ -1,0 +1,37 @@
+-- No public clause cites this file. What is looked for in the states that a session hands out, and what is kept of them.
+use Rattle.std.specs.Prelude.{◌≡◌, ◌⊎◌, ℕ, ◌+◌, ◌<◌, ◌≤◌, List, [], ◌∷◌, slice_index_or, Option, None, Some, Any}
+use Rattle.rv_pages.specs.Memory.{Memory, byte_at}
+use Rattle.rv_machine.specs.MachineState.{MachineState}
+use Rattle.rv_machine.specs.StepTable.{written}
+use Rattle.reverse_queries.specs.declared.finder.Question.{Question}
+use Rattle.reverse_queries.specs.declared.finder.Question.TheVariants.{Write, Change}
+use Rattle.reverse_queries.specs.declared.finder.Finder.{Finder}
+use Rattle.reverse_queries.specs.Queries.{WritesWord, ChangesWord, Differ}
+
+-- the bytes of the word at an address
+abbrev pub word_bytes : Memory → ℕ → List (Option ℕ)
+word_bytes m word = byte_at m word ∷ byte_at m (word + 1) ∷ byte_at m (word + 2) ∷ byte_at m (word + 3) ∷ []
+
+-- one of four bytes differs
+abbrev pub SomeDiffer : List (Option ℕ) → List (Option ℕ) → Type 0
+SomeDiffer before after = (k : ℕ) × ((k < 4) × Differ (slice_index_or before k None) (slice_index_or after k None))
+
+-- step m of the run does what is asked
+abbrev pub Does : Question → MachineState → List (List ℕ) → ℕ → ℕ → Type 0
+Does Write first journal word m = WritesWord first journal word m
+Does Change first journal word m = ChangesWord first journal word m
+
+-- the next step of a state does it, where the word has these bytes in the state after it
+abbrev pub Finds : Question → ℕ → List (Option ℕ) → MachineState → List (List ℕ) → Type 0
+Finds Write word later s journal = Any (λ at. (word ≤ at) × (at < word + 4)) (written s journal)
+Finds Change word later s journal = SomeDiffer (word_bytes s.memory word) later
+
+-- a finder got a state: where its step does what is asked, its number is the answer
+pub record Got (old : Finder) (n : ℕ) (s : MachineState) (journal : List (List ℕ)) (new : Finder) : Type 0 where
+  pub question : new.question ≡ old.question
+  pub word : new.word ≡ old.word
+  pub last : new.last ≡ old.last
+  pub later : new.later ≡ word_bytes s.memory old.word
+  pub answer :
+      ((new.answer ≡ Some n) × (n < old.last) × Finds old.question old.word old.later s journal)
+      ⊎ ((new.answer ≡ old.answer) × (n < old.last → Finds old.question old.word old.later s journal → ⊥))

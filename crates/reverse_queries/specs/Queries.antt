@@ -1,0 +1,44 @@
+-- What is asked of a run: which steps write or change a word, which of them is the last, and how much of a list is
+-- performed for an answer. A word is the four bytes from an address on.
+use Rattle.std.specs.Prelude.{◌≢◌, ℕ, ◌+◌, ◌==◌, ◌<◌, ◌≤◌, Bool, false, cond, List, [], ◌∷◌, Option, None, Some, Any}
+use Rattle.plan_types.specs.declared.action.Action.{Action}
+use Rattle.plan_types.specs.declared.action.Action.TheVariants.{Reverse, EndForward}
+use Rattle.rv_pages.specs.Memory.{byte_at}
+use Rattle.rv_machine.specs.MachineState.{MachineState}
+use Rattle.rv_machine.specs.States.{state_number}
+use Rattle.rv_machine.specs.StepTable.{written}
+
+-- step m of the run writes a byte of the word, also where it writes the byte that is there
+abbrev pub WritesWord : MachineState → List (List ℕ) → ℕ → ℕ → Type 0
+WritesWord first journal word m = Any (λ at. (word ≤ at) × (at < word + 4)) (written (state_number first journal m) journal)
+
+-- two bytes are mapped, and are not the same; a byte that isn't mapped never differs
+abbrev pub Differ : Option ℕ → Option ℕ → Type 0
+Differ (Some before) (Some after) = before ≢ after
+Differ _ _ = ⊥
+
+-- a byte of the word differs between state m of the run and state m + 1
+abbrev pub ChangesWord : MachineState → List (List ℕ) → ℕ → ℕ → Type 0
+ChangesWord first journal word m =
+    (k : ℕ) × ((k < 4) × Differ (byte_at (state_number first journal m).memory (word + k)) (byte_at (state_number first journal (m + 1)).memory (word + k)))
+
+-- the last place below a bound at which something holds, or that there is none
+abbrev pub IsLast : (ℕ → Type 0) → ℕ → Option ℕ → Type 0
+IsLast Holds bound (Some m) = Holds m × (m < bound) × ((n : ℕ) → m < n → n < bound → Holds n → ⊥)
+IsLast Holds bound None = (n : ℕ) → n < bound → Holds n → ⊥
+
+-- whether an action hands out state n of a run of so many steps: EndForward the last, a Reverse the one that it leads to
+abbrev pub hands_out : ℕ → ℕ → Action → Bool
+hands_out steps n EndForward = steps == n
+hands_out steps n (Reverse from to) = to == n
+hands_out steps n _ = false
+
+-- the actions of a list up to the first that hands out state n, and with it
+abbrev pub front_to : ℕ → ℕ → List Action → List Action
+front_to steps n [] = []
+front_to steps n (a ∷ rest) = a ∷ cond (hands_out steps n a) [] (front_to steps n rest)
+
+-- what is performed of a list for an answer: up to the state with its number, or the whole list where there is none
+abbrev pub up_to : ℕ → Option ℕ → List Action → List Action
+up_to steps (Some n) list = front_to steps n list
+up_to steps None list = list

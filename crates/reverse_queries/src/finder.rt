@@ -1,0 +1,24 @@
+// What looks for a step of a run in the states that a session hands out.
+ghost use Rattle.std.specs.Prelude.{◌≤◌};
+
+// What a step is asked to do to a word.
+#[derive(Clone, Copy)]
+pub(crate) enum Question {
+    // To write a byte of it.
+    Write,
+    // To change a byte of it.
+    Change,
+}
+
+// Gets states from the last one down, and keeps the number of the one whose step does what is asked.
+#[derive(Drop)]
+pub(crate) struct Finder {
+    pub question: Question,
+    pub word: u32,
+    // The number of the last state, after which there is no step.
+    pub last: u32,
+    // The bytes of the word in the state that it got before.
+    pub later: [Option<u8>; 4],
+    pub answer: Option<u32>,
+    ghost in_range: { word ≤ 0xFFFFFFFC },
+}

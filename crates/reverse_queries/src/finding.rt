@@ -1,0 +1,151 @@
+// The last step of a run that does something to a word.
+ghost use Rattle.std.specs.Prelude.{◌≡◌, ◌≢◌, ◌+◌, ◌≤◌, ◌<◌, ◌↔◌, ℕ, List, false, length, map, slice_get, Option, Some, None, Ok, Err, IfOk, OnOk, OnErr, IsTrue};
+ghost use Rattle.level_book.specs.CostFold.{forward};
+ghost use Rattle.level_book.specs.Configuration.{start};
+ghost use Rattle.level_book.specs.Valid.{Valid};
+ghost use Rattle.keepers.specs.Counts.{Rose};
+ghost use Rattle.rv_machine.specs.MachineState.{MachineState, IsMachineState};
+ghost use Rattle.reverse_runner.specs.KeepersSeen.{by_number, told_by, calls_to, HaveRoom, Called};
+ghost use Rattle.reverse_runner.specs.Standing.{StandsAt};
+ghost use Rattle.reverse_queries.specs.Queries.{Differ, IsLast, up_to};
+ghost use Rattle.reverse_queries.specs.Performing.{calls_of_all, PerformsAll, RefusedIn, IsDamaged};
+ghost use Rattle.reverse_queries.specs.Finding.{word_bytes, SomeDiffer, Does, Finds, Got};
+
+use crate::finder::{Finder, Question};
+use input_journal::Journal;
+use keepers::Keeper;
+use plan_types::Action;
+use reverse_runner::{RunFault, Session, VisitFault, Visitor};
+use rv_machine::{State, Steps, wrote};
+use std::sync::ledger::Ledger;
+
+impl Finder {
+    // A finder that has got no state.
+    pub fn new(question: Question, word: u32, last: u32) -> Finder
+        requires { word ≤ 0xFFFFFFFC }
+        ensures question { result.question ≡ question }
+        ensures word { result.word ≡ word }
+        ensures last { result.last ≡ last }
+        ensures answer { result.answer ≡ None }
+    {
+        Finder {
+            question,
+            word,
+            last,
+            later: [None; 4],
+            answer: None,
+        }
+    }
+
+    // Whether the next step of a state does what is asked, where the word has these bytes.
+    fn finds(&self, state: &State, journal: &Journal, bytes: &[Option<u8>; 4]) -> bool
+        requires { bytes.now ≡ word_bytes state.now.memory self.now.word }
+        ensures { IsTrue result ↔ Finds self.now.question self.now.word self.now.later state.now journal.now }
+    {
+        match self.question {
+            Question::Write => wrote(state, journal, self.word),
+            Question::Change => some_differ(bytes, &self.later),
+        }
+    }
+}
+
+impl Visitor for Finder {
+    ghost got = { Got };
+
+    ghost missed = { λ old n s journal new. ⊥ };
+
+    ghost fault_count = { λ v. 0 };
+
+    fn state(&mut self, n: u32, state: &State, journal: &Journal) -> Result<(), VisitFault> {
+        let bytes = bytes_of_word(state, self.word);
+        if self.finds(state, journal, &bytes) && n < self.last {
+            self.answer = Some(n);
+        }
+        self.later = bytes;
+        Ok(())
+    }
+}
+
+// The bytes of the word at an address, where they are mapped.
+fn bytes_of_word(state: &State, word: u32) -> [Option<u8>; 4]
+    requires { word ≤ 0xFFFFFFFC }
+    ensures { result ≡ word_bytes state.now.memory word }
+{
+    [
+        state.pages.load8(word),
+        state.pages.load8(word + 1),
+        state.pages.load8(word + 2),
+        state.pages.load8(word + 3),
+    ]
+}
+
+// Whether two bytes are mapped and are not the same.
+fn differ(before: Option<u8>, after: Option<u8>) -> bool
+    ensures { IsTrue result ↔ Differ before after }
+{
+    match (before, after) {
+        (Some(before), Some(after)) => before != after,
+        _ => false,
+    }
+}
+
+// Whether one of four bytes differs.
+fn some_differ(before: &[Option<u8>; 4], after: &[Option<u8>; 4]) -> bool
+    ensures { IsTrue result ↔ SomeDiffer before.now after.now }
+{
+    for k in 0..4 {
+        if differ(before[k], after[k]) {
+            return true;
+        }
+    }
+    false
+}
+
+// Performs the actions of a list up to the state whose step is the last that does what is asked, and gives its number.
+pub(crate) fn find_last<K: Keeper, L: Ledger>(
+    session: &mut Session,
+    list: &[Action],
+    keepers: &mut Vec<K>,
+    question: Question,
+    word: u32,
+    steps: &mut Steps<L>,
+) -> Result<Option<u32>, RunFault>
+    requires start { session.old.situation.at ≡ start session.old.situation.steps session.old.situation.slots }
+    requires lasts { session.old.ended ≡ false }
+    requires valid { Valid session.old.situation.steps session.old.situation.slots list.now }
+    requires room { HaveRoom session.old.situation.steps session.old.situation.slots (map K.slot_count keepers.old.items) }
+    requires word { word ≤ 0xFFFFFFFC }
+
+    // The answer, where the session stands at its start.
+    ensures answer { (first : MachineState) → IsMachineState first → StandsAt first session.old (told_by K.told keepers.old.items) → IfOk result (IsLast (Does question first session.old.journal word) session.old.situation.steps) }
+
+    // What was performed for it.
+    ensures performs { IfOk result (λ answer. PerformsAll session.old (up_to session.old.situation.steps answer list.now) session.new) }
+    ensures counted { IfOk result (λ answer. steps.new ≡ steps.old + forward (up_to session.old.situation.steps answer list.now)) }
+    ensures called { IfOk result (λ answer. Called (calls_of_all (up_to session.old.situation.steps answer list.now)) (calls_to K.put_count K.get_count K.free_count keepers.old.items) (calls_to K.put_count K.get_count K.free_count keepers.new.items)) }
+    ensures stands { (first : MachineState) → IsMachineState first → StandsAt first session.old (told_by K.told keepers.old.items) → OnOk result (StandsAt first session.new (told_by K.told keepers.new.items)) }
+
+    // What stands after a refusal, and its cause.
+    ensures refused { OnErr result (RefusedIn list.now session.old session.new steps.old steps.new (calls_to K.put_count K.get_count K.free_count keepers.old.items) (calls_to K.put_count K.get_count K.free_count keepers.new.items)) }
+    ensures not_ended { result ≢ Err RunFault.Ended }
+    ensures not_visitor { result ≢ Err RunFault.Visitor }
+    ensures keeper_cause { (k : ℕ) → result ≡ Err (RunFault.Keeper k) → Rose (by_number 0 K.fault_count keepers.old.items k) (by_number 0 K.fault_count keepers.new.items k) }
+    ensures keepers_quiet { ((k : ℕ) → result ≢ Err (RunFault.Keeper k)) → (j : ℕ) → by_number 0 K.fault_count keepers.new.items j ≡ by_number 0 K.fault_count keepers.old.items j }
+    ensures keepers_later { (k : ℕ) → by_number 0 K.fault_count keepers.old.items k ≤ by_number 0 K.fault_count keepers.new.items k }
+    ensures damaged { (k : ℕ) (put got : List ℕ) → result ≡ Err (RunFault.Damaged k put got) → IsDamaged session.old.work put got }
+    ensures undamaged { (first : MachineState) → IsMachineState first → StandsAt first session.old (told_by K.told keepers.old.items) → (k : ℕ) (put got : List ℕ) → result ≢ Err (RunFault.Damaged k put got) }
+
+    // The keepers have the slots that they had, and those past the levels of the book are as they were.
+    ensures slots { map K.slot_count keepers.new.items ≡ map K.slot_count keepers.old.items }
+    ensures others { (k : ℕ) → length session.old.situation.slots ≤ k → slice_get keepers.new.items k ≡ slice_get keepers.old.items k }
+{
+    let last = session.config().reverse();
+    let mut finder = Finder::new(question, word, last);
+    for action in list {
+        session.perform(action, keepers, &mut finder, steps)?;
+        if let Some(place) = finder.answer {
+            return Ok(Some(place));
+        }
+    }
+    Ok(None)
+}
