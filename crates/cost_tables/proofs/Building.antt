@@ -32,7 +32,7 @@ rows_here levels rows k e =
     ∙ ap (λ n. get_or (map (λ (rows : Vec Row Global). rows.items) levels ++ rows.items ∷ []) n []) (sym e ∙ sym (length-map levels (λ (rows : Vec Row Global). rows.items)))
     ∙ get_or-append_seam (map (λ (rows : Vec Row Global). rows.items) levels) rows.items [] []
 
-level_along : (steps room forward write read : ℕ) (base base' : ℕ → ℕ) (rows rows' : List Row) → rows ≡ rows' → ((r : ℕ) → r < steps → base r ≡ base' r) →
+pub level_along : (steps room forward write read : ℕ) (base base' : ℕ → ℕ) (rows rows' : List Row) → rows ≡ rows' → ((r : ℕ) → r < steps → base r ≡ base' r) →
     IsLevel steps room forward write read base (fresh_in rows) (held_in rows) → IsLevel steps room forward write read base' (fresh_in rows') (held_in rows')
 level_along steps room forward write read base base' rows rows' e same is =
     let P : List Row → Type 0 = λ rows. IsLevel steps room forward write read base' (fresh_in rows) (held_in rows) in
@@ -107,7 +107,7 @@ no_cost f [] k h = omega arith
 no_cost f (x ∷ xs) zero h = absurd (omega arith)
 no_cost f (x ∷ xs) (suc k) h = no_cost f xs k (omega arith)
 
-pub modest : (steps : ℕ) (book : BookCosts) (k : ℕ) (levels : List (Vec Row Global)) (rooms base : List ℕ) → AreBuilt steps book k levels rooms base → length book.levels ≤ k → steps ≤ 2048 →
+pub modest : (steps : ℕ) (book : BookCosts) (k : ℕ) (levels : List (Vec Row Global)) (rooms base : List ℕ) → AreBuilt steps book k levels rooms base → length book.levels ≤ k → steps ≤ 8192 →
     book.forward < 2 ^ 32 → book.reverse < 2 ^ 32 → IsModest steps book
 modest steps book k levels rooms base are all few f b = record {
   few = few;

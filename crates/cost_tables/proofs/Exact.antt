@@ -11,12 +11,12 @@ use Rattle.cost_tables.proofs.Splits.{min_cases, entry_number, entry_never, spli
 use Rattle.cost_tables.proofs.AllLevels.{small, room_le}
 
 -- a sum of entries of numbers is the entry of the sum
-sum_entries : (n a b x : ℕ) → x ≡ n + a + b → a < never_in_memory → b < never_in_memory → x < never_in_memory → entry x ≡ sum_of n (entry a) (entry b)
+pub sum_entries : (n a b x : ℕ) → x ≡ n + a + b → a < never_in_memory → b < never_in_memory → x < never_in_memory → entry x ≡ sum_of n (entry a) (entry b)
 sum_entries n a b x e ha hb hx =
     entry_number x hx ∙ ap (λ y. number y) e
     ∙ ap (λ o. sum_of n (number a) o) (sym (entry_number b hb)) ∙ ap (λ o. sum_of n o (entry b)) (sym (entry_number a ha))
 
-some_below : (x v : ℕ) → entry x ≡ number v → x < never_in_memory
+pub some_below : (x v : ℕ) → entry x ≡ number v → x < never_in_memory
 some_below x v e = elim (cases_lt x never_in_memory) [ inl h ↦ h | inr h ↦ absurd (let none = sym (entry_never x h) ∙ e in cc) ]
 
 none_above : (x : ℕ) → entry x ≡ never → never_in_memory ≤ x

@@ -6,7 +6,7 @@ use Rattle.level_book.specs.declared.book.Slots.TheVariants.{Count}
 use Rattle.level_book.specs.declared.book.Level.{Level}
 use Rattle.level_book.specs.BookCosts.{BookCosts, slots_of, room, IsLevelWithinLimits, IsWithinLimits}
 use Rattle.level_book.specs.UnderTable.{Entry, number, never, Tables, IsAtMost, IsGreatest, sum_of, write_cost, read_cost}
-use Rattle.cost_tables.specs.Entries.{least_split}
+use Rattle.cost_tables.specs.Entries.{entry, least_split}
 use Rattle.cost_tables.specs.Levels.{IsLevel, AreLevels, base_of, IsModest, tables_of}
 use Rattle.cost_tables.specs.Exact.{IsExact}
 use Rattle.cost_tables.proofs.Pushing.{split_same}
@@ -148,11 +148,19 @@ cost_within f [] k are le = omega arith
 cost_within f (x ∷ xs) zero are le = le x are.0
 cost_within f (x ∷ xs) (suc k) are le = cost_within f xs k are.1 le
 
-pub exact_within : (steps : ℕ) (book : BookCosts) (t : Tables) → steps ≤ 2048 → IsWithinLimits book → IsGreatest steps book t → IsExact steps book t
-exact_within steps book t few limits is = greatest_exact steps book (record {
+modest_within : (steps : ℕ) (book : BookCosts) → steps ≤ 8192 → IsWithinLimits book → IsModest steps book
+modest_within steps book few limits = record {
   few = few;
   cheap_forward = let le = limits.forward in omega arith;
   cheap_reverse = let le = limits.reverse in omega arith;
   cheap_write = λ k. let le = cost_within (λ level. level.write) book.levels k limits.levels (λ level is. is.write) in omega arith;
   cheap_read = λ k. let le = cost_within (λ level. level.read) book.levels k limits.levels (λ level is. is.read) in omega arith;
-}) t is
+}
+
+pub exact_within : (steps : ℕ) (book : BookCosts) (t : Tables) → steps ≤ 8192 → IsWithinLimits book → IsGreatest steps book t → IsExact steps book t
+exact_within steps book t few limits is = greatest_exact steps book (modest_within steps book few limits) t is
+
+-- the numbers in memory that the entries are
+pub in_memory : (steps : ℕ) (book : BookCosts) (t : Tables) → steps ≤ 8192 → IsWithinLimits book → IsGreatest steps book t →
+    (fresh : ℕ → ℕ → ℕ → ℕ) × ((k l m : ℕ) → k < length book.levels → 1 ≤ l → l ≤ steps → m ≤ room book k steps → t.fresh k l m ≡ entry (fresh k (l - 1) m))
+in_memory steps book t few limits is = (fresh_at steps book, λ k l m known one le some. same_fresh steps book (modest_within steps book few limits) t is k l m known one le some)

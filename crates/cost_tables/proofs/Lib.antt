@@ -8,3 +8,4 @@ pub mod Pieces
 pub mod Exact
 pub mod Views
 pub mod Least
+pub mod Fastest

@@ -74,8 +74,8 @@ split_attained forward fresh held r (suc n) h =
       | inr e ↦ (n, omega arith, e)
     ]
 
-pub step_costs : (n forward : ℕ) → n ≤ 2048 → forward < 2 ^ 32 → n * forward ≤ 2 ^ 43
-step_costs n forward few cheap = let product : n * forward ≤ 2048 * 2 ^ 32 = mul-le-mul {n₁ = n} {m₁ = forward} {n₂ = 2048} {m₂ = 2 ^ 32} few (omega arith) in omega arith
+pub step_costs : (n forward : ℕ) → n ≤ 8192 → forward < 2 ^ 32 → n * forward ≤ 2 ^ 45
+step_costs n forward few cheap = let product : n * forward ≤ 8192 * 2 ^ 32 = mul-le-mul {n₁ = n} {m₁ = forward} {n₂ = 8192} {m₂ = 2 ^ 32} few (omega arith) in omega arith
 
 pub min_step : (least cost x y : ℕ) → least ≡ x → cost ≡ y → (z : ℕ) → ((z ≡ cost) × (cost < least)) ⊎ ((z ≡ least) × (least ≤ cost)) → z ≡ min x y
 min_step least cost x y e f z (inl h) = omega (arith, h.0, h.1)
@@ -83,7 +83,7 @@ min_step least cost x y e f z (inr h) = omega (arith, h.0, h.1)
 
 -- what the costs and the base of a level are within
 pub record IsSmall (steps room forward write read : ℕ) (base : ℕ → ℕ) : Type 0 where
-  pub few : steps ≤ 2048
+  pub few : steps ≤ 8192
   pub cheap_steps : forward < 2 ^ 32
   pub cheap_write : write < 2 ^ 32
   pub cheap_read : read < 2 ^ 32
@@ -94,7 +94,7 @@ module _ (steps room forward write read : ℕ) (base : ℕ → ℕ) (fresh held 
   first_fresh zero some le = let e = is.none_free 0 some in omega arith
   first_fresh (suc m) some le = let e = is.some_free 0 m some (omega arith) in omega arith
 
-  pub held_within : (r m : ℕ) → r < steps → m < room → held r m ≤ (r + 1) * 2 ^ 44
+  pub held_within : (r m : ℕ) → r < steps → m < room → held r m ≤ (r + 1) * 2 ^ 46
   held_within zero m lt le = let e = is.is_held 0 m lt le in omega arith
   held_within (suc r) m lt le =
       let e = is.is_held (suc r) m lt le in

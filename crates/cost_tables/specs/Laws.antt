@@ -6,4 +6,4 @@ use Rattle.cost_tables.specs.Exact.{IsExact}
 
 -- each entry of the greatest under-table is attained
 abbrev pub GreatestIsExact : ℕ → BookCosts → Tables → Type 0
-GreatestIsExact steps book t = steps ≤ 2048 → IsWithinLimits book → IsGreatest steps book t → IsExact steps book t
+GreatestIsExact steps book t = steps ≤ 8192 → IsWithinLimits book → IsGreatest steps book t → IsExact steps book t

@@ -27,7 +27,7 @@ tables_of fresh held = record { fresh = λ k l m. entry (fresh k (l - 1) m); hel
 
 -- how few the steps are, and how low the costs
 pub record IsModest (steps : ℕ) (book : BookCosts) : Type 0 where
-  pub few : steps ≤ 2048
+  pub few : steps ≤ 8192
   pub cheap_forward : book.forward < 2 ^ 32
   pub cheap_reverse : book.reverse < 2 ^ 32
   pub cheap_write : (k : ℕ) → write_cost book k < 2 ^ 32

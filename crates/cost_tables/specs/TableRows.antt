@@ -1,5 +1,5 @@
 -- What built tables are seen as: their entries in rows, and for how many steps and slots they are.
-use Rattle.std.specs.Prelude.{◌≡◌, ℕ, ◌-◌, ◌<◌, ◌≤◌, List, [], length, slice_index_or}
+use Rattle.std.specs.Prelude.{◌≡◌, ℕ, ◌-◌, ◌<◌, ◌≤◌, List, [], length, take, slice_index_or}
 use Rattle.level_book.specs.BookCosts.{BookCosts, room}
 use Rattle.level_book.specs.UnderTable.{Entry, number, never, Tables}
 use Rattle.cost_tables.specs.declared.cost.Cost.{Cost}
@@ -31,6 +31,15 @@ pub record AreFor (steps : ℕ) (book : BookCosts) (t : TableRows) : Type 0 wher
 pub record Fits (steps : ℕ) (book : BookCosts) : Type 0 where
   pub few : steps ≤ 2048
   pub narrow : (k : ℕ) → k < length book.levels → room book k steps ≤ 64
+
+-- a book of the fastest level alone
+abbrev pub fastest : BookCosts → BookCosts
+fastest book = record { forward = book.forward; reverse = book.reverse; levels = take 1 book.levels }
+
+-- tables for so many steps and the fastest level of a book can be built
+pub record FitsFastest (steps : ℕ) (book : BookCosts) : Type 0 where
+  pub few : steps ≤ 8192
+  pub narrow : room book 0 steps ≤ 64
 
 -- the entry that a cost is
 abbrev pub value_of : Cost → Entry

@@ -4,7 +4,7 @@ ghost use Rattle.level_book.specs.BookCosts.{BookCosts};
 ghost use Rattle.level_book.specs.UnderTable.{Tables};
 ghost use Rattle.cost_tables.specs.Laws.{GreatestIsExact};
 
-/// In the greatest under-table for at most 2,048 steps and a book's costs each entry is attained.
+/// In the greatest under-table for at most 8,192 steps and a book's costs each entry is attained.
 pub fn greatest_is_exact()
     ensures { (steps : ℕ) (book : BookCosts) (t : Tables) → GreatestIsExact steps book t }
 {}

@@ -2,7 +2,8 @@
 //! stand on the actions and the book; plans over several levels are read from them. `level_book` says what an under-table is,
 //! in its `specs/UnderTable.antt`; the tables that are built are the greatest under-table. `specs/TableRows.antt` says as
 //! what they are seen, and `specs/Laws.antt` that each entry is attained. Rows are filled by as many workers as are wanted, in
-//! pieces that are handed back by value, so the entries don't depend on their number.
+//! pieces that are handed back by value, so the entries don't depend on their number. The fastest level can be had alone, for
+//! more steps.
 #![tactic(auto)]
 
 mod cost;

@@ -39,7 +39,7 @@ pub(crate) fn least_cost(
     high: usize,
 ) -> u64
     requires forward { forward < 2 ^ 32 }
-    requires few { r < 2048 }
+    requires few { r < 8192 }
     requires order { (low ≤ high) × (high ≤ r) }
     requires held_rows { low < high → high ≤ length rows.now }
     requires fresh_rows { low < high → r ≤ length rows.now + low }
@@ -94,7 +94,7 @@ fn finished(
     forward: u64,
 ) -> Result<Vec<u64>, AllocError>
     requires forward { forward < 2 ^ 32 }
-    requires few { length rows.now < 2048 }
+    requires few { length rows.now < 8192 }
     requires filled { filled ≤ length rows.now }
     requires shapes { All (IsRow room) rows.now }
     requires partial { IsPiece (partial_in rows.now forward filled (length rows.now)) 0 room partial.now }
@@ -125,7 +125,7 @@ fn push_row(
     requires write { costs.write < 2 ^ 32 }
     requires read { costs.read < 2 ^ 32 }
     requires room { room ≤ 64 }
-    requires few { length base.now ≤ 2048 }
+    requires few { length base.now ≤ 8192 }
     requires base { All (λ n. n ≤ 2 ^ 61) base.now }
     requires next { length rows.old.items < length base.now }
     requires filled { filled ≤ length rows.old.items }
@@ -154,7 +154,7 @@ fn push_rows(
     requires write { costs.write < 2 ^ 32 }
     requires read { costs.read < 2 ^ 32 }
     requires room { room ≤ 64 }
-    requires few { length base.now ≤ 2048 }
+    requires few { length base.now ≤ 8192 }
     requires base { All (λ n. n ≤ 2 ^ 61) base.now }
     requires next { length rows.old.items + count ≤ length base.now }
     requires rows { AreRows room costs.forward costs.write costs.read base.now rows.old.items }
@@ -185,7 +185,7 @@ pub(crate) fn level_rows<R: Threads + Sync, G: Gate + Sync>(
     requires forward { costs.forward < 2 ^ 32 }
     requires write { costs.write < 2 ^ 32 }
     requires read { costs.read < 2 ^ 32 }
-    requires few { length base.now ≤ 2048 }
+    requires few { length base.now ≤ 8192 }
     requires room { room ≤ 64 }
     requires workers { (1 ≤ workers) × (workers ≤ 64) }
     requires base { All (λ n. n ≤ 2 ^ 61) base.now }

@@ -33,7 +33,7 @@ fn row_piece(
     high: usize,
 ) -> Result<Vec<u64>, AllocError>
     requires forward { forward < 2 ^ 32 }
-    requires few { r < 2048 }
+    requires few { r < 8192 }
     requires r { length rows.now ≤ r }
     requires shapes { All (IsRow room) rows.now }
     requires order { low ≤ high }
@@ -60,7 +60,7 @@ fn rows_piece(
     high: usize,
 ) -> Result<Pieces, AllocError>
     requires forward { forward < 2 ^ 32 }
-    requires few { length rows.now + count ≤ 2048 }
+    requires few { length rows.now + count ≤ 8192 }
     requires shapes { All (IsRow room) rows.now }
     requires order { low ≤ high }
     requires within { high ≤ room }
@@ -85,7 +85,7 @@ fn gated_piece<G: Gate>(
     count: usize,
 ) -> Result<Pieces, AllocError>
     requires forward { forward < 2 ^ 32 }
-    requires few { length rows.now + count ≤ 2048 }
+    requires few { length rows.now + count ≤ 8192 }
     requires shapes { All (IsRow room) rows.now }
     requires room { room ≤ 64 }
     requires pieces { (1 ≤ pieces) × (pieces ≤ 64) }
@@ -110,7 +110,7 @@ pub(crate) fn start_rows<R: Threads + Sync, G: Gate + Sync>(
     count: usize,
 ) -> Result<Vec<Result<Pieces, AllocError>>, AllocError>
     requires forward { forward < 2 ^ 32 }
-    requires few { length rows.now + count ≤ 2048 }
+    requires few { length rows.now + count ≤ 8192 }
     requires shapes { All (IsRow room) rows.now }
     requires room { room ≤ 64 }
     requires pieces { (1 ≤ pieces) × (pieces ≤ 64) }

@@ -1,7 +1,7 @@
 // Tables of least costs.
 ghost use Rattle.std.specs.Prelude.{◌≡◌, ◌↔◌, ℕ, ◌+◌, ◌^◌, ◌<◌, ◌≤◌, true, length, All, IfOk, slice_index};
 ghost use Rattle.level_book.specs.UnderTable.{IsGreatest};
-ghost use Rattle.cost_tables.specs.TableRows.{AreFor, Fits, tables_in, value_of};
+ghost use Rattle.cost_tables.specs.TableRows.{AreFor, Fits, FitsFastest, fastest, tables_in, value_of};
 ghost use Rattle.cost_tables.specs.Entries.{entry, fresh_in};
 ghost use Rattle.cost_tables.specs.Rows.{IsRow};
 ghost use Rattle.cost_tables.specs.Built.{first_in};
@@ -16,6 +16,8 @@ use std::thread::Threads;
 
 // What the tables are for at most.
 const MOST_STEPS: u32 = 2048;
+
+const MOST_STEPS_OF_ONE: u32 = 8192;
 
 const MOST_SLOTS: u32 = 64;
 
@@ -113,6 +115,59 @@ impl Tables {
             levels.push(rows)?;
             rooms.push(room)?;
         }
+        Ok(Tables {
+            steps,
+            rooms,
+            levels,
+        })
+    }
+
+    /// Whether the tables of the fastest level alone can be built: for at most 8,192 steps, and at most 64 images on it. It
+    /// takes no memory.
+    pub fn fits_fastest(steps: u32, book: &Book) -> bool
+        ensures { result ≡ true ↔ FitsFastest steps book.now }
+    {
+        let _levels = book.levels();
+        steps <= MOST_STEPS_OF_ONE && book.room(0, steps) <= MOST_SLOTS
+    }
+
+    /// The greatest under-table of the fastest level alone, as if the book had no other. It is the same for every number of
+    /// workers, and refused for want of memory alone.
+    pub fn build_fastest<R: Threads + Sync>(
+        rt: &R,
+        alloc: Global,
+        steps: u32,
+        book: &Book,
+        workers: u32,
+    ) -> Result<Tables, AllocError>
+        requires fits { FitsFastest steps book.now }
+        requires workers { (1 ≤ workers) × (workers ≤ 64) }
+        ensures sizes { IfOk result (AreFor steps (fastest book.now)) }
+        ensures greatest { IfOk result (λ t. IsGreatest steps (fastest book.now) (tables_in t)) }
+    {
+        let _levels = book.levels();
+        let forward = book.forward() as u64;
+        let level = book.level(0);
+        let room = book.room(0, steps);
+        let costs = Costs {
+            forward,
+            write: level.write as u64,
+            read: level.read as u64,
+        };
+        let base = first_base(alloc, steps, forward + book.reverse() as u64)?;
+        let rows = level_rows(
+            rt,
+            alloc,
+            &NoGate,
+            workers as usize,
+            &base,
+            room as usize,
+            costs,
+        )?;
+        let mut levels = Vec::new(alloc);
+        levels.push(rows)?;
+        let mut rooms = Vec::new(alloc);
+        rooms.push(room)?;
         Ok(Tables {
             steps,
             rooms,

@@ -220,6 +220,21 @@ fn tables_fit_up_to_their_limits(rt: HostRuntime) -> Result<(), Fail> {
 }
 
 #[test]
+fn the_fastest_level_is_filled_as_if_it_were_alone(rt: HostRuntime) -> Result<(), Fail> {
+    let text =
+        br#"{"forward":1,"reverse":1,"levels":[{"name":"RAM","slots":4,"write":0,"read":0},{"name":"DISK","slots":null,"write":2,"read":1}]}"#;
+    let book = read_book(rt.alloc(), text)?;
+    for (steps, fits) in [(8192, true), (8193, false)] {
+        assert_eq!(rt; Tables::fits_fastest(steps, &book), fits, "{steps} steps");
+    }
+    let alone = built!(rt, 90, &Book::plain(4), 1);
+    assert!(rt; Tables::fits_fastest(90, &book));
+    let fastest = Tables::build_fastest(&rt, rt.alloc(), 90, &book, 3)?;
+    assert!(rt; are_same(&alone, &fastest));
+    Ok(())
+}
+
+#[test]
 fn one_worker_and_many_build_the_same_tables(rt: HostRuntime) -> Result<(), Fail> {
     for text in [
         r#"{"forward":1,"reverse":1,"levels":[{"name":"RAM","slots":4,"write":0,"read":0},{"name":"DISK","slots":8,"write":2,"read":1}]}"#,

@@ -2,3 +2,12 @@ pub mod Counting
 pub mod Holding
 pub mod Leading
 pub mod Owing
+pub mod DiskColumns
+pub mod DiskGreatest
+pub mod DiskFilling
+pub mod DiskExact
+pub mod DiskReads
+pub mod DiskCosts
+pub mod DiskForwards
+pub mod DiskNested
+pub mod DiskWhole

@@ -2,3 +2,8 @@ pub mod Periodic
 pub mod Plans
 pub mod Laws
 pub mod Owed
+pub mod DiskPlans
+pub mod DiskRows
+pub mod DiskBuilt
+pub mod DiskWritten
+pub mod DiskReading

@@ -28,7 +28,7 @@ module _ (steps : ℕ) (book : BookCosts) where
     | inr past ↦ get_or_past _ k set.empty (omega (arith, length-map (slots_of book) (λ (_ : Slots). set.empty {R = nat_cmp})))
   ]
 
-  at_start : At steps book (start steps (slots_of book)) [] steps
+  pub at_start : At steps book (start steps (slots_of book)) [] steps
   at_start = record {
     ended = refl;
     tape = refl;

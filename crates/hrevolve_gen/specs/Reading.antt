@@ -1,18 +1,25 @@
--- No public clause cites this file. Tables that a list can be read from, and what is read.
-use Rattle.std.specs.Prelude.{◌≡◌, ℕ, ◌+◌, ◌-◌, ◌*◌, ◌<◌, ◌≤◌, ◌^◌, Bool, List, ◌++◌}
+-- Tables that a list can be read from, and what is read of a stretch.
+use Rattle.std.specs.Prelude.{◌≡◌, ℕ, ◌+◌, ◌-◌, ◌*◌, ◌<◌, ◌≤◌, ◌^◌, Bool, List, ◌++◌, length, slice_index_or}
 use Rattle.plan_types.specs.declared.action.Action.{Action}
-use Rattle.level_book.specs.BookCosts.{BookCosts}
+use Rattle.level_book.specs.BookCosts.{BookCosts, room}
 use Rattle.level_book.specs.UnderTable.{Entry, Tables, sum_of}
 use Rattle.cost_tables.specs.declared.cost.Cost.{Cost}
 use Rattle.cost_tables.specs.declared.cost.Cost.TheVariants.{Number}
 use Rattle.cost_tables.specs.TableRows.{TableRows, AreFor, tables_in}
-use Rattle.cost_tables.specs.Exact.{IsExact}
+use Rattle.cost_tables.specs.Exact.{IsExact, IsExactTo}
 use Rattle.hrevolve_gen.specs.Written.{Part, actions, Reads}
 
 pub record CanRead (book : BookCosts) (t : TableRows) : Type 0 where
   pub sizes : AreFor t.steps book t
   pub exact : IsExact t.steps book (tables_in t)
   pub few : t.steps ≤ 2048
+
+-- The same for tables of the first levels of a book, as many as the tables have.
+pub record IsReadable (book : BookCosts) (t : TableRows) : Type 0 where
+  pub known : length t.rooms ≤ length book.levels
+  pub rooms_are : (k : ℕ) → k < length t.rooms → slice_index_or t.rooms k 0 ≡ room book k t.steps
+  pub exact : IsExactTo (length t.rooms) t.steps book (tables_in t)
+  pub few : t.steps ≤ 8192
 
 -- a cost that is a number is below this one
 abbrev pub IsBounded : Cost → Type 0

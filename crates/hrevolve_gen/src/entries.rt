@@ -6,8 +6,8 @@ ghost use Rattle.hrevolve_gen.specs.Reading.{IsBounded, split_cost};
 
 use cost_tables::{Cost, Tables};
 
-// The sum of a number and two entries.
-fn plus(n: u64, a: Cost, b: Cost) -> Cost
+/// The sum of a number and two entries.
+pub fn plus(n: u64, a: Cost, b: Cost) -> Cost
     requires n { n ≤ 2 ^ 62 }
     requires a { IsBounded a }
     requires b { IsBounded b }
@@ -52,7 +52,7 @@ pub(crate) fn is_faster_held(tables: &Tables, own: Cost, read: u64, k: u8, l: u3
 
 // The fewest steps after which splitting costs so much.
 pub(crate) fn split(tables: &Tables, own: Cost, n: u64, forward: u64, k: u8, l: u32, m: u32) -> u32
-    requires few { tables.now.steps ≤ 2048 }
+    requires few { tables.now.steps ≤ 8192 }
     requires k { k < length tables.now.rooms }
     requires l { (2 ≤ l) × (l ≤ tables.now.steps) }
     requires m { m < slice_index tables.now.rooms k }

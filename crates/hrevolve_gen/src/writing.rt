@@ -3,7 +3,7 @@ ghost use Rattle.std.specs.Prelude.{◌≡◌, ◌≢◌, ◌+◌, ◌*◌, ◌<
 ghost use Rattle.level_book.specs.UnderTable.{never};
 ghost use Rattle.cost_tables.specs.TableRows.{tables_in};
 ghost use Rattle.hrevolve_gen.specs.Written.{actions, one};
-ghost use Rattle.hrevolve_gen.specs.Reading.{CanRead, IsMore};
+ghost use Rattle.hrevolve_gen.specs.Reading.{IsReadable, IsMore};
 
 use crate::entries::{is_faster_fresh, is_faster_held, split};
 use cost_tables::Tables;
@@ -29,9 +29,10 @@ fn write_one(list: &mut Vec<Action>, steps: u32, b: u32) -> Result<(), AllocErro
     }
 }
 
-// A stretch of l steps from b, whose first state is in work, with m free slots of level k.
+/// Writes the actions of a stretch of l steps from b, whose first state is in work, with m free slots of level k, as they are
+/// read from tables of the first levels of the book. It is refused for want of memory alone.
 #[cycle(writing)]
-pub(crate) fn write_fresh(
+pub fn write_fresh(
     list: &mut Vec<Action>,
     tables: &Tables,
     book: &Book,
@@ -40,8 +41,8 @@ pub(crate) fn write_fresh(
     l: u32,
     m: u32,
 ) -> Result<(), AllocError>
-    requires ready { CanRead book.now tables.now }
-    requires k { k < length book.now.levels }
+    requires ready { IsReadable book.now tables.now }
+    requires k { k < length tables.now.rooms }
     requires l { 1 ≤ l }
     requires end { b + l ≤ tables.now.steps }
     requires m { m ≤ slice_index tables.now.rooms k }
@@ -79,8 +80,8 @@ fn write_held(
     l: u32,
     m: u32,
 ) -> Result<(), AllocError>
-    requires ready { CanRead book.now tables.now }
-    requires k { k < length book.now.levels }
+    requires ready { IsReadable book.now tables.now }
+    requires k { k < length tables.now.rooms }
     requires l { 1 ≤ l }
     requires end { b + l ≤ tables.now.steps }
     requires m { m < slice_index tables.now.rooms k }

@@ -5,15 +5,15 @@ use Rattle.level_book.specs.NestedClass.{Nested}
 use Rattle.level_book.specs.UnderTable.{number, never, top_entry}
 use Rattle.cost_tables.specs.TableRows.{tables_in}
 use Rattle.hrevolve_gen.proofs.NoPlans.{top_none, never_of}
-use Rattle.hrevolve_gen.proofs.PartReads.{can_read, some_of}
+use Rattle.hrevolve_gen.proofs.PartReads.{few_steps, can_read, some_of}
 use Rattle.hrevolve_gen.proofs.Whole.{written_costs, written_nested}
 use Rattle.hrevolve_gen.proofs.list.hrevolve_list.Goals as goal
 
 pub has_list-requires : goal.has_list-requires
-has_list-requires c = can_read c.args.steps c.args.book.now c.args.tables.now c.requires.sizes (c.greatest_is_exact.ensures c.args.steps c.args.book.now (tables_in c.args.tables.now) c.requires.fits.few c.is_within_limits.ensures c.requires.greatest) c.requires.fits.few
+has_list-requires c = can_read c.args.steps c.args.book.now c.args.tables.now c.requires.sizes (c.greatest_is_exact.ensures c.args.steps c.args.book.now (tables_in c.args.tables.now) (few_steps c.args.steps c.requires.fits.few) c.is_within_limits.ensures c.requires.greatest) c.requires.fits.few
 
 pub whole_list-requires-clause-ready : goal.whole_list-requires-clause-ready
-whole_list-requires-clause-ready c = can_read c.args.steps c.args.book.now c.args.tables.now c.requires.sizes (c.greatest_is_exact.ensures c.args.steps c.args.book.now (tables_in c.args.tables.now) c.requires.fits.few c.is_within_limits.ensures c.requires.greatest) c.requires.fits.few
+whole_list-requires-clause-ready c = can_read c.args.steps c.args.book.now c.args.tables.now c.requires.sizes (c.greatest_is_exact.ensures c.args.steps c.args.book.now (tables_in c.args.tables.now) (few_steps c.args.steps c.requires.fits.few) c.is_within_limits.ensures c.requires.greatest) c.requires.fits.few
 
 pub returns-in-Ok-clause-nested : goal.returns-in-Ok-clause-nested
 returns-in-Ok-clause-nested c =
@@ -32,4 +32,4 @@ returns-then-not-has_list-clause-refused c =
     let book = c.args.book.now in let t = tables_in c.args.tables.now in
     let E : ℕ → Type 0 = λ n. top_entry n book t ≡ never in
     let none = never_of (top_entry c.args.tables.now.steps book t) (λ some. absurd (true≢false (sym (c.has_list.ensures.answer.1 some) ∙ c.if-not-has_list.true))) in
-    (refl, top_none c.args.steps book t (c.greatest_is_exact.ensures c.args.steps c.args.book.now (tables_in c.args.tables.now) c.requires.fits.few c.is_within_limits.ensures c.requires.greatest) c.has_list.ensures.levels (subst E c.requires.sizes.steps_are none))
+    (refl, top_none c.args.steps book t (c.greatest_is_exact.ensures c.args.steps c.args.book.now (tables_in c.args.tables.now) (few_steps c.args.steps c.requires.fits.few) c.is_within_limits.ensures c.requires.greatest) c.has_list.ensures.levels (subst E c.requires.sizes.steps_are none))

@@ -18,11 +18,12 @@ returns-clause-greatest g c =
     let book = c.args.book.now in
     let made : Inside = record { steps = c.args.steps; rooms = c.loop-k.rooms; levels = c.loop-k.levels } in
     let all : length book.levels ≤ c.loop-k.k = omega arith in
+    let few : c.args.steps ≤ 8192 = let short = c.requires.fits.few in omega arith in
     let f : book.forward < 2 ^ 32 = omega arith in
     let b : book.reverse < 2 ^ 32 = omega arith in
     let P : Tables → Type 0 = λ t. IsGreatest c.args.steps book t in
     subst P (sym (tables_seen made)) (greatest c.args.steps book (fresh_at c.loop-k.levels.items) (held_at c.loop-k.levels.items)
-    (modest c.args.steps book c.loop-k.k c.loop-k.levels.items c.loop-k.rooms.items c.loop-k.base.items are all c.requires.fits.few f b)
+    (modest c.args.steps book c.loop-k.k c.loop-k.levels.items c.loop-k.rooms.items c.loop-k.base.items are all few f b)
     (λ k known. are.are_levels k (omega arith)))
 
 pub level_rows-requires-clause-room : goal.level_rows-requires-clause-room

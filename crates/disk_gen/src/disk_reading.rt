@@ -1,0 +1,197 @@
+// The list for memory and an unlimited disk, as it is read from the disk tables.
+ghost use Rattle.std.specs.Prelude.{◌≡◌, ◌≢◌, ◌<◌, ◌≤◌, ◌+◌, ◌-◌, ◌*◌, ◌^◌, ℕ, true, false, length, IfOk, slice_index};
+ghost use Rattle.level_book.specs.BookCosts.{slots_of};
+ghost use Rattle.level_book.specs.CostFold.{cost};
+ghost use Rattle.level_book.specs.DiskClass.{Disk};
+ghost use Rattle.level_book.specs.DiskUnderTable.{IsGreatestDisk, disk_top_entry};
+ghost use Rattle.level_book.specs.UnderTable.{number, sum_of};
+ghost use Rattle.cost_tables.specs.TableRows.{FitsFastest, value_of};
+ghost use Rattle.disk_gen.specs.DiskRows.{AreDiskFor, disk_tables_in};
+ghost use Rattle.disk_gen.specs.DiskWritten.{IsDiskWritten};
+ghost use Rattle.disk_gen.specs.DiskReading.{CanReadDisk, IsHeldMore, IsDiskMore};
+
+use crate::disk_tables::DiskTables;
+use cost_tables::Cost;
+use hrevolve_gen::{plus, write_fresh};
+use level_book::Book;
+use plan_types::{Action, Dest, Keep};
+use std::alloc::{AllocError, Global};
+
+/// The list that is read from the tables that were built for so many steps and a book.
+pub fn disk_list(
+    alloc: Global,
+    tables: &DiskTables,
+    steps: u32,
+    book: &Book,
+) -> Result<Vec<Action>, AllocError>
+    requires fits { FitsFastest steps book.now }
+    requires sizes { AreDiskFor steps book.now tables.now }
+    requires greatest { IsGreatestDisk steps book.now (disk_tables_in tables.now) }
+    ensures list { IfOk result (λ list. IsDiskWritten steps book.now (disk_tables_in tables.now) list.items) }
+    ensures disk { IfOk result (λ list. Disk steps (slots_of book.now) list.items) }
+    ensures cost { IfOk result (λ list. disk_top_entry steps (disk_tables_in tables.now) ≡ number (cost list.items book.now)) }
+{
+    book.is_within_limits();
+    whole_list(alloc, tables, book)
+}
+
+// The whole list.
+fn whole_list(alloc: Global, tables: &DiskTables, book: &Book) -> Result<Vec<Action>, AllocError>
+    requires ready { CanReadDisk book.now tables.now }
+    ensures { IfOk result (λ list. IsDiskWritten tables.now.fast.steps book.now (disk_tables_in tables.now) list.items) }
+{
+    let steps = tables.steps();
+    let mut list = Vec::new(alloc);
+    if steps == 0 {
+        list.extend_from_slice(&[Action::EndForward, Action::EndReverse])?;
+        return Ok(list);
+    }
+    write_disk_fresh(&mut list, tables, book, 0, steps)?;
+    list.push(Action::EndReverse)?;
+    Ok(list)
+}
+
+// Whether the stretch costs as much with level 0 alone, where its first state is held on level 1.
+fn is_fast_held(tables: &DiskTables, own: Cost, read: u64, l: u32) -> bool
+    requires l { (1 ≤ l) × (l ≤ tables.now.fast.steps) }
+    requires read { read < 2 ^ 32 }
+    ensures yes { result ≡ true → value_of own ≡ sum_of read (number 0) ((disk_tables_in tables.now).fresh l (slice_index tables.now.fast.rooms 0)) }
+    ensures no { result ≡ false → value_of own ≢ sum_of read (number 0) ((disk_tables_in tables.now).fresh l (slice_index tables.now.fast.rooms 0)) }
+{
+    let fast = tables.fresh(l, tables.room());
+    plus(read, Cost::Number(0), fast) == own
+}
+
+// The same where its first state is in work.
+fn is_fast_fresh(tables: &DiskTables, own: Cost, l: u32) -> bool
+    requires { (1 ≤ l) × (l ≤ tables.now.fast.steps) }
+    ensures yes { result ≡ true → value_of own ≡ (disk_tables_in tables.now).fresh l (slice_index tables.now.fast.rooms 0) }
+    ensures no { result ≡ false → value_of own ≢ (disk_tables_in tables.now).fresh l (slice_index tables.now.fast.rooms 0) }
+{
+    tables.fresh(l, tables.room()) == own
+}
+
+// Whether splitting after j steps costs as much, where the first state's image and the way to the split cost n.
+fn is_fresh_split(tables: &DiskTables, own: Cost, n: u64, l: u32, j: u32) -> bool
+    requires l { l ≤ tables.now.fast.steps }
+    requires j { (1 ≤ j) × (j < l) }
+    requires n { n ≤ 2 ^ 62 }
+    ensures yes { result ≡ true → value_of own ≡ sum_of n ((disk_tables_in tables.now).disk_fresh (l - j)) ((disk_tables_in tables.now).disk_held j) }
+    ensures no { result ≡ false → value_of own ≢ sum_of n ((disk_tables_in tables.now).disk_fresh (l - j)) ((disk_tables_in tables.now).disk_held j) }
+{
+    plus(n, tables.disk_fresh(l - j), tables.disk_held(j)) == own
+}
+
+// The fewest steps after which splitting costs so much, where the first state is held on level 1.
+fn held_split(tables: &DiskTables, own: Cost, read: u64, forward: u64, l: u32) -> u32
+    requires few { tables.now.fast.steps ≤ 8192 }
+    requires l { (1 ≤ l) × (l ≤ tables.now.fast.steps) }
+    requires read { read < 2 ^ 32 }
+    requires forward { forward < 2 ^ 32 }
+    requires some { (i : ℕ) × (1 ≤ i) × (i < l) × (value_of own ≡ sum_of (read + i * forward) ((disk_tables_in tables.now).fresh (l - i) (slice_index tables.now.fast.rooms 0)) ((disk_tables_in tables.now).disk_held i)) }
+    ensures range { (1 ≤ result) × (result < l) }
+    ensures equal { value_of own ≡ sum_of (read + result * forward) ((disk_tables_in tables.now).fresh (l - result) (slice_index tables.now.fast.rooms 0)) ((disk_tables_in tables.now).disk_held result) }
+    ensures least { (i : ℕ) → 1 ≤ i → i < result → value_of own ≢ sum_of (read + i * forward) ((disk_tables_in tables.now).fresh (l - i) (slice_index tables.now.fast.rooms 0)) ((disk_tables_in tables.now).disk_held i) }
+{
+    let room = tables.room();
+    for i in 1..l {
+        let cost = plus(
+            read + i as u64 * forward,
+            tables.fresh(l - i, room),
+            tables.disk_held(i),
+        );
+        if cost == own {
+            return i;
+        }
+    }
+    1
+}
+
+// The same where the first state is in work.
+fn fresh_split(tables: &DiskTables, own: Cost, write: u64, forward: u64, l: u32) -> u32
+    requires few { tables.now.fast.steps ≤ 8192 }
+    requires l { (1 ≤ l) × (l ≤ tables.now.fast.steps) }
+    requires write { write < 2 ^ 32 }
+    requires forward { forward < 2 ^ 32 }
+    requires some { (j : ℕ) × (1 ≤ j) × (j < l) × (value_of own ≡ sum_of (write + j * forward) ((disk_tables_in tables.now).disk_fresh (l - j)) ((disk_tables_in tables.now).disk_held j)) }
+    ensures range { (1 ≤ result) × (result < l) }
+    ensures equal { value_of own ≡ sum_of (write + result * forward) ((disk_tables_in tables.now).disk_fresh (l - result)) ((disk_tables_in tables.now).disk_held result) }
+    ensures least { (j : ℕ) → 1 ≤ j → j < result → value_of own ≢ sum_of (write + j * forward) ((disk_tables_in tables.now).disk_fresh (l - j)) ((disk_tables_in tables.now).disk_held j) }
+{
+    for j in 1..l {
+        if is_fresh_split(tables, own, write + j as u64 * forward, l, j) {
+            return j;
+        }
+    }
+    1
+}
+
+// A stretch of l steps from b, whose first state is held on level 1.
+fn write_disk_held(
+    list: &mut Vec<Action>,
+    tables: &DiskTables,
+    book: &Book,
+    b: u32,
+    l: u32,
+) -> Result<(), AllocError>
+    requires ready { CanReadDisk book.now tables.now }
+    requires l { 1 ≤ l }
+    requires end { b + l ≤ tables.now.fast.steps }
+    ensures { IfOk result (λ _. IsHeldMore book.now tables.now b l list.old.items list.new.items) }
+{
+    let own = tables.disk_held(l);
+    let read = book.level(1).read as u64;
+    let room = tables.room();
+    if is_fast_held(tables, own, read, l) {
+        list.push(Action::Move {
+            n: b,
+            from: 1,
+            dest: Dest::Work,
+        })?;
+        return write_fresh(list, tables.fast(), book, 0, b, l, room);
+    }
+    let i = held_split(tables, own, read, book.forward() as u64, l);
+    list.extend_from_slice(&[
+        Action::Copy {
+            n: b,
+            from: 1,
+            dest: Dest::Work,
+        },
+        Action::Forward {
+            from: b,
+            to: b + i,
+            keep: Keep::Nothing,
+        },
+    ])?;
+    write_fresh(list, tables.fast(), book, 0, b + i, l - i, room)?;
+    write_disk_held(list, tables, book, b, i)
+}
+
+// The same where its first state is in work.
+fn write_disk_fresh(
+    list: &mut Vec<Action>,
+    tables: &DiskTables,
+    book: &Book,
+    b: u32,
+    l: u32,
+) -> Result<(), AllocError>
+    requires ready { CanReadDisk book.now tables.now }
+    requires l { 1 ≤ l }
+    requires end { b + l ≤ tables.now.fast.steps }
+    ensures { IfOk result (λ _. IsDiskMore book.now tables.now b l list.old.items list.new.items) }
+{
+    let own = tables.disk_fresh(l);
+    let room = tables.room();
+    if is_fast_fresh(tables, own, l) {
+        return write_fresh(list, tables.fast(), book, 0, b, l, room);
+    }
+    let write = book.level(1).write as u64;
+    let j = fresh_split(tables, own, write, book.forward() as u64, l);
+    list.push(Action::Forward {
+        from: b,
+        to: b + j,
+        keep: Keep::Store(1),
+    })?;
+    write_disk_fresh(list, tables, book, b + j, l - j)?;
+    write_disk_held(list, tables, book, b, j)
+}

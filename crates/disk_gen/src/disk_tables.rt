@@ -1,0 +1,269 @@
+// Tables of least costs over two levels, of which the slow one is unlimited.
+ghost use Rattle.std.specs.Prelude.{◌≡◌, ◌↔◌, ℕ, ◌+◌, ◌-◌, ◌<◌, ◌≤◌, ◌^◌, true, All, length, IfOk, IfErr, OnOk, slice_index};
+ghost use Rattle.level_book.specs.DiskUnderTable.{IsGreatestDisk};
+ghost use Rattle.cost_tables.specs.Entries.{entry, least_split};
+ghost use Rattle.cost_tables.specs.TableRows.{FitsFastest, tables_in, value_of};
+ghost use Rattle.disk_gen.specs.DiskPlans.{HasDiskPlan, IsDiskFault};
+ghost use Rattle.disk_gen.specs.DiskRows.{AreDiskFor, disk_tables_in};
+ghost use Rattle.disk_gen.specs.DiskBuilt.{IsHeldColumn, IsFreshColumn};
+
+use cost_tables::{Cost, Tables};
+use level_book::{Book, Slots};
+use revolve_gen::GenFault;
+use std::alloc::{AllocError, Global};
+use std::marker::Model;
+use std::thread::Threads;
+
+// Never in memory, above all other entries.
+const NEVER: u64 = 2305843009213693952;
+
+/// Tables of least costs, for a number of steps and a book of memory and an unlimited disk.
+#[derive(Drop)]
+pub struct DiskTables {
+    fast: Tables,
+    disk_fresh: Vec<u64>,
+    disk_held: Vec<u64>,
+}
+
+impl Model for DiskTables {
+    ghost use Rattle.disk_gen.specs.DiskRows.{DiskRows};
+
+    ghost Value = { DiskRows };
+
+    ghost use Rattle.disk_gen.specs.DiskBuilt.{view_of, AreWholeDisk};
+
+    ghost view = { view_of };
+
+    ghost invariant = { AreWholeDisk };
+}
+
+impl DiskTables {
+    /// Whether tables for so many steps and a book can be built: for at most 8,192 steps, and at most 64 images on level 0. It
+    /// takes no memory.
+    pub fn fits(steps: u32, book: &Book) -> bool
+        ensures { result ≡ true ↔ FitsFastest steps book.now }
+    {
+        Tables::fits_fastest(steps, book)
+    }
+
+    /// The greatest disk under-table, which is the same for every number of workers. There is none where the book hasn't two
+    /// levels, and else where level 1 isn't unlimited.
+    pub fn build<R: Threads + Sync>(
+        rt: &R,
+        alloc: Global,
+        steps: u32,
+        book: &Book,
+        workers: u32,
+    ) -> Result<DiskTables, GenFault>
+        requires fits { FitsFastest steps book.now }
+        requires workers { (1 ≤ workers) × (workers ≤ 64) }
+        ensures sizes { IfOk result (AreDiskFor steps book.now) }
+        ensures greatest { IfOk result (λ t. IsGreatestDisk steps book.now (disk_tables_in t)) }
+        ensures plan { OnOk result (HasDiskPlan book.now) }
+        ensures refused { IfErr result (IsDiskFault book.now) }
+    {
+        if book.levels() != 2 {
+            return Err(GenFault::NoPlan(2));
+        }
+        if book.level(1).slots != Slots::Unlimited {
+            return Err(GenFault::NoPlan(3));
+        }
+        match filled(rt, alloc, steps, book, workers) {
+            Ok(tables) => Ok(tables),
+            Err(_) => Err(GenFault::Memory),
+        }
+    }
+
+    /// The entry of level 0 alone for a stretch of l steps and m free slots, with the first state in work. It takes no memory.
+    pub fn fresh(&self, l: u32, m: u32) -> Cost
+        requires l { (1 ≤ l) × (l ≤ self.now.fast.steps) }
+        requires m { m ≤ slice_index self.now.fast.rooms 0 }
+        ensures value { value_of result ≡ (disk_tables_in self.now).fresh l m }
+        ensures bounded { (v : ℕ) → result ≡ Cost.Number v → v < 2 ^ 61 }
+    {
+        self.fast.fresh(0, l, m)
+    }
+
+    /// The same with the first state held on level 0, beside the free slots. It takes no memory.
+    pub fn held(&self, l: u32, m: u32) -> Cost
+        requires l { (1 ≤ l) × (l ≤ self.now.fast.steps) }
+        requires m { m < slice_index self.now.fast.rooms 0 }
+        ensures value { value_of result ≡ (disk_tables_in self.now).held l m }
+        ensures bounded { (v : ℕ) → result ≡ Cost.Number v → v < 2 ^ 61 }
+    {
+        self.fast.held(0, l, m)
+    }
+
+    /// The entry over both levels for a stretch of l steps with the first state in work. It takes no memory.
+    pub fn disk_fresh(&self, l: u32) -> Cost
+        requires { (1 ≤ l) × (l ≤ self.now.fast.steps) }
+        ensures value { value_of result ≡ (disk_tables_in self.now).disk_fresh l }
+        ensures bounded { (v : ℕ) → result ≡ Cost.Number v → v < 2 ^ 61 }
+    {
+        cost_of(self.disk_fresh[l as usize - 1])
+    }
+
+    /// The same with the first state held on level 1. It takes no memory.
+    pub fn disk_held(&self, l: u32) -> Cost
+        requires { (1 ≤ l) × (l ≤ self.now.fast.steps) }
+        ensures value { value_of result ≡ (disk_tables_in self.now).disk_held l }
+        ensures bounded { (v : ℕ) → result ≡ Cost.Number v → v < 2 ^ 61 }
+    {
+        cost_of(self.disk_held[l as usize - 1])
+    }
+
+    /// For how many steps the tables are.
+    pub fn steps(&self) -> u32
+        ensures { result ≡ self.now.fast.steps }
+    {
+        self.fast.steps()
+    }
+
+    /// The most free slots of level 0.
+    pub fn room(&self) -> u32
+        ensures { result ≡ slice_index self.now.fast.rooms 0 }
+    {
+        self.fast.room(0)
+    }
+
+    // The tables of level 0 alone.
+    pub(crate) fn fast(&self) -> &Tables
+        ensures value { result.now ≡ self.now.fast }
+        ensures one { length self.now.fast.rooms ≡ 1 }
+    {
+        &self.fast
+    }
+}
+
+// The entry of a number in memory.
+fn cost_of(n: u64) -> Cost
+    ensures value { value_of result ≡ entry n }
+    ensures bounded { (v : ℕ) → result ≡ Cost.Number v → v < 2 ^ 61 }
+{
+    if n < NEVER {
+        Cost::Number(n)
+    } else {
+        Cost::Never
+    }
+}
+
+// The tables for a book that has a plan.
+fn filled<R: Threads + Sync>(
+    rt: &R,
+    alloc: Global,
+    steps: u32,
+    book: &Book,
+    workers: u32,
+) -> Result<DiskTables, AllocError>
+    requires fits { FitsFastest steps book.now }
+    requires workers { (1 ≤ workers) × (workers ≤ 64) }
+    requires plan { HasDiskPlan book.now }
+    ensures sizes { IfOk result (AreDiskFor steps book.now) }
+    ensures greatest { IfOk result (λ t. IsGreatestDisk steps book.now (disk_tables_in t)) }
+{
+    book.is_within_limits();
+    let fast = Tables::build_fastest(rt, alloc, steps, book, workers)?;
+    let column = fast_column(alloc, &fast)?;
+    let forward = book.forward() as u64;
+    let disk = book.level(1);
+    let disk_held = held_column(alloc, &column, forward, disk.read as u64)?;
+    let disk_fresh = fresh_column(alloc, &column, &disk_held, forward, disk.write as u64)?;
+    Ok(DiskTables {
+        fast,
+        disk_fresh,
+        disk_held,
+    })
+}
+
+// What each stretch costs with level 0 alone and all its slots.
+fn fast_column(alloc: Global, fast: &Tables) -> Result<Vec<u64>, AllocError>
+    requires { length fast.now.rooms ≡ 1 }
+    ensures count { IfOk result (λ column. length column.items ≡ fast.now.steps) }
+    ensures low { IfOk result (λ column. All (λ n. n ≤ 2 ^ 61) column.items) }
+    ensures value { IfOk result (λ column. (r : ℕ) → r < fast.now.steps → entry (slice_index column.items r) ≡ (tables_in fast.now).fresh 0 (r + 1) (slice_index fast.now.rooms 0)) }
+{
+    let room = fast.room(0);
+    let mut column = Vec::new(alloc);
+    for r in 0..fast.steps() {
+        column.push(number_of(fast.fresh(0, r + 1, room)))?;
+    }
+    Ok(column)
+}
+
+// The number in memory of an entry.
+fn number_of(cost: Cost) -> u64
+    requires { (v : ℕ) → cost ≡ Cost.Number v → v < 2 ^ 61 }
+    ensures value { entry result ≡ value_of cost }
+    ensures low { result ≤ 2 ^ 61 }
+{
+    match cost {
+        Cost::Number(n) => n,
+        Cost::Never => NEVER,
+    }
+}
+
+// The least that the splits of row r cost, besides what its first image costs.
+fn least_cost(fresh: &[u64], held: &[u64], r: usize, forward: u64) -> u64
+    requires forward { forward < 2 ^ 32 }
+    requires few { r < 8192 }
+    requires rows { (r ≤ length fresh.now) × (r ≤ length held.now) }
+    requires fresh { All (λ n. n ≤ 2 ^ 61) fresh.now }
+    requires held { All (λ n. n ≤ 2 ^ 62) held.now }
+    ensures { result ≡ least_split forward (slice_index fresh.now) (slice_index held.now) r r }
+{
+    let mut least = NEVER;
+    for i in 0..r {
+        let cost = (i as u64 + 1) * forward + fresh[r - (i + 1)] + held[i];
+        if cost < least {
+            least = cost;
+        }
+    }
+    least
+}
+
+// What each stretch costs whose first state is held on level 1.
+fn held_column(
+    alloc: Global,
+    fast: &[u64],
+    forward: u64,
+    read: u64,
+) -> Result<Vec<u64>, AllocError>
+    requires forward { forward < 2 ^ 32 }
+    requires read { read < 2 ^ 32 }
+    requires few { length fast.now ≤ 8192 }
+    requires fast { All (λ n. n ≤ 2 ^ 61) fast.now }
+    ensures count { IfOk result (λ held. length held.items ≡ length fast.now) }
+    ensures column { IfOk result (λ held. IsHeldColumn forward read fast.now held.items) }
+{
+    let mut held = Vec::with_capacity(alloc, fast.len())?;
+    for r in 0..fast.len() {
+        let split = least_cost(fast, &held, r, forward);
+        held.push(read + fast[r].min(split))?;
+    }
+    Ok(held)
+}
+
+// What each stretch costs whose first state is in work.
+fn fresh_column(
+    alloc: Global,
+    fast: &[u64],
+    held: &[u64],
+    forward: u64,
+    write: u64,
+) -> Result<Vec<u64>, AllocError>
+    requires forward { forward < 2 ^ 32 }
+    requires write { write < 2 ^ 32 }
+    requires few { length fast.now ≤ 8192 }
+    requires fast { All (λ n. n ≤ 2 ^ 61) fast.now }
+    requires held { All (λ n. n ≤ 2 ^ 62) held.now }
+    requires count { length held.now ≡ length fast.now }
+    ensures count { IfOk result (λ fresh. length fresh.items ≡ length fast.now) }
+    ensures column { IfOk result (λ fresh. IsFreshColumn forward write fast.now held.now fresh.items) }
+{
+    let mut fresh = Vec::with_capacity(alloc, fast.len())?;
+    for r in 0..fast.len() {
+        let split = least_cost(&fresh, held, r, forward);
+        fresh.push(fast[r].min(write + split))?;
+    }
+    Ok(fresh)
+}
