@@ -11,3 +11,4 @@ pub mod LineFaults
 pub mod OneFault
 pub mod Whole
 pub mod Spelled
+pub mod Written

@@ -8,3 +8,4 @@ pub mod Laws
 pub mod Rest
 pub mod Bytes
 pub mod Reading
+pub mod Written

@@ -1,12 +1,16 @@
 // A cursor over the bytes of a text, which goes from token to token of a line, and from line to line.
-ghost use Rattle.std.specs.Prelude.{◌≡◌, ◌≢◌, ◌<◌, ◌≤◌, ◌+◌, ◌-◌, ◌^◌, ◌∷◌, [], false, true, length, IsTrue, MatchResult, IfOk, IfErr, OnOk, Ok, Err, IfSome};
+ghost use Rattle.std.specs.Prelude.{◌≡◌, ◌≢◌, ◌<◌, ◌≤◌, ◌+◌, ◌-◌, ◌^◌, ◌∷◌, [], false, true, length, IsTrue, MatchResult, IfOk, IfErr, OnOk, Ok, Err, Some, IfSome, MatchOption};
+ghost use Rattle.level_book.specs.BookCosts.{names_of};
 ghost use Rattle.action_text.specs.Tokens.{is_blank, is_run_byte, starts_run};
 ghost use Rattle.action_text.specs.ScheduleText.{lines};
 ghost use Rattle.action_text.specs.Bytes.{without_blanks, behind_line, past, ends_line, begins_nothing, run_length, IsWord, behind_word, behind_front};
-ghost use Rattle.action_text.specs.Reading.{GivesSome, text_at, column_at, says_nothing, not_action, number_of, mark_next, end_next, has_line, next_line, Takes, TakesWord};
+ghost use Rattle.action_text.specs.Reading.{GivesSome, text_at, column_at, says_nothing, not_action, number_of, mark_next, end_next, has_line, next_line, Takes, TakesWord, line_of};
 
+use crate::canonical::action_at;
 use crate::fault::{LineFault, Rule};
 use crate::number::number_at;
+use level_book::Book;
+use plan_types::Action;
 use std::marker::Model;
 
 // The bytes that are left, and how many were left at the beginning of their line.
@@ -44,6 +48,24 @@ impl<'a> Cursor<'a> {
             rest: bytes,
             start: bytes.len(),
         }
+    }
+
+    // Goes past the action whose canonical spelling is the whole line, where the cursor stands at the line's beginning.
+    #[inline(always)]
+    pub(crate) fn take_canonical(&mut self, book: &Book) -> Option<Action>
+        ensures { MatchOption result (self.new ≡ self.old)
+            (λ a. (line_of (names_of book.now) false self.old ≡ Ok (Some a)) × (self.new.later ≡ self.old.later)) }
+    {
+        book.has_names();
+        if self.start != self.rest.len() {
+            return None;
+        }
+        let (action, behind) = action_at(self.rest, book)?;
+        if !ends_line(behind) {
+            return None;
+        }
+        self.rest = behind;
+        Some(action)
     }
 
     // Whether the line says nothing.
@@ -236,7 +258,7 @@ fn behind_word<'a>(bytes: &'a [u8], word: &[u8]) -> Option<&'a [u8]>
 // The bytes behind other ones, where they begin with those.
 #[inline(always)]
 #[tactic(auto, unfolding(crate::specs::Bytes::behind_front))]
-fn behind_front<'a>(bytes: &'a [u8], others: &[u8]) -> Option<&'a [u8]>
+pub(crate) fn behind_front<'a>(bytes: &'a [u8], others: &[u8]) -> Option<&'a [u8]>
     ensures { GivesSome (λ rest. rest.now) result (behind_front bytes.now others.now) }
 {
     let mut rest = bytes;
@@ -249,7 +271,7 @@ fn behind_front<'a>(bytes: &'a [u8], others: &[u8]) -> Option<&'a [u8]>
 }
 
 // Whether a run begins at the front.
-fn starts_run(bytes: &[u8]) -> bool
+pub(crate) fn starts_run(bytes: &[u8]) -> bool
     ensures { result ≡ starts_run bytes.now }
 {
     match bytes {

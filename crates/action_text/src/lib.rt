@@ -5,6 +5,7 @@
 //! `Canonical`.
 #![tactic(auto)]
 
+mod canonical;
 mod cursor;
 mod fault;
 mod fields;

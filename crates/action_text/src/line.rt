@@ -12,12 +12,26 @@ use level_book::Book;
 use plan_types::{Action, Keep};
 
 // The action that the line says, or none, where it says nothing; full says that no more actions may come.
-#[tactic(auto, unfolding(crate::specs::Reading::line_of))]
 pub(crate) fn line(
     cursor: &mut Cursor,
     book: &Book,
     full: bool,
 ) -> Result<Option<Action>, LineFault>
+    ensures value { Gives (λ found. found) result (line_of (names_of book.now) full cursor.old) }
+    ensures later { OnOk result (cursor.new.later ≡ cursor.old.later) }
+{
+    if !full {
+        if let Some(action) = cursor.take_canonical(book) {
+            return Ok(Some(action));
+        }
+    }
+    line_by_tokens(cursor, book, full)
+}
+
+// The same, whatever its spelling.
+#[inline(never)]
+#[tactic(auto, unfolding(crate::specs::Reading::line_of))]
+fn line_by_tokens(cursor: &mut Cursor, book: &Book, full: bool) -> Result<Option<Action>, LineFault>
     ensures value { Gives (λ found. found) result (line_of (names_of book.now) full cursor.old) }
     ensures later { OnOk result (cursor.new.later ≡ cursor.old.later) }
 {

@@ -3,7 +3,7 @@ use Rattle.std.proofs.lemmas.Result.{err_from_is_err_and}
 use Rattle.level_book.specs.BookCosts.{names_of}
 use Rattle.action_text.specs.Reading.{◌>>=◌, says_nothing, profiled}
 use Rattle.action_text.proofs.LineOf.{line_kindless, line_of_kind, action_some}
-use Rattle.action_text.proofs.line.line.Goals as goal
+use Rattle.action_text.proofs.line.line_by_tokens.Goals as goal
 
 pub returns-in_default-clause-value : goal.returns-in_default-clause-value
 returns-in_default-clause-value c =
