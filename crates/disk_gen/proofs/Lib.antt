@@ -11,3 +11,4 @@ pub mod DiskCosts
 pub mod DiskForwards
 pub mod DiskNested
 pub mod DiskWhole
+pub mod DiskUnique

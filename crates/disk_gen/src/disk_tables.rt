@@ -222,12 +222,7 @@ fn least_cost(fresh: &[u64], held: &[u64], r: usize, forward: u64) -> u64
 }
 
 // What each stretch costs whose first state is held on level 1.
-fn held_column(
-    alloc: Global,
-    fast: &[u64],
-    forward: u64,
-    read: u64,
-) -> Result<Vec<u64>, AllocError>
+fn held_column(alloc: Global, fast: &[u64], forward: u64, read: u64) -> Result<Vec<u64>, AllocError>
     requires forward { forward < 2 ^ 32 }
     requires read { read < 2 ^ 32 }
     requires few { length fast.now ≤ 8192 }

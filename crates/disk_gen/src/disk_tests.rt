@@ -53,14 +53,33 @@ fn nine_steps_have_the_entries_that_are_laid_down(rt: HostRuntime) -> Result<(),
     let book = read_book(rt.alloc(), ONE_SLOT)?;
     let tables = built!(rt, 9, &book, 2)?;
     assert_eq!(rt; (tables.steps(), tables.room()), (9, 1));
-    for (l, cost) in [(1, 2), (2, 5), (3, 9), (4, 14), (5, 19), (6, 24), (7, 29), (8, 34), (9, 39)] {
+    for (l, cost) in [
+        (1, 2),
+        (2, 5),
+        (3, 9),
+        (4, 14),
+        (5, 19),
+        (6, 24),
+        (7, 29),
+        (8, 34),
+        (9, 39),
+    ] {
         assert_eq!(rt;
             disk_fresh(&tables, l),
             Some(Cost::Number(cost)),
             "{l} steps"
         );
     }
-    for (l, cost) in [(1, 3), (2, 6), (3, 10), (4, 14), (5, 18), (6, 23), (7, 28), (8, 33)] {
+    for (l, cost) in [
+        (1, 3),
+        (2, 6),
+        (3, 10),
+        (4, 14),
+        (5, 18),
+        (6, 23),
+        (7, 28),
+        (8, 33),
+    ] {
         assert_eq!(rt;
             disk_held(&tables, l),
             Some(Cost::Number(cost)),
@@ -114,10 +133,7 @@ fn one_step_needs_no_slot(rt: HostRuntime) -> Result<(), Fail> {
 #[test]
 fn other_books_have_no_tables(rt: HostRuntime) -> Result<(), Fail> {
     let limited = read_book(rt.alloc(), ONE_DISK_SLOT)?;
-    assert_eq!(rt;
-        built!(rt, 4, &limited, 1).err(),
-        Some(GenFault::NoPlan(3))
-    );
+    assert_eq!(rt; built!(rt, 4, &limited, 1).err(), Some(GenFault::NoPlan(3)));
     assert_eq!(rt;
         built!(rt, 4, &Book::plain(1), 1).err(),
         Some(GenFault::NoPlan(2))

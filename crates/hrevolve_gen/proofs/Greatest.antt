@@ -10,14 +10,14 @@ use Rattle.hrevolve_gen.specs.Laws.{PlanIsUnique}
 use Rattle.hrevolve_gen.proofs.OnePart.{unique}
 
 -- two entries that are at most each other are one
-same_entry : (a b : Entry) → IsAtMost a b → IsAtMost b a → a ≡ b
+pub same_entry : (a b : Entry) → IsAtMost a b → IsAtMost b a → a ≡ b
 same_entry (number a) (number b) le ge = ap number (omega arith)
 same_entry (number a) never le ge = absurd ge
 same_entry never (number b) le ge = absurd le
 same_entry never never le ge = refl
 
 -- a split is the first one, where each entry is another's
-first_alike : (k j : ℕ) (own own' : Entry) (without without' after after' : ℕ → Entry) → own ≡ own' → ((i : ℕ) → suc i ≡ k → without i ≡ without' i) →
+pub first_alike : (k j : ℕ) (own own' : Entry) (without without' after after' : ℕ → Entry) → own ≡ own' → ((i : ℕ) → suc i ≡ k → without i ≡ without' i) →
     ((i : ℕ) → 1 ≤ i → i < j → after i ≡ after' i) → IsFirst k j own without after → IsFirst k j own' without' after'
 first_alike k j own own' without without' after after' e others splits is = record {
   used = λ i is_before same. is.used i is_before (e ∙ same ∙ sym (others i is_before));

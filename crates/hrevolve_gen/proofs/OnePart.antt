@@ -15,7 +15,7 @@ same_split k i j own without after hi hj ei ej fi fj =
     ]
 
 module _ (steps : ℕ) (book : BookCosts) (t : Tables) where
-  same_part : (p q : Part) (held : Bool) (k l m : ℕ) → Reads steps book t held k l m p → Reads steps book t held k l m q → p ≡ q
+  pub same_part : (p q : Part) (held : Bool) (k l m : ℕ) → Reads steps book t held k l m p → Reads steps book t held k l m q → p ≡ q
   same_part one one held k l m is js = refl
   same_part one (faster q) held zero l m is js = absurd js
   same_part one (faster q) false (suc k) l m is js = absurd (omega (arith, is.0, js.0))

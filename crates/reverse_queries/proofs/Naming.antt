@@ -14,14 +14,14 @@ use Rattle.rv_machine.proofs.Runs.{state_number_keeps_pages}
 use Rattle.reverse_runner.specs.Acts.{Holdings, Acts}
 use Rattle.reverse_runner.specs.SessionState.{SamePages}
 
-one_named : (j k : ℕ) → Contains (j ∷ []) k → k ≡ j
+pub one_named : (j k : ℕ) → Contains (j ∷ []) k → k ≡ j
 one_named j k h = at h.0 h.1 h.2
   where
     at : (m : ℕ) → m < 1 → get_or (j ∷ []) m k ≡ k → k ≡ j
     at zero lt e = sym e
     at (suc m) lt e = absurd (omega (arith, lt))
 
-two_named : (i j k : ℕ) → Contains (i ∷ j ∷ []) k → (k ≡ i) ⊎ (k ≡ j)
+pub two_named : (i j k : ℕ) → Contains (i ∷ j ∷ []) k → (k ≡ i) ⊎ (k ≡ j)
 two_named i j k h = at h.0 h.1 h.2
   where
     at : (m : ℕ) → m < 2 → get_or (i ∷ j ∷ []) m k ≡ k → (k ≡ i) ⊎ (k ≡ j)
@@ -29,7 +29,7 @@ two_named i j k h = at h.0 h.1 h.2
     at (suc zero) lt e = inr (sym e)
     at (suc (suc m)) lt e = absurd (omega (arith, lt))
 
-none_named : (k : ℕ) → Contains [] k → ⊥
+pub none_named : (k : ℕ) → Contains [] k → ⊥
 none_named k h = let lt = h.1 in absurd (omega (arith, lt))
 
 -- an action that may be done names levels of the book alone

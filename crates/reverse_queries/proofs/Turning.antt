@@ -179,13 +179,3 @@ misses_gets missed journal (Move m k dest) position work tape x y h = absurd h
 misses_gets missed journal EndReverse position work tape x y h = absurd h
 misses_gets missed journal EndForward position work tape x y h = h
 misses_gets missed journal (Reverse from to) position work tape x y h = h
-
--- over a run the visitor got the state of the run
-pub got_of_run : {V : Type 0} (got : V → ℕ → MachineState → List (List ℕ) → V → Type 0) (steps : ℕ) (slots : List Slots) (j k : List (List ℕ)) (c : Configuration) (a : Action) (d : Configuration) (n : ℕ)
-    (work tape : MachineState) (x y : V) (first : MachineState) → Goes steps slots c a d → IsSound steps slots c → hands_out steps n a ≡ true → AreOfRun first j c work tape → j ≡ k → Gets got j a c.work work tape x y →
-    got x n (state_number first k n) k y
-got_of_run got steps slots j k c a d n work tape x y first g sound hands are same gets =
-    let it = gets_hands got steps slots j c a d n work tape x y g sound hands gets in
-    let S : MachineState → Type 0 = λ s. got x n s j y in
-    let J : List (List ℕ) → Type 0 = λ l. got x n (state_number first l n) l y in
-    subst J same (subst S (it.is first are) it.got_it)

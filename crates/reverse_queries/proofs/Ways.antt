@@ -1,5 +1,5 @@
 -- What is known of a session, of the count of steps and of the keepers on the way through a valid list.
-use Rattle.std.proofs.Common.{◌≡◌, inl, inr, ℕ, zero, suc, ◌+◌, ◌-◌, ◌^◌, ◌<◌, ◌≤◌, min, false, true, cond, List, [], ◌∷◌, length, map, take, sum_by, Option, Some, Contains, Result, Ok, Err, OnOk, OnErr, refl, sym, ◌∙◌, ap, subst, arith, slice_get}
+use Rattle.std.proofs.Common.{◌≡◌, inl, inr, ℕ, zero, suc, ◌+◌, ◌-◌, ◌^◌, ◌<◌, ◌≤◌, min, false, true, cond, Bool, List, [], ◌∷◌, length, map, take, sum_by, Option, Some, Contains, Result, Ok, Err, OnErr, refl, sym, ◌∙◌, ap, subst, arith, slice_get}
 use Rattle.std.proofs.lemmas.List.{length-take-le, take_all}
 use Rattle.std.proofs.lemmas.List.Sums.{sum_by-append}
 use Rattle.plan_types.specs.declared.action.Action.{Action}
@@ -18,12 +18,15 @@ use Rattle.schedule_rules.proofs.Moving.{goes}
 use Rattle.schedule_rules.proofs.Judging.{kept_on_the_way, goes_on, take_one_more}
 use Rattle.schedule_rules.proofs.Reaching.{sound_on, sound_start, leads_unique}
 use Rattle.rv_machine.specs.MachineState.{MachineState, IsMachineState}
+use Rattle.reverse_runner.specs.declared.fault.RunFault.{RunFault}
 use Rattle.reverse_runner.specs.Acts.{Holdings, Acts}
-use Rattle.reverse_runner.specs.KeepersSeen.{Calls, Called, CalledAtMost, by_number, told_by, calls_to, calls_of, is_release, HaveRoom}
-use Rattle.reverse_runner.specs.SessionState.{SessionState, SamePages, holdings_of}
+use Rattle.reverse_runner.specs.KeepersSeen.{Calls, Called, CalledAtMost, CalledBetween, by_number, told_by, calls_to, calls_of, is_release, HaveRoom}
+use Rattle.reverse_runner.specs.SessionState.{SessionState, SamePages, levels_of, holdings_of}
+use Rattle.reverse_runner.specs.LevelsStand.{AreAlone}
 use Rattle.reverse_runner.specs.Standing.{StandsAt, Performs, Ends, IsDamage}
-use Rattle.reverse_queries.specs.Performing.{calls_of_all, done_after, PerformsAll, RefusedIn, IsDamaged}
+use Rattle.reverse_queries.specs.Performing.{calls_of_all, done_after, PerformsAll, Fits, RefusedIn, IsDamaged}
 use Rattle.reverse_queries.proofs.Fronts.{is_within}
+use Rattle.reverse_queries.proofs.Fitting.{same_there}
 use Rattle.reverse_queries.proofs.Naming.{past_is_unnamed, acts_keep_pages}
 use Rattle.reverse_queries.proofs.Turning.{Turns, turns_start, turns_on}
 
@@ -37,6 +40,7 @@ pub record Way {K : Type 0} (told : K → Option Images) (puts gets frees slots 
   pub others : (k : ℕ) → length old.situation.slots ≤ k → slice_get ls k ≡ slice_get ks k
   pub pages : SamePages new.work old.work
   pub stands : (first : MachineState) → IsMachineState first → StandsAt first old (told_by told ks) → StandsAt first new (told_by told ls)
+  pub alone : AreAlone (levels_of old (told_by told ks)) → AreAlone (levels_of new (told_by told ls))
   pub turns : Turns old.situation.steps new.situation.at
 
 no_more : (a : ℕ) → a ≡ raised a 0
@@ -53,6 +57,7 @@ way_start told puts gets frees slots faults list old ks n at lasts = record {
   others = λ k past. refl;
   pages = refl;
   stands = λ first is stands. stands;
+  alone = λ alone. alone;
   turns = turns_start old.situation.steps old.situation.slots old.situation.at at;
 }
 
@@ -67,8 +72,8 @@ done_more done (suc n) (suc m) e = omega (arith, e)
 raised_then : (a b c j k l : ℕ) → b ≡ raised a j → c ≡ raised b k → l ≡ j + k → c ≡ raised a l
 raised_then a b c j k l e f same = omega (arith, e, f, same)
 
-most_then : (a b c j k l : ℕ) → b ≡ raised a j → b ≤ c → c ≤ raised b k → l ≡ j + k → (a ≤ c) × (c ≤ raised a l)
-most_then a b c j k l e least most same = (omega (arith, e, least), omega (arith, e, most, same))
+between_then : (a b c j k l : ℕ) → b ≡ raised a j → b ≤ c → c ≤ raised b k → l ≡ j + k → (raised a j ≤ c) × (c ≤ raised a l)
+between_then a b c j k l e least most same = (omega (arith, e, least), omega (arith, e, most, same))
 
 -- a count over a list that goes on by one
 count_more : {A : Type 0} (f : A → ℕ) (list : List A) (i : ℕ) (a : A) → slice_get list i ≡ Some a → sum_by f (take (i + 1) list) ≡ sum_by f (take i list) + f a
@@ -84,11 +89,11 @@ called_more list i a x y z at first second = record {
   free_calls = λ k. raised_then _ _ _ _ _ _ (first.free_calls k) (second.free_calls k) (count_more (λ b. cond (is_release k b) 1 0) list i a at);
 }
 
-pub most_more : (list : List Action) (i : ℕ) (a : Action) (x y z : Calls) → slice_get list i ≡ Some a → Called (calls_of_all (take i list)) x y → CalledAtMost (calls_of a) y z → CalledAtMost (calls_of_all (take (i + 1) list)) x z
-most_more list i a x y z at first second = record {
-  put_calls = λ k. most_then _ _ _ _ _ _ (first.put_calls k) (second.put_calls k).0 (second.put_calls k).1 (count_more (λ b. cond (is_write k b) 1 0) list i a at);
-  get_calls = λ k. most_then _ _ _ _ _ _ (first.get_calls k) (second.get_calls k).0 (second.get_calls k).1 (count_more (λ b. cond (is_read k b) 1 0) list i a at);
-  free_calls = λ k. most_then _ _ _ _ _ _ (first.free_calls k) (second.free_calls k).0 (second.free_calls k).1 (count_more (λ b. cond (is_release k b) 1 0) list i a at);
+pub between_more : (list : List Action) (i : ℕ) (a : Action) (x y z : Calls) → slice_get list i ≡ Some a → Called (calls_of_all (take i list)) x y → CalledAtMost (calls_of a) y z → CalledBetween (calls_of_all (take i list)) (calls_of_all (take (i + 1) list)) x z
+between_more list i a x y z at first second = record {
+  put_calls = λ k. between_then _ _ _ _ _ _ (first.put_calls k) (second.put_calls k).0 (second.put_calls k).1 (count_more (λ b. cond (is_write k b) 1 0) list i a at);
+  get_calls = λ k. between_then _ _ _ _ _ _ (first.get_calls k) (second.get_calls k).0 (second.get_calls k).1 (count_more (λ b. cond (is_read k b) 1 0) list i a at);
+  free_calls = λ k. between_then _ _ _ _ _ _ (first.free_calls k) (second.free_calls k).0 (second.free_calls k).1 (count_more (λ b. cond (is_release k b) 1 0) list i a at);
 }
 
 -- where the list leads from the start of the session
@@ -153,6 +158,7 @@ pub record Went {K : Type 0} (told : K → Option Images) (puts gets frees slots
   pub quiet : (k : ℕ) → by_number 0 faults ms k ≡ by_number 0 faults ls k
   pub others : (k : ℕ) → (Contains (levels_named a) k → ⊥) → slice_get ms k ≡ slice_get ls k
   pub stands : (first : MachineState) → IsMachineState first → StandsAt first mid (told_by told ls) → StandsAt first new (told_by told ms)
+  pub alone : AreAlone (levels_of mid (told_by told ls)) → AreAlone (levels_of new (told_by told ms))
 
 pub way_on : {K : Type 0} (told : K → Option Images) (puts gets frees slots faults : K → ℕ) (list : List Action) (i : ℕ) (old mid new : SessionState) (ks ls ms : List K) (before after last : ℕ) (a : Action) →
     old.situation.at ≡ start old.situation.steps old.situation.slots → slice_get list i ≡ Some a → Way told puts gets frees slots faults list i old mid ks ls before after →
@@ -169,28 +175,33 @@ way_on told puts gets frees slots faults list i old mid new ks ls ms before afte
       others = λ k past. went.others k (past_is_unnamed old.situation.steps old.situation.slots mid.situation.at a new.situation.at k goes past) ∙ way.others k past;
       pages = acts_keep_pages mid.journal a _ _ went.acts ∙ way.pages;
       stands = λ first is stands. went.stands first is (way.stands first is stands);
+      alone = λ alone. went.alone (way.alone alone);
       turns = turns_on old.situation.steps old.situation.slots mid.situation.at a new.situation.at goes way.turns;
     }
 
 -- ---- a refusal
 
-pub refused_in : {K : Type 0} (told : K → Option Images) (puts gets frees slots faults : K → ℕ) (list front : List Action) (i : ℕ) (old mid new : SessionState) (ks ls ms : List K) (before after last : ℕ) (a : Action) →
+pub refused_in : {K : Type 0} (told : K → Option Images) (puts gets frees slots faults : K → ℕ) (list front : List Action) (i : ℕ) (old mid new : SessionState) (ks ls ms : List K) (before after last : ℕ) (a : Action) (gives : Action → Bool) (fault : RunFault) →
     slice_get list i ≡ Some a → take i front ≡ take i list → take (i + 1) front ≡ take (i + 1) list → i < length front →
     Way told puts gets frees slots faults list i old mid ks ls before after → Ends mid new → last ≡ after →
-    CalledAtMost (calls_of a) (calls_to puts gets frees ls) (calls_to puts gets frees ms) → RefusedIn front old new before last (calls_to puts gets frees ks) (calls_to puts gets frees ms)
-refused_in told puts gets frees slots faults list front i old mid new ks ls ms before after last a at here there inside way ends still most =
+    CalledAtMost (calls_of a) (calls_to puts gets frees ls) (calls_to puts gets frees ms) → Fits gives fault a → RefusedIn gives front fault old new before last (calls_to puts gets frees ks) (calls_to puts gets frees ms)
+refused_in told puts gets frees slots faults list front i old mid new ks ls ms before after last a gives fault at here there inside way ends still most fits =
     let within = is_within list i a at in
     let C : Configuration → Type 0 = λ x. Leads old.situation.steps old.situation.slots old.situation.at (take i list) x in
     let L : List Action → Type 0 = λ l. Leads old.situation.steps old.situation.slots old.situation.at l new.situation.at in
-    let M : List Action → Type 0 = λ l. CalledAtMost (calls_of_all l) (calls_to puts gets frees ks) (calls_to puts gets frees ms) in
+    let B : List Action → Type 0 = λ l. CalledBetween (calls_of_all l) (calls_of_all (take (i + 1) front)) (calls_to puts gets frees ks) (calls_to puts gets frees ms) in
+    let M : List Action → Type 0 = λ l. CalledBetween (calls_of_all (take i list)) (calls_of_all l) (calls_to puts gets frees ks) (calls_to puts gets frees ms) in
     record {
       place = i;
       within = inside;
+      next = a;
+      there = same_there list front i a there at;
+      fits = fits;
       leads = subst L (sym here) (subst C (sym (ap (λ (s : Situation). s.at) ends.situation)) way.performs.leads);
       done = ends.done ∙ way.performs.done ∙ ap (done_after old.done) (length-take-le i list (omega (arith, within)));
       over = ends.over;
       counted = still ∙ way.counted ∙ ap (λ l. before + forward l) (sym here);
-      called = subst M (sym there) (most_more list i a _ _ _ at way.called most);
+      called = subst B (sym here) (subst M (sym there) (between_more list i a _ _ _ at way.called most));
     }
 
 -- what was wrong with the bytes that came back
@@ -225,10 +236,6 @@ pub on_err_always : {T E P : Type 0} (r : Result T E) → P → OnErr r P
 on_err_always (Ok x) p = tt
 on_err_always (Err e) p = p
 
-pub on_ok_always : {T E P : Type 0} (r : Result T E) → P → OnOk r P
-on_ok_always (Ok x) p = p
-on_ok_always (Err e) p = tt
-
 -- the next action goes somewhere
 pub may_go : {K : Type 0} (told : K → Option Images) (puts gets frees slots faults : K → ℕ) (list : List Action) (i : ℕ) (old mid : SessionState) (ks ls : List K) (before after' : ℕ) (a : Action) →
     old.situation.at ≡ start old.situation.steps old.situation.slots → Valid old.situation.steps old.situation.slots list → slice_get list i ≡ Some a →
@@ -240,10 +247,6 @@ may_go told puts gets frees slots faults list i old mid ks ls before after' a st
 -- the count of steps after one action more
 pub counted_more : (list : List Action) (i : ℕ) (a : Action) (before mid last : ℕ) → slice_get list i ≡ Some a → mid ≡ before + forward (take i list) → last ≡ mid + steps_of a → last ≡ before + forward (take (i + 1) list)
 counted_more list i a before mid last at one two = let more = count_more steps_of list i a at in omega (arith, one, two, more)
-
-pub on_err_three : {T E A B C P : Type 0} (r : Result T E) → (A → B → C → P) → OnErr r A → OnErr r B → OnErr r C → OnErr r P
-on_err_three (Ok x) f a b c = tt
-on_err_three (Err e) f a b c = f a b c
 
 -- a fault that is passed on is that of the call
 pub same_fault : {T U E : Type 0} (r : Result T E) (s : Result U E) (x y z : E) → r ≡ Err x → s ≡ Err y → y ≡ x → s ≡ Err z → r ≡ Err z

@@ -1,11 +1,13 @@
 // The last step of a run that does something to a word.
-ghost use Rattle.std.specs.Prelude.{◌≡◌, ◌≢◌, ◌+◌, ◌≤◌, ◌<◌, ◌↔◌, ℕ, List, false, length, map, slice_get, Option, Some, None, Ok, Err, IfOk, OnOk, OnErr, IsTrue};
+ghost use Rattle.std.specs.Prelude.{◌≡◌, ◌≢◌, ◌+◌, ◌≤◌, ◌<◌, ◌↔◌, ℕ, List, false, length, map, slice_get, Option, Some, None, Ok, Err, IfOk, IfErr, OnOk, IsTrue};
 ghost use Rattle.level_book.specs.CostFold.{forward};
 ghost use Rattle.level_book.specs.Configuration.{start};
 ghost use Rattle.level_book.specs.Valid.{Valid};
 ghost use Rattle.keepers.specs.Counts.{Rose};
 ghost use Rattle.rv_machine.specs.MachineState.{MachineState, IsMachineState};
 ghost use Rattle.reverse_runner.specs.KeepersSeen.{by_number, told_by, calls_to, HaveRoom, Called};
+ghost use Rattle.reverse_runner.specs.LevelsStand.{AreAlone};
+ghost use Rattle.reverse_runner.specs.SessionState.{levels_of};
 ghost use Rattle.reverse_runner.specs.Standing.{StandsAt};
 ghost use Rattle.reverse_queries.specs.Queries.{Differ, IsLast, up_to};
 ghost use Rattle.reverse_queries.specs.Performing.{calls_of_all, PerformsAll, RefusedIn, IsDamaged};
@@ -124,9 +126,10 @@ pub(crate) fn find_last<K: Keeper, L: Ledger>(
     ensures counted { IfOk result (λ answer. steps.new ≡ steps.old + forward (up_to session.old.situation.steps answer list.now)) }
     ensures called { IfOk result (λ answer. Called (calls_of_all (up_to session.old.situation.steps answer list.now)) (calls_to K.put_count K.get_count K.free_count keepers.old.items) (calls_to K.put_count K.get_count K.free_count keepers.new.items)) }
     ensures stands { (first : MachineState) → IsMachineState first → StandsAt first session.old (told_by K.told keepers.old.items) → OnOk result (StandsAt first session.new (told_by K.told keepers.new.items)) }
+    ensures alone { AreAlone (levels_of session.old (told_by K.told keepers.old.items)) → OnOk result (AreAlone (levels_of session.new (told_by K.told keepers.new.items))) }
 
     // What stands after a refusal, and its cause.
-    ensures refused { OnErr result (RefusedIn list.now session.old session.new steps.old steps.new (calls_to K.put_count K.get_count K.free_count keepers.old.items) (calls_to K.put_count K.get_count K.free_count keepers.new.items)) }
+    ensures refused { IfErr result (λ fault. RefusedIn (λ action. false) list.now fault session.old session.new steps.old steps.new (calls_to K.put_count K.get_count K.free_count keepers.old.items) (calls_to K.put_count K.get_count K.free_count keepers.new.items)) }
     ensures not_ended { result ≢ Err RunFault.Ended }
     ensures not_visitor { result ≢ Err RunFault.Visitor }
     ensures keeper_cause { (k : ℕ) → result ≡ Err (RunFault.Keeper k) → Rose (by_number 0 K.fault_count keepers.old.items k) (by_number 0 K.fault_count keepers.new.items k) }

@@ -1,5 +1,5 @@
 // The questions on a run.
-ghost use Rattle.std.specs.Prelude.{◌≡◌, ◌≢◌, ◌+◌, ◌==◌, ◌≤◌, ◌<◌, ℕ, List, false, length, map, slice_get, Some, Err, IfOk, OnOk, OnErr};
+ghost use Rattle.std.specs.Prelude.{◌≡◌, ◌≢◌, ◌+◌, ◌==◌, ◌≤◌, ◌<◌, ℕ, List, false, length, map, slice_get, Some, Err, IfOk, IfErr, OnOk, OnErr};
 ghost use Rattle.level_book.specs.CostFold.{forward};
 ghost use Rattle.level_book.specs.Configuration.{start};
 ghost use Rattle.level_book.specs.Valid.{Valid};
@@ -7,6 +7,8 @@ ghost use Rattle.keepers.specs.Counts.{Rose};
 ghost use Rattle.rv_machine.specs.MachineState.{MachineState, IsMachineState};
 ghost use Rattle.rv_machine.specs.States.{state_number};
 ghost use Rattle.reverse_runner.specs.KeepersSeen.{by_number, told_by, calls_to, HaveRoom, Called};
+ghost use Rattle.reverse_runner.specs.LevelsStand.{AreAlone};
+ghost use Rattle.reverse_runner.specs.SessionState.{levels_of};
 ghost use Rattle.reverse_runner.specs.Standing.{StandsAt};
 ghost use Rattle.reverse_queries.specs.Queries.{WritesWord, ChangesWord, IsLast, hands_out, front_to, up_to};
 ghost use Rattle.reverse_queries.specs.Performing.{calls_of_all, PerformsAll, RefusedIn, IsDamaged};
@@ -36,18 +38,19 @@ pub fn state_at<K: Keeper, V: Visitor, L: Ledger>(
     requires room { HaveRoom session.old.situation.steps session.old.situation.slots (map K.slot_count keepers.old.items) }
     requires place { place ≤ session.old.situation.steps }
 
-    // The visitor gets the state, where the session stands at its start.
-    ensures gets { (first : MachineState) → IsMachineState first → StandsAt first session.old (told_by K.told keepers.old.items) → OnOk result (V.got visitor.old place (state_number first session.old.journal place) session.old.journal visitor.new) }
+    // The visitor gets one state under this number, that of the run where the session stands at its start.
+    ensures gets { OnOk result ((s : MachineState) × (V.got visitor.old place s session.old.journal visitor.new × ((first : MachineState) → IsMachineState first → StandsAt first session.old (told_by K.told keepers.old.items) → s ≡ state_number first session.old.journal place))) }
 
     // What was performed for it.
     ensures performs { OnOk result (PerformsAll session.old (front_to session.old.situation.steps place list.now) session.new) }
     ensures counted { OnOk result (steps.new ≡ steps.old + forward (front_to session.old.situation.steps place list.now)) }
     ensures called { OnOk result (Called (calls_of_all (front_to session.old.situation.steps place list.now)) (calls_to K.put_count K.get_count K.free_count keepers.old.items) (calls_to K.put_count K.get_count K.free_count keepers.new.items)) }
     ensures stands { (first : MachineState) → IsMachineState first → StandsAt first session.old (told_by K.told keepers.old.items) → OnOk result (StandsAt first session.new (told_by K.told keepers.new.items)) }
+    ensures alone { AreAlone (levels_of session.old (told_by K.told keepers.old.items)) → OnOk result (AreAlone (levels_of session.new (told_by K.told keepers.new.items))) }
 
     // What stands after a refusal, and its cause.
-    ensures refused { OnErr result (RefusedIn (front_to session.old.situation.steps place list.now) session.old session.new steps.old steps.new (calls_to K.put_count K.get_count K.free_count keepers.old.items) (calls_to K.put_count K.get_count K.free_count keepers.new.items)) }
-    ensures misses { (first : MachineState) → IsMachineState first → StandsAt first session.old (told_by K.told keepers.old.items) → result ≡ Err RunFault.Visitor → V.missed visitor.old place (state_number first session.old.journal place) session.old.journal visitor.new }
+    ensures refused { IfErr result (λ fault. RefusedIn (hands_out session.old.situation.steps place) (front_to session.old.situation.steps place list.now) fault session.old session.new steps.old steps.new (calls_to K.put_count K.get_count K.free_count keepers.old.items) (calls_to K.put_count K.get_count K.free_count keepers.new.items)) }
+    ensures misses { result ≡ Err RunFault.Visitor → (s : MachineState) × (V.missed visitor.old place s session.old.journal visitor.new × ((first : MachineState) → IsMachineState first → StandsAt first session.old (told_by K.told keepers.old.items) → s ≡ state_number first session.old.journal place)) }
     ensures unseen { OnErr result (result ≢ Err RunFault.Visitor → visitor.new ≡ visitor.old) }
     ensures not_ended { result ≢ Err RunFault.Ended }
     ensures cause { result ≡ Err RunFault.Visitor → Rose (V.fault_count visitor.old) (V.fault_count visitor.new) }
@@ -108,9 +111,10 @@ pub fn last_write<K: Keeper, L: Ledger>(
     ensures counted { IfOk result (λ answer. steps.new ≡ steps.old + forward (up_to session.old.situation.steps answer list.now)) }
     ensures called { IfOk result (λ answer. Called (calls_of_all (up_to session.old.situation.steps answer list.now)) (calls_to K.put_count K.get_count K.free_count keepers.old.items) (calls_to K.put_count K.get_count K.free_count keepers.new.items)) }
     ensures stands { (first : MachineState) → IsMachineState first → StandsAt first session.old (told_by K.told keepers.old.items) → OnOk result (StandsAt first session.new (told_by K.told keepers.new.items)) }
+    ensures alone { AreAlone (levels_of session.old (told_by K.told keepers.old.items)) → OnOk result (AreAlone (levels_of session.new (told_by K.told keepers.new.items))) }
 
     // What stands after a refusal, and its cause.
-    ensures refused { OnErr result (RefusedIn list.now session.old session.new steps.old steps.new (calls_to K.put_count K.get_count K.free_count keepers.old.items) (calls_to K.put_count K.get_count K.free_count keepers.new.items)) }
+    ensures refused { IfErr result (λ fault. RefusedIn (λ action. false) list.now fault session.old session.new steps.old steps.new (calls_to K.put_count K.get_count K.free_count keepers.old.items) (calls_to K.put_count K.get_count K.free_count keepers.new.items)) }
     ensures not_ended { result ≢ Err RunFault.Ended }
     ensures not_visitor { result ≢ Err RunFault.Visitor }
     ensures keeper_cause { (k : ℕ) → result ≡ Err (RunFault.Keeper k) → Rose (by_number 0 K.fault_count keepers.old.items k) (by_number 0 K.fault_count keepers.new.items k) }
@@ -149,9 +153,10 @@ pub fn last_change<K: Keeper, L: Ledger>(
     ensures counted { IfOk result (λ answer. steps.new ≡ steps.old + forward (up_to session.old.situation.steps answer list.now)) }
     ensures called { IfOk result (λ answer. Called (calls_of_all (up_to session.old.situation.steps answer list.now)) (calls_to K.put_count K.get_count K.free_count keepers.old.items) (calls_to K.put_count K.get_count K.free_count keepers.new.items)) }
     ensures stands { (first : MachineState) → IsMachineState first → StandsAt first session.old (told_by K.told keepers.old.items) → OnOk result (StandsAt first session.new (told_by K.told keepers.new.items)) }
+    ensures alone { AreAlone (levels_of session.old (told_by K.told keepers.old.items)) → OnOk result (AreAlone (levels_of session.new (told_by K.told keepers.new.items))) }
 
     // What stands after a refusal, and its cause.
-    ensures refused { OnErr result (RefusedIn list.now session.old session.new steps.old steps.new (calls_to K.put_count K.get_count K.free_count keepers.old.items) (calls_to K.put_count K.get_count K.free_count keepers.new.items)) }
+    ensures refused { IfErr result (λ fault. RefusedIn (λ action. false) list.now fault session.old session.new steps.old steps.new (calls_to K.put_count K.get_count K.free_count keepers.old.items) (calls_to K.put_count K.get_count K.free_count keepers.new.items)) }
     ensures not_ended { result ≢ Err RunFault.Ended }
     ensures not_visitor { result ≢ Err RunFault.Visitor }
     ensures keeper_cause { (k : ℕ) → result ≡ Err (RunFault.Keeper k) → Rose (by_number 0 K.fault_count keepers.old.items k) (by_number 0 K.fault_count keepers.new.items k) }

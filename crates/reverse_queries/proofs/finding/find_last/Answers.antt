@@ -1,4 +1,4 @@
-use Rattle.std.proofs.Common.{◌≡◌, ◌∙◌, ℕ, ◌+◌, ◌<◌, List, length, take, slice_get, slice_index_or, Some, true≢false, refl, sym, ap, subst, arith}
+use Rattle.std.proofs.Common.{◌≡◌, ◌∙◌, ℕ, ◌+◌, ◌<◌, List, length, take, slice_get, slice_index_or, Some, false, true≢false, refl, sym, ap, subst, arith}
 use Rattle.std.proofs.lemmas.Option.{slice_get-get_or}
 use Rattle.std.proofs.lemmas.Result.{err_from_is_err_and}
 use Rattle.plan_types.specs.declared.action.Action.{Action}
@@ -19,7 +19,8 @@ use Rattle.reverse_runner.specs.Performed.{Gets}
 use Rattle.reverse_queries.specs.Finding.{Got}
 use Rattle.reverse_queries.proofs.Looking.{finder_on, finder_ends, found_none}
 use Rattle.reverse_queries.proofs.Turning.{AreOfRun, hands_of, left_before}
-use Rattle.reverse_queries.proofs.Ways.{way_start, way_on, may_perform, has_room, refused_in, damaged_of, at_end, is_sound, goes_from, past_levels, on_err_always, same_fault, not_both}
+use Rattle.reverse_queries.proofs.Ways.{way_start, way_on, may_perform, has_room, refused_in, damaged_of, at_end, is_sound, goes_from, past_levels, same_fault, not_both}
+use Rattle.reverse_queries.proofs.Fitting.{fault_fits, if_err_at}
 use Rattle.reverse_queries.proofs.finding.find_last.Goals as goal
 
 -- the action at a place of the list
@@ -84,9 +85,14 @@ returns-in_err-perform-clause-refused g c =
     let a = slice_index_or list i (Forward 0 0 Nothing) in
     let within : i < length list = omega arith in
     let at = at_place list i within in
-    on_err_always c.from_residual.result
-    (refused_in _ _ _ _ _ _ list list i old mid c.perform.new.self _ _ c.perform.new.keepers.items _ _ _ a at refl refl within so_far.way
-    c.in_err-perform.ensures.refused c.in_err-perform.ensures.uncounted c.in_err-perform.ensures.called_at_most)
+    let p = err_from_is_err_and c.from_residual.result c.from_residual.ensures.1 in
+    let is = same_fault c.perform.result c.from_residual.result _ _ p.0 c.in_err-perform.was p.1 p.2 p.1 in
+    let fits = fault_fits (λ action. false) a _ c.perform.result p.0 is (λ k e. (c.perform.ensures.keeper_cause k e).0) c.perform.ensures.damaged c.perform.ensures.wants
+    (λ e. (let rose = c.perform.ensures.cause e in absurd (omega (arith, rose))))
+    (λ e. true≢false (sym (c.perform.ensures.ended.0 e) ∙ so_far.way.performs.lasts)) in
+    if_err_at _ c.from_residual.result p.0 p.1
+    (refused_in _ _ _ _ _ _ list list i old mid c.perform.new.self _ _ c.perform.new.keepers.items _ _ _ a (λ action. false) p.0 at refl refl within so_far.way
+    c.in_err-perform.ensures.refused c.in_err-perform.ensures.uncounted c.in_err-perform.ensures.called_at_most fits)
 
 pub returns-in_err-perform-clause-not_visitor : goal.returns-in_err-perform-clause-not_visitor
 returns-in_err-perform-clause-not_visitor g c e =
@@ -210,6 +216,7 @@ returns-in-Some-clause-performs g c =
       quiet = c.perform.ensures.keepers_quiet (λ k e. not_both c.perform.result _ (Keeper k) c.in_ok-perform.was e);
       others = c.perform.ensures.others;
       stands = done.stands;
+      alone = done.alone;
     }) in
     let P : List Action → Type 0 = λ l. PerformsAll old l new in
     subst P (sym front) on.performs
@@ -243,6 +250,7 @@ returns-in-Some-clause-counted g c =
       quiet = c.perform.ensures.keepers_quiet (λ k e. not_both c.perform.result _ (Keeper k) c.in_ok-perform.was e);
       others = c.perform.ensures.others;
       stands = done.stands;
+      alone = done.alone;
     }) in
     let P : List Action → Type 0 = λ l. c.perform.new.steps ≡ c.args.steps.now + forward l in
     subst P (sym front) on.counted
@@ -276,6 +284,7 @@ returns-in-Some-clause-called g c =
       quiet = c.perform.ensures.keepers_quiet (λ k e. not_both c.perform.result _ (Keeper k) c.in_ok-perform.was e);
       others = c.perform.ensures.others;
       stands = done.stands;
+      alone = done.alone;
     }) in
     let calls = calls_to g.K.Keeper.put_count g.K.Keeper.get_count g.K.Keeper.free_count in
     let P : List Action → Type 0 = λ l. Called (calls_of_all l) (calls c.args.keepers.now.items) (calls c.perform.new.keepers.items) in
@@ -284,6 +293,10 @@ returns-in-Some-clause-called g c =
 pub returns-in-Some-clause-stands : goal.returns-in-Some-clause-stands
 returns-in-Some-clause-stands g c first is stands =
     c.in_ok-perform.ensures.stands first is (c.loop-action.invariant.way.stands first is stands)
+
+pub returns-in-Some-clause-alone : goal.returns-in-Some-clause-alone
+returns-in-Some-clause-alone g c alone =
+    c.in_ok-perform.ensures.alone (c.loop-action.invariant.way.alone alone)
 
 pub returns-in-Some-clause-keepers_quiet : goal.returns-in-Some-clause-keepers_quiet
 returns-in-Some-clause-keepers_quiet g c never j =
@@ -341,6 +354,7 @@ loop-action-preserved g c =
       quiet = c.perform.ensures.keepers_quiet (λ k e. not_both c.perform.result _ (Keeper k) c.in_ok-perform.was e);
       others = c.perform.ensures.others;
       stands = done.stands;
+      alone = done.alone;
     }) in
     let next = finder_on c.args.question c.args.word steps slots old.journal mid.situation.at a new.situation.at mid.work mid.tape c.loop-action.finder c.perform.new.visitor goes sound so_far.way.turns gets so_far.asked c.in_default.is in
     record {
@@ -392,6 +406,10 @@ returns-clause-called g c =
 pub returns-clause-stands : goal.returns-clause-stands
 returns-clause-stands g c first is stands =
     c.loop-action.invariant.way.stands first is stands
+
+pub returns-clause-alone : goal.returns-clause-alone
+returns-clause-alone g c alone =
+    c.loop-action.invariant.way.alone alone
 
 pub returns-clause-keepers_quiet : goal.returns-clause-keepers_quiet
 returns-clause-keepers_quiet g c never j =

@@ -15,8 +15,9 @@ use Rattle.rv_machine.specs.States.{state_number}
 use Rattle.reverse_queries.specs.Queries.{hands_out, front_to}
 use Rattle.reverse_queries.specs.Performing.{calls_of_all, PerformsAll}
 use Rattle.reverse_queries.proofs.Fronts.{front_past, front_ends, front_takes}
-use Rattle.reverse_queries.proofs.Turning.{hands_of, left_after, none_left_at_end, got_of_run, misses_gets}
-use Rattle.reverse_queries.proofs.Ways.{way_start, way_on, may_perform, may_go, has_room, refused_in, damaged_of, at_end, is_sound, goes_from, performs_more, counted_more, called_more, past_levels, on_err_always, on_err_three, same_fault, not_both}
+use Rattle.reverse_queries.proofs.Turning.{hands_of, left_after, none_left_at_end, gets_hands, misses_gets}
+use Rattle.reverse_queries.proofs.Ways.{way_start, way_on, may_perform, may_go, has_room, refused_in, damaged_of, at_end, is_sound, goes_from, performs_more, counted_more, called_more, past_levels, on_err_always, same_fault, not_both}
+use Rattle.reverse_queries.proofs.Fitting.{fault_fits, if_err_at, if_err_three}
 use Rattle.reverse_queries.proofs.queries.state_at.Goals as goal
 
 -- the action at a place of the list
@@ -85,7 +86,7 @@ perform-requires-in-loop-action-clause-room g c lasts =
     has_room _ _ _ _ _ _ list i old mid _ _ _ _ c.requires.room so_far.way
 
 pub returns-then-is_handed_out-clause-gets : goal.returns-then-is_handed_out-clause-gets
-returns-then-is_handed_out-clause-gets g c first is stands =
+returns-then-is_handed_out-clause-gets g c =
     let so_far = c.loop-action.invariant in
     let old = c.args.session.now in
     let mid = c.loop-action.session in
@@ -98,9 +99,16 @@ returns-then-is_handed_out-clause-gets g c first is stands =
     let hands : hands_out old.situation.steps c.args.place a ≡ true = ap (λ n. hands_out n c.args.place a) (sym steps_are) ∙ sym c.is_handed_out.ensures ∙ c.if-is_handed_out.true in
     let go = may_go _ _ _ _ _ _ list i old mid _ _ _ _ a c.requires.start c.requires.valid at so_far.way in
     let sound = is_sound old mid (take i list) c.requires.start so_far.way.performs in
-    let there = so_far.way.stands first is stands in
-    let P : g.row.V.Denot → Type 0 = λ v. g.V.Visitor.got v c.args.place (state_number first old.journal c.args.place) old.journal c.perform.new.visitor in
-    on_ok_weaker c.perform.result (λ gets. subst P so_far.visitor (got_of_run g.V.Visitor.got old.situation.steps old.situation.slots mid.journal old.journal mid.situation.at a _ c.args.place mid.work mid.tape c.loop-action.visitor c.perform.new.visitor first go sound hands (there.work, there.tape) so_far.way.performs.journal gets))
+    on_ok_weaker c.perform.result (λ gets.
+    let it = gets_hands g.V.Visitor.got old.situation.steps old.situation.slots mid.journal mid.situation.at a _ c.args.place mid.work mid.tape c.loop-action.visitor c.perform.new.visitor go sound hands gets in
+    let J : List (List ℕ) → Type 0 = λ j. g.V.Visitor.got c.loop-action.visitor c.args.place it.state j c.perform.new.visitor in
+    let P : g.row.V.Denot → Type 0 = λ v. g.V.Visitor.got v c.args.place it.state old.journal c.perform.new.visitor in (
+      it.state,
+      (
+        subst P so_far.visitor (subst J so_far.way.performs.journal it.got_it),
+        λ first is stands. let there = so_far.way.stands first is stands in it.is first (there.work, there.tape) ∙ ap (λ j. state_number first j c.args.place) so_far.way.performs.journal,
+      ),
+    ))
     c.perform.ensures.gets
 
 pub returns-then-is_handed_out-clause-performs : goal.returns-then-is_handed_out-clause-performs
@@ -156,6 +164,10 @@ pub returns-then-is_handed_out-clause-stands : goal.returns-then-is_handed_out-c
 returns-then-is_handed_out-clause-stands g c first is stands =
     c.perform.ensures.stands first is (c.loop-action.invariant.way.stands first is stands)
 
+pub returns-then-is_handed_out-clause-alone : goal.returns-then-is_handed_out-clause-alone
+returns-then-is_handed_out-clause-alone g c alone =
+    c.perform.ensures.alone (c.loop-action.invariant.way.alone alone)
+
 pub returns-then-is_handed_out-clause-refused : goal.returns-then-is_handed_out-clause-refused
 returns-then-is_handed_out-clause-refused g c =
     let so_far = c.loop-action.invariant in
@@ -167,11 +179,16 @@ returns-then-is_handed_out-clause-refused g c =
     let within : i < length list = omega arith in
     let at = at_place list i within in
     let takes = front_takes old.situation.steps c.args.place list i a at so_far.front in
-    on_err_three c.perform.result (λ ends still most. refused_in _ _ _ _ _ _ list (front_to old.situation.steps c.args.place list) i old mid c.perform.new.self _ _ c.perform.new.keepers.items _ _ _ a at takes.0 takes.1 takes.2 so_far.way ends still most)
+    let steps_are = last_is c.reverse-last.result c.config.result.now old.situation old.situation.steps old.situation.slots c.reverse-last.ensures c.config.ensures c.requires.start in
+    let hands : hands_out old.situation.steps c.args.place a ≡ true = ap (λ n. hands_out n c.args.place a) (sym steps_are) ∙ sym c.is_handed_out.ensures ∙ c.if-is_handed_out.true in
+    let gives = hands_out old.situation.steps c.args.place in
+    if_err_three c.perform.result (λ fault is ends still most. refused_in _ _ _ _ _ _ list (front_to old.situation.steps c.args.place list) i old mid c.perform.new.self _ _ c.perform.new.keepers.items _ _ _ a gives fault at takes.0 takes.1 takes.2 so_far.way ends still most
+    (fault_fits gives a _ c.perform.result fault is (λ k e. (c.perform.ensures.keeper_cause k e).0) c.perform.ensures.damaged c.perform.ensures.wants (λ e. hands)
+    (λ e. true≢false (sym (c.perform.ensures.ended.0 e) ∙ so_far.way.performs.lasts))))
     c.perform.ensures.refused c.perform.ensures.uncounted c.perform.ensures.called_at_most
 
 pub returns-then-is_handed_out-clause-misses : goal.returns-then-is_handed_out-clause-misses
-returns-then-is_handed_out-clause-misses g c first is stands e =
+returns-then-is_handed_out-clause-misses g c e =
     let so_far = c.loop-action.invariant in
     let old = c.args.session.now in
     let mid = c.loop-action.session in
@@ -184,10 +201,16 @@ returns-then-is_handed_out-clause-misses g c first is stands e =
     let hands : hands_out old.situation.steps c.args.place a ≡ true = ap (λ n. hands_out n c.args.place a) (sym steps_are) ∙ sym c.is_handed_out.ensures ∙ c.if-is_handed_out.true in
     let go = may_go _ _ _ _ _ _ list i old mid _ _ _ _ a c.requires.start c.requires.valid at so_far.way in
     let sound = is_sound old mid (take i list) c.requires.start so_far.way.performs in
-    let there = so_far.way.stands first is stands in
-    let P : g.row.V.Denot → Type 0 = λ v. g.V.Visitor.missed v c.args.place (state_number first old.journal c.args.place) old.journal c.perform.new.visitor in
-    subst P so_far.visitor (got_of_run g.V.Visitor.missed old.situation.steps old.situation.slots mid.journal old.journal mid.situation.at a _ c.args.place mid.work mid.tape c.loop-action.visitor c.perform.new.visitor first go sound hands (there.work, there.tape) so_far.way.performs.journal
-    (misses_gets g.V.Visitor.missed mid.journal a mid.situation.at.work mid.work mid.tape c.loop-action.visitor c.perform.new.visitor (c.perform.ensures.misses e)))
+    let missed = misses_gets g.V.Visitor.missed mid.journal a mid.situation.at.work mid.work mid.tape c.loop-action.visitor c.perform.new.visitor (c.perform.ensures.misses e) in
+    let it = gets_hands g.V.Visitor.missed old.situation.steps old.situation.slots mid.journal mid.situation.at a _ c.args.place mid.work mid.tape c.loop-action.visitor c.perform.new.visitor go sound hands missed in
+    let J : List (List ℕ) → Type 0 = λ j. g.V.Visitor.missed c.loop-action.visitor c.args.place it.state j c.perform.new.visitor in
+    let P : g.row.V.Denot → Type 0 = λ v. g.V.Visitor.missed v c.args.place it.state old.journal c.perform.new.visitor in (
+      it.state,
+      (
+        subst P so_far.visitor (subst J so_far.way.performs.journal it.got_it),
+        λ first is stands. let there = so_far.way.stands first is stands in it.is first (there.work, there.tape) ∙ ap (λ j. state_number first j c.args.place) so_far.way.performs.journal,
+      ),
+    )
 
 pub returns-then-is_handed_out-clause-unseen : goal.returns-then-is_handed_out-clause-unseen
 returns-then-is_handed_out-clause-unseen g c =
@@ -284,12 +307,18 @@ returns-in_err-perform-clause-refused g c =
     let within : i < length list = omega arith in
     let at = at_place list i within in
     let takes = front_takes old.situation.steps c.args.place list i a at so_far.front in
-    on_err_always c.from_residual.result
-    (refused_in _ _ _ _ _ _ list (front_to old.situation.steps c.args.place list) i old mid c.perform-in-loop-action.new.self _ _ c.perform-in-loop-action.new.keepers.items _ _ _ a at takes.0 takes.1 takes.2 so_far.way
-    c.in_err-perform.ensures.refused c.in_err-perform.ensures.uncounted c.in_err-perform.ensures.called_at_most)
+    let p = err_from_is_err_and c.from_residual.result c.from_residual.ensures.1 in
+    let is = same_fault c.perform-in-loop-action.result c.from_residual.result _ _ p.0 c.in_err-perform.was p.1 p.2 p.1 in
+    let gives = hands_out old.situation.steps c.args.place in
+    let fits = fault_fits gives a _ c.perform-in-loop-action.result p.0 is (λ k e. (c.perform-in-loop-action.ensures.keeper_cause k e).0) c.perform-in-loop-action.ensures.damaged c.perform-in-loop-action.ensures.wants
+    (λ e. (let rose = c.perform-in-loop-action.ensures.cause e in absurd (omega (arith, rose))))
+    (λ e. true≢false (sym (c.perform-in-loop-action.ensures.ended.0 e) ∙ so_far.way.performs.lasts)) in
+    if_err_at _ c.from_residual.result p.0 p.1
+    (refused_in _ _ _ _ _ _ list (front_to old.situation.steps c.args.place list) i old mid c.perform-in-loop-action.new.self _ _ c.perform-in-loop-action.new.keepers.items _ _ _ a gives p.0 at takes.0 takes.1 takes.2 so_far.way
+    c.in_err-perform.ensures.refused c.in_err-perform.ensures.uncounted c.in_err-perform.ensures.called_at_most fits)
 
 pub returns-in_err-perform-clause-misses : goal.returns-in_err-perform-clause-misses
-returns-in_err-perform-clause-misses g c first is stands e =
+returns-in_err-perform-clause-misses g c e =
     let p = err_from_is_err_and c.from_residual.result c.from_residual.ensures.1 in
     let same = same_fault c.perform-in-loop-action.result c.from_residual.result _ _ Visitor c.in_err-perform.was p.1 p.2 e in
     let rose = c.perform-in-loop-action.ensures.cause same in
@@ -392,6 +421,7 @@ loop-action-preserved g c =
         quiet = c.perform-in-loop-action.ensures.keepers_quiet (λ k e. not_both c.perform-in-loop-action.result _ (Keeper k) c.in_ok-perform.was e);
         others = c.perform-in-loop-action.ensures.others;
         stands = done.stands;
+        alone = done.alone;
       });
       left = left_after old.situation.steps mid.situation.at a new.situation.at c.args.place (hands_of old.situation.steps old.situation.slots mid.situation.at a new.situation.at goes so_far.way.turns) c.requires.place so_far.left none;
       front = front_past old.situation.steps c.args.place list i a at none so_far.front;
