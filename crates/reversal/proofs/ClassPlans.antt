@@ -1,4 +1,4 @@
--- What is written of a plan of H-Revolve, and of a multistage plan, costs the least of its class.
+-- What is written of a plan of H-Revolve, of DiskRevolve, and of a multistage plan, costs the least of its class.
 use Rattle.std.proofs.Common.{◌≡◌, ℕ, zero, suc, ◌+◌, ◌-◌, ◌*◌, ◌≤◌, Bool, true, false, List, refl, sym, ◌∙◌, ap}
 use Rattle.plan_types.specs.declared.action.Action.{Action}
 use Rattle.level_book.specs.BookCosts.{BookCosts, slots_of, names_of, room}
@@ -12,8 +12,15 @@ use Rattle.revolve_gen.specs.Multistage.{IsMultistage}
 use Rattle.multistage_gen.proofs.Classed.{planned_in_class}
 use Rattle.multistage_gen.proofs.Least.{planned_least}
 use Rattle.class_bounds.proofs.NestedCosts.{nested_least}
+use Rattle.class_bounds.proofs.DiskCosts.{disk_least as disk_list_least}
+use Rattle.level_book.specs.DiskClass.{Disk}
+use Rattle.level_book.specs.DiskUnderTable.{DiskTables, disk_top_entry}
+use Rattle.disk_gen.specs.DiskPlans.{HasDiskPlan}
+use Rattle.disk_gen.specs.DiskWritten.{HeldPart, finally, again, DiskPart, alone, parted, fast_tables, ReadsHeld, ReadsDisk, IsDiskWritten}
+use Rattle.disk_gen.proofs.DiskCosts.{written_disk_costs}
+use Rattle.disk_gen.proofs.DiskWhole.{written_in_class}
 use Rattle.reversal.specs.Deeds.{Job, write}
-use Rattle.reversal.specs.Decision.{accept, DecidesPlanHrevolve, DecidesPlanMultistage}
+use Rattle.reversal.specs.Decision.{accept, DecidesPlanDisk, DecidesPlanHrevolve, DecidesPlanMultistage}
 use Rattle.reversal.specs.Ending.{bad_book}
 use Rattle.reversal.specs.Plans.{list_pieces}
 use Rattle.reversal.proofs.BookTexts.{some_level, costs_rise}
@@ -64,6 +71,49 @@ hrevolve_least steps book job h =
     let top = top_number steps b.0 tables list is in
     let costs = top.1 ∙ ap (λ n. number n) (sym (written_costs steps b.0 tables list top.0 is top.1)) in
     (b.0, b.1.0, list, ap (job_or job) plan.1.1.1.1.1, written_nested steps b.0 tables list some is, λ other nested. nested_least steps b.0 tables list other some plan.1.1.0.under costs nested)
+
+-- ---- disk tables
+
+-- the same of a stretch whose first state is held on level 1, and of one whose first state is in work
+held_number : (steps : ℕ) (book : BookCosts) (t : DiskTables) (l : ℕ) (p : HeldPart) → ReadsHeld steps book t l p → (v : ℕ) × (t.disk_held l ≡ number v)
+held_number steps book t l (finally p) is =
+    let below = read_number steps book (fast_tables t) p false 0 l (room book 0 steps) is.1 in
+    (read_cost book 1 + 0 + below.0, is.0 ∙ ap (sum_of (read_cost book 1) (number 0)) below.1)
+held_number steps book t l (again i p q) is =
+    let later = read_number steps book (fast_tables t) p false 0 (l - i) (room book 0 steps) is.3 in
+    let sooner = held_number steps book t i q is.4 in
+    let n = read_cost book 1 + i * book.forward in
+    (n + later.0 + sooner.0, is.2 ∙ (λ j. sum_of n (later.1 j) (sooner.1 j)))
+
+disk_number : (steps : ℕ) (book : BookCosts) (t : DiskTables) (l : ℕ) (p : DiskPart) → ReadsDisk steps book t l p → (v : ℕ) × (t.disk_fresh l ≡ number v)
+disk_number steps book t l (alone p) is =
+    let below = read_number steps book (fast_tables t) p false 0 l (room book 0 steps) is.1 in
+    (below.0, is.0 ∙ below.1)
+disk_number steps book t l (parted j p q) is =
+    let later = disk_number steps book t (l - j) p is.3 in
+    let sooner = held_number steps book t j q is.4 in
+    let n = write_cost book 1 + j * book.forward in
+    (n + later.0 + sooner.0, is.2 ∙ (λ i. sum_of n (later.1 i) (sooner.1 i)))
+
+disk_top_number : (steps : ℕ) (book : BookCosts) (t : DiskTables) (list : List Action) → IsDiskWritten steps book t list → (v : ℕ) × (disk_top_entry steps t ≡ number v)
+disk_top_number zero book t list is = (0, refl)
+disk_top_number (suc n) book t list is = disk_number (suc n) book t (suc n) is.0 is.1
+
+-- a plan of DiskRevolve is in the disk class, and no list of the class costs less
+pub disk_least : (steps : ℕ) (book : List ℕ) (job : Job) → DecidesPlanDisk steps book (accept job) →
+    (b : BookCosts) × IsBookText book b × (list : List Action) × (job ≡ write (list_pieces (names_of b) list)) × Disk steps (slots_of b) list × ((other : List Action) → Disk steps (slots_of b) other → cost list b ≤ cost other b)
+disk_least steps book job h =
+    let b = read_said (IsBookText book) _ bad_book job _ h in
+    let few = need_met _ _ job _ b.1.1 in
+    let two = need_met _ _ job _ few.1 in
+    let unlimited = need_met _ _ job _ two.1 in
+    let tables = unlimited.1.0 in
+    let list = unlimited.1.1.1.0 in
+    let is = unlimited.1.1.1.1.0 in
+    let plan : HasDiskPlan b.0 = record { two = two.0; unlimited = unlimited.0 } in
+    let top = disk_top_number steps b.0 tables list is in
+    let costs = top.1 ∙ ap (λ n. number n) (sym (written_disk_costs steps b.0 tables list top.0 is top.1)) in
+    (b.0, b.1.0, list, ap (job_or job) unlimited.1.1.1.1.1, written_in_class steps b.0 tables list plan is, λ other member. disk_list_least steps b.0 tables list other unlimited.1.1.0.under costs member)
 
 -- a multistage plan is in its class, and no list of the class costs less
 pub multistage_least : (steps : ℕ) (book : List ℕ) (job : Job) → DecidesPlanMultistage steps book (accept job) →

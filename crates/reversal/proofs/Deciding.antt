@@ -1,5 +1,5 @@
 -- What a request comes to: one decision, and of a list that is performed that it is valid.
-use Rattle.std.proofs.Common.{◌≡◌, ◌⊎◌, inl, inr, ℕ, ◌+◌, ◌<◌, ◌≤◌, ◌++◌, Bool, true, false, cond, nat_le, List, [], ◌∷◌, length, map, append-nil, Option, None, Some, Result, Ok, Err, IsErrAnd, IfErr, refl, sym, ◌∙◌, ap, subst, arith}
+use Rattle.std.proofs.Common.{◌≡◌, ◌⊎◌, inl, inr, ℕ, ◌+◌, ◌<◌, ◌≤◌, ◌++◌, Bool, true, false, cond, nat_le, List, [], ◌∷◌, length, map, append-nil, Option, None, Some, slice_get, Result, Ok, Err, IsErrAnd, IfErr, refl, sym, ◌∙◌, ap, subst, arith}
 use Rattle.std.specs.Prelude.{codes, decimal}
 use Rattle.std.proofs.lemmas.Bool.{leb-true, leb-false, cases_lt}
 use Rattle.std.proofs.lemmas.List.Folds.{fold-map}
@@ -19,7 +19,7 @@ use Rattle.reversal.specs.Ending.{no_memory, unreadable, too_long as longer, bad
 use Rattle.revolve_gen.specs.Plans.{HasPlan}
 use Rattle.revolve_gen.specs.Written.{revolve_list}
 use Rattle.revolve_gen.proofs.Books.{book_right}
-use Rattle.reversal.specs.Request.{says_raw, stack_pages, Command, run, run_revolve, plan, plan_periodic, check, certify, demo, Request}
+use Rattle.reversal.specs.Request.{says_raw, stack_pages, Command, run, run_revolve, plan, plan_periodic, check, certify, price, ask, demo, Request}
 use Rattle.reversal.specs.Inputs.{Input, inputs_of}
 use Rattle.reversal.specs.InputReading.{Reading, all, too_long, not_there, with_front, reading}
 use Rattle.multistage_gen.specs.Planned.{IsMultistageList}
@@ -30,15 +30,22 @@ use Rattle.hrevolve_gen.specs.Written.{IsWritten}
 use Rattle.hrevolve_gen.proofs.Greatest.{plan_unique}
 use Rattle.disk_gen.specs.Periodic.{images, periodic_list}
 use Rattle.disk_gen.specs.Plans.{slots_at, HasSlots}
-use Rattle.reversal.specs.NoPlans.{IsUnperiodic, IsUnnested}
+use Rattle.reversal.specs.NoPlans.{IsUnperiodic, IsUndisked, IsUnnested}
 use Rattle.reversal.specs.declared.kind.PlanKind.{PlanKind}
-use Rattle.reversal.specs.declared.kind.PlanKind.TheVariants.{Revolve, Multistage, Hrevolve}
+use Rattle.reversal.specs.declared.kind.PlanKind.TheVariants.{Revolve, Multistage, Disk, Hrevolve}
 use Rattle.reversal.specs.Plans.{list_pieces, plan_pieces, certificate_of}
 use Rattle.reversal.proofs.Planned.{plan_valid, plan_certified}
 use Rattle.reversal.proofs.ReadAgain.{plan_read_again}
 use Rattle.reversal.specs.Demo as demonstration
-use Rattle.reversal.specs.Deeds.{Job, perform, write, demonstrate, Shown, deeds, silent_deed, writing, Deed, bytes_of, bytes_written, steps_made, output, steps_taken}
-use Rattle.reversal.specs.Decision.{Decision, refuse, accept, Need, Read, Judge, Keep, Take, Plan, IsFirstWide, Tabulate, DecidesRunRevolve, DecidesPlan, DecidesPlanRevolve, DecidesPlanMultistage, DecidesPlanHrevolve, DecidesPlanPeriodic, DecidesDemo, HasBookFault, IsStartOf, HasProgramFault, AreItemsOf, HasJournalFault, DecidesRun, DecidesCheck, DecidesCertify, DecidesBytes, Decides}
+use Rattle.reversal.specs.declared.question.Question.{Question}
+use Rattle.reversal.specs.Bounds.{IsWithin, question_bound}
+use Rattle.reversal.specs.Pricing.{list_report}
+use Rattle.level_book.specs.declared.book.Slots.TheVariants.{Unlimited}
+use Rattle.level_book.specs.DiskUnderTable.{DiskTables, IsGreatestDisk}
+use Rattle.disk_gen.specs.DiskWritten.{IsDiskWritten}
+use Rattle.disk_gen.proofs.DiskUnique.{disk_plan_unique}
+use Rattle.reversal.specs.Deeds.{Job, perform, ask as ask_job, write, demonstrate, Shown, deeds, silent_deed, writing, Deed, bytes_of, bytes_written, steps_made, output, steps_taken}
+use Rattle.reversal.specs.Decision.{Decision, refuse, accept, Need, Read, Judge, Keep, Take, Plan, IsFirstWide, Tabulate, DecidesRunRevolve, DecidesPlan, DecidesPlanRevolve, DecidesPlanMultistage, DecidesPlanDisk, DecidesPlanHrevolve, DecidesPlanPeriodic, DecidesDemo, HasBookFault, IsStartOf, HasProgramFault, AreItemsOf, HasJournalFault, Over, DecidesOver, performed, asked_about, DecidesOverBytes, DecidesPrice, DecidesCheck, DecidesCertify, DecidesBytes, Decides}
 use Rattle.reversal.specs.JobReading.{IsRefusal}
 use Rattle.reversal.proofs.Refused.{IsOne, Excludes, book_one, book_fault_one, book_excludes, start_one, program_fault_one, start_excludes, items_one, journal_fault_one, items_exclude, list_one, text_fault_one, list_excludes, IsRefusing, refusing_at, program_refuses, journal_refuses, book_refuses, text_refuses, program_fault_is_other, journal_fault_is_other, text_fault_is_other, certificate_one, certificate_fault_one, certificate_excludes, certificate_refuses, certificate_fault_is_other}
 use Rattle.bound_cert.specs.declared.certificate.Certificate.{Certificate}
@@ -51,6 +58,7 @@ use Rattle.reversal.proofs.Weighing.{weigh_one, weigh_met, weigh_refusing, IsWei
 use Rattle.reversal.proofs.Keeping.{keep_one, keep_met, keep_refusing, keep_refuses, keep_accepts, keep_passes}
 use Rattle.action_text.specs.Faults.{HasFirstFault}
 use Rattle.reversal.proofs.Performing.{bytes_performed, steps_performed}
+use Rattle.reversal.proofs.Answered.{bytes_asked, steps_asked}
 
 -- ---- a decision is unique, line by line
 
@@ -87,8 +95,8 @@ take_one place (i ∷ is) (Some bytes ∷ given) c d Below Other one h g =
     need_one (length bytes ≤ i.limit) (longer place i.limit) c d _ _
     (take_one (place + 1) is given c d (λ more. Below (bytes ∷ more)) (λ more. Other (bytes ∷ more)) (λ more. one (bytes ∷ more))) h g
 
-run_one : (options : List Choice) (steps : ℕ) (program : List ℕ) (journal : Option (List ℕ)) (book schedule counts : List ℕ) (c d : Decision) → DecidesRun options steps program journal book schedule counts c → DecidesRun options steps program journal book schedule counts d → c ≡ d
-run_one options steps program journal book schedule counts c d =
+over_one : (make : Over) (options : List Choice) (steps : ℕ) (program : List ℕ) (journal : Option (List ℕ)) (book schedule counts : List ℕ) (c d : Decision) → DecidesOver make options steps program journal book schedule counts c → DecidesOver make options steps program journal book schedule counts d → c ≡ d
+over_one make options steps program journal book schedule counts c d =
     let raw = says_raw options in
     let stack = stack_pages options in
     read_one (IsBookText book) (HasBookFault book) bad_book c d _ _ (book_one book) (book_fault_one book) (book_excludes book) (λ b is_book.
@@ -100,6 +108,12 @@ run_one options steps program journal book schedule counts c d =
 
 check_one : (steps : ℕ) (book schedule : List ℕ) (c d : Decision) → DecidesCheck steps book schedule c → DecidesCheck steps book schedule d → c ≡ d
 check_one steps book schedule c d =
+    read_one (IsBookText book) (HasBookFault book) bad_book c d _ _ (book_one book) (book_fault_one book) (book_excludes book) (λ b is_book.
+    read_one (IsSchedule (names_of b) schedule) (HasFirstFault (names_of b) schedule) bad_text c d _ _ (list_one book b schedule is_book) (text_fault_one book b schedule is_book) (list_excludes book b schedule is_book) (λ list is_list.
+    judge_one steps (slots_of b) list c d _ _ (λ x y. x ∙ sym y)))
+
+price_one : (steps : ℕ) (book schedule : List ℕ) (c d : Decision) → DecidesPrice steps book schedule c → DecidesPrice steps book schedule d → c ≡ d
+price_one steps book schedule c d =
     read_one (IsBookText book) (HasBookFault book) bad_book c d _ _ (book_one book) (book_fault_one book) (book_excludes book) (λ b is_book.
     read_one (IsSchedule (names_of b) schedule) (HasFirstFault (names_of b) schedule) bad_text c d _ _ (list_one book b schedule is_book) (text_fault_one book b schedule is_book) (list_excludes book b schedule is_book) (λ list is_list.
     judge_one steps (slots_of b) list c d _ _ (λ x y. x ∙ sym y)))
@@ -166,9 +180,20 @@ hrevolve_one steps book c d =
     let t = y.1.1 in
     s.1.1 ∙ ap (λ l. accept (write (list_pieces (names_of b) l))) (plan_unique steps b x.0 y.0 s.0 t.0 x.1.0 y.1.0 s.1.0 t.1.0) ∙ sym t.1.1)))
 
+disk_one : (steps : ℕ) (book : List ℕ) (c d : Decision) → DecidesPlanDisk steps book c → DecidesPlanDisk steps book d → c ≡ d
+disk_one steps book c d =
+    read_one (IsBookText book) (HasBookFault book) bad_book c d _ _ (book_one book) (book_fault_one book) (book_excludes book) (λ b is_book.
+    need_one (room b 0 steps ≤ 64) (out_of_range (room b 0 steps) 64 9) c d _ _ (
+    need_one (length b.levels ≡ 2) (no_plan steps (total_room b steps) 2) c d _ _ (
+    need_one (slice_get (slots_of b) 1 ≡ Some Unlimited) (no_plan steps (total_room b steps) 3) c d _ _ (λ x y.
+    let s = x.1.1 in
+    let t = y.1.1 in
+    s.1.1 ∙ ap (λ l. accept (write (list_pieces (names_of b) l))) (disk_plan_unique steps b x.0 y.0 s.0 t.0 x.1.0 y.1.0 s.1.0 t.1.0) ∙ sym t.1.1))))
+
 kind_one : (kind : PlanKind) (steps : ℕ) (book : List ℕ) (c d : Decision) → DecidesPlan kind steps book c → DecidesPlan kind steps book d → c ≡ d
 kind_one Revolve steps book c d = plan_one steps book c d
 kind_one Multistage steps book c d = multistage_one steps book c d
+kind_one Disk steps book c d = disk_one steps book c d
 kind_one Hrevolve steps book c d = hrevolve_one steps book c d
 
 periodic_one : (steps period : ℕ) (book : List ℕ) (c d : Decision) → DecidesPlanPeriodic steps period book c → DecidesPlanPeriodic steps period book d → c ≡ d
@@ -183,10 +208,16 @@ demo_one number steps slots c d =
     need_one (HasPlan steps (total_room (plain slots) steps)) (no_plan steps (total_room (plain slots) steps) 1) c d _ _ (λ x y.
     x.2 ∙ ap (λ s. accept (demonstrate number s steps slots)) (start_one true 16 (demonstration.program number) x.0 y.0 x.1 y.1) ∙ sym y.2)
 
+over_bytes_one : (make : Over) (options : List Choice) (steps : ℕ) (bytes : List (List ℕ)) (slots : List ℕ) (c d : Decision) → DecidesOverBytes make options steps bytes slots c → DecidesOverBytes make options steps bytes slots d → c ≡ d
+over_bytes_one make options steps (program ∷ book ∷ schedule ∷ []) slots c d h g = over_one make options steps program None book schedule slots c d h g
+over_bytes_one make options steps (program ∷ journal ∷ book ∷ schedule ∷ []) slots c d h g = over_one make options steps program (Some journal) book schedule slots c d h g
+over_bytes_one make options steps other slots c d h g = absurd h
+
 bytes_one : (options : List Choice) (command : Command) (bytes : List (List ℕ)) (slots : List ℕ) (c d : Decision) → DecidesBytes options command bytes slots c → DecidesBytes options command bytes slots d → c ≡ d
-bytes_one options (run r) (program ∷ book ∷ schedule ∷ []) slots c d h g = run_one options r.steps program None book schedule slots c d h g
-bytes_one options (run r) (program ∷ journal ∷ book ∷ schedule ∷ []) slots c d h g = run_one options r.steps program (Some journal) book schedule slots c d h g
-bytes_one options (run r) other slots c d h g = absurd h
+bytes_one options (run r) bytes slots c d h g = over_bytes_one (performed r.steps) options r.steps bytes slots c d h g
+bytes_one options (ask r) bytes slots c d h g = over_bytes_one (asked_about r.question r.run.steps) options r.run.steps bytes slots c d h.1 g.1
+bytes_one options (price r) (book ∷ schedule ∷ []) slots c d h g = price_one r.steps book schedule c d h g
+bytes_one options (price r) other slots c d h g = absurd h
 bytes_one options (run_revolve r) (program ∷ book ∷ []) slots c d h g = revolve_one options r.steps program None book slots c d h g
 bytes_one options (run_revolve r) (program ∷ journal ∷ book ∷ []) slots c d h g = revolve_one options r.steps program (Some journal) book slots c d h g
 bytes_one options (run_revolve r) other slots c d h g = absurd h
@@ -241,21 +272,37 @@ judge_met steps slots list job Below h = elim h [
 pub need_met : (Holds : Type 0) (e : Ended) (job : Job) (Below : Type 0) → Need Holds e (accept job) Below → Holds × Below
 need_met Holds e job Below h = elim h [ inl n ↦ absurd (accept_refuse job e n.1) | inr y ↦ y ]
 
--- a list that is performed is valid, texts are written, or a demonstration is shown
+-- the job is made of a valid list and what it is performed over
+pub record IsMade (make : Over) (steps : ℕ) (job : Job) : Type 0 where
+  pub first : MachineState
+  pub journal : List (List ℕ)
+  pub slots : List Slots
+  pub list : List Action
+  pub valid : Valid steps slots list
+  pub is : job ≡ make first journal slots list
+
+-- a list that is performed is valid, also for a question, whose number is within its bounds; texts are written, or a demonstration is shown
 pub data IsMet (job : Job) : Type 0 where
+  asks : (question : Question) (first : MachineState) (journal : List (List ℕ)) (steps : ℕ) (slots : List Slots) (list : List Action) → IsWithin (question_bound steps question) → Valid steps slots list →
+      job ≡ ask_job question first journal steps slots list → IsMet job
   performs : (first : MachineState) (journal : List (List ℕ)) (steps : ℕ) (slots : List Slots) (list : List Action) → Valid steps slots list → job ≡ perform first journal steps slots list → IsMet job
   writes : (texts : List (List ℕ)) → job ≡ write texts → IsMet job
   shows : (number : ℕ) (first : MachineState) (steps slots : ℕ) → job ≡ demonstrate number first steps slots → IsMet job
 
-run_met : (options : List Choice) (steps : ℕ) (program : List ℕ) (journal : Option (List ℕ)) (book schedule counts : List ℕ) (job : Job) → DecidesRun options steps program journal book schedule counts (accept job) → IsMet job
-run_met options steps program journal book schedule counts job h =
+over_met : (make : Over) (options : List Choice) (steps : ℕ) (program : List ℕ) (journal : Option (List ℕ)) (book schedule counts : List ℕ) (job : Job) → DecidesOver make options steps program journal book schedule counts (accept job) → IsMade make steps job
+over_met make options steps program journal book schedule counts job h =
     let b = read_met _ _ bad_book job _ h in
     let kept = keep_met steps (slots_of b.0) counts job _ b.1 in
     let start = read_met _ _ bad_program job _ kept.1 in
     let items = read_met _ _ bad_journal job _ start.1 in
     let list = read_met _ _ bad_text job _ items.1 in
     let valid = judge_met _ _ _ job _ list.1 in
-    performs start.0 items.0 steps (slots_of b.0) list.0 valid.0 (ap (job_or job) valid.1)
+    record { first = start.0; journal = items.0; slots = slots_of b.0; list = list.0; valid = valid.0; is = ap (job_or job) valid.1 }
+
+over_bytes_met : (make : Over) (options : List Choice) (steps : ℕ) (bytes : List (List ℕ)) (slots : List ℕ) (job : Job) → DecidesOverBytes make options steps bytes slots (accept job) → IsMade make steps job
+over_bytes_met make options steps (program ∷ book ∷ schedule ∷ []) slots job h = over_met make options steps program None book schedule slots job h
+over_bytes_met make options steps (program ∷ journal ∷ book ∷ schedule ∷ []) slots job h = over_met make options steps program (Some journal) book schedule slots job h
+over_bytes_met make options steps other slots job h = absurd h
 
 revolve_met : (options : List Choice) (steps : ℕ) (program : List ℕ) (journal : Option (List ℕ)) (book counts : List ℕ) (job : Job) → DecidesRunRevolve options steps program journal book counts (accept job) → IsMet job
 revolve_met options steps program journal book counts job h =
@@ -289,9 +336,19 @@ hrevolve_met steps book job h =
     let read = plan.1.1.1 in
     writes _ (ap (job_or job) read.1.1)
 
+disk_met : (steps : ℕ) (book : List ℕ) (job : Job) → DecidesPlanDisk steps book (accept job) → IsMet job
+disk_met steps book job h =
+    let b = read_met _ _ bad_book job _ h in
+    let few = need_met _ _ job _ b.1 in
+    let two = need_met _ _ job _ few.1 in
+    let unlimited = need_met _ _ job _ two.1 in
+    let read = unlimited.1.1.1 in
+    writes _ (ap (job_or job) read.1.1)
+
 kind_met : (kind : PlanKind) (steps : ℕ) (book : List ℕ) (job : Job) → DecidesPlan kind steps book (accept job) → IsMet job
 kind_met Revolve steps book job h = plan_met steps book job h
 kind_met Multistage steps book job h = multistage_met steps book job h
+kind_met Disk steps book job h = disk_met steps book job h
 kind_met Hrevolve steps book job h = hrevolve_met steps book job h
 
 periodic_met : (steps period : ℕ) (book : List ℕ) (job : Job) → DecidesPlanPeriodic steps period book (accept job) → IsMet job
@@ -351,6 +408,13 @@ planned_again steps book job short h =
     let P : Shown → Job → Type 0 = λ shown j. IsSchedule (names_of b.0) (output shown j) (revolve_list steps b.0) × IsCertificateText (output shown j) (certificate_of steps b.0) in
     (b.0, b.1.0, λ shown. subst (P shown) (sym (ap (job_or job) plan.1)) (plan_read_again steps book b.0 short b.1.0 plan.0))
 
+price_met : (steps : ℕ) (book schedule : List ℕ) (job : Job) → DecidesPrice steps book schedule (accept job) → IsMet job
+price_met steps book schedule job h =
+    let b = read_met _ _ bad_book job _ h in
+    let list = read_met _ _ bad_text job _ b.1 in
+    let valid = judge_met _ _ _ job _ list.1 in
+    writes _ (ap (job_or job) valid.1)
+
 certify_met : (steps : ℕ) (book schedule certificate : List ℕ) (job : Job) → DecidesCertify steps book schedule certificate (accept job) → IsMet job
 certify_met steps book schedule certificate job h =
     let b = read_met _ _ bad_book job _ h in
@@ -361,9 +425,14 @@ certify_met steps book schedule certificate job h =
     writes _ (ap (job_or job) weighed.1)
 
 bytes_met : (options : List Choice) (command : Command) (bytes : List (List ℕ)) (slots : List ℕ) (job : Job) → DecidesBytes options command bytes slots (accept job) → IsMet job
-bytes_met options (run r) (program ∷ book ∷ schedule ∷ []) slots job h = run_met options r.steps program None book schedule slots job h
-bytes_met options (run r) (program ∷ journal ∷ book ∷ schedule ∷ []) slots job h = run_met options r.steps program (Some journal) book schedule slots job h
-bytes_met options (run r) other slots job h = absurd h
+bytes_met options (run r) bytes slots job h =
+    let made = over_bytes_met (performed r.steps) options r.steps bytes slots job h in
+    performs made.first made.journal r.steps made.slots made.list made.valid made.is
+bytes_met options (ask r) bytes slots job h =
+    let made = over_bytes_met (asked_about r.question r.run.steps) options r.run.steps bytes slots job h.1 in
+    asks r.question made.first made.journal r.run.steps made.slots made.list h.0 made.valid made.is
+bytes_met options (price r) (book ∷ schedule ∷ []) slots job h = price_met r.steps book schedule job h
+bytes_met options (price r) other slots job h = absurd h
 bytes_met options (run_revolve r) (program ∷ book ∷ []) slots job h = revolve_met options r.steps program None book slots job h
 bytes_met options (run_revolve r) (program ∷ journal ∷ book ∷ []) slots job h = revolve_met options r.steps program (Some journal) book slots job h
 bytes_met options (run_revolve r) other slots job h = absurd h
@@ -389,7 +458,10 @@ silent_steps list = fold-map (λ n (d : Deed). n + d.steps) silent_deed 0 list
 met_output : (job : Job) → IsMet job → (shown : Shown) → bytes_written (deeds shown job) ≡ output shown job
 met_output job (performs first journal steps slots list valid is) shown =
     let P : Job → Type 0 = λ j. bytes_written (deeds shown j) ≡ output shown j in
-    subst P (sym is) (bytes_performed shown steps slots list valid)
+    subst P (sym is) (bytes_performed shown.states steps slots list valid)
+met_output job (asks question first journal steps slots list within valid is) shown =
+    let P : Job → Type 0 = λ j. bytes_written (deeds shown j) ≡ output shown j in
+    subst P (sym is) (bytes_asked shown question first journal steps slots list within valid)
 met_output job (writes texts is) shown =
     let P : Job → Type 0 = λ j. bytes_written (deeds shown j) ≡ output shown j in
     subst P (sym is) (append-nil (bytes_of texts))
@@ -404,8 +476,9 @@ deeds_output r given slots job h =
     let met = take_met 1 (inputs_of r.command) given job (λ bytes. DecidesBytes r.options r.command bytes slots (accept job)) h in
     met_output job (bytes_met r.options r.command met.0 slots job met.1)
 
-pub deeds_steps : (shown : Shown) (job : Job) → steps_made (deeds shown job) ≡ steps_taken job
-deeds_steps shown (perform first journal steps slots list) = steps_performed shown steps list
+pub deeds_steps : (shown : Shown) (job : Job) → steps_made (deeds shown job) ≡ steps_taken shown job
+deeds_steps shown (perform first journal steps slots list) = steps_performed shown.states steps list
+deeds_steps shown (ask_job question first journal steps slots list) = steps_asked shown question first journal steps slots list
 deeds_steps shown (write texts) = refl
 deeds_steps shown (demonstrate number first steps slots) =
     sum_by-append (λ (d : Deed). d.steps) (map silent_deed (demonstration.demo_list steps slots)) (writing (demonstration.summary number first steps slots ∷ []) ∷ [])
@@ -540,8 +613,8 @@ plan_line_refusing steps b e Below below h = elim h [
   | inr y ↦ below y.1
 ]
 
-run_refusing : (options : List Choice) (steps : ℕ) (program : List ℕ) (journal : Option (List ℕ)) (book schedule counts : List ℕ) (e : Ended) → DecidesRun options steps program journal book schedule counts (refuse e) → IsRefusing e
-run_refusing options steps program journal book schedule counts e =
+over_refusing : (make : Over) (options : List Choice) (steps : ℕ) (program : List ℕ) (journal : Option (List ℕ)) (book schedule counts : List ℕ) (e : Ended) → DecidesOver make options steps program journal book schedule counts (refuse e) → IsRefusing e
+over_refusing make options steps program journal book schedule counts e =
     let raw = says_raw options in
     let stack = stack_pages options in
     read_refusing _ _ bad_book e _ (λ f h. book_refuses f h.1) (λ b.
@@ -550,6 +623,11 @@ run_refusing options steps program journal book schedule counts e =
     read_refusing _ _ bad_journal e _ (λ f h. journal_refuses f (journal_fault_is_other journal f h)) (λ items.
     read_refusing _ _ bad_text e _ (λ f h. text_refuses f (text_fault_is_other (names_of b) schedule f h)) (λ list.
     judge_refusing steps (slots_of b) list e _)))))
+
+over_bytes_refusing : (make : Over) (options : List Choice) (steps : ℕ) (bytes : List (List ℕ)) (slots : List ℕ) (e : Ended) → DecidesOverBytes make options steps bytes slots (refuse e) → IsRefusing e
+over_bytes_refusing make options steps (program ∷ book ∷ schedule ∷ []) slots e h = over_refusing make options steps program None book schedule slots e h
+over_bytes_refusing make options steps (program ∷ journal ∷ book ∷ schedule ∷ []) slots e h = over_refusing make options steps program (Some journal) book schedule slots e h
+over_bytes_refusing make options steps other slots e h = absurd h
 
 revolve_refusing : (options : List Choice) (steps : ℕ) (program : List ℕ) (journal : Option (List ℕ)) (book counts : List ℕ) (e : Ended) → DecidesRunRevolve options steps program journal book counts (refuse e) → IsRefusing e
 revolve_refusing options steps program journal book counts e =
@@ -592,9 +670,23 @@ hrevolve_refusing steps book e =
     tabulate_refusing steps b e _ (
     no_plan_refusing _ _ _ _ e _ (λ read. let list = read.1.1 in absurd (refuse_accept e _ list.1.1))))
 
+limit_refusing : (Holds : Type 0) (number bound rule : ℕ) (e : Ended) (Below : Type 0) → (Below → IsRefusing e) → Need Holds (out_of_range number bound rule) (refuse e) Below → IsRefusing e
+limit_refusing Holds number bound rule e Below below h = elim h [
+  | inl n ↦ refusing_at e 10 (ap (λ (x : Ended). x.status) (same_ended e _ n.1)) (omega arith) (omega arith)
+  | inr y ↦ below y.1
+]
+
+disk_refusing : (steps : ℕ) (book : List ℕ) (e : Ended) → DecidesPlanDisk steps book (refuse e) → IsRefusing e
+disk_refusing steps book e =
+    read_refusing _ _ bad_book e _ (λ f h. book_refuses f h.1) (λ b.
+    limit_refusing _ _ _ _ e _ (
+    no_plan_refusing _ _ _ _ e _ (
+    no_plan_refusing _ _ _ _ e _ (λ read. let list = read.1.1 in absurd (refuse_accept e _ list.1.1)))))
+
 kind_refusing : (kind : PlanKind) (steps : ℕ) (book : List ℕ) (e : Ended) → DecidesPlan kind steps book (refuse e) → IsRefusing e
 kind_refusing Revolve steps book e = plan_refusing steps book e
 kind_refusing Multistage steps book e = multistage_refusing steps book e
+kind_refusing Disk steps book e = disk_refusing steps book e
 kind_refusing Hrevolve steps book e = hrevolve_refusing steps book e
 
 periodic_refusing : (steps period : ℕ) (book : List ℕ) (e : Ended) → DecidesPlanPeriodic steps period book (refuse e) → IsRefusing e
@@ -613,6 +705,12 @@ check_refusing steps book schedule e =
     read_refusing _ _ bad_text e _ (λ f h. text_refuses f (text_fault_is_other (names_of b) schedule f h)) (λ list.
     judge_refusing steps (slots_of b) list e _))
 
+price_refusing : (steps : ℕ) (book schedule : List ℕ) (e : Ended) → DecidesPrice steps book schedule (refuse e) → IsRefusing e
+price_refusing steps book schedule e =
+    read_refusing _ _ bad_book e _ (λ f h. book_refuses f h.1) (λ b.
+    read_refusing _ _ bad_text e _ (λ f h. text_refuses f (text_fault_is_other (names_of b) schedule f h)) (λ list.
+    judge_refusing steps (slots_of b) list e _))
+
 certify_refusing : (steps : ℕ) (book schedule certificate : List ℕ) (e : Ended) → DecidesCertify steps book schedule certificate (refuse e) → IsRefusing e
 certify_refusing steps book schedule certificate e =
     read_refusing _ _ bad_book e _ (λ f h. book_refuses f h.1) (λ b.
@@ -622,9 +720,10 @@ certify_refusing steps book schedule certificate e =
     weigh_refusing steps b list k e _ (λ is. absurd (refuse_accept e _ is))))))
 
 pub decided_refusal : (options : List Choice) (command : Command) (bytes : List (List ℕ)) (slots : List ℕ) (e : Ended) → DecidesBytes options command bytes slots (refuse e) → IsRefusing e
-decided_refusal options (run r) (program ∷ book ∷ schedule ∷ []) slots e h = run_refusing options r.steps program None book schedule slots e h
-decided_refusal options (run r) (program ∷ journal ∷ book ∷ schedule ∷ []) slots e h = run_refusing options r.steps program (Some journal) book schedule slots e h
-decided_refusal options (run r) other slots e h = absurd h
+decided_refusal options (run r) bytes slots e h = over_bytes_refusing (performed r.steps) options r.steps bytes slots e h
+decided_refusal options (ask r) bytes slots e h = over_bytes_refusing (asked_about r.question r.run.steps) options r.run.steps bytes slots e h.1
+decided_refusal options (price r) (book ∷ schedule ∷ []) slots e h = price_refusing r.steps book schedule e h
+decided_refusal options (price r) other slots e h = absurd h
 decided_refusal options (run_revolve r) (program ∷ book ∷ []) slots e h = revolve_refusing options r.steps program None book slots e h
 decided_refusal options (run_revolve r) (program ∷ journal ∷ book ∷ []) slots e h = revolve_refusing options r.steps program (Some journal) book slots e h
 decided_refusal options (run_revolve r) other slots e h = absurd h
@@ -641,40 +740,40 @@ decided_refusal options (demo r) other slots e h = absurd h
 
 -- ---- the lines of a run, and of a judgement
 
-pub run_by_book : (options : List Choice) (steps : ℕ) (program : List ℕ) (journal : Option (List ℕ)) (book schedule counts : List ℕ) (e : Ended) → IsRefusal (HasBookFault book) bad_book e → (e ≡ no_memory) ⊎ DecidesRun options steps program journal book schedule counts (refuse e)
-run_by_book options steps program journal book schedule counts e h = read_refuses (IsBookText book) (HasBookFault book) bad_book e _ h
+pub over_by_book : (make : Over) (options : List Choice) (steps : ℕ) (program : List ℕ) (journal : Option (List ℕ)) (book schedule counts : List ℕ) (e : Ended) → IsRefusal (HasBookFault book) bad_book e → (e ≡ no_memory) ⊎ DecidesOver make options steps program journal book schedule counts (refuse e)
+over_by_book make options steps program journal book schedule counts e h = read_refuses (IsBookText book) (HasBookFault book) bad_book e _ h
 
-pub run_by_keepers : (options : List Choice) (steps : ℕ) (program : List ℕ) (journal : Option (List ℕ)) (book schedule counts : List ℕ) (e : Ended) (b : BookCosts) → IsBookText book b → Keep steps (slots_of b) counts (refuse e) ⊥ →
-    (e ≡ no_memory) ⊎ DecidesRun options steps program journal book schedule counts (refuse e)
-run_by_keepers options steps program journal book schedule counts e b is_book h = inr (inr (b, is_book, keep_refuses steps (slots_of b) counts (refuse e) _ h))
+pub over_by_keepers : (make : Over) (options : List Choice) (steps : ℕ) (program : List ℕ) (journal : Option (List ℕ)) (book schedule counts : List ℕ) (e : Ended) (b : BookCosts) → IsBookText book b → Keep steps (slots_of b) counts (refuse e) ⊥ →
+    (e ≡ no_memory) ⊎ DecidesOver make options steps program journal book schedule counts (refuse e)
+over_by_keepers make options steps program journal book schedule counts e b is_book h = inr (inr (b, is_book, keep_refuses steps (slots_of b) counts (refuse e) _ h))
 
-pub run_by_program : (options : List Choice) (steps : ℕ) (program : List ℕ) (journal : Option (List ℕ)) (book schedule counts : List ℕ) (e : Ended) (b : BookCosts) → IsBookText book b → HaveRoom steps (slots_of b) counts → IsRefusal (HasProgramFault (says_raw options) (stack_pages options) program) bad_program e →
-    (e ≡ no_memory) ⊎ DecidesRun options steps program journal book schedule counts (refuse e)
-run_by_program options steps program journal book schedule counts e b is_book room h =
+pub over_by_program : (make : Over) (options : List Choice) (steps : ℕ) (program : List ℕ) (journal : Option (List ℕ)) (book schedule counts : List ℕ) (e : Ended) (b : BookCosts) → IsBookText book b → HaveRoom steps (slots_of b) counts → IsRefusal (HasProgramFault (says_raw options) (stack_pages options) program) bad_program e →
+    (e ≡ no_memory) ⊎ DecidesOver make options steps program journal book schedule counts (refuse e)
+over_by_program make options steps program journal book schedule counts e b is_book room h =
     read_passes (IsBookText book) (HasBookFault book) bad_book e _ b is_book
     (keep_passes steps (slots_of b) counts e _ room
     (read_refuses (IsStartOf (says_raw options) (stack_pages options) program) (HasProgramFault (says_raw options) (stack_pages options) program) bad_program e _ h))
 
-pub run_by_journal : (options : List Choice) (steps : ℕ) (program : List ℕ) (journal : Option (List ℕ)) (book schedule counts : List ℕ) (e : Ended) (b : BookCosts) (start : MachineState) → IsBookText book b → HaveRoom steps (slots_of b) counts → IsStartOf (says_raw options) (stack_pages options) program start →
-    IsRefusal (HasJournalFault journal) bad_journal e → (e ≡ no_memory) ⊎ DecidesRun options steps program journal book schedule counts (refuse e)
-run_by_journal options steps program journal book schedule counts e b start is_book room is_start h =
+pub over_by_journal : (make : Over) (options : List Choice) (steps : ℕ) (program : List ℕ) (journal : Option (List ℕ)) (book schedule counts : List ℕ) (e : Ended) (b : BookCosts) (start : MachineState) → IsBookText book b → HaveRoom steps (slots_of b) counts → IsStartOf (says_raw options) (stack_pages options) program start →
+    IsRefusal (HasJournalFault journal) bad_journal e → (e ≡ no_memory) ⊎ DecidesOver make options steps program journal book schedule counts (refuse e)
+over_by_journal make options steps program journal book schedule counts e b start is_book room is_start h =
     read_passes (IsBookText book) (HasBookFault book) bad_book e _ b is_book
     (keep_passes steps (slots_of b) counts e _ room
     (read_passes (IsStartOf (says_raw options) (stack_pages options) program) (HasProgramFault (says_raw options) (stack_pages options) program) bad_program e _ start is_start
     (read_refuses (AreItemsOf journal) (HasJournalFault journal) bad_journal e _ h)))
 
-pub run_by_text : (options : List Choice) (steps : ℕ) (program : List ℕ) (journal : Option (List ℕ)) (book schedule counts : List ℕ) (e : Ended) (b : BookCosts) (start : MachineState) (items : List (List ℕ)) → IsBookText book b → HaveRoom steps (slots_of b) counts → IsStartOf (says_raw options) (stack_pages options) program start →
-    AreItemsOf journal items → IsRefusal (HasFirstFault (names_of b) schedule) bad_text e → (e ≡ no_memory) ⊎ DecidesRun options steps program journal book schedule counts (refuse e)
-run_by_text options steps program journal book schedule counts e b start items is_book room is_start are_items h =
+pub over_by_text : (make : Over) (options : List Choice) (steps : ℕ) (program : List ℕ) (journal : Option (List ℕ)) (book schedule counts : List ℕ) (e : Ended) (b : BookCosts) (start : MachineState) (items : List (List ℕ)) → IsBookText book b → HaveRoom steps (slots_of b) counts → IsStartOf (says_raw options) (stack_pages options) program start →
+    AreItemsOf journal items → IsRefusal (HasFirstFault (names_of b) schedule) bad_text e → (e ≡ no_memory) ⊎ DecidesOver make options steps program journal book schedule counts (refuse e)
+over_by_text make options steps program journal book schedule counts e b start items is_book room is_start are_items h =
     read_passes (IsBookText book) (HasBookFault book) bad_book e _ b is_book
     (keep_passes steps (slots_of b) counts e _ room
     (read_passes (IsStartOf (says_raw options) (stack_pages options) program) (HasProgramFault (says_raw options) (stack_pages options) program) bad_program e _ start is_start
     (read_passes (AreItemsOf journal) (HasJournalFault journal) bad_journal e _ items are_items
     (read_refuses (IsSchedule (names_of b) schedule) (HasFirstFault (names_of b) schedule) bad_text e _ h))))
 
-pub run_by_rules : (options : List Choice) (steps : ℕ) (program : List ℕ) (journal : Option (List ℕ)) (book schedule counts : List ℕ) (e : Ended) (b : BookCosts) (start : MachineState) (items : List (List ℕ)) (list : List Action) → IsBookText book b → HaveRoom steps (slots_of b) counts →
-    IsStartOf (says_raw options) (stack_pages options) program start → AreItemsOf journal items → IsSchedule (names_of b) schedule list → IsBroken steps (slots_of b) list e → (e ≡ no_memory) ⊎ DecidesRun options steps program journal book schedule counts (refuse e)
-run_by_rules options steps program journal book schedule counts e b start items list is_book room is_start are_items is_list h =
+pub over_by_rules : (make : Over) (options : List Choice) (steps : ℕ) (program : List ℕ) (journal : Option (List ℕ)) (book schedule counts : List ℕ) (e : Ended) (b : BookCosts) (start : MachineState) (items : List (List ℕ)) (list : List Action) → IsBookText book b → HaveRoom steps (slots_of b) counts →
+    IsStartOf (says_raw options) (stack_pages options) program start → AreItemsOf journal items → IsSchedule (names_of b) schedule list → IsBroken steps (slots_of b) list e → (e ≡ no_memory) ⊎ DecidesOver make options steps program journal book schedule counts (refuse e)
+over_by_rules make options steps program journal book schedule counts e b start items list is_book room is_start are_items is_list h =
     read_passes (IsBookText book) (HasBookFault book) bad_book e _ b is_book
     (keep_passes steps (slots_of b) counts e _ room
     (read_passes (IsStartOf (says_raw options) (stack_pages options) program) (HasProgramFault (says_raw options) (stack_pages options) program) bad_program e _ start is_start
@@ -682,10 +781,10 @@ run_by_rules options steps program journal book schedule counts e b start items 
     (read_passes (IsSchedule (names_of b) schedule) (HasFirstFault (names_of b) schedule) bad_text e _ list is_list
     (judge_refuses steps (slots_of b) list e _ h)))))
 
-pub run_accepted : (options : List Choice) (steps : ℕ) (program : List ℕ) (journal : Option (List ℕ)) (book schedule counts : List ℕ) (b : BookCosts) (start : MachineState) (items : List (List ℕ)) (list : List Action) → IsBookText book b → HaveRoom steps (slots_of b) counts →
+pub over_accepted : (make : Over) (options : List Choice) (steps : ℕ) (program : List ℕ) (journal : Option (List ℕ)) (book schedule counts : List ℕ) (b : BookCosts) (start : MachineState) (items : List (List ℕ)) (list : List Action) → IsBookText book b → HaveRoom steps (slots_of b) counts →
     IsStartOf (says_raw options) (stack_pages options) program start → AreItemsOf journal items → IsSchedule (names_of b) schedule list → Valid steps (slots_of b) list →
-    DecidesRun options steps program journal book schedule counts (accept (perform start items steps (slots_of b) list))
-run_accepted options steps program journal book schedule counts b start items list is_book room is_start are_items is_list valid =
+    DecidesOver make options steps program journal book schedule counts (accept (make start items (slots_of b) list))
+over_accepted make options steps program journal book schedule counts b start items list is_book room is_start are_items is_list valid =
     inr (b, is_book, keep_accepts steps (slots_of b) counts _ _ room (inr (start, is_start, inr (items, are_items, inr (list, is_list, inr (valid, refl))))))
 
 pub revolve_by_book : (options : List Choice) (steps : ℕ) (program : List ℕ) (journal : Option (List ℕ)) (book counts : List ℕ) (e : Ended) → IsRefusal (HasBookFault book) bad_book e → (e ≡ no_memory) ⊎ DecidesRunRevolve options steps program journal book counts (refuse e)
@@ -774,6 +873,27 @@ pub hrevolve_accepted : (steps : ℕ) (book : List ℕ) (b : BookCosts) (tables 
     IsWritten steps b tables list → DecidesPlanHrevolve steps book (accept (write (list_pieces (names_of b) list)))
 hrevolve_accepted steps book b tables list is_book narrow has greatest is = inr (b, is_book, inr (narrow, inr (has, (tables, (greatest, (list, (is, refl)))))))
 
+-- ---- the lines of a plan of DiskRevolve
+
+pub disk_by_book : (steps : ℕ) (book : List ℕ) (e : Ended) → IsRefusal (HasBookFault book) bad_book e → (e ≡ no_memory) ⊎ DecidesPlanDisk steps book (refuse e)
+disk_by_book steps book e h = read_refuses (IsBookText book) (HasBookFault book) bad_book e _ h
+
+pub disk_by_room : (steps : ℕ) (book : List ℕ) (e : Ended) (b : BookCosts) → IsBookText book b → 64 < room b 0 steps → e ≡ out_of_range (room b 0 steps) 64 9 → DecidesPlanDisk steps book (refuse e)
+disk_by_room steps book e b is_book wide is = inr (b, is_book, inl (λ few. absurd (omega (arith, few, wide)), refuse_by e _ is))
+
+pub disk_by_plan : (steps : ℕ) (book : List ℕ) (e : Ended) (b : BookCosts) → IsBookText book b → room b 0 steps ≤ 64 → (e ≡ no_memory) ⊎ IsUndisked steps b e → (e ≡ no_memory) ⊎ DecidesPlanDisk steps book (refuse e)
+disk_by_plan steps book e b is_book few h = elim h [
+  | inl memory ↦ inl memory
+  | inr none ↦ elim none [
+    | inl levels ↦ inr (inr (b, is_book, inr (few, inl (levels.0, refuse_by e _ levels.1))))
+    | inr counted ↦ inr (inr (b, is_book, inr (few, inr (counted.0, inl (counted.1, refuse_by e _ counted.2)))))
+  ]
+]
+
+pub disk_accepted : (steps : ℕ) (book : List ℕ) (b : BookCosts) (tables : DiskTables) (list : List Action) → IsBookText book b → room b 0 steps ≤ 64 → length b.levels ≡ 2 → slice_get (slots_of b) 1 ≡ Some Unlimited →
+    IsGreatestDisk steps b tables → IsDiskWritten steps b tables list → DecidesPlanDisk steps book (accept (write (list_pieces (names_of b) list)))
+disk_accepted steps book b tables list is_book few two unlimited greatest is = inr (b, is_book, inr (few, inr (two, inr (unlimited, (tables, (greatest, (list, (is, refl))))))))
+
 -- ---- the lines of a periodic plan
 
 pub periodic_by_book : (steps period : ℕ) (book : List ℕ) (e : Ended) → IsRefusal (HasBookFault book) bad_book e → (e ≡ no_memory) ⊎ DecidesPlanPeriodic steps period book (refuse e)
@@ -812,6 +932,26 @@ check_by_rules steps book schedule e b list is_book is_list h =
 pub check_accepted : (steps : ℕ) (book schedule : List ℕ) (b : BookCosts) (list : List Action) → IsBookText book b → IsSchedule (names_of b) schedule list → Valid steps (slots_of b) list →
     DecidesCheck steps book schedule (accept (write ((codes "valid " ++ decimal (length list) ++ codes "\n") ∷ [])))
 check_accepted steps book schedule b list is_book is_list valid = inr (b, is_book, inr (list, is_list, inr (valid, refl)))
+
+-- ---- the lines of a price
+
+pub price_by_book : (steps : ℕ) (book schedule : List ℕ) (e : Ended) → IsRefusal (HasBookFault book) bad_book e → (e ≡ no_memory) ⊎ DecidesPrice steps book schedule (refuse e)
+price_by_book steps book schedule e h = read_refuses (IsBookText book) (HasBookFault book) bad_book e _ h
+
+pub price_by_text : (steps : ℕ) (book schedule : List ℕ) (e : Ended) (b : BookCosts) → IsBookText book b → IsRefusal (HasFirstFault (names_of b) schedule) bad_text e → (e ≡ no_memory) ⊎ DecidesPrice steps book schedule (refuse e)
+price_by_text steps book schedule e b is_book h =
+    read_passes (IsBookText book) (HasBookFault book) bad_book e _ b is_book
+    (read_refuses (IsSchedule (names_of b) schedule) (HasFirstFault (names_of b) schedule) bad_text e _ h)
+
+pub price_by_rules : (steps : ℕ) (book schedule : List ℕ) (e : Ended) (b : BookCosts) (list : List Action) → IsBookText book b → IsSchedule (names_of b) schedule list → IsBroken steps (slots_of b) list e → (e ≡ no_memory) ⊎ DecidesPrice steps book schedule (refuse e)
+price_by_rules steps book schedule e b list is_book is_list h =
+    read_passes (IsBookText book) (HasBookFault book) bad_book e _ b is_book
+    (read_passes (IsSchedule (names_of b) schedule) (HasFirstFault (names_of b) schedule) bad_text e _ list is_list
+    (judge_refuses steps (slots_of b) list e _ h))
+
+pub price_accepted : (steps : ℕ) (book schedule : List ℕ) (b : BookCosts) (list : List Action) (lines : List (List ℕ)) → IsBookText book b → IsSchedule (names_of b) schedule list → Valid steps (slots_of b) list → lines ≡ list_report b list →
+    DecidesPrice steps book schedule (accept (write lines))
+price_accepted steps book schedule b list lines is_book is_list valid is = inr (b, is_book, inr (list, is_list, inr (valid, ap (λ l. accept (write l)) is)))
 
 -- ---- the lines of a certificate
 

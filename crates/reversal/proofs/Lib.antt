@@ -1,6 +1,7 @@
 pub mod Steps
 pub mod Decimal
 pub mod Texts
+pub mod Addresses
 pub mod Requests
 pub mod Refusing
 pub mod Placing
@@ -10,6 +11,7 @@ pub mod OnTheWay
 pub mod Doing
 pub mod Showing
 pub mod Performing
+pub mod Answered
 pub mod Progress
 pub mod Refused
 pub mod Keeping
@@ -23,5 +25,7 @@ pub mod Answering
 pub mod Drawing
 pub mod Demonstrating
 pub mod Silent
+pub mod Asked
 pub mod BookTexts
 pub mod ClassPlans
+pub mod Costing

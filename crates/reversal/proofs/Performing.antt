@@ -27,7 +27,7 @@ use Rattle.reverse_runner.specs.Standing.{pair_read}
 use Rattle.reverse_runner.proofs.Getting.{gets_keeps}
 use Rattle.reverse_runner.proofs.Handing.{valid_hands}
 use Rattle.reversal.specs.Output.{line_of, lines_down}
-use Rattle.reversal.specs.Deeds.{Deed, Shown, deed_of, moment, Did, bytes_of, bytes_written, steps_made, CallsLevel}
+use Rattle.reversal.specs.Deeds.{Deed, States, deed_of, moment, Did, bytes_of, bytes_written, steps_made, CallsLevel}
 use Rattle.reversal.proofs.Doing.{tells_nothing, raised_none, did_one}
 use Rattle.reversal.proofs.Showing.{Shows}
 
@@ -61,12 +61,12 @@ same_sink_missed told writes journal EndForward position work tape x y h = h.0
 same_sink_missed told writes journal EndReverse position work tape x y h = absurd h
 
 -- the line of a state that is shown
-the_line : (shown : Shown) (n m : ℕ) (state : MachineState) → shown m ≡ state → n ≡ m → line n state ++ 10 ∷ [] ≡ line_of shown m
+the_line : (shown : States) (n m : ℕ) (state : MachineState) → shown m ≡ state → n ≡ m → line n state ++ 10 ∷ [] ≡ line_of shown m
 the_line shown n m state is same = (λ i. line (same i) (sym is i) ++ 10 ∷ [])
 
 module _ {X K : Type 0} (told : X → Option (List ℕ)) (writes : X → ℕ) (images : K → Option Images) (puts gets frees : K → ℕ) where
   -- what an action does that writes one line
-  lined : (shown : Shown) (steps : ℕ) (a : Action) (n m : ℕ) (state : MachineState) (x y : X) (ks ls : List K) (before after : ℕ) → bytes_of (deed_of shown steps a).pieces ≡ line_of shown m ++ [] →
+  lined : (shown : States) (steps : ℕ) (a : Action) (n m : ℕ) (state : MachineState) (x y : X) (ks ls : List K) (before after : ℕ) → bytes_of (deed_of shown steps a).pieces ≡ line_of shown m ++ [] →
       length (deed_of shown steps a).pieces ≡ 1 → shown m ≡ state → n ≡ m →
       Tells (told x) (told y) (λ old new. new ≡ old ++ (line n state ++ 10 ∷ [])) → writes y ≡ raised (writes x) 1 → after ≡ before + steps_of a →
       Called (calls_of a) (calls_to puts gets frees ks) (calls_to puts gets frees ls) →
@@ -76,7 +76,7 @@ module _ {X K : Type 0} (told : X → Option (List ℕ)) (writes : X → ℕ) (i
       (bytes ∙ append-nil (line_of shown m) ∙ sym (the_line shown n m state is same)) one added wrote counted called
 
   -- what an action does that writes nothing
-  unwritten : (shown : Shown) (steps : ℕ) (a : Action) (x y : LineWriter X) (ks ls : List K) (before after : ℕ) → bytes_of (deed_of shown steps a).pieces ≡ [] → length (deed_of shown steps a).pieces ≡ 0 → y ≡ x →
+  unwritten : (shown : States) (steps : ℕ) (a : Action) (x y : LineWriter X) (ks ls : List K) (before after : ℕ) → bytes_of (deed_of shown steps a).pieces ≡ [] → length (deed_of shown steps a).pieces ≡ 0 → y ≡ x →
       after ≡ before + steps_of a → Called (calls_of a) (calls_to puts gets frees ks) (calls_to puts gets frees ls) →
       Did (deed_of shown steps a ∷ []) (moment told writes images puts gets frees x.out.now ks before) (moment told writes images puts gets frees y.out.now ls after)
   unwritten shown steps a x y ks ls before after bytes none same counted called =
@@ -85,7 +85,7 @@ module _ {X K : Type 0} (told : X → Option (List ℕ)) (writes : X → ℕ) (i
       (ap (λ (w : LineWriter X). writes w.out.now) same ∙ raised_none (writes x.out.now)) counted called
 
   -- what an action does that may be done
-  pub did_action : (shown : Shown) (journal : List (List ℕ)) (steps : ℕ) (slots : List Slots) (c : Configuration) (a : Action) (d : Configuration) (work tape : MachineState) (x y : LineWriter X) (ks ls : List K) (before after : ℕ) →
+  pub did_action : (shown : States) (journal : List (List ℕ)) (steps : ℕ) (slots : List Slots) (c : Configuration) (a : Action) (d : Configuration) (work tape : MachineState) (x y : LineWriter X) (ks ls : List K) (before after : ℕ) →
       Goes steps slots c a d → Shows shown steps a work tape → Gets (Wrote told writes) journal a c.work work tape x y → after ≡ before + steps_of a →
       Called (calls_of a) (calls_to puts gets frees ks) (calls_to puts gets frees ls) →
       Did (deed_of shown steps a ∷ []) (moment told writes images puts gets frees x.out.now ks before) (moment told writes images puts gets frees y.out.now ls after)
@@ -109,13 +109,13 @@ pub record Part {X : Type 0} (told : X → Option (List ℕ)) (writes : X → �
   pub added : Tells (told x) (told y) (AddsPrefix piece)
   pub wrote : writes y ≡ raised (writes x) 1
 
-a_part : {X : Type 0} (told : X → Option (List ℕ)) (writes : X → ℕ) (shown : Shown) (d : Deed) (n m : ℕ) (state : MachineState) (x y : X) → slice_get d.pieces 0 ≡ Some (line_of shown m) →
+a_part : {X : Type 0} (told : X → Option (List ℕ)) (writes : X → ℕ) (shown : States) (d : Deed) (n m : ℕ) (state : MachineState) (x y : X) → slice_get d.pieces 0 ≡ Some (line_of shown m) →
     shown m ≡ state → n ≡ m → Tells (told x) (told y) (AddsPrefix (line n state ++ 10 ∷ [])) → writes y ≡ raised (writes x) 1 → Part told writes d x y
 a_part told writes shown d n m state x y at is same added wrote =
     let P : List ℕ → Type 0 = λ l. Tells (told x) (told y) (AddsPrefix l) in
     record { piece = line_of shown m; next = at; added = subst P (the_line shown n m state is same) added; wrote = wrote }
 
-pub missed_action : {X : Type 0} (told : X → Option (List ℕ)) (writes : X → ℕ) (shown : Shown) (journal : List (List ℕ)) (steps : ℕ) (slots : List Slots) (c : Configuration) (a : Action) (d : Configuration) (work tape : MachineState) (x y : LineWriter X) →
+pub missed_action : {X : Type 0} (told : X → Option (List ℕ)) (writes : X → ℕ) (shown : States) (journal : List (List ℕ)) (steps : ℕ) (slots : List Slots) (c : Configuration) (a : Action) (d : Configuration) (work tape : MachineState) (x y : LineWriter X) →
     Goes steps slots c a d → Shows shown steps a work tape → Misses (Missed told writes) journal a c.work work tape x y → Part told writes (deed_of shown steps a) x.out.now y.out.now
 missed_action told writes shown journal steps slots c (Forward from to keep) d work tape x y g shows got = absurd got
 missed_action told writes shown journal steps slots c (Copy n k to) d work tape x y g shows got = absurd got
@@ -139,20 +139,20 @@ missed_calls_none missed journal EndReverse position work tape x y h = absurd h
 -- ---- the deeds of a whole list
 
 -- the lines of the states that a list hands out are those that its deeds write
-lines_of_deeds : (shown : Shown) (steps : ℕ) (list : List Action) → flat_map (λ a. bytes_of (deed_of shown steps a).pieces) list ≡ flat_map (line_of shown) (handed steps list)
+lines_of_deeds : (shown : States) (steps : ℕ) (list : List Action) → flat_map (λ a. bytes_of (deed_of shown steps a).pieces) list ≡ flat_map (line_of shown) (handed steps list)
 lines_of_deeds shown steps [] = refl
 lines_of_deeds shown steps (a ∷ rest) =
     (λ i. flat_map-map (λ (piece : List ℕ). piece) (line_of shown) (handed_by steps a) i ++ lines_of_deeds shown steps rest i)
     ∙ sym (flat_map-append (line_of shown) (handed_by steps a) (handed steps rest))
 
 -- the deeds of a valid list write the lines of all states, from the last to the first
-pub bytes_performed : (shown : Shown) (steps : ℕ) (slots : List Slots) (list : List Action) → Valid steps slots list → bytes_written (map (deed_of shown steps) list) ≡ lines_down shown steps
+pub bytes_performed : (shown : States) (steps : ℕ) (slots : List Slots) (list : List Action) → Valid steps slots list → bytes_written (map (deed_of shown steps) list) ≡ lines_down shown steps
 bytes_performed shown steps slots list valid =
     flat_map-map (λ (d : Deed). bytes_of d.pieces) (deed_of shown steps) list ∙ lines_of_deeds shown steps list
     ∙ ap (flat_map (line_of shown)) (valid_hands steps slots list valid)
 
 -- and take its forward steps
-pub steps_performed : (shown : Shown) (steps : ℕ) (list : List Action) → steps_made (map (deed_of shown steps) list) ≡ forward list
+pub steps_performed : (shown : States) (steps : ℕ) (list : List Action) → steps_made (map (deed_of shown steps) list) ≡ forward list
 steps_performed shown steps list = fold-map (λ n (d : Deed). n + d.steps) (deed_of shown steps) 0 list
 
 -- ---- levels that actions name
@@ -193,7 +193,7 @@ one_here : (j k : ℕ) → k ≡ j → one_if (j == k) ≡ 1
 one_here j k e = ap one_if (eq-eqb j k (sym e))
 
 -- an action calls the keepers of the levels that it names
-pub calls_named : (shown : Shown) (steps : ℕ) (a : Action) (k : ℕ) → Contains (levels_named a) k → CallsLevel (deed_of shown steps a) k
+pub calls_named : (shown : States) (steps : ℕ) (a : Action) (k : ℕ) → Contains (levels_named a) k → CallsLevel (deed_of shown steps a) k
 calls_named shown steps (Forward from to Nothing) k h = absurd (none_named k h)
 calls_named shown steps (Forward from to (Store j)) k h = let e = one_here j k (one_named j k h) in omega (arith, e)
 calls_named shown steps (Forward from to Tape) k h = absurd (none_named k h)
@@ -206,7 +206,7 @@ calls_named shown steps EndForward k h = absurd (none_named k h)
 calls_named shown steps EndReverse k h = absurd (none_named k h)
 
 -- one that calls keepers calls one
-pub calls_one : (shown : Shown) (steps : ℕ) (a : Action) → calls_keepers a ≡ true → (k : ℕ) × CallsLevel (deed_of shown steps a) k
+pub calls_one : (shown : States) (steps : ℕ) (a : Action) → calls_keepers a ≡ true → (k : ℕ) × CallsLevel (deed_of shown steps a) k
 calls_one shown steps (Forward from to Nothing) h = absurd (false≢true h)
 calls_one shown steps (Forward from to (Store j)) h = (j, (let o = one_here j j refl in omega (arith, o)))
 calls_one shown steps (Forward from to Tape) h = absurd (false≢true h)
@@ -217,7 +217,7 @@ calls_one shown steps EndForward h = absurd (false≢true h)
 calls_one shown steps EndReverse h = absurd (false≢true h)
 
 -- one that reads a pair gets an image of its level
-pub gets_pair : (shown : Shown) (steps : ℕ) (a : Action) (n k : ℕ) → pair_read a ≡ Some (n, k) → 0 < (deed_of shown steps a).calls.gets k
+pub gets_pair : (shown : States) (steps : ℕ) (a : Action) (n k : ℕ) → pair_read a ≡ Some (n, k) → 0 < (deed_of shown steps a).calls.gets k
 gets_pair shown steps (Forward from to keep) n k e = absurd cc
 gets_pair shown steps (Reverse from to) n k e = absurd cc
 gets_pair shown steps (Copy m i dest) n k e = let o = one_here i k (ap (λ (p : ℕ × ℕ). p.1) (sym (same_Some _ _ e))) in omega (arith, o)

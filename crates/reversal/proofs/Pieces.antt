@@ -1,5 +1,5 @@
 -- Texts that are written one after the other, and the pieces of a list's text.
-use Rattle.std.proofs.Common.{◌≡◌, ◌≢◌, ℕ, zero, suc, ◌+◌, ◌≤◌, ◌++◌, ◌<◌, true, false, inl, inr, List, [], ◌∷◌, length, map, take, drop, append_assoc, append-nil, Option, Some, refl, sym, ◌∙◌, ap, subst, arith, add-zero, slice_get}
+use Rattle.std.proofs.Common.{◌≡◌, ◌≢◌, ℕ, zero, suc, ◌+◌, ◌≤◌, ◌++◌, ◌<◌, true, false, inl, inr, List, [], ◌∷◌, length, map, take, drop, append_assoc, append-nil, Option, Some, None, refl, sym, ◌∙◌, ap, subst, arith, add-zero, slice_get}
 use Rattle.std.specs.List.{flat_map, AllByRecursion}
 use Rattle.std.proofs.lemmas.Bool.{false≢true}
 use Rattle.action_text.specs.Canonical.{HasSpelling}
@@ -23,7 +23,7 @@ use Rattle.reversal.proofs.Doing.{tells_nothing, tells_then, raised_then, raised
 
 -- a text shows no states
 abbrev pub nothing_shown : Shown
-nothing_shown n = record { pc = 0; registers = []; status = Running; item = 0; offset = 0; written = 0; memory = finmap.empty }
+nothing_shown = record { states = λ n. record { pc = 0; registers = []; status = Running; item = 0; offset = 0; written = 0; memory = finmap.empty }; answer = None }
 
 -- no keeper was called
 pub not_called : (calls : Calls) → Called no_calls calls calls
@@ -46,6 +46,7 @@ texts_done texts e old new w v steps calls images is added wrote = (
         did = did_one (writing texts) (seen old w steps calls images) (seen new v steps calls images) (bytes_of texts) (length texts) refl refl added wrote (sym (add-zero steps)) (not_called calls);
         output_whole = added;
         stepped = sym (add-zero steps);
+        answered = tt;
         held = tt;
       },
     ),
@@ -63,9 +64,9 @@ take_front [] (y ∷ ys) = refl
 take_front (x ∷ xs) ys = ap (λ l. x ∷ l) (take_front xs ys)
 
 -- some texts were written, and the next in part
-pub texts_stopped : (front : List (List ℕ)) (piece : List ℕ) (rest texts : List (List ℕ)) (e : Ended) (old mid new : Option (List ℕ)) (w u v steps : ℕ) (calls : Calls) (images : ℕ → Option Images) → texts ≡ front ++ piece ∷ rest → e ≡ stopped 0 →
-    Tells old mid (Adds (bytes_of front)) → u ≡ raised w (length front) → Tells mid new (AddsPrefix piece) → v ≡ raised u 1 → EndsBy (accept (write texts)) e (seen old w steps calls images) (seen new v steps calls images)
-texts_stopped front piece rest texts e old mid new w u v steps calls images are is added wrote part once =
+pub texts_cut : (front : List (List ℕ)) (piece : List ℕ) (rest texts : List (List ℕ)) (e : Ended) (old new : Option (List ℕ)) (w v steps : ℕ) (calls : Calls) (images : ℕ → Option Images) → texts ≡ front ++ piece ∷ rest → e ≡ stopped 0 →
+    Tells old new (AddsAndPart (bytes_of front) piece) → v ≡ raised w (length front + 1) → EndsBy (accept (write texts)) e (seen old w steps calls images) (seen new v steps calls images)
+texts_cut front piece rest texts e old new w v steps calls images are is added wrote =
     let before : take (length front) texts ≡ front = ap (take (length front)) are ∙ take_front front (piece ∷ rest) in
     let P : List (List ℕ) → Type 0 = λ l. Tells old new (AddsAndPart (bytes_of l) piece) in (
       nothing_shown,
@@ -74,6 +75,7 @@ texts_stopped front piece rest texts e old mid new w u v steps calls images are 
         inr (inl (
           1,
           is,
+          tt,
           record {
             from_one = omega arith;
             deed = writing texts;
@@ -81,14 +83,22 @@ texts_stopped front piece rest texts e old mid new w u v steps calls images are 
             whole = length front;
             piece = piece;
             next = ap (λ l. slice_get l (length front)) are ∙ get_behind front rest piece;
-            added = subst P (sym before) (tells_then old mid new (Adds (bytes_of front)) (AddsPrefix piece) (AddsAndPart (bytes_of front) piece) (λ a b c p q. (q.0, q.1 ∙ ap (λ l. l ++ take q.0 piece) p)) added part);
-            wrote = let all = raised_then w u v (length front) 1 wrote once in omega (arith, all);
+            added = subst P (sym before) added;
+            wrote = let all = wrote in omega (arith, all);
             counted = sym (add-zero steps);
             called = not_called calls;
           },
         )),
       ),
     )
+
+-- the same in two parts
+pub texts_stopped : (front : List (List ℕ)) (piece : List ℕ) (rest texts : List (List ℕ)) (e : Ended) (old mid new : Option (List ℕ)) (w u v steps : ℕ) (calls : Calls) (images : ℕ → Option Images) → texts ≡ front ++ piece ∷ rest → e ≡ stopped 0 →
+    Tells old mid (Adds (bytes_of front)) → u ≡ raised w (length front) → Tells mid new (AddsPrefix piece) → v ≡ raised u 1 → EndsBy (accept (write texts)) e (seen old w steps calls images) (seen new v steps calls images)
+texts_stopped front piece rest texts e old mid new w u v steps calls images are is added wrote part once =
+    texts_cut front piece rest texts e old new w v steps calls images are is
+    (tells_then old mid new (Adds (bytes_of front)) (AddsPrefix piece) (AddsAndPart (bytes_of front) piece) (λ a b c p q. (q.0, q.1 ∙ ap (λ l. l ++ take q.0 piece) p)) added part)
+    (let all = raised_then w u v (length front) 1 wrote once in omega (arith, all))
 
 -- one text more
 pub text_more : (front : List (List ℕ)) (piece : List ℕ) (old mid new : Option (List ℕ)) → Tells old mid (Adds (bytes_of front)) → Tells mid new (Adds piece) → Tells old new (Adds (bytes_of (front ++ piece ∷ [])))

@@ -31,14 +31,14 @@ use Rattle.reverse_runner.specs.Handed.{handed}
 use Rattle.reverse_runner.specs.SessionState.{SessionState, SamePages, levels_of, holdings_of}
 use Rattle.reverse_runner.specs.Standing.{StandsAt, IsNoImage, IsDamage}
 use Rattle.reverse_runner.proofs.StandingAfter.{TapeIs}
-use Rattle.reversal.specs.Deeds.{Deed, Shown, deed_of, Moment, moment, Did, DidUntil, BreaksOff, perform, IsNoImageOf, AllTell, AllEmpty}
+use Rattle.reversal.specs.Deeds.{Deed, States, deed_of, Moment, moment, Did, DidUntil, BreaksOff, perform, IsNoImageOf, AllTell, AllEmpty}
 use Rattle.reversal.proofs.Lists.{get_map}
 use Rattle.reversal.proofs.Doing.{did_one_more, did_until, broke_off}
 use Rattle.reversal.proofs.Showing.{showing, it_shows, shows_of_run, IsAbove, above_after, same_before, handed_more}
 use Rattle.reversal.proofs.Performing.{Wrote, Missed, did_action, missed_action, missed_calls_none, names_levels}
 
 -- the deeds before an action, with the state that it shows
-before_it : (shown : Shown) (steps : ℕ) (slots : List Slots) (list : List Action) (i : ℕ) (c : Configuration) (a : Action) (d : Configuration) (work tape : MachineState) (x y : Moment) →
+before_it : (shown : States) (steps : ℕ) (slots : List Slots) (list : List Action) (i : ℕ) (c : Configuration) (a : Action) (d : Configuration) (work tape : MachineState) (x y : Moment) →
     Goes steps slots c a d → IsAbove steps (handed steps (take i list)) c → Did (take i (map (deed_of shown steps) list)) x y →
     Did (take i (map (deed_of (showing shown steps a work tape) steps) list)) x y
 before_it shown steps slots list i c a d work tape x y g above did =
@@ -48,7 +48,7 @@ before_it shown steps slots list i c a d work tape x y g above did =
 
 module _ {X K : Type 0} (told : X → Option (List ℕ)) (writes : X → ℕ) (images : K → Option Images) (puts gets frees : K → ℕ) where
   -- the deeds up to an action that was performed
-  pub did_so_far : (shown : Shown) (journal : List (List ℕ)) (steps : ℕ) (slots : List Slots) (list : List Action) (i : ℕ) (c : Configuration) (a : Action) (d : Configuration) (work tape : MachineState) (old : Moment)
+  pub did_so_far : (shown : States) (journal : List (List ℕ)) (steps : ℕ) (slots : List Slots) (list : List Action) (i : ℕ) (c : Configuration) (a : Action) (d : Configuration) (work tape : MachineState) (old : Moment)
       (x y : LineWriter X) (ks ls : List K) (before after : ℕ) → slice_get list i ≡ Some a → Goes steps slots c a d → IsAbove steps (handed steps (take i list)) c →
       Did (take i (map (deed_of shown steps) list)) old (moment told writes images puts gets frees x.out.now ks before) → Gets (Wrote told writes) journal a c.work work tape x y → after ≡ before + steps_of a →
       Called (calls_of a) (calls_to puts gets frees ks) (calls_to puts gets frees ls) →
@@ -61,7 +61,7 @@ module _ {X K : Type 0} (told : X → Option (List ℕ)) (writes : X → ℕ) (i
       (did_action told writes images puts gets frees now journal steps slots c a d work tape x y ks ls before after g (it_shows shown steps a work tape) got counted called)
 
   -- the deeds before an action whose write failed
-  pub did_before : (shown : Shown) (journal : List (List ℕ)) (steps : ℕ) (slots : List Slots) (list : List Action) (i place : ℕ) (c : Configuration) (a : Action) (d : Configuration) (work tape : MachineState) (old : Moment)
+  pub did_before : (shown : States) (journal : List (List ℕ)) (steps : ℕ) (slots : List Slots) (list : List Action) (i place : ℕ) (c : Configuration) (a : Action) (d : Configuration) (work tape : MachineState) (old : Moment)
       (x y : LineWriter X) (ks ls : List K) (before after : ℕ) → slice_get list i ≡ Some a → place ≡ i + 1 → Goes steps slots c a d → IsAbove steps (handed steps (take i list)) c →
       Did (take i (map (deed_of shown steps) list)) old (moment told writes images puts gets frees x.out.now ks before) → Misses (Missed told writes) journal a c.work work tape x y → after ≡ before →
       CalledAtMost (calls_of a) (calls_to puts gets frees ks) (calls_to puts gets frees ls) →
@@ -76,7 +76,7 @@ module _ {X K : Type 0} (told : X → Option (List ℕ)) (writes : X → ℕ) (i
       part.added part.wrote still (subst P (missed_calls_none (Missed told writes) journal a c.work work tape x y missed) called)
 
   -- the deeds before an action that was refused by storage, or for want of memory
-  pub broke_before : (shown : Shown) (steps : ℕ) (list : List Action) (i : ℕ) (a : Action) (old : Moment) (x y : LineWriter X) (o : X) (ks ls : List K) (before after : ℕ) → slice_get list i ≡ Some a →
+  pub broke_before : (shown : States) (steps : ℕ) (list : List Action) (i : ℕ) (a : Action) (old : Moment) (x y : LineWriter X) (o : X) (ks ls : List K) (before after : ℕ) → slice_get list i ≡ Some a →
       Did (take i (map (deed_of shown steps) list)) old (moment told writes images puts gets frees x.out.now ks before) → y ≡ x → o ≡ y.out.now → after ≡ before →
       CalledAtMost (calls_of a) (calls_to puts gets frees ks) (calls_to puts gets frees ls) →
       (breaks : BreaksOff (map (deed_of shown steps) list) i old (moment told writes images puts gets frees o ls after)) × (breaks.next ≡ deed_of shown steps a)
@@ -90,7 +90,7 @@ next_on_tape : (steps : ℕ) (slots : List Slots) (list : List Action) (c : Conf
 next_on_tape steps slots list c leads = (sound_on steps slots (start steps slots) list c (sound_start steps slots) leads).tape_is_next
 
 -- over keepers that tell, the state that an action shows is that of the run
-pub shown_so_far : (first : MachineState) (journal : List (List ℕ)) (steps : ℕ) (slots : List Slots) (list : List Action) (s : SessionState) (told : ℕ → Option Images) (a : Action) (d : Configuration) (shown : Shown) (n : ℕ) →
+pub shown_so_far : (first : MachineState) (journal : List (List ℕ)) (steps : ℕ) (slots : List Slots) (list : List Action) (s : SessionState) (told : ℕ → Option Images) (a : Action) (d : Configuration) (shown : States) (n : ℕ) →
     s.journal ≡ journal → Leads steps slots (start steps slots) list s.situation.at → Goes steps slots s.situation.at a d → StandsAt first s told → shown n ≡ state_number first journal n →
     showing shown steps a s.work s.tape n ≡ state_number first journal n
 shown_so_far first journal steps slots list s told a d shown n same leads g stands is =

@@ -1,6 +1,6 @@
 -- What words say: the options at their front, and the command behind them, are read in one way.
 use Rattle.std.proofs.Common.{◌≡◌, ◌≢◌, ℕ, ◌^◌, ◌<◌, ◌≤◌, ◌+◌, ◌++◌, inl, inr, Bool, true, false, cond, not, ◌&&◌, ◌||◌, List, [], ◌∷◌, map, length, Option, Some, None, refl, sym, ap, subst, ◌∙◌, arith, append_assoc, append-nil, zero-add}
-use Rattle.std.specs.Prelude.{IfSome, IfNone, decimal, codes, count_by, ◌==◌}
+use Rattle.std.specs.Prelude.{IfSome, IfNone, decimal, codes, count_by, drop, ◌==◌}
 use Rattle.std.specs.List.{AllByRecursion, list_any}
 use Rattle.std.specs.Str.{bytes_eq}
 use Rattle.std.proofs.lemmas.Bool.{eqb-true, eq-eqb, false≢true}
@@ -9,11 +9,14 @@ use Rattle.std.proofs.lemmas.List.Sums.{sum_by-append}
 use Rattle.std.proofs.lemmas.Slice.Eq.{bytes_eq-Decides}
 use Rattle.reversal.specs.declared.request.Request as in_memory
 use Rattle.reversal.specs.declared.kind.PlanKind.{PlanKind}
-use Rattle.reversal.specs.declared.kind.PlanKind.TheVariants.{Revolve, Multistage, Hrevolve}
+use Rattle.reversal.specs.declared.kind.PlanKind.TheVariants.{Revolve, Multistage, Disk, Hrevolve}
+use Rattle.reversal.specs.declared.question.Question.{Question}
+use Rattle.reversal.specs.declared.question.Question.TheVariants.{State, LastWrite, LastChange}
 use Rattle.reversal.specs.Reading.{Gives, ◌>>=◌, with_or, after_of, number_at}
-use Rattle.reversal.specs.Request.{Choice, raw, stack, workers, files, files_front, option_word, is_raw, is_stack, is_workers, is_files, FitsWord, AreOptions, Run, RunRevolve, PlanFor, PlanPeriodic, Check, Certify, Demo, Command, run, run_revolve, plan, plan_periodic, check, certify, demo, kind_word, command_words, word_or_dash, IsName, IsScheduleName, MayBeNamed, CanBeSpelled, Request, Says}
+use Rattle.reversal.specs.Request.{Choice, raw, stack, workers, files, files_front, option_word, is_raw, is_stack, is_workers, is_files, FitsWord, AreOptions, Run, RunRevolve, PlanFor, PlanPeriodic, Check, Certify, Price, Ask, Demo, Command, run, run_revolve, plan, plan_periodic, check, certify, price, ask, demo, kind_word, question_word, question_number, address_word, IsRun, IsQuestion, command_words, word_or_dash, IsName, IsScheduleName, MayBeNamed, CanBeSpelled, Request, Says}
 use Rattle.reversal.specs.ChoiceReading.{number_of, stack_of, workers_of, files_of, choice_of, first_choice, options_at, behind_options, is_like, are_single}
-use Rattle.reversal.specs.RequestReading.{is_name, is_schedule_name, name_or_none, run_of, run_revolve_of, kind_of, plan_for_of, plan_periodic_of, check_of, certify_of, demo_of, any_run_of, of_three_of, of_four_of, command_of, request_read, request_of}
+use Rattle.reversal.specs.RequestReading.{is_name, is_schedule_name, name_or_none, run_of, run_revolve_of, kind_of, plan_for_of, plan_periodic_of, check_of, certify_of, price_of, address_of, question_of, ask_of, demo_of, any_run_of, of_three_of, of_four_of, command_of, request_read, request_of}
+use Rattle.reversal.proofs.Addresses.{address_again, address_read}
 use Rattle.reversal.proofs.Decimal.{number_again, number_taken}
 use Rattle.reversal.proofs.Steps.{passed, passed_then, bind_some, chosen}
 use Rattle.reversal.proofs.Texts.{after_again, after_taken}
@@ -345,7 +348,7 @@ journal_read word e = by_text (bytes_eq word (codes "-")) refl
 
 -- ---- commands
 
-run_again : (c : Run) → CanBeSpelled (run c) → run_of c.program (word_or_dash c.journal) c.book c.schedule (decimal c.steps) ≡ Some c
+run_again : (c : Run) → IsRun c → run_of c.program (word_or_dash c.journal) c.book c.schedule (decimal c.steps) ≡ Some c
 unfolding run_of
 run_again c h =
     let journal = journal_again c.journal h.1 in
@@ -360,6 +363,25 @@ check_again c h =
     let names = and_both _ _ (name_is c.book h.0) (schedule_name_is c.schedule h.1) in
     ap (λ b. cond b (number_of (decimal c.steps) >>= λ n. Some (record { book = c.book; schedule = c.schedule; steps = n })) None) names
     ∙ ap (λ o. o >>= λ n. Some (record { book = c.book; schedule = c.schedule; steps = n })) (number_of_again c.steps h.2)
+
+price_again : (c : Price) → CanBeSpelled (price c) → price_of c.book c.schedule (decimal c.steps) ≡ Some c
+unfolding price_of
+price_again c h =
+    let names = and_both _ _ (name_is c.book h.0) (schedule_name_is c.schedule h.1) in
+    ap (λ b. cond b (number_of (decimal c.steps) >>= λ n. Some (record { book = c.book; schedule = c.schedule; steps = n })) None) names
+    ∙ ap (λ o. o >>= λ n. Some (record { book = c.book; schedule = c.schedule; steps = n })) (number_of_again c.steps h.2)
+
+question_again : (q : Question) → IsQuestion q → question_of (question_word q) (question_number q) ≡ Some q
+unfolding question_of
+question_again (State place) h = ap (λ o. o >>= λ n. Some (State n)) (number_of_again place h)
+question_again (LastWrite address) h = ap (λ o. o >>= λ a. Some (LastWrite a)) (address_again address h)
+question_again (LastChange address) h = ap (λ o. o >>= λ a. Some (LastChange a)) (address_again address h)
+
+ask_again : (c : Ask) → CanBeSpelled (ask c) → ask_of (question_word c.question) c.run.program (word_or_dash c.run.journal) c.run.book c.run.schedule (decimal c.run.steps) (question_number c.question) ≡ Some c
+unfolding ask_of
+ask_again c h =
+    ap (λ o. o >>= λ r. question_of (question_word c.question) (question_number c.question) >>= λ q. Some (record { question = q; run = r })) (run_again c.run h.0)
+    ∙ ap (λ o. o >>= λ q. Some (record { question = q; run = c.run })) (question_again c.question h.1)
 
 certify_again : (c : Certify) → CanBeSpelled (certify c) → certify_of c.book c.schedule c.certificate (decimal c.steps) ≡ Some c
 unfolding certify_of
@@ -381,6 +403,7 @@ kind_again : (k : PlanKind) → kind_of (kind_word k) ≡ Some k
 unfolding kind_of
 kind_again Revolve = refl
 kind_again Multistage = refl
+kind_again Disk = refl
 kind_again Hrevolve = refl
 
 plan_again : (c : PlanFor) → CanBeSpelled (plan c) → plan_for_of (kind_word c.kind) c.book (decimal c.steps) ≡ Some c
@@ -419,6 +442,8 @@ command_again (plan c) h = ap (λ o. o >>= λ c. Some (plan c)) (plan_again c h)
 command_again (plan_periodic c) h = ap (λ o. o >>= λ c. Some (plan_periodic c)) (periodic_again c h)
 command_again (demo c) h = ap (λ o. o >>= λ c. Some (demo c)) (demo_again c h)
 command_again (check c) h = ap (λ o. o >>= λ c. Some (check c)) (check_again c h)
+command_again (price c) h = ap (λ o. o >>= λ c. Some (price c)) (price_again c h)
+command_again (ask c) h = ap (λ o. o >>= λ c. Some (ask c)) (ask_again c h)
 command_again (certify c) h = ap (λ o. o >>= λ c. Some (certify c)) (certify_again c h)
 
 -- the words are those of a command
@@ -463,7 +488,10 @@ kind_read word k e = elim (chosen (bytes_eq word (codes "revolve")) _ _ _ e) [
   | inl is ↦ (bytes_eq-Decides word (codes "revolve")).0 is.0 ∙ ap kind_word (same_Some Revolve k is.1)
   | inr other ↦ elim (chosen (bytes_eq word (codes "multistage")) _ _ _ other.1) [
     | inl is ↦ (bytes_eq-Decides word (codes "multistage")).0 is.0 ∙ ap kind_word (same_Some Multistage k is.1)
-    | inr last ↦ let is = passed_then _ _ k last.1 in (bytes_eq-Decides word (codes "hrevolve")).0 is.0 ∙ ap kind_word (same_Some Hrevolve k is.1)
+    | inr third ↦ elim (chosen (bytes_eq word (codes "disk")) _ _ _ third.1) [
+      | inl is ↦ (bytes_eq-Decides word (codes "disk")).0 is.0 ∙ ap kind_word (same_Some Disk k is.1)
+      | inr last ↦ let is = passed_then _ _ k last.1 in (bytes_eq-Decides word (codes "hrevolve")).0 is.0 ∙ ap kind_word (same_Some Hrevolve k is.1)
+    ]
   ]
 ]
 
@@ -523,6 +551,61 @@ check_read book schedule steps c e =
       allowed = (name_was book parts.0, schedule_name_was schedule parts.1, is.1);
     })
 
+price_read : (book schedule steps : List ℕ) (c : Price) → price_of book schedule steps ≡ Some c → IsCommand (codes "cost" ∷ book ∷ schedule ∷ steps ∷ []) (price c)
+unfolding price_of
+price_read book schedule steps c e =
+    let names = passed_then _ _ c e in
+    let parts = and_parts _ _ names.0 in
+    let number = bind_some (number_of steps) _ c names.1 in
+    let is = number_of_read steps number.0 number.1 in
+    let P : Price → Type 0 = λ r. IsCommand (codes "cost" ∷ book ∷ schedule ∷ steps ∷ []) (price r) in
+    subst P (same_Some _ c number.2) (record {
+      spelled = λ i. codes "cost" ∷ book ∷ schedule ∷ is.0 i ∷ [];
+      allowed = (name_was book parts.0, schedule_name_was schedule parts.1, is.1);
+    })
+
+-- the words are those of a question
+pub record IsAsked (kind number : List ℕ) (q : Question) : Type 0 where
+  pub kind_is : kind ≡ question_word q
+  pub number_is : number ≡ question_number q
+  pub allowed : IsQuestion q
+
+question_read : (kind number : List ℕ) (q : Question) → question_of kind number ≡ Some q → IsAsked kind number q
+unfolding question_of
+question_read kind number q e =
+    let P : Question → Type 0 = λ x. IsAsked kind number x in
+    elim (chosen (bytes_eq kind (codes "state")) _ _ _ e) [
+      | inl is ↦
+          let n = bind_some (number_of number) _ q is.1 in
+          let said = number_of_read number n.0 n.1 in
+          subst P (same_Some (State n.0) q n.2) (record { kind_is = (bytes_eq-Decides kind (codes "state")).0 is.0; number_is = said.0; allowed = said.1 })
+      | inr other ↦ elim (chosen (bytes_eq kind (codes "last-write")) _ _ _ other.1) [
+        | inl is ↦
+            let a = bind_some (address_of number) _ q is.1 in
+            let said = address_read number a.0 a.1 in
+            subst P (same_Some (LastWrite a.0) q a.2) (record { kind_is = (bytes_eq-Decides kind (codes "last-write")).0 is.0; number_is = said.0; allowed = said.1 })
+        | inr last ↦
+            let is = passed_then _ _ q last.1 in
+            let a = bind_some (address_of number) _ q is.1 in
+            let said = address_read number a.0 a.1 in
+            subst P (same_Some (LastChange a.0) q a.2) (record { kind_is = (bytes_eq-Decides kind (codes "last-change")).0 is.0; number_is = said.0; allowed = said.1 })
+      ]
+    ]
+
+ask_read : (kind program journal book schedule steps number : List ℕ) (c : Ask) → ask_of kind program journal book schedule steps number ≡ Some c →
+    IsCommand (codes "ask" ∷ kind ∷ program ∷ journal ∷ book ∷ schedule ∷ steps ∷ number ∷ []) (ask c)
+unfolding ask_of
+ask_read kind program journal book schedule steps number c e =
+    let r = bind_some (run_of program journal book schedule steps) _ c e in
+    let q = bind_some (question_of kind number) _ c r.2 in
+    let run_is = run_read program journal book schedule steps r.0 r.1 in
+    let asked = question_read kind number q.0 q.1 in
+    let P : Ask → Type 0 = λ x. IsCommand (codes "ask" ∷ kind ∷ program ∷ journal ∷ book ∷ schedule ∷ steps ∷ number ∷ []) (ask x) in
+    subst P (same_Some _ c q.2) (record {
+      spelled = (λ i. codes "ask" ∷ asked.kind_is i ∷ (drop 1 (run_is.spelled i) ++ asked.number_is i ∷ []));
+      allowed = (run_is.allowed, asked.allowed);
+    })
+
 certify_read : (book schedule certificate steps : List ℕ) (c : Certify) → certify_of book schedule certificate steps ≡ Some c → IsCommand (codes "certify" ∷ book ∷ schedule ∷ certificate ∷ steps ∷ []) (certify c)
 unfolding certify_of
 certify_read book schedule certificate steps c e =
@@ -566,10 +649,15 @@ of_three_read name first second third c e =
         | inl plans ↦
             let step = bind_some (plan_for_of first second third) _ c plans.1 in
             subst P (same_Some _ c step.2) (begun name (codes "plan") _ _ ((bytes_eq-Decides name (codes "plan")).0 plans.0) (plan_read first second third step.0 step.1))
-        | inr last ↦
-            let shows = passed_then _ _ c last.1 in
-            let step = bind_some (demo_of first second third) _ c shows.1 in
-            subst P (same_Some _ c step.2) (begun name (codes "demo") _ _ ((bytes_eq-Decides name (codes "demo")).0 shows.0) (demo_read first second third step.0 step.1))
+        | inr others ↦ elim (chosen (bytes_eq name (codes "cost")) _ _ _ others.1) [
+          | inl prices ↦
+              let step = bind_some (price_of first second third) _ c prices.1 in
+              subst P (same_Some _ c step.2) (begun name (codes "cost") _ _ ((bytes_eq-Decides name (codes "cost")).0 prices.0) (price_read first second third step.0 step.1))
+          | inr last ↦
+              let shows = passed_then _ _ c last.1 in
+              let step = bind_some (demo_of first second third) _ c shows.1 in
+              subst P (same_Some _ c step.2) (begun name (codes "demo") _ _ ((bytes_eq-Decides name (codes "demo")).0 shows.0) (demo_read first second third step.0 step.1))
+        ]
       ]
     ]
 
@@ -593,6 +681,11 @@ of_four_read name first second third fourth c e =
 
 pub command_read : (words : List (List ℕ)) (c : Command) → command_of words ≡ Some c → IsCommand words c
 unfolding command_of
+command_read (name ∷ kind ∷ program ∷ journal ∷ book ∷ schedule ∷ steps ∷ number ∷ []) c e =
+    let named = passed_then _ _ c e in
+    let step = bind_some (ask_of kind program journal book schedule steps number) _ c named.1 in
+    let P : Command → Type 0 = λ x. IsCommand (name ∷ kind ∷ program ∷ journal ∷ book ∷ schedule ∷ steps ∷ number ∷ []) x in
+    subst P (same_Some _ c step.2) (begun name (codes "ask") _ _ ((bytes_eq-Decides name (codes "ask")).0 named.0) (ask_read kind program journal book schedule steps number step.0 step.1))
 command_read (name ∷ program ∷ journal ∷ book ∷ schedule ∷ steps ∷ []) c e =
     let named = passed_then _ _ c e in
     begun name (codes "run") _ _ ((bytes_eq-Decides name (codes "run")).0 named.0) (any_run_read program journal book schedule steps c named.1)
@@ -608,6 +701,8 @@ unfolding choice_of after_of
 no_option (run c) = (codes "run", _, refl, refl)
 no_option (check c) = (codes "check", _, refl, refl)
 no_option (certify c) = (codes "certify", _, refl, refl)
+no_option (price c) = (codes "cost", _, refl, refl)
+no_option (ask c) = (codes "ask", _, refl, refl)
 no_option (run_revolve c) = (codes "run", _, refl, refl)
 no_option (plan c) = (codes "plan", _, refl, refl)
 no_option (plan_periodic c) = (codes "plan", _, refl, refl)

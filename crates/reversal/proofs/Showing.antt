@@ -16,31 +16,35 @@ use Rattle.reverse_runner.specs.Handed.{handed_by, handed}
 use Rattle.reverse_runner.proofs.StandingAfter.{TapeIs}
 use Rattle.state_image.specs.Line.{line}
 use Rattle.reverse_runner.specs.KeepersSeen.{calls_of}
-use Rattle.reversal.specs.Deeds.{Shown, deed_of}
+use Rattle.reversal.specs.Deeds.{States, Shown, deed_of}
+
+-- what a run shows by its states alone
+abbrev pub shown_by : States → Shown
+shown_by states = record { states = states; answer = None }
 
 -- with one state settled
-abbrev pub settled : Shown → ℕ → MachineState → Shown
+abbrev pub settled : States → ℕ → MachineState → States
 settled shown n state m = cond (m == n) state (shown m)
 
-pub settled_at : (shown : Shown) (n : ℕ) (state : MachineState) → settled shown n state n ≡ state
+pub settled_at : (shown : States) (n : ℕ) (state : MachineState) → settled shown n state n ≡ state
 settled_at shown n state = ap (λ b. cond b state (shown n)) (eq-eqb n n refl)
 
-pub settled_else : (shown : Shown) (n : ℕ) (state : MachineState) (m : ℕ) → m ≢ n → settled shown n state m ≡ shown m
+pub settled_else : (shown : States) (n : ℕ) (state : MachineState) (m : ℕ) → m ≢ n → settled shown n state m ≡ shown m
 settled_else shown n state m ne = ap (λ b. cond b state (shown m)) (ne_eqb m n ne)
 
 -- what is shown once an action was done, by the states in work and on the tape
-abbrev pub showing : Shown → ℕ → Action → MachineState → MachineState → Shown
+abbrev pub showing : States → ℕ → Action → MachineState → MachineState → States
 showing shown steps EndForward work tape = settled shown steps work
 showing shown steps (Reverse from to) work tape = settled shown to tape
 showing shown steps _ work tape = shown
 
 -- an action shows what it hands out
-abbrev pub Shows : Shown → ℕ → Action → MachineState → MachineState → Type 0
+abbrev pub Shows : States → ℕ → Action → MachineState → MachineState → Type 0
 Shows shown steps EndForward work tape = shown steps ≡ work
 Shows shown steps (Reverse from to) work tape = shown to ≡ tape
 Shows shown steps _ work tape = Unit {0}
 
-pub it_shows : (shown : Shown) (steps : ℕ) (a : Action) (work tape : MachineState) → Shows (showing shown steps a work tape) steps a work tape
+pub it_shows : (shown : States) (steps : ℕ) (a : Action) (work tape : MachineState) → Shows (showing shown steps a work tape) steps a work tape
 it_shows shown steps (Forward from to keep) work tape = tt
 it_shows shown steps (Reverse from to) work tape = settled_at shown to tape
 it_shows shown steps (Copy n k dest) work tape = tt
@@ -122,7 +126,7 @@ is_first steps slots out c d g h = let P : List ℕ → Type 0 = λ l. AtLeast (
 
 -- ---- deeds that are done stay as they are
 
-same_deed : (shown : Shown) (n : ℕ) (state : MachineState) (steps : ℕ) (a : Action) → AtLeast (n + 1) (handed_by steps a) → deed_of (settled shown n state) steps a ≡ deed_of shown steps a
+same_deed : (shown : States) (n : ℕ) (state : MachineState) (steps : ℕ) (a : Action) → AtLeast (n + 1) (handed_by steps a) → deed_of (settled shown n state) steps a ≡ deed_of shown steps a
 same_deed shown n state steps (Forward from to keep) h = refl
 same_deed shown n state steps (Copy m k dest) h = refl
 same_deed shown n state steps (Move m k dest) h = refl
@@ -134,7 +138,7 @@ same_deed shown n state steps (Reverse from to) h =
     let ne : to ≢ n = λ e. absurd (omega (arith, h.0, e)) in
     ap (λ s. record { pieces = (line to s ++ 10 ∷ []) ∷ []; steps = 0; calls = calls_of (Reverse from to) }) (settled_else shown n state to ne)
 
-pub same_deeds : (shown : Shown) (n : ℕ) (state : MachineState) (steps : ℕ) (list : List Action) → AtLeast (n + 1) (handed steps list) →
+pub same_deeds : (shown : States) (n : ℕ) (state : MachineState) (steps : ℕ) (list : List Action) → AtLeast (n + 1) (handed steps list) →
     map (deed_of (settled shown n state) steps) list ≡ map (deed_of shown steps) list
 same_deeds shown n state steps [] h = refl
 same_deeds shown n state steps (a ∷ rest) h =
@@ -150,14 +154,14 @@ pub on_tape : (first : MachineState) (journal : List (List ℕ)) (tape : Option 
 on_tape first journal None state reverse to some next before good = absurd (false≢true some)
 on_tape first journal (Some t) state reverse to some next before good = let same : t ≡ to = omega (arith, next, before) in good ∙ ap (state_number first journal) same
 
-settled_of_run : (first : MachineState) (journal : List (List ℕ)) (shown : Shown) (n : ℕ) (state : MachineState) (m : ℕ) → state ≡ state_number first journal n → shown m ≡ state_number first journal m →
+settled_of_run : (first : MachineState) (journal : List (List ℕ)) (shown : States) (n : ℕ) (state : MachineState) (m : ℕ) → state ≡ state_number first journal n → shown m ≡ state_number first journal m →
     settled shown n state m ≡ state_number first journal m
 settled_of_run first journal shown n state m is of_run = elim (cases_eq m n) [
   | inl e ↦ ap (λ b. cond b state (shown m)) (eq-eqb m n e) ∙ is ∙ ap (state_number first journal) (sym e)
   | inr ne ↦ settled_else shown n state m ne ∙ of_run
 ]
 
-pub shows_of_run : (first : MachineState) (journal : List (List ℕ)) (steps : ℕ) (slots : List Slots) (c : Configuration) (a : Action) (d : Configuration) (shown : Shown) (work tape : MachineState) (m : ℕ) →
+pub shows_of_run : (first : MachineState) (journal : List (List ℕ)) (steps : ℕ) (slots : List Slots) (c : Configuration) (a : Action) (d : Configuration) (shown : States) (work tape : MachineState) (m : ℕ) →
     Goes steps slots c a d → work ≡ state_number first journal c.work → TapeIs first journal c.tape tape → MatchOption c.tape (Unit {0}) (λ t. t + 1 ≡ c.reverse) →
     shown m ≡ state_number first journal m → showing shown steps a work tape m ≡ state_number first journal m
 shows_of_run first journal steps slots c (Forward from to keep) d shown work tape m g here taped next of_run = of_run
@@ -172,7 +176,7 @@ shows_of_run first journal steps slots c (Reverse from to) d shown work tape m g
 -- ---- one action more
 
 -- deeds that were done before a state is settled are those after it
-pub same_before : (shown : Shown) (steps : ℕ) (slots : List Slots) (list : List Action) (c : Configuration) (a : Action) (d : Configuration) (work tape : MachineState) → Goes steps slots c a d → IsAbove steps (handed steps list) c →
+pub same_before : (shown : States) (steps : ℕ) (slots : List Slots) (list : List Action) (c : Configuration) (a : Action) (d : Configuration) (work tape : MachineState) → Goes steps slots c a d → IsAbove steps (handed steps list) c →
     map (deed_of (showing shown steps a work tape) steps) list ≡ map (deed_of shown steps) list
 same_before shown steps slots list c (Forward from to keep) d work tape g h = refl
 same_before shown steps slots list c (Copy n k dest) d work tape g h = refl

@@ -1,5 +1,5 @@
 -- What was done of a demonstration: actions that write nothing and call no keeper, and then one write.
-use Rattle.std.proofs.Common.{◌≡◌, ℕ, zero, suc, ◌+◌, inl, inr, List, [], ◌∷◌, ◌++◌, length, map, take, append-nil, Some, refl, sym, ◌∙◌, ap, subst, arith, slice_get, sum_by}
+use Rattle.std.proofs.Common.{◌≡◌, ℕ, zero, suc, ◌+◌, inl, inr, List, [], ◌∷◌, ◌++◌, length, map, take, append-nil, None, Some, refl, sym, ◌∙◌, ap, subst, arith, slice_get, sum_by}
 use Rattle.std.proofs.lemmas.List.{take_at, take-map}
 use Rattle.std.proofs.lemmas.List.Folds.{fold-map}
 use Rattle.std.proofs.lemmas.List.Sums.{sum_by-cons}
@@ -46,7 +46,7 @@ not_called calls list =
     let none = λ (f : Calls → ℕ → ℕ) (k : ℕ) (e : f no_calls k ≡ 0). raised_none (f calls k) ∙ ap (raised (f calls k)) (sym (none_made (λ (d : Deed). f d.calls k) (λ a. e) list)) in
     record { put_calls = λ k. none (λ c. c.puts) k refl; get_calls = λ k. none (λ c. c.gets) k refl; free_calls = λ k. none (λ c. c.frees) k refl }
 
-uncalled : (calls : Calls) → CalledAtMost no_calls calls calls
+pub uncalled : (calls : Calls) → CalledAtMost no_calls calls calls
 uncalled calls = record { put_calls = λ k. (omega arith, omega arith); get_calls = λ k. (omega arith, omega arith); free_calls = λ k. (omega arith, omega arith) }
 
 -- some actions were done where only the count of steps rose
@@ -59,12 +59,12 @@ did_silent list a b told writes steps calls = record {
 }
 
 -- the front of a longer list
-get_front : {X : Type 0} (xs ys : List X) (i : ℕ) (x : X) → slice_get xs i ≡ Some x → slice_get (xs ++ ys) i ≡ Some x
+pub get_front : {X : Type 0} (xs ys : List X) (i : ℕ) (x : X) → slice_get xs i ≡ Some x → slice_get (xs ++ ys) i ≡ Some x
 get_front [] ys i x e = absurd (none-some x e)
 get_front (z ∷ xs) ys zero x e = e
 get_front (z ∷ xs) ys (suc i) x e = get_front xs ys i x e
 
-take_front : {X : Type 0} (xs ys : List X) (i : ℕ) (x : X) → slice_get xs i ≡ Some x → take i (xs ++ ys) ≡ take i xs
+pub take_front : {X : Type 0} (xs ys : List X) (i : ℕ) (x : X) → slice_get xs i ≡ Some x → take i (xs ++ ys) ≡ take i xs
 take_front [] ys i x e = absurd (none-some x e)
 take_front (z ∷ xs) ys zero x e = refl
 take_front (z ∷ xs) ys (suc i) x e = ap (λ l. z ∷ l) (take_front xs ys i x e)
@@ -78,7 +78,7 @@ module _ (number : ℕ) (first : MachineState) (steps slots : ℕ) where
 
   -- no state is shown
   abbrev pub shown : Shown
-  shown n = first
+  shown = record { states = λ n. first; answer = None }
 
   -- the actions were done up to one, which wanted memory
   pub halted : (d : Demonstrated) (a c : Moment) → d.actions ≡ demo_list steps slots → BreaksWithin d.actions a.steps c.steps → c.told ≡ a.told → c.writes ≡ a.writes → c.calls ≡ a.calls →
@@ -130,6 +130,7 @@ module _ (number : ℕ) (first : MachineState) (steps slots : ℕ) where
                     (did_one (writing (text ∷ [])) b c text 1 (append-nil text) refl all wrote (omega arith) (subst C (sym calls) (not_called a.calls [])));
                 output_whole = all;
                 stepped = stepped;
+                answered = tt;
                 held = tt;
               },
             ),
@@ -152,6 +153,7 @@ module _ (number : ℕ) (first : MachineState) (steps slots : ℕ) where
             inr (inl (
               i + 1,
               is,
+              tt,
               did_until (silent ++ last ∷ []) i (i + 1) last text a b c (behind silent last []) refl refl before (subst T the_text added) wrote refl (subst C (sym calls) (uncalled a.calls)),
             )),
           ),

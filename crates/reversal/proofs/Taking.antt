@@ -241,3 +241,23 @@ read_within is given bytes e = let P : Reading → Type 0 = λ r. if_all r (AreW
 pub one_text : (texts : List (Vec ℕ Global)) (a : Vec ℕ Global) → length texts ≡ 1 → a ≡ get_or texts 0 a → map (λ (t : Vec ℕ Global). t.items) texts ≡ a.items ∷ []
 one_text (x ∷ []) a h e = λ i. (sym e i).items ∷ []
 one_text other a h e = absurd (omega (arith, h))
+
+pub two_texts : (texts : List (Vec ℕ Global)) (a b : Vec ℕ Global) → length texts ≡ 2 → a ≡ get_or texts 0 a → b ≡ get_or texts 1 b → map (λ (t : Vec ℕ Global). t.items) texts ≡ a.items ∷ b.items ∷ []
+two_texts (x ∷ y ∷ []) a b h e f = λ i. (sym e i).items ∷ (sym f i).items ∷ []
+two_texts other a b h e f = absurd (omega (arith, h))
+
+pub three_texts : (texts : List (Vec ℕ Global)) (a b c : Vec ℕ Global) → length texts ≡ 3 → a ≡ get_or texts 0 a → b ≡ get_or texts 1 b → c ≡ get_or texts 2 c →
+    map (λ (t : Vec ℕ Global). t.items) texts ≡ a.items ∷ b.items ∷ c.items ∷ []
+three_texts (x ∷ y ∷ z ∷ []) a b c h e f g = λ i. (sym e i).items ∷ (sym f i).items ∷ (sym g i).items ∷ []
+three_texts other a b c h e f g = absurd (omega (arith, h))
+
+pub four_texts : (texts : List (Vec ℕ Global)) (a b c d : Vec ℕ Global) → length texts ≡ 4 → a ≡ get_or texts 0 a → b ≡ get_or texts 1 b → c ≡ get_or texts 2 c → d ≡ get_or texts 3 d →
+    map (λ (t : Vec ℕ Global). t.items) texts ≡ a.items ∷ b.items ∷ c.items ∷ d.items ∷ []
+four_texts (w ∷ x ∷ y ∷ z ∷ []) a b c d h e f g k = λ i. (sym e i).items ∷ (sym f i).items ∷ (sym g i).items ∷ (sym k i).items ∷ []
+four_texts other a b c d h e f g k = absurd (omega (arith, h))
+
+pub eight_texts : (texts : List (Vec ℕ Global)) (a b c d e f g h : Vec ℕ Global) → length texts ≡ 8 → a ≡ get_or texts 0 a → b ≡ get_or texts 1 b → c ≡ get_or texts 2 c → d ≡ get_or texts 3 d → e ≡ get_or texts 4 e → f ≡ get_or texts 5 f → g ≡ get_or texts 6 g → h ≡ get_or texts 7 h →
+    map (λ (t : Vec ℕ Global). t.items) texts ≡ a.items ∷ b.items ∷ c.items ∷ d.items ∷ e.items ∷ f.items ∷ g.items ∷ h.items ∷ []
+eight_texts (s ∷ t ∷ u ∷ v ∷ w ∷ x ∷ y ∷ z ∷ []) a b c d e f g h is pa pb pc pd pe pf pg ph =
+    λ i. (sym pa i).items ∷ (sym pb i).items ∷ (sym pc i).items ∷ (sym pd i).items ∷ (sym pe i).items ∷ (sym pf i).items ∷ (sym pg i).items ∷ (sym ph i).items ∷ []
+eight_texts other a b c d e f g h is pa pb pc pd pe pf pg ph = absurd (omega (arith, is))

@@ -4,23 +4,39 @@ use Rattle.std.specs.List.{AllByRecursion, flat_map}
 use Rattle.reversal.specs.declared.ended.Ended.{Ended}
 use Rattle.reversal.specs.declared.bounds.Bounded.{Bounded}
 use Rattle.reversal.specs.declared.kind.PlanKind.{PlanKind}
-use Rattle.reversal.specs.declared.kind.PlanKind.TheVariants.{Revolve, Multistage, Hrevolve}
-use Rattle.reversal.specs.Request.{Choice, raw, stack, workers, files, Command, run, run_revolve, plan, plan_periodic, check, certify, demo, Request, Says}
+use Rattle.reversal.specs.declared.kind.PlanKind.TheVariants.{Revolve, Multistage, Disk, Hrevolve}
+use Rattle.reversal.specs.declared.question.Question.{Question}
+use Rattle.reversal.specs.declared.question.Question.TheVariants.{State, LastWrite, LastChange}
+use Rattle.reversal.specs.Request.{Choice, raw, stack, workers, files, Command, run, run_revolve, plan, plan_periodic, check, certify, price, ask, demo, Request, Says}
 use Rattle.reversal.specs.Ending.{no_request, out_of_range}
 
 -- A number with the rule that gives its bounds: 1 is the number of steps, 2 a period, 3 the number of workers, 4 the number of the
--- stack's pages, 5 a level, 10 a number of slots, and 11 the number that a program is made from, which has 32 bits.
+-- stack's pages, 5 a level, 6 the number of a state, 7 an address, behind which three more have to be, 10 a number of slots, and 11 the
+-- number that a program is made from, which has 32 bits.
 abbrev pub steps_bound : ℕ → Bounded
 steps_bound steps = record { number = steps; least = 0; greatest = 1000000; rule = 1 }
 
--- Plans of H-Revolve are read from tables, which are kept small.
+-- Plans over costs are read from tables, which are kept small.
 abbrev pub plan_bound : PlanKind → ℕ → Bounded
 plan_bound Revolve steps = steps_bound steps
 plan_bound Multistage steps = steps_bound steps
+plan_bound Disk steps = record { number = steps; least = 0; greatest = 8192; rule = 1 }
 plan_bound Hrevolve steps = record { number = steps; least = 0; greatest = 2048; rule = 1 }
 
 abbrev pub period_bound : ℕ → Bounded
 period_bound period = record { number = period; least = 1; greatest = 1000000; rule = 2 }
+
+-- a state of a run of so many steps
+abbrev pub place_bound : ℕ → ℕ → Bounded
+place_bound steps place = record { number = place; least = 0; greatest = steps; rule = 6 }
+
+abbrev pub address_bound : ℕ → Bounded
+address_bound address = record { number = address; least = 0; greatest = 4294967292; rule = 7 }
+
+abbrev pub question_bound : ℕ → Question → Bounded
+question_bound steps (State place) = place_bound steps place
+question_bound steps (LastWrite address) = address_bound address
+question_bound steps (LastChange address) = address_bound address
 
 abbrev pub slots_bound : ℕ → Bounded
 slots_bound slots = record { number = slots; least = 0; greatest = 1000000; rule = 10 }
@@ -41,6 +57,8 @@ command_numbers (plan c) = plan_bound c.kind c.steps ∷ []
 command_numbers (plan_periodic c) = steps_bound c.steps ∷ period_bound c.period ∷ []
 command_numbers (check c) = steps_bound c.steps ∷ []
 command_numbers (certify c) = steps_bound c.steps ∷ []
+command_numbers (price c) = steps_bound c.steps ∷ []
+command_numbers (ask c) = steps_bound c.run.steps ∷ question_bound c.run.steps c.question ∷ []
 command_numbers (demo c) = seed_bound c.number ∷ steps_bound c.steps ∷ slots_bound c.slots ∷ []
 
 -- the numbers of a request, in the order of the words, which is that in which they are tested

@@ -3,11 +3,14 @@
 use Rattle.std.specs.Prelude.{◌≡◌, ◌⊎◌, ℕ, ◌+◌, ◌<◌, ◌≤◌, ◌++◌, slice_get, slice_index_or, Bool, true, false, List, [], ◌∷◌, length, take, codes, decimal, Option, None, Some}
 use Rattle.plan_types.specs.declared.action.Action.{Action}
 use Rattle.level_book.specs.declared.book.Slots.{Slots}
-use Rattle.level_book.specs.declared.book.Slots.TheVariants.{Count}
+use Rattle.level_book.specs.declared.book.Slots.TheVariants.{Count, Unlimited}
 use Rattle.reverse_runner.specs.KeepersSeen.{HaveRoom}
 use Rattle.level_book.specs.declared.fault.BookFault.{BookFault}
 use Rattle.level_book.specs.BookCosts.{BookCosts, slots_of, names_of, least, room, total_room, plain}
 use Rattle.level_book.specs.UnderTable.{Tables, IsGreatest}
+use Rattle.level_book.specs.DiskUnderTable.{DiskTables, IsGreatestDisk}
+use Rattle.disk_gen.specs.DiskWritten.{IsDiskWritten}
+use Rattle.reversal.specs.declared.question.Question.{Question}
 use Rattle.level_book.specs.BookFaults.{IsBookText, IsRefused}
 use Rattle.level_book.specs.Valid.{Valid, BrokenAt}
 use Rattle.action_text.specs.ScheduleText.{IsSchedule}
@@ -38,12 +41,14 @@ use Rattle.hrevolve_gen.specs.Written.{IsWritten}
 use Rattle.disk_gen.specs.Periodic.{images, periodic_list}
 use Rattle.disk_gen.specs.Plans.{slots_at, HasSlots}
 use Rattle.reversal.specs.declared.kind.PlanKind.{PlanKind}
-use Rattle.reversal.specs.declared.kind.PlanKind.TheVariants.{Revolve, Multistage, Hrevolve}
-use Rattle.reversal.specs.Request.{run_revolve, plan, plan_periodic, certify, demo, says_raw, stack_pages, Command, run, check, Request}
+use Rattle.reversal.specs.declared.kind.PlanKind.TheVariants.{Revolve, Multistage, Disk, Hrevolve}
+use Rattle.reversal.specs.Request.{run_revolve, plan, plan_periodic, certify, price, ask, demo, says_raw, stack_pages, Command, Run, run, check, Request}
+use Rattle.reversal.specs.Bounds.{IsWithin, question_bound}
 use Rattle.reversal.specs.Inputs.{Input, inputs_of, names, contents, asked_count}
 use Rattle.reversal.specs.Plans.{list_pieces, plan_pieces}
+use Rattle.reversal.specs.Pricing.{list_report}
 use Rattle.reversal.specs.Demo as demonstration
-use Rattle.reversal.specs.Deeds.{Job, perform, write, demonstrate, Shown, IsShown, deeds, shown_place, levels_of, Moment, Done, DidUntil, FailsAt, DamagedAt}
+use Rattle.reversal.specs.Deeds.{Job, perform, ask as ask_job, write, demonstrate, Shown, IsShown, IsAnswered, deeds, shown_place, levels_of, Moment, Done, DidUntil, FailsAt, DamagedAt}
 
 pub data Decision : Type 0 where
   refuse : Ended → Decision
@@ -136,18 +141,29 @@ HasJournalFault (Some bytes) fault = JournalFirst bytes fault
 
 -- ---- the tables, a command each
 
--- a run, by the bytes of its inputs and the numbers of the keepers' slots
-abbrev pub DecidesRun : List Choice → ℕ → List ℕ → Option (List ℕ) → List ℕ → List ℕ → List ℕ → Decision → Type 0
-DecidesRun options steps program journal book schedule counts d =
+-- What is done over a run by a list, by the bytes of its inputs and the numbers of the keepers' slots. The job is made of the
+-- first state, the recorded input, the slots of the book and the list.
+abbrev pub Over : Type 0
+Over = MachineState → List (List ℕ) → List Slots → List Action → Job
+
+abbrev pub DecidesOver : Over → List Choice → ℕ → List ℕ → Option (List ℕ) → List ℕ → List ℕ → List ℕ → Decision → Type 0
+DecidesOver job options steps program journal book schedule counts d =
     Read (IsBookText book) (HasBookFault book) bad_book d (λ (b : BookCosts).
     Keep steps (slots_of b) counts d (
     Read (IsStartOf (says_raw options) (stack_pages options) program) (HasProgramFault (says_raw options) (stack_pages options) program) bad_program d (λ start.
     Read (AreItemsOf journal) (HasJournalFault journal) bad_journal d (λ items.
     Read (IsSchedule (names_of b) schedule) (HasFirstFault (names_of b) schedule) bad_text d (λ list.
     Judge steps (slots_of b) list d
-    (d ≡ accept (perform start items steps (slots_of b) list)))))))
+    (d ≡ accept (job start items (slots_of b) list)))))))
 
--- the same by the list of Revolve for the book
+-- a run by a list, and a question about it
+abbrev pub performed : ℕ → Over
+performed steps start items slots list = perform start items steps slots list
+
+abbrev pub asked_about : Question → ℕ → Over
+asked_about question steps start items slots list = ask_job question start items steps slots list
+
+-- a run by the list of Revolve for the book
 abbrev pub DecidesRunRevolve : List Choice → ℕ → List ℕ → Option (List ℕ) → List ℕ → List ℕ → Decision → Type 0
 DecidesRunRevolve options steps program journal book counts d =
     Read (IsBookText book) (HasBookFault book) bad_book d (λ (b : BookCosts).
@@ -157,7 +173,7 @@ DecidesRunRevolve options steps program journal book counts d =
     Read (AreItemsOf journal) (HasJournalFault journal) bad_journal d (λ items.
     (d ≡ accept (perform start items steps (slots_of b) (revolve_list steps b))))))))
 
--- the text of that list and of its certificate
+-- the text of that list and of its certificate for a book alone
 abbrev pub DecidesPlanRevolve : ℕ → List ℕ → Decision → Type 0
 DecidesPlanRevolve steps book d =
     Read (IsBookText book) (HasBookFault book) bad_book d (λ (b : BookCosts).
@@ -172,6 +188,15 @@ DecidesPlanMultistage steps book d =
     Plan steps b d
     ((list : List Action) × (IsMultistageList steps b list × (d ≡ accept (write (list_pieces (names_of b) list)))))))
 
+-- the text of the list of DiskRevolve for memory and an unlimited disk, which is read from the greatest disk tables
+abbrev pub DecidesPlanDisk : ℕ → List ℕ → Decision → Type 0
+DecidesPlanDisk steps book d =
+    Read (IsBookText book) (HasBookFault book) bad_book d (λ (b : BookCosts).
+    Need (room b 0 steps ≤ 64) (out_of_range (room b 0 steps) 64 9) d (
+    Need (length b.levels ≡ 2) (no_plan steps (total_room b steps) 2) d (
+    Need (slice_get (slots_of b) 1 ≡ Some Unlimited) (no_plan steps (total_room b steps) 3) d
+    ((tables : DiskTables) × (IsGreatestDisk steps b tables × ((list : List Action) × (IsDiskWritten steps b tables list × (d ≡ accept (write (list_pieces (names_of b) list))))))))))
+
 -- the text of the list of H-Revolve, which is read from the greatest tables
 abbrev pub DecidesPlanHrevolve : ℕ → List ℕ → Decision → Type 0
 DecidesPlanHrevolve steps book d =
@@ -184,6 +209,7 @@ DecidesPlanHrevolve steps book d =
 abbrev pub DecidesPlan : PlanKind → ℕ → List ℕ → Decision → Type 0
 DecidesPlan Revolve steps book d = DecidesPlanRevolve steps book d
 DecidesPlan Multistage steps book d = DecidesPlanMultistage steps book d
+DecidesPlan Disk steps book d = DecidesPlanDisk steps book d
 DecidesPlan Hrevolve steps book d = DecidesPlanHrevolve steps book d
 
 -- the text of the periodic list for the two levels of a book: the faster has a slot where it is used, the slower has its images
@@ -203,7 +229,15 @@ DecidesCheck steps book schedule d =
     Judge steps (slots_of b) list d
     (d ≡ accept (write ((codes "valid " ++ decimal (length list) ++ codes "\n") ∷ [])))))
 
--- the same where the list takes the fewest forward steps of all valid lists, by a certificate
+-- what a valid schedule costs
+abbrev pub DecidesPrice : ℕ → List ℕ → List ℕ → Decision → Type 0
+DecidesPrice steps book schedule d =
+    Read (IsBookText book) (HasBookFault book) bad_book d (λ (b : BookCosts).
+    Read (IsSchedule (names_of b) schedule) (HasFirstFault (names_of b) schedule) bad_text d (λ list.
+    Judge steps (slots_of b) list d
+    (d ≡ accept (write (list_report b list)))))
+
+-- that a valid schedule takes the fewest forward steps of all valid lists, by a certificate
 abbrev pub DecidesCertify : ℕ → List ℕ → List ℕ → List ℕ → Decision → Type 0
 DecidesCertify steps book schedule certificate d =
     Read (IsBookText book) (HasBookFault book) bad_book d (λ (b : BookCosts).
@@ -219,11 +253,16 @@ DecidesDemo number steps slots d =
     Plan steps (plain slots) d
     ((first : MachineState) × IsRawProgram (demonstration.program number) 16 first × (d ≡ accept (demonstrate number first steps slots)))
 
--- what a request comes to by the bytes of its inputs, in the order of the words, and by the slots of the keepers
+-- what is done over a run, by the bytes of its inputs; without a name for recorded input none is read
+abbrev pub DecidesOverBytes : Over → List Choice → ℕ → List (List ℕ) → List ℕ → Decision → Type 0
+DecidesOverBytes job options steps (program ∷ book ∷ schedule ∷ []) slots d = DecidesOver job options steps program None book schedule slots d
+DecidesOverBytes job options steps (program ∷ journal ∷ book ∷ schedule ∷ []) slots d = DecidesOver job options steps program (Some journal) book schedule slots d
+DecidesOverBytes job options steps _ slots d = ⊥
+
+-- What a request comes to by the bytes of its inputs, in the order of the words, and by the slots of the keepers. The number of a
+-- question is within its bounds.
 abbrev pub DecidesBytes : List Choice → Command → List (List ℕ) → List ℕ → Decision → Type 0
-DecidesBytes options (run c) (program ∷ book ∷ schedule ∷ []) slots d = DecidesRun options c.steps program None book schedule slots d
-DecidesBytes options (run c) (program ∷ journal ∷ book ∷ schedule ∷ []) slots d = DecidesRun options c.steps program (Some journal) book schedule slots d
-DecidesBytes options (run c) _ slots d = ⊥
+DecidesBytes options (run c) bytes slots d = DecidesOverBytes (performed c.steps) options c.steps bytes slots d
 DecidesBytes options (run_revolve c) (program ∷ book ∷ []) slots d = DecidesRunRevolve options c.steps program None book slots d
 DecidesBytes options (run_revolve c) (program ∷ journal ∷ book ∷ []) slots d = DecidesRunRevolve options c.steps program (Some journal) book slots d
 DecidesBytes options (run_revolve c) _ slots d = ⊥
@@ -235,6 +274,9 @@ DecidesBytes options (check c) (book ∷ schedule ∷ []) slots d = DecidesCheck
 DecidesBytes options (check c) _ slots d = ⊥
 DecidesBytes options (certify c) (book ∷ schedule ∷ certificate ∷ []) slots d = DecidesCertify c.steps book schedule certificate d
 DecidesBytes options (certify c) _ slots d = ⊥
+DecidesBytes options (price c) (book ∷ schedule ∷ []) slots d = DecidesPrice c.steps book schedule d
+DecidesBytes options (price c) _ slots d = ⊥
+DecidesBytes options (ask c) bytes slots d = IsWithin (question_bound c.run.steps c.question) × DecidesOverBytes (asked_about c.question c.run.steps) options c.run.steps bytes slots d
 DecidesBytes options (demo c) [] slots d = DecidesDemo c.number c.steps c.slots d
 DecidesBytes options (demo c) _ slots d = ⊥
 
@@ -257,7 +299,7 @@ pub record Comes (r : Request) (told : Option Files) (before after : List (List 
 abbrev pub Ends : Shown → Job → Ended → Moment → Moment → Type 0
 Ends shown job e old new =
     ((e ≡ done) × Done shown job old new)
-    ⊎ ((place : ℕ) × (e ≡ stopped (shown_place job place)) × DidUntil (deeds shown job) place old new)
+    ⊎ ((place : ℕ) × (e ≡ stopped (shown_place job place)) × IsAnswered job shown old × DidUntil (deeds shown job) place old new)
     ⊎ ((place : ℕ) × (level : ℕ) × (e ≡ keeper_failed place level) × FailsAt (deeds shown job) place level old new)
     ⊎ ((place : ℕ) × (level : ℕ) × (put : List ℕ) × (got : List ℕ) × (e ≡ damaged place level put got) × DamagedAt job (deeds shown job) place level put got old new)
 

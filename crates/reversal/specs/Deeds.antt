@@ -1,6 +1,6 @@
 -- What a job does, piece by piece: a list of deeds. Every command is such a list, so that one definition says what a call
 -- did that was done, that stopped at a write that failed or at storage, or that ran out of memory.
-use Rattle.std.specs.Prelude.{◌≡◌, ◌≢◌, ◌⊎◌, ℕ, ◌+◌, ◌-◌, ◌<◌, ◌≤◌, ◌++◌, List, [], ◌∷◌, length, take, map, sum_by, slice_get, Option, Some, IsSome}
+use Rattle.std.specs.Prelude.{◌≡◌, ◌≢◌, ◌⊎◌, ℕ, ◌+◌, ◌-◌, ◌<◌, ◌≤◌, ◌++◌, cond, codes, decimal, List, [], ◌∷◌, length, take, map, sum_by, slice_get, Option, Some, None, IsSome}
 use Rattle.std.specs.List.{flat_map}
 use Rattle.std.specs.FinMap as finmap
 use Rattle.sha2.specs.Sha256.{sha256}
@@ -18,6 +18,9 @@ use Rattle.reverse_runner.specs.Handed.{handed_by}
 use Rattle.reverse_runner.specs.HoldsJust.{HoldsJust}
 use Rattle.reverse_runner.specs.KeepersSeen.{Calls, calls_of, calls_to, told_by, Called, CalledBetween}
 use Rattle.reverse_runner.specs.Standing.{IsNoImage}
+use Rattle.reverse_queries.specs.Queries.{WritesWord, ChangesWord, IsLast, hands_out, front_to, up_to}
+use Rattle.reversal.specs.declared.question.Question.{Question}
+use Rattle.reversal.specs.declared.question.Question.TheVariants.{State, LastWrite, LastChange}
 use Rattle.reversal.specs.Output.{line_of, lines_down, Adds}
 use Rattle.reversal.specs.Demo.{demo_list, summary}
 
@@ -26,6 +29,8 @@ use Rattle.reversal.specs.Demo.{demo_list, summary}
 pub data Job : Type 0 where
   -- the actions of a list over the run from a state, with recorded input, a number of steps and the slots of a book
   perform : MachineState → List (List ℕ) → ℕ → List Slots → List Action → Job
+  -- a question about the same: its answer, for which the list is performed as far as it takes
+  ask : Question → MachineState → List (List ℕ) → ℕ → List Slots → List Action → Job
   -- texts, each in one write
   write : List (List ℕ) → Job
   -- Revolve's list over the run from a state, which was made from a number, for so many steps and slots, with images in
@@ -42,18 +47,35 @@ pub record Deed : Type 0 where
 abbrev pub no_calls : Calls
 no_calls = record { puts = λ _. 0; gets = λ _. 0; frees = λ _. 0 }
 
--- The states that a run shows, by their numbers. Where the keepers tell they are those of the run; else the bytes that came
--- back from storage say what they are.
-abbrev pub Shown : Type 0
-Shown = ℕ → MachineState
+-- the states that a run shows, by their numbers
+abbrev pub States : Type 0
+States = ℕ → MachineState
+
+-- What a run shows: its states, and the number of the step that a question is about, if there is one. Where the keepers tell
+-- they are those of the run; else the bytes that came back from storage say what they are.
+pub record Shown : Type 0 where
+  pub states : States
+  pub answer : Option ℕ
 
 -- an action writes the lines of the states that it hands out, takes its forward steps, and calls the keepers for its images
-abbrev pub deed_of : Shown → ℕ → Action → Deed
+abbrev pub deed_of : States → ℕ → Action → Deed
 deed_of shown steps action = record {
   pieces = map (line_of shown) (handed_by steps action);
   steps = steps_of action;
   calls = calls_of action;
 }
+
+-- the same with the line of one state alone
+abbrev pub deed_for : States → ℕ → ℕ → Action → Deed
+deed_for shown steps place action = record {
+  pieces = cond (hands_out steps place action) (line_of shown place ∷ []) [];
+  steps = steps_of action;
+  calls = calls_of action;
+}
+
+-- the same without lines
+abbrev pub unseen_deed : Action → Deed
+unseen_deed action = record { pieces = []; steps = steps_of action; calls = calls_of action }
 
 -- the same without lines, and with no call of a keeper that was handed in
 abbrev pub silent_deed : Action → Deed
@@ -63,14 +85,31 @@ silent_deed action = record { pieces = []; steps = steps_of action; calls = no_c
 abbrev pub writing : List (List ℕ) → Deed
 writing texts = record { pieces = texts; steps = 0; calls = no_calls }
 
+-- the number of a step, or that there is none
+abbrev pub answer_text : Option ℕ → List ℕ
+answer_text (Some n) = decimal n ++ 10 ∷ []
+answer_text None = codes "none\n"
+
+-- For a state the list is performed up to the action that hands it out; for the last step that does something, up to the
+-- one that hands out the state before that step, or to the end where there is none.
+abbrev pub question_deeds : Shown → Question → ℕ → List Action → List Deed
+question_deeds shown (State place) steps list = map (deed_for shown.states steps place) (front_to steps place list)
+question_deeds shown (LastWrite address) steps list = map unseen_deed (up_to steps shown.answer list) ++ writing (answer_text shown.answer ∷ []) ∷ []
+question_deeds shown (LastChange address) steps list = map unseen_deed (up_to steps shown.answer list) ++ writing (answer_text shown.answer ∷ []) ∷ []
+
 abbrev pub deeds : Shown → Job → List Deed
-deeds shown (perform first journal steps slots list) = map (deed_of shown steps) list
+deeds shown (perform first journal steps slots list) = map (deed_of shown.states steps) list
+deeds shown (ask question first journal steps slots list) = question_deeds shown question steps list
 deeds shown (write texts) = writing texts ∷ []
 deeds shown (demonstrate number first steps slots) = map silent_deed (demo_list steps slots) ++ writing (summary number first steps slots ∷ []) ∷ []
 
--- The place of a deed as an ending has it: the number of the action. Texts and a summary are no actions, and their place is 0.
+-- The place of a deed as an ending has it where its write fails: the number of the action that hands out the state whose line
+-- it is. Texts, numbers and a summary are written behind all actions, and their place is 0.
 abbrev pub shown_place : Job → ℕ → ℕ
 shown_place (perform first journal steps slots list) place = place
+shown_place (ask (State n) first journal steps slots list) place = place
+shown_place (ask (LastWrite address) first journal steps slots list) place = 0
+shown_place (ask (LastChange address) first journal steps slots list) place = 0
 shown_place (write texts) place = 0
 shown_place (demonstrate number first steps slots) place = 0
 
@@ -78,16 +117,23 @@ abbrev pub bytes_of : List (List ℕ) → List ℕ
 bytes_of pieces = flat_map (λ piece. piece) pieces
 
 -- What a job that is done writes in all, and how many steps it takes: for a performed list the lines of the states from
--- the last to the first, each once, and the list's forward steps.
+-- the last to the first, each once, and the list's forward steps; for a question the line of its state or the number of its
+-- step, and the forward steps of as much of the list as it takes.
 abbrev pub output : Shown → Job → List ℕ
-output shown (perform first journal steps slots list) = lines_down shown steps
+output shown (perform first journal steps slots list) = lines_down shown.states steps
+output shown (ask (State place) first journal steps slots list) = line_of shown.states place
+output shown (ask (LastWrite address) first journal steps slots list) = answer_text shown.answer
+output shown (ask (LastChange address) first journal steps slots list) = answer_text shown.answer
 output shown (write texts) = bytes_of texts
 output shown (demonstrate number first steps slots) = summary number first steps slots
 
-abbrev pub steps_taken : Job → ℕ
-steps_taken (perform first journal steps slots list) = forward list
-steps_taken (write texts) = 0
-steps_taken (demonstrate number first steps slots) = forward (demo_list steps slots)
+abbrev pub steps_taken : Shown → Job → ℕ
+steps_taken shown (perform first journal steps slots list) = forward list
+steps_taken shown (ask (State place) first journal steps slots list) = forward (front_to steps place list)
+steps_taken shown (ask (LastWrite address) first journal steps slots list) = forward (up_to steps shown.answer list)
+steps_taken shown (ask (LastChange address) first journal steps slots list) = forward (up_to steps shown.answer list)
+steps_taken shown (write texts) = 0
+steps_taken shown (demonstrate number first steps slots) = forward (demo_list steps slots)
 
 -- ---- what was done
 
@@ -144,9 +190,19 @@ AllEmpty levels images = (k : ℕ) → k < levels → images k ≡ Some finmap.e
 
 -- the states that a job shows are those of its run, where the keepers of its levels tell
 abbrev pub IsShown : Job → Shown → Moment → Type 0
-IsShown (perform first journal steps slots list) shown old = AllTell (length slots) old.images → (n : ℕ) → n ≤ steps → shown n ≡ state_number first journal n
+IsShown (perform first journal steps slots list) shown old = AllTell (length slots) old.images → (n : ℕ) → n ≤ steps → shown.states n ≡ state_number first journal n
+IsShown (ask question first journal steps slots list) shown old = AllTell (length slots) old.images → (n : ℕ) → n ≤ steps → shown.states n ≡ state_number first journal n
 IsShown (write texts) shown old = Unit {0}
 IsShown (demonstrate number first steps slots) shown old = Unit {0}
+
+-- the answer that a job shows is that of its question, where the keepers of its levels tell
+abbrev pub IsAnswered : Job → Shown → Moment → Type 0
+IsAnswered (ask (State place) first journal steps slots list) shown old = Unit {0}
+IsAnswered (ask (LastWrite address) first journal steps slots list) shown old = AllTell (length slots) old.images → IsLast (WritesWord first journal address) steps shown.answer
+IsAnswered (ask (LastChange address) first journal steps slots list) shown old = AllTell (length slots) old.images → IsLast (ChangesWord first journal address) steps shown.answer
+IsAnswered (perform first journal steps slots list) shown old = Unit {0}
+IsAnswered (write texts) shown old = Unit {0}
+IsAnswered (demonstrate number first steps slots) shown old = Unit {0}
 
 -- A list was performed to its end over keepers that tell and were empty: they hold just the images of the states that it
 -- leaves held.
@@ -154,6 +210,7 @@ abbrev pub LeavesHeld : Job → Moment → Moment → Type 0
 LeavesHeld (perform first journal steps slots list) old new =
     AllEmpty (length slots) old.images → (last : Configuration) → Leads steps slots (start steps slots) list last →
     (k : ℕ) → k < length slots → IsToldAnd (new.images k) (HoldsJust first journal (held_on last k))
+LeavesHeld (ask question first journal steps slots list) old new = Unit {0}
 LeavesHeld (write texts) old new = Unit {0}
 LeavesHeld (demonstrate number first steps slots) old new = Unit {0}
 
@@ -163,7 +220,8 @@ LeavesHeld (demonstrate number first steps slots) old new = Unit {0}
 pub record Done (shown : Shown) (job : Job) (old new : Moment) : Type 0 where
   pub did : Did (deeds shown job) old new
   pub output_whole : Tells old.told new.told (Adds (output shown job))
-  pub stepped : new.steps ≡ old.steps + steps_taken job
+  pub stepped : new.steps ≡ old.steps + steps_taken shown job
+  pub answered : IsAnswered job shown old
   pub held : LeavesHeld job old new
 
 -- these bytes were added, and then a part of a piece
@@ -206,12 +264,14 @@ pub record FailsAt (ds : List Deed) (place level : ℕ) (old new : Moment) : Typ
 -- the pages of a job's states are those of its first one; the other jobs get no image
 abbrev pub IsNoImageOf : Job → List ℕ → Type 0
 IsNoImageOf (perform first journal steps slots list) bytes = IsNoImage first bytes
+IsNoImageOf (ask question first journal steps slots list) bytes = IsNoImage first bytes
 IsNoImageOf (write texts) bytes = Unit {0}
 IsNoImageOf (demonstrate number first steps slots) bytes = Unit {0}
 
 -- of how many levels the keepers are called
 abbrev pub levels_of : Job → ℕ
 levels_of (perform first journal steps slots list) = length slots
+levels_of (ask question first journal steps slots list) = length slots
 levels_of (write texts) = 0
 levels_of (demonstrate number first steps slots) = 0
 
@@ -227,6 +287,7 @@ pub record DamagedAt (job : Job) (ds : List Deed) (place level : ℕ) (put got :
 -- which deeds of a job may want memory: those that call a keeper, and an action over images in memory of its own; no text
 abbrev pub MayWant : Job → Deed → Type 0
 MayWant (perform first journal steps slots list) deed = (level : ℕ) × CallsLevel deed level
+MayWant (ask question first journal steps slots list) deed = (level : ℕ) × CallsLevel deed level
 MayWant (write texts) deed = ⊥
 MayWant (demonstrate number first steps slots) deed = deed.pieces ≡ []
 

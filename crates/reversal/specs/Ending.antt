@@ -102,7 +102,7 @@ abbrev pub too_long : ℕ → ℕ → Ended
 too_long place limit = out_of_range place limit 8
 
 -- there is no plan for so many steps with the room of the book, by this rule: 1, two steps or more have no slot; 2, the book
--- hasn't two levels; 4, level 1 has fewer slots than a periodic plan has images there
+-- hasn't two levels; 3, level 1 isn't unlimited; 4, level 1 has fewer slots than a periodic plan has images there
 abbrev pub no_plan : ℕ → ℕ → ℕ → Ended
 no_plan steps room rule = ended_by 11 steps room rule
 

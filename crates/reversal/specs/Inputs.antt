@@ -4,7 +4,7 @@ use Rattle.std.specs.List.{AllByRecursion}
 use Rattle.std.specs.FinMap as finmap
 use Rattle.keepers.specs.Told.{Files, WhereTold}
 use Rattle.reversal.specs.declared.ended.Ended.{Ended}
-use Rattle.reversal.specs.Request.{Run, RunRevolve, Command, run, run_revolve, plan, plan_periodic, check, certify, demo}
+use Rattle.reversal.specs.Request.{Run, RunRevolve, Command, run, run_revolve, plan, plan_periodic, check, certify, price, ask, demo}
 use Rattle.reversal.specs.Ending.{unreadable}
 
 -- an input by its name, and how many bytes it may have
@@ -45,6 +45,8 @@ inputs_of (plan c) = book_input c.book ∷ []
 inputs_of (plan_periodic c) = book_input c.book ∷ []
 inputs_of (check c) = book_input c.book ∷ schedule_input c.schedule ∷ []
 inputs_of (certify c) = book_input c.book ∷ schedule_input c.schedule ∷ certificate_input c.certificate ∷ []
+inputs_of (price c) = book_input c.book ∷ schedule_input c.schedule ∷ []
+inputs_of (ask c) = run_inputs c.run.journal c.run
 inputs_of (demo c) = []
 
 abbrev pub names : List Input → List (List ℕ)

@@ -1,5 +1,5 @@
 -- No public clause cites this file. The job that one in memory is, and what holds of it.
-use Rattle.std.specs.Prelude.{◌≡◌, ◌⊎◌, ℕ, ◌≤◌, ◌++◌, List, [], ◌∷◌, length, Option, None, Some}
+use Rattle.std.specs.Prelude.{◌≡◌, ◌⊎◌, ℕ, ◌*◌, ◌<◌, ◌≤◌, ◌^◌, ◌++◌, List, [], ◌∷◌, length, Option, None, Some}
 use Rattle.std.specs.Vec.{vec_capacity}
 use Rattle.std.specs.List.{AllByRecursion}
 use Rattle.level_book.specs.BookCosts.{slots_of, names_of, total_room, plain}
@@ -11,15 +11,23 @@ use Rattle.revolve_gen.specs.Plans.{HasPlan}
 use Rattle.reverse_runner.specs.KeepersSeen.{HaveRoom}
 use Rattle.reversal.specs.declared.ended.Ended.{Ended}
 use Rattle.reversal.specs.declared.job.Job as in_memory
-use Rattle.reversal.specs.declared.job.Job.TheVariants.{Perform, Write, Plan, Demonstrate}
+use Rattle.reversal.specs.declared.job.Job.TheVariants.{Perform, Ask, Write, Report, Plan, Demonstrate}
 use Rattle.reversal.specs.declared.planning.Plan as plan_in_memory
 use Rattle.reversal.specs.declared.demo.Demonstration as demo_in_memory
 use Rattle.reversal.specs.declared.job.Performance.{Performance}
+use Rattle.reversal.specs.declared.asking.Asking.{Asking}
+use Rattle.reversal.specs.declared.asking.Over.{Over}
+use Rattle.reversal.specs.declared.pricing.Pricing.{Pricing}
+use Rattle.cost_fold.specs.CountsOf.{all_of}
+use Rattle.cost_report.specs.Report.{report_lines}
 use Rattle.reversal.specs.ActionsLeft.{left_of}
 use Rattle.reversal.specs.Plans.{list_pieces}
-use Rattle.reversal.specs.Deeds.{Job, perform, write, demonstrate, Moment, HaltsShowing}
+use Rattle.reversal.specs.Bounds.{IsWithin, question_bound}
+use Rattle.reversal.specs.Deeds.{Job, perform, ask, write, demonstrate, Moment, HaltsShowing}
 use Rattle.reversal.specs.Decision.{accept, EndsBy}
-use Rattle.reversal.specs.Ending.{no_memory}
+use Rattle.reverse_runner.specs.declared.fault.RunFault.{RunFault}
+use Rattle.reverse_runner.specs.declared.fault.RunFault.TheVariants as fault
+use Rattle.reversal.specs.Ending.{no_memory, keeper_failed, damaged, stopped}
 
 -- the line of a certificate, if there is one
 abbrev pub certificate_pieces : Option Certificate → List (List ℕ)
@@ -32,7 +40,9 @@ pieces_of p = list_pieces (names_of p.book) (left_of p.actions) ++ certificate_p
 
 abbrev pub job_of : in_memory.Job → Job
 job_of (Perform p) = perform p.start p.journal p.steps (slots_of p.book) (left_of p.actions)
+job_of (Ask a) = ask a.question a.over.start a.over.journal a.over.steps (slots_of a.over.book) a.over.list.items
 job_of (Write text) = write (text ∷ [])
+job_of (Report p) = write (report_lines p.book p.counts)
 job_of (Plan p) = write (pieces_of p)
 job_of (Demonstrate d) = demonstrate d.number d.start d.steps d.slots
 
@@ -41,6 +51,16 @@ pub record IsPerformable (p : Performance) : Type 0 where
   pub steps : p.steps ≤ 1000000
   pub few : length (left_of p.actions) ≤ 16777216
   pub valid : Valid p.steps (slots_of p.book) (left_of p.actions)
+
+-- a list is valid that a question is about, and its number is within its bounds
+pub record IsOver (o : Over) : Type 0 where
+  pub steps : o.steps ≤ 1000000
+  pub few : length o.list.items ≤ 16777216
+  pub valid : Valid o.steps (slots_of o.book) o.list.items
+
+pub record CanBeAsked (a : Asking) : Type 0 where
+  pub over : IsOver a.over
+  pub within : IsWithin (question_bound a.over.steps a.question)
 
 -- the actions of a plan have a spelling, and there is room for the longest piece
 pub record IsWritable (p : plan_in_memory.Plan) : Type 0 where
@@ -54,14 +74,18 @@ pub record IsShowable (d : demo_in_memory.Demonstration) : Type 0 where
 
 abbrev pub CanBeDone : in_memory.Job → Type 0
 CanBeDone (Perform p) = IsPerformable p
+CanBeDone (Ask a) = CanBeAsked a
 CanBeDone (Write text) = Unit {0}
+CanBeDone (Report p) = all_of p.counts * 1000000 < 2 ^ 64
 CanBeDone (Plan p) = IsWritable p
 CanBeDone (Demonstrate d) = IsShowable d
 
 -- keepers with so many slots have room for what a job keeps
 abbrev pub KeepersHaveRoom : in_memory.Job → List ℕ → Type 0
 KeepersHaveRoom (Perform p) counts = HaveRoom p.steps (slots_of p.book) counts
+KeepersHaveRoom (Ask a) counts = HaveRoom a.over.steps (slots_of a.over.book) counts
 KeepersHaveRoom (Write text) counts = Unit {0}
+KeepersHaveRoom (Report p) counts = Unit {0}
 KeepersHaveRoom (Plan p) counts = Unit {0}
 KeepersHaveRoom (Demonstrate d) counts = Unit {0}
 
@@ -72,3 +96,11 @@ IsRefusal {F} HasFault ended e = (e ≡ no_memory) ⊎ ((fault : F) × HasFault 
 -- a job that was begun was done, stopped, or wanted memory
 abbrev pub Works : Job → Ended → Moment → Moment → Type 0
 Works job e old new = EndsBy (accept job) e old new ⊎ ((e ≡ no_memory) × HaltsShowing job old new)
+
+-- how a call ends whose session refused the action at a place for this fault; one that has ended refuses none
+abbrev pub fault_ending : ℕ → RunFault → Ended
+fault_ending place (fault.Keeper level) = keeper_failed place level
+fault_ending place (fault.Damaged level put got) = damaged place level put got
+fault_ending place fault.Visitor = stopped place
+fault_ending place fault.Memory = no_memory
+fault_ending place fault.Ended = no_memory

@@ -7,6 +7,7 @@ pub mod Deeds
 pub mod Plans
 pub mod Demo
 pub mod Output
+pub mod Pricing
 pub mod Ending
 pub mod Reading
 pub mod ChoiceReading

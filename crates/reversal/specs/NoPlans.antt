@@ -1,6 +1,7 @@
 -- No public clause cites this file. Why there is no plan, as the steps of deciding answer it.
-use Rattle.std.specs.Prelude.{◌≡◌, ◌⊎◌, ℕ, ◌≤◌, length}
-use Rattle.level_book.specs.BookCosts.{BookCosts, room, total_room}
+use Rattle.std.specs.Prelude.{◌≡◌, ◌⊎◌, ℕ, ◌≤◌, length, slice_get, Some}
+use Rattle.level_book.specs.declared.book.Slots.TheVariants.{Unlimited}
+use Rattle.level_book.specs.BookCosts.{BookCosts, slots_of, room, total_room}
 use Rattle.disk_gen.specs.Periodic.{images}
 use Rattle.disk_gen.specs.Plans.{slots_at, HasSlots}
 use Rattle.hrevolve_gen.specs.Plans as nested
@@ -13,6 +14,12 @@ IsUnperiodic steps period b e =
     ((length b.levels ≡ 2 → ⊥) × (e ≡ no_plan steps (total_room b steps) 2))
     ⊎ (((length b.levels ≡ 2) × ((2 ≤ steps → 2 ≤ period → 1 ≤ room b 0 steps) → ⊥) × (e ≡ no_plan steps (total_room b steps) 1))
     ⊎ ((length b.levels ≡ 2) × (2 ≤ steps → 2 ≤ period → 1 ≤ room b 0 steps) × (HasSlots (slots_at b 1) (images steps period) → ⊥) × (e ≡ no_plan steps (total_room b steps) 4)))
+
+-- none of DiskRevolve
+abbrev pub IsUndisked : ℕ → BookCosts → Ended → Type 0
+IsUndisked steps b e =
+    ((length b.levels ≡ 2 → ⊥) × (e ≡ no_plan steps (total_room b steps) 2))
+    ⊎ ((length b.levels ≡ 2) × (slice_get (slots_of b) 1 ≡ Some Unlimited → ⊥) × (e ≡ no_plan steps (total_room b steps) 3))
 
 -- none of H-Revolve
 abbrev pub IsUnnested : ℕ → BookCosts → Ended → Type 0

@@ -4,16 +4,24 @@
 --     run PROGRAM JOURNAL BOOK @revolve N
 --     plan revolve BOOK N
 --     plan multistage BOOK N
+--     plan disk BOOK N
 --     plan hrevolve BOOK N
 --     plan periodic BOOK N PERIOD
 --     check BOOK SCHEDULE N
 --     certify BOOK SCHEDULE CERTIFICATE N
+--     cost BOOK SCHEDULE N
+--     ask state PROGRAM JOURNAL BOOK SCHEDULE N PLACE
+--     ask last-write PROGRAM JOURNAL BOOK SCHEDULE N ADDRESS
+--     ask last-change PROGRAM JOURNAL BOOK SCHEDULE N ADDRESS
 --     demo NUMBER N SLOTS
 use Rattle.std.specs.Prelude.{◌≡◌, ◌≢◌, ℕ, ◌<◌, ◌≤◌, ◌^◌, ◌==◌, Bool, true, false, List, [], ◌∷◌, ◌++◌, codes, decimal, map, count_by, Option, None, Some}
 use Rattle.std.specs.List.{AllByRecursion, list_any}
 use Rattle.reversal.specs.declared.words.Words.{Words}
 use Rattle.reversal.specs.declared.kind.PlanKind.{PlanKind}
-use Rattle.reversal.specs.declared.kind.PlanKind.TheVariants.{Revolve, Multistage, Hrevolve}
+use Rattle.reversal.specs.declared.kind.PlanKind.TheVariants.{Revolve, Multistage, Disk, Hrevolve}
+use Rattle.reversal.specs.declared.question.Question.{Question}
+use Rattle.reversal.specs.declared.question.Question.TheVariants.{State, LastWrite, LastChange}
+use Rattle.state_image.specs.Line.{hex_word}
 
 -- ---- options
 
@@ -102,6 +110,17 @@ pub record Certify : Type 0 where
   pub certificate : List ℕ
   pub steps : ℕ
 
+-- to tell what a schedule costs, for a book and a number of steps
+pub record Price : Type 0 where
+  pub book : List ℕ
+  pub schedule : List ℕ
+  pub steps : ℕ
+
+-- to ask something of a run
+pub record Ask : Type 0 where
+  pub question : Question
+  pub run : Run
+
 -- to run a program that is made from a number backward by the list of Revolve, with so many slots of memory
 pub record Demo : Type 0 where
   pub number : ℕ
@@ -116,6 +135,8 @@ pub data Command : Type 0 where
   plan_periodic : PlanPeriodic → Command
   check : Check → Command
   certify : Certify → Command
+  price : Price → Command
+  ask : Ask → Command
   demo : Demo → Command
 
 -- the word of a name that may be left out
@@ -127,7 +148,22 @@ word_or_dash None = codes "-"
 abbrev pub kind_word : PlanKind → List ℕ
 kind_word Revolve = codes "revolve"
 kind_word Multistage = codes "multistage"
+kind_word Disk = codes "disk"
 kind_word Hrevolve = codes "hrevolve"
+
+-- the word of a question, and that of its number: a state's is decimal, an address `0x` and eight lower-case hexadecimal digits
+abbrev pub question_word : Question → List ℕ
+question_word (State place) = codes "state"
+question_word (LastWrite address) = codes "last-write"
+question_word (LastChange address) = codes "last-change"
+
+abbrev pub address_word : ℕ → List ℕ
+address_word address = codes "0x" ++ hex_word address
+
+abbrev pub question_number : Question → List ℕ
+question_number (State place) = decimal place
+question_number (LastWrite address) = address_word address
+question_number (LastChange address) = address_word address
 
 abbrev pub command_words : Command → List (List ℕ)
 command_words (run c) = codes "run" ∷ c.program ∷ word_or_dash c.journal ∷ c.book ∷ c.schedule ∷ decimal c.steps ∷ []
@@ -136,6 +172,9 @@ command_words (plan c) = codes "plan" ∷ kind_word c.kind ∷ c.book ∷ decima
 command_words (plan_periodic c) = codes "plan" ∷ codes "periodic" ∷ c.book ∷ decimal c.steps ∷ decimal c.period ∷ []
 command_words (check c) = codes "check" ∷ c.book ∷ c.schedule ∷ decimal c.steps ∷ []
 command_words (certify c) = codes "certify" ∷ c.book ∷ c.schedule ∷ c.certificate ∷ decimal c.steps ∷ []
+command_words (price c) = codes "cost" ∷ c.book ∷ c.schedule ∷ decimal c.steps ∷ []
+command_words (ask c) =
+    codes "ask" ∷ question_word c.question ∷ c.run.program ∷ word_or_dash c.run.journal ∷ c.run.book ∷ c.run.schedule ∷ decimal c.run.steps ∷ question_number c.question ∷ []
 command_words (demo c) = codes "demo" ∷ decimal c.number ∷ decimal c.steps ∷ decimal c.slots ∷ []
 
 -- ---- requests
@@ -164,6 +203,12 @@ abbrev pub MayBeNamed : Option (List ℕ) → Type 0
 MayBeNamed (Some name) = IsName name × (name ≢ codes "-")
 MayBeNamed None = Unit {0}
 
+-- an address has 32 bits
+abbrev pub IsQuestion : Question → Type 0
+IsQuestion (State place) = IsNumber place
+IsQuestion (LastWrite address) = address < 2 ^ 32
+IsQuestion (LastChange address) = address < 2 ^ 32
+
 -- the number of an option, and the name of its folder, may stand in its word
 abbrev pub FitsWord : Choice → Type 0
 FitsWord raw = Unit {0}
@@ -180,13 +225,18 @@ pub record AreOptions (options : List Choice) : Type 0 where
   pub fit : AllByRecursion FitsWord options
 
 -- the names and numbers of a command may stand among its words
+abbrev pub IsRun : Run → Type 0
+IsRun c = IsName c.program × MayBeNamed c.journal × IsName c.book × IsScheduleName c.schedule × IsNumber c.steps
+
 abbrev pub CanBeSpelled : Command → Type 0
-CanBeSpelled (run c) = IsName c.program × MayBeNamed c.journal × IsName c.book × IsScheduleName c.schedule × IsNumber c.steps
+CanBeSpelled (run c) = IsRun c
 CanBeSpelled (run_revolve c) = IsName c.program × MayBeNamed c.journal × IsName c.book × IsNumber c.steps
 CanBeSpelled (plan c) = IsName c.book × IsNumber c.steps
 CanBeSpelled (plan_periodic c) = IsName c.book × IsNumber c.steps × IsNumber c.period
 CanBeSpelled (check c) = IsName c.book × IsScheduleName c.schedule × IsNumber c.steps
 CanBeSpelled (certify c) = IsName c.book × IsScheduleName c.schedule × IsName c.certificate × IsNumber c.steps
+CanBeSpelled (price c) = IsName c.book × IsScheduleName c.schedule × IsNumber c.steps
+CanBeSpelled (ask c) = IsRun c.run × IsQuestion c.question
 CanBeSpelled (demo c) = IsNumber c.number × IsNumber c.steps × IsNumber c.slots
 
 -- the words say this request

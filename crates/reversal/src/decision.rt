@@ -9,16 +9,18 @@ ghost use Rattle.action_text.specs.ScheduleText.{IsSchedule};
 ghost use Rattle.action_text.specs.Faults.{HasFirstFault};
 ghost use Rattle.reverse_runner.specs.KeepersSeen.{HaveRoom};
 ghost use Rattle.reversal.specs.Request.{Choice};
-ghost use Rattle.reversal.specs.Bounds.{numbers, IsWithin};
-ghost use Rattle.reversal.specs.Decision.{accept, refuse, HasBookFault, IsStartOf, HasProgramFault, AreItemsOf, HasJournalFault, Keep, DecidesRun, DecidesCheck, DecidesBytes};
+ghost use Rattle.reversal.specs.Bounds.{numbers, IsWithin, question_bound};
+ghost use Rattle.reversal.specs.Decision.{accept, refuse, HasBookFault, IsStartOf, HasProgramFault, AreItemsOf, HasJournalFault, Keep, Over as OverJob, DecidesOver, DecidesOverBytes, DecidesCheck, DecidesBytes};
 ghost use Rattle.reversal.specs.Ending.{no_memory, bad_program, bad_journal, bad_book, bad_text, invalid};
-ghost use Rattle.reversal.specs.Inputs.{inputs_of};
+ghost use Rattle.reversal.specs.Inputs.{inputs_of, run_inputs};
 ghost use Rattle.reversal.specs.InputReading.{AreWithinLimits};
-ghost use Rattle.reversal.specs.JobReading.{job_of, CanBeDone, KeepersHaveRoom, IsRefusal};
-ghost use Rattle.reversal.specs.Request.{run as run_command, check as check_command, says_raw, stack_pages};
-ghost use Rattle.reversal.specs.RequestReading.{request_of, as_run, as_check};
+ghost use Rattle.reversal.specs.Deeds.{perform};
+ghost use Rattle.reversal.specs.JobReading.{job_of, IsOver, CanBeDone, KeepersHaveRoom, IsRefusal};
+ghost use Rattle.reversal.specs.Request.{Run as ARun, run as run_command, ask as ask_command, check as check_command, says_raw, stack_pages};
+ghost use Rattle.reversal.specs.RequestReading.{request_of, as_run, as_ask, as_check};
 
 use crate::actions::{Actions, Listed};
+use crate::asking::{Asking, Over};
 use crate::certifying::decide_certify;
 use crate::demo::decide_demo;
 use crate::ended::Ended;
@@ -26,7 +28,8 @@ use crate::job::{Job, Performance};
 use crate::options::Options;
 use crate::plan_kinds::{decide_plan, decide_plan_periodic};
 use crate::planning::decide_run_revolve;
-use crate::request::{Check, Command, Request, Run};
+use crate::pricing::decide_price;
+use crate::request::{Ask, Check, Command, Request, Run};
 use action_text::read_actions;
 use elf_load::{load, load_raw};
 use input_journal::{Journal, read_journal};
@@ -64,6 +67,7 @@ pub fn decide<R: Threads + Sync>(
 {
     match &request.command {
         Command::Run(run) => decide_run(alloc, &request.options, run, bytes, counts),
+        Command::Ask(ask) => decide_ask(alloc, &request.options, ask, bytes, counts),
         Command::RunRevolve(run) => decide_run_revolve(alloc, &request.options, run, bytes, counts),
         Command::Plan(plan) => {
             let workers = request.options.worker_count() as u32;
@@ -72,11 +76,12 @@ pub fn decide<R: Threads + Sync>(
         Command::PlanPeriodic(plan) => decide_plan_periodic(alloc, plan, bytes),
         Command::Check(check) => decide_check(alloc, check, bytes),
         Command::Certify(certify) => decide_certify(alloc, certify, bytes),
+        Command::Price(price) => decide_price(alloc, price, bytes),
         Command::Demo(demo) => decide_demo(alloc, demo),
     }
 }
 
-// The same for a run, by the bytes of its inputs.
+// The same for a run.
 fn decide_run(
     alloc: Global,
     options: &Options,
@@ -92,7 +97,72 @@ fn decide_run(
     ensures room { IfOk result (λ job. KeepersHaveRoom job counts.now) }
     ensures refused { IfErr result (λ e. (e ≡ no_memory) ⊎ DecidesBytes options.now (run_command (as_run run.now)) (map (λ b. b.items) bytes.now) counts.now (refuse e)) }
 {
-    let steps = run.steps as u32;
+    let over = decide_over(alloc, options, run.steps as u32, bytes, counts)?;
+    Ok(performance(over))
+}
+
+// The job of performing a list.
+fn performance(over: Over) -> Job
+    ensures job { job_of result ≡ perform over.start over.journal over.steps (slots_of over.book) over.list.items }
+    ensures can_be_done { IsOver over → CanBeDone result }
+    ensures room { (counts : List ℕ) → HaveRoom over.steps (slots_of over.book) counts → KeepersHaveRoom result counts }
+{
+    let Over {
+        start,
+        journal,
+        steps,
+        book,
+        list,
+    } = over;
+    Job::Perform(Performance {
+        start,
+        journal,
+        steps,
+        book,
+        actions: Actions::Listed(Listed::new(list)),
+    })
+}
+
+// The same for a question about a run.
+fn decide_ask(
+    alloc: Global,
+    options: &Options,
+    ask: &Ask<'_>,
+    bytes: &[Vec<u8>],
+    counts: &[u32],
+) -> Result<Job, Ended>
+    requires stack { (1 ≤ stack_pages options.now) × (stack_pages options.now ≤ 1024) }
+    requires steps { ask.now.run.steps ≤ 1000000 }
+    requires question { IsWithin (question_bound ask.now.run.steps ask.now.question) }
+    requires inputs { AreWithinLimits (inputs_of (ask_command (as_ask ask.now))) (map (λ b. b.items) bytes.now) }
+    ensures accepted { IfOk result (λ job. DecidesBytes options.now (ask_command (as_ask ask.now)) (map (λ b. b.items) bytes.now) counts.now (accept (job_of job))) }
+    ensures can_be_done { IfOk result CanBeDone }
+    ensures room { IfOk result (λ job. KeepersHaveRoom job counts.now) }
+    ensures refused { IfErr result (λ e. (e ≡ no_memory) ⊎ DecidesBytes options.now (ask_command (as_ask ask.now)) (map (λ b. b.items) bytes.now) counts.now (refuse e)) }
+{
+    let steps = ask.run.steps as u32;
+    let over = decide_over(alloc, options, steps, bytes, counts)?;
+    let question = ask.question;
+    Ok(Job::Ask(Asking { question, over }))
+}
+
+// What a list is to be performed over, by the bytes of the inputs of a run.
+fn decide_over(
+    alloc: Global,
+    options: &Options,
+    steps: u32,
+    bytes: &[Vec<u8>],
+    counts: &[u32],
+) -> Result<Over, Ended>
+    requires stack { (1 ≤ stack_pages options.now) × (stack_pages options.now ≤ 1024) }
+    requires steps { steps ≤ 1000000 }
+    requires inputs { (r : ARun) × AreWithinLimits (run_inputs r.journal r) (map (λ b. b.items) bytes.now) }
+    ensures accepted { IfOk result (λ o. (job : OverJob) → DecidesOverBytes job options.now steps (map (λ b. b.items) bytes.now) counts.now (accept (job o.start o.journal (slots_of o.book) o.list.items))) }
+    ensures over { IfOk result IsOver }
+    ensures steps { IfOk result (λ o. o.steps ≡ steps) }
+    ensures room { IfOk result (λ o. HaveRoom o.steps (slots_of o.book) counts.now) }
+    ensures refused { (job : OverJob) → IfErr result (λ e. (e ≡ no_memory) ⊎ DecidesOverBytes job options.now steps (map (λ b. b.items) bytes.now) counts.now (refuse e)) }
+{
     match bytes {
         [program, book, schedule] => {
             let texts = Texts {
@@ -122,14 +192,15 @@ fn decide_texts(
     steps: u32,
     texts: Texts<'_>,
     counts: &[u32],
-) -> Result<Job, Ended>
+) -> Result<Over, Ended>
     requires stack { (1 ≤ stack_pages options.now) × (stack_pages options.now ≤ 1024) }
     requires steps { steps ≤ 1000000 }
     requires short { length texts.schedule.now ≤ 536870912 }
-    ensures accepted { IfOk result (λ job. DecidesRun options.now steps texts.entry.program.now (option_copied texts.entry.journal) texts.entry.book.now texts.entry.schedule.now counts.now (accept (job_of job))) }
-    ensures can_be_done { IfOk result CanBeDone }
-    ensures room { IfOk result (λ job. KeepersHaveRoom job counts.now) }
-    ensures refused { IfErr result (λ e. (e ≡ no_memory) ⊎ DecidesRun options.now steps texts.entry.program.now (option_copied texts.entry.journal) texts.entry.book.now texts.entry.schedule.now counts.now (refuse e)) }
+    ensures accepted { IfOk result (λ o. (job : OverJob) → DecidesOver job options.now steps texts.entry.program.now (option_copied texts.entry.journal) texts.entry.book.now texts.entry.schedule.now counts.now (accept (job o.start o.journal (slots_of o.book) o.list.items))) }
+    ensures over { IfOk result IsOver }
+    ensures steps { IfOk result (λ o. o.steps ≡ steps) }
+    ensures room { IfOk result (λ o. HaveRoom o.steps (slots_of o.book) counts.now) }
+    ensures refused { (job : OverJob) → IfErr result (λ e. (e ≡ no_memory) ⊎ DecidesOver job options.now steps texts.entry.program.now (option_copied texts.entry.journal) texts.entry.book.now texts.entry.schedule.now counts.now (refuse e)) }
 {
     let book = book_in(alloc, texts.book)?;
     keep(steps, &book, counts)?;
@@ -137,13 +208,13 @@ fn decide_texts(
     let journal = journal_in(alloc, texts.journal)?;
     let list = list_in(alloc, texts.schedule, &book)?;
     judge(alloc, &list, steps, &book)?;
-    Ok(Job::Perform(Performance {
+    Ok(Over {
         start,
         journal,
         steps,
         book,
-        actions: Actions::Listed(Listed::new(list)),
-    }))
+        list,
+    })
 }
 
 // The same for the judgement of a schedule.

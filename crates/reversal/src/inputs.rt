@@ -115,6 +115,11 @@ pub fn read_inputs<I: Inputs>(
             ];
             read_all(alloc, &wanted, inputs)
         }
+        Command::Price(price) => {
+            let wanted = [book_input(price.book), schedule_input(price.schedule)];
+            read_all(alloc, &wanted, inputs)
+        }
+        Command::Ask(ask) => read_run_inputs(alloc, &ask.run, inputs),
         Command::Demo(_) => read_all(alloc, &[], inputs),
     }
 }

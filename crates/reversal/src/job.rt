@@ -16,9 +16,11 @@ ghost use Rattle.reversal.specs.Ending.{no_memory};
 ghost use Rattle.reversal.specs.JobReading.{job_of, IsPerformable, CanBeDone, KeepersHaveRoom, Works};
 
 use crate::actions::Actions;
+use crate::asking::Asking;
 use crate::demo::Demonstration;
 use crate::ended::Ended;
 use crate::planning::Plan;
+use crate::pricing::Pricing;
 use input_journal::Journal;
 use keepers::{Keeper, Sink};
 use level_book::Book;
@@ -33,8 +35,12 @@ use std::sync::ledger::Ledger;
 pub enum Job {
     /// To perform the actions of a list over a run.
     Perform(Performance),
+    /// To answer a question about a run.
+    Ask(Asking),
     /// To write a text in one piece.
     Write(Line),
+    /// To write what a list costs.
+    Report(Pricing),
     /// To write a plan.
     Plan(Plan),
     /// To run a program that is made from a number, and to write a summary.
@@ -75,7 +81,9 @@ impl Job {
     {
         match self {
             Job::Perform(performance) => performance.perform(alloc, keepers, out, counter),
+            Job::Ask(asking) => asking.answer(alloc, keepers, out, counter),
             Job::Write(text) => write_text(&text, out),
+            Job::Report(pricing) => pricing.write(out),
             Job::Plan(plan) => plan.write(out),
             Job::Demonstrate(demonstration) => demonstration.show(alloc, out, counter),
         }

@@ -6,6 +6,8 @@ pub enum PlanKind {
     Revolve,
     /// The multistage list.
     Multistage,
+    /// The list of DiskRevolve.
+    Disk,
     /// The list of H-Revolve.
     Hrevolve,
 }

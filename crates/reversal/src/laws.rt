@@ -4,6 +4,7 @@ ghost use Rattle.plan_types.specs.declared.action.Action.{Action};
 ghost use Rattle.level_book.specs.BookCosts.{BookCosts, slots_of, names_of};
 ghost use Rattle.level_book.specs.BookFaults.{IsBookText};
 ghost use Rattle.level_book.specs.CostFold.{forward, cost};
+ghost use Rattle.level_book.specs.DiskClass.{Disk};
 ghost use Rattle.level_book.specs.NestedClass.{Nested};
 ghost use Rattle.level_book.specs.Valid.{Valid};
 ghost use Rattle.action_text.specs.ScheduleText.{IsSchedule};
@@ -12,7 +13,7 @@ ghost use Rattle.bound_cert.specs.Accepted.{IsAccepted};
 ghost use Rattle.bound_cert.specs.Meaning.{IsCertificateText};
 ghost use Rattle.revolve_gen.specs.Multistage.{IsMultistage};
 ghost use Rattle.revolve_gen.specs.Written.{revolve_list};
-ghost use Rattle.reversal.specs.Decision.{Decision, accept, Decides, DecidesCertify, DecidesPlanRevolve, DecidesPlanMultistage, DecidesPlanHrevolve};
+ghost use Rattle.reversal.specs.Decision.{Decision, accept, Decides, DecidesCertify, DecidesPlanRevolve, DecidesPlanMultistage, DecidesPlanDisk, DecidesPlanHrevolve};
 ghost use Rattle.reversal.specs.Plans.{list_pieces, plan_pieces, certificate_of};
 ghost use Rattle.reversal.specs.Deeds.{Job, write, Shown, deeds, bytes_written, steps_made, output, steps_taken};
 
@@ -29,7 +30,7 @@ pub fn decisions_are_unique()
 /// The deeds of a job that was decided write its output, of whatever states they show, and take its steps.
 pub fn deeds_make_the_output()
     ensures bytes { (r : Request) (given : List (Option (List ℕ))) (slots : List ℕ) (job : Job) → Decides r given slots (accept job) → (shown : Shown) → bytes_written (deeds shown job) ≡ output shown job }
-    ensures steps { (shown : Shown) (job : Job) → steps_made (deeds shown job) ≡ steps_taken job }
+    ensures steps { (shown : Shown) (job : Job) → steps_made (deeds shown job) ≡ steps_taken shown job }
 {}
 
 /// A list that is certified is the least: where a request to certify one comes to its job, the schedule says a valid list,
@@ -62,6 +63,14 @@ pub fn hrevolve_plans_are_least()
     ensures { (steps : ℕ) (book : List ℕ) (job : Job) → DecidesPlanHrevolve steps book (accept job) →
         (b : BookCosts) × IsBookText book b × (list : List Action) × (job ≡ write (list_pieces (names_of b) list)) × Nested steps (slots_of b) list
         × ((other : List Action) → Nested steps (slots_of b) other → cost list b ≤ cost other b) }
+{}
+
+/// A plan of DiskRevolve costs the least of its class: where a request for one comes to its job, the text of a list is written
+/// that is in the disk class, and no list of that class costs less by the book.
+pub fn disk_plans_are_least()
+    ensures { (steps : ℕ) (book : List ℕ) (job : Job) → DecidesPlanDisk steps book (accept job) →
+        (b : BookCosts) × IsBookText book b × (list : List Action) × (job ≡ write (list_pieces (names_of b) list)) × Disk steps (slots_of b) list
+        × ((other : List Action) → Disk steps (slots_of b) other → cost list b ≤ cost other b) }
 {}
 
 /// A multistage plan costs the least of its class: where a request for one comes to its job, the text of a list is written that

@@ -5,10 +5,12 @@
 #![tactic(auto)]
 
 mod actions;
+mod asking;
 mod bounds;
 mod certifying;
 mod decision;
 mod demo;
+mod disk;
 mod ended;
 mod hrevolve;
 mod inputs;
@@ -23,6 +25,8 @@ mod periodic;
 mod places;
 mod plan_kinds;
 mod planning;
+mod pricing;
+mod question;
 mod request;
 mod text;
 mod top;

@@ -10,6 +10,7 @@ ghost use Rattle.reversal.specs.InputReading.{AreWithinLimits};
 ghost use Rattle.reversal.specs.JobReading.{job_of, CanBeDone, KeepersHaveRoom};
 ghost use Rattle.reversal.specs.RequestReading.{as_plan, as_plan_periodic};
 
+use crate::disk::disk_text;
 use crate::ended::Ended;
 use crate::hrevolve::hrevolve_text;
 use crate::job::Job;
@@ -60,6 +61,7 @@ fn kind_text<R: Threads + Sync>(
     match kind {
         PlanKind::Revolve => revolve_text(alloc, steps, book),
         PlanKind::Multistage => multistage_text(alloc, steps, book),
+        PlanKind::Disk => disk_text(rt, alloc, workers, steps, book),
         PlanKind::Hrevolve => hrevolve_text(rt, alloc, workers, steps, book),
     }
 }

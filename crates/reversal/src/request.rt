@@ -2,16 +2,20 @@
 ghost use Rattle.std.specs.Prelude.{◌≡◌, ◌↔◌, map, IfSome, IfNone, MatchOption, option_map};
 ghost use Rattle.std.specs.List.{AllByRecursion, flat_map};
 ghost use Rattle.reversal.specs.Request.{Request as ARequest, Says};
-ghost use Rattle.reversal.specs.Bounds.{plan_bound, numbers, option_numbers, command_numbers, IsWithin, RefusesFirst};
+ghost use Rattle.reversal.specs.Bounds.{plan_bound, question_bound, numbers, option_numbers, command_numbers, IsWithin, RefusesFirst};
 ghost use Rattle.reversal.specs.Reading.{Gives};
 ghost use Rattle.reversal.specs.ChoiceReading.{options_at, as_choice};
-ghost use Rattle.reversal.specs.RequestReading.{is_name, is_schedule_name, name_or_none, run_of, run_revolve_of, kind_of, plan_for_of, plan_periodic_of, check_of, certify_of, demo_of, any_run_of, of_three_of, of_four_of, command_of, request_read, as_run, as_run_revolve, as_plan, as_plan_periodic, as_check, as_certify, as_demo, as_command, request_of};
+ghost use Rattle.reversal.specs.RequestReading.{is_name, is_schedule_name, name_or_none, run_of, run_revolve_of, kind_of, plan_for_of, plan_periodic_of, check_of, certify_of, price_of, ask_of, demo_of, any_run_of, of_three_of, of_four_of, of_seven_of, command_of, request_read, as_run, as_run_revolve, as_plan, as_plan_periodic, as_check, as_certify, as_price, as_ask, as_demo, as_command, request_of};
 
 use crate::bounds::{Bounded, first_outside};
 use crate::ended::Ended;
 use crate::kind::PlanKind;
 use crate::options::{Choice, Options, next_option, number_in, read_options};
+use crate::question::{Question, read_question};
 use plan_types::{MOST_SLOTS, MOST_STEPS};
+
+// The address of the last word in the machine's memory.
+const LAST_WORD: u64 = 0xffff_fffc;
 
 /// What the words ask for.
 #[derive(Debug, Drop)]
@@ -35,6 +39,10 @@ pub enum Command<'a> {
     Check(Check<'a>),
     /// To show that no list takes fewer forward steps.
     Certify(Certify<'a>),
+    /// To tell what a schedule costs.
+    Price(Price<'a>),
+    /// To ask something of a run.
+    Ask(Ask<'a>),
     /// To run a program that is made from a number.
     Demo(Demo),
 }
@@ -90,6 +98,21 @@ pub struct Certify<'a> {
     pub schedule: &'a [u8],
     pub certificate: &'a [u8],
     pub steps: u64,
+}
+
+/// To tell what a schedule costs, for a book and so many steps.
+#[derive(Clone, Copy, Debug)]
+pub struct Price<'a> {
+    pub book: &'a [u8],
+    pub schedule: &'a [u8],
+    pub steps: u64,
+}
+
+/// To ask something of a run.
+#[derive(Clone, Copy, Debug)]
+pub struct Ask<'a> {
+    pub question: Question,
+    pub run: Run<'a>,
 }
 
 /// To run a program that is made from a number backward by the list of Revolve, over so many steps, with so many slots of
@@ -155,6 +178,12 @@ fn plan_bound(kind: PlanKind, steps: u64) -> Bounded
 {
     match kind {
         PlanKind::Revolve | PlanKind::Multistage => steps_bound(steps),
+        PlanKind::Disk => Bounded {
+            number: steps,
+            least: 0,
+            greatest: 8192,
+            rule: 1,
+        },
         PlanKind::Hrevolve => Bounded {
             number: steps,
             least: 0,
@@ -173,6 +202,26 @@ fn period_bound(period: u64) -> Bounded
         least: 1,
         greatest: MOST_STEPS as u64,
         rule: 2,
+    }
+}
+
+// The bounds of the number of a question about a run of so many steps.
+fn question_bound(steps: u64, question: Question) -> Bounded
+    ensures { result ≡ question_bound steps question }
+{
+    match question {
+        Question::State(place) => Bounded {
+            number: place,
+            least: 0,
+            greatest: steps,
+            rule: 6,
+        },
+        Question::LastWrite(address) | Question::LastChange(address) => Bounded {
+            number: u64::from(address),
+            least: 0,
+            greatest: LAST_WORD,
+            rule: 7,
+        },
     }
 }
 
@@ -254,6 +303,11 @@ impl Command<'_> {
             }
             Command::Check(check) => first_outside(&[steps_bound(check.steps)]),
             Command::Certify(certify) => first_outside(&[steps_bound(certify.steps)]),
+            Command::Price(price) => first_outside(&[steps_bound(price.steps)]),
+            Command::Ask(ask) => {
+                let steps = ask.run.steps;
+                first_outside(&[steps_bound(steps), question_bound(steps, ask.question)])
+            }
             Command::Demo(demo) => first_outside(&[
                 seed_bound(demo.number),
                 steps_bound(demo.steps),
@@ -341,6 +395,9 @@ fn read_kind(word: &[u8]) -> Option<PlanKind>
     if word == b"multistage".as_slice() {
         return Some(PlanKind::Multistage);
     }
+    if word == b"disk".as_slice() {
+        return Some(PlanKind::Disk);
+    }
     if word == b"hrevolve".as_slice() {
         return Some(PlanKind::Hrevolve);
     }
@@ -413,6 +470,39 @@ fn read_certify<'a>(
     })
 }
 
+#[tactic(auto, unfolding(crate::specs::RequestReading::price_of))]
+fn read_price<'a>(book: &'a [u8], schedule: &'a [u8], steps: &[u8]) -> Option<Price<'a>>
+    ensures { Gives as_price result (price_of book.now schedule.now steps.now) }
+{
+    let are_names = !book.is_empty() && is_schedule_name(schedule);
+    if !are_names {
+        return None;
+    }
+    let steps = number_in(steps)?;
+    Some(Price {
+        book,
+        schedule,
+        steps,
+    })
+}
+
+#[tactic(auto, unfolding(crate::specs::RequestReading::ask_of))]
+fn read_ask<'a>(
+    kind: &[u8],
+    program: &'a [u8],
+    journal: &'a [u8],
+    book: &'a [u8],
+    schedule: &'a [u8],
+    steps: &[u8],
+    number: &[u8],
+) -> Option<Ask<'a>>
+    ensures { Gives as_ask result (ask_of kind.now program.now journal.now book.now schedule.now steps.now number.now) }
+{
+    let run = read_run(program, journal, book, schedule, steps)?;
+    let question = read_question(kind, number)?;
+    Some(Ask { question, run })
+}
+
 #[tactic(auto, unfolding(crate::specs::RequestReading::demo_of))]
 fn read_demo(number: &[u8], steps: &[u8], slots: &[u8]) -> Option<Demo>
     ensures { Gives as_demo result (demo_of number.now steps.now slots.now) }
@@ -462,6 +552,10 @@ fn read_of_three<'a>(
         let plan = read_plan_for(first, second, third)?;
         return Some(Command::Plan(plan));
     }
+    if name == b"cost".as_slice() {
+        let price = read_price(first, second, third)?;
+        return Some(Command::Price(price));
+    }
     if name == b"demo".as_slice() {
         let demo = read_demo(first, second, third)?;
         return Some(Command::Demo(demo));
@@ -490,12 +584,35 @@ fn read_of_four<'a>(
     None
 }
 
+// A command that is its name and seven words.
+fn read_of_seven<'a>(
+    name: &[u8],
+    kind: &[u8],
+    program: &'a [u8],
+    journal: &'a [u8],
+    book: &'a [u8],
+    schedule: &'a [u8],
+    steps: &[u8],
+    number: &[u8],
+) -> Option<Command<'a>>
+    ensures { Gives as_command result (of_seven_of name.now kind.now program.now journal.now book.now schedule.now steps.now number.now) }
+{
+    if name == b"ask".as_slice() {
+        let ask = read_ask(kind, program, journal, book, schedule, steps, number)?;
+        return Some(Command::Ask(ask));
+    }
+    None
+}
+
 // The command that the words behind the options are.
 #[tactic(auto, unfolding(crate::specs::RequestReading::command_of))]
 fn read_command(words: &[Vec<u8>]) -> Option<Command<'_>>
     ensures { Gives as_command result (command_of (map (λ w. w.items) words.now)) }
 {
     match words {
+        [name, kind, program, journal, book, schedule, steps, number] => {
+            read_of_seven(name, kind, program, journal, book, schedule, steps, number)
+        }
         [name, program, journal, book, schedule, steps] if name.as_slice() == b"run".as_slice() => {
             read_any_run(program, journal, book, schedule, steps)
         }

@@ -1,6 +1,6 @@
 // Calls that write plans over several levels, and each way to be refused. The lists were written down by the rules by hand, and
 // that of H-Revolve for six steps by another program.
-use crate::calls::{NO_SLOT, NO_STEPS, Named, TWO_LEVELS, TWO_SLOTS, call, ends};
+use crate::calls::{NO_SLOT, NO_STEPS, Named, ONE_STEP, TWO_LEVELS, TWO_SLOTS, call, ends};
 use keepers::MemorySink;
 use std::alloc::Global;
 use std::process::Abort;
@@ -14,12 +14,17 @@ const ANY_DISK: &[u8] =
 const WIDE: &[u8] =
     b"{\"forward\":1,\"reverse\":1,\"levels\":[{\"name\":\"RAM\",\"slots\":65,\"write\":0,\"read\":0}]}";
 
-const FILES: [Named<'static>; 5] = [
+// No slot of memory, and any number of disk.
+const NO_MEMORY: &[u8] =
+    b"{\"forward\":1,\"reverse\":1,\"levels\":[{\"name\":\"RAM\",\"slots\":0,\"write\":0,\"read\":0},{\"name\":\"DISK\",\"slots\":null,\"write\":2,\"read\":1}]}";
+
+const FILES: [Named<'static>; 6] = [
     (b"none", NO_SLOT),
     (b"two", TWO_SLOTS),
     (b"levels", TWO_LEVELS),
     (b"disk", ANY_DISK),
     (b"wide", WIDE),
+    (b"memoryless", NO_MEMORY),
 ];
 
 // A call is done, and writes this.
@@ -208,6 +213,57 @@ fn a_plan_of_h_revolve_is_refused_by_its_limits_and_without_a_slot(
     ];
     for (line, text) in table {
         ends(&rt, rt.alloc(), line, &FILES, text)?;
+    }
+    Ok(())
+}
+
+// The list of DiskRevolve for nine steps with a slot of memory: the first image on disk is that of step 0, for two steps.
+const NINE_STEPS_FRONT: &[u8] = b"Forward(0, 2, True, False, DISK)
+Forward(2, 4, True, False, DISK)
+Forward(4, 6, True, False, DISK)
+";
+
+#[test]
+fn a_plan_of_disk_revolve_is_the_same_for_each_number_of_workers(
+    rt: HostRuntime,
+) -> Result<(), Fail> {
+    let alloc = rt.alloc();
+    let mut one = MemorySink::new(alloc, 4096)?;
+    assert_eq!(rt;
+        call(&rt, alloc, "plan disk disk 9", &FILES, &mut one)?.status,
+        0
+    );
+    assert!(rt; one.bytes().starts_with(NINE_STEPS_FRONT));
+    for line in [
+        "--workers=4 plan disk disk 9",
+        "--workers=64 plan disk disk 9",
+    ] {
+        writes(&rt, alloc, line, one.bytes())?;
+    }
+    let files: [Named<'_>; 2] = [(b"disk", ANY_DISK), (b"plan", one.bytes())];
+    let mut cost = MemorySink::new(alloc, 4096)?;
+    assert_eq!(rt;
+        call(&rt, alloc, "cost disk plan 9", &files, &mut cost)?.status,
+        0
+    );
+    assert!(rt; cost.bytes().ends_with(b"\ntotal 39\n"));
+    Ok(())
+}
+
+#[test]
+fn a_plan_of_disk_revolve_wants_an_unlimited_disk(rt: HostRuntime) -> Result<(), Fail> {
+    let alloc = rt.alloc();
+    writes(&rt, alloc, "plan disk disk 0", NO_STEPS)?;
+    writes(&rt, alloc, "plan disk memoryless 1", ONE_STEP)?;
+    let table: [(&str, &[u8]); 5] = [
+        ("plan disk levels 4", b"11 NoPlan 4 2 3"),
+        ("plan disk two 4", b"11 NoPlan 4 2 2"),
+        ("plan disk wide 100", b"10 Limit 65 64 9"),
+        ("plan disk disk 8193", b"10 Limit 8193 8192 1"),
+        ("--workers=65 plan disk disk 9", b"10 Limit 65 64 3"),
+    ];
+    for (line, text) in table {
+        ends(&rt, alloc, line, &FILES, text)?;
     }
     Ok(())
 }

@@ -15,7 +15,7 @@ use std::test::Fail;
 use std::thread::Threads;
 
 // Four slots of memory and eight of disk.
-const FOUR_AND_EIGHT: &[u8] =
+pub const FOUR_AND_EIGHT: &[u8] =
     b"{\"forward\":1,\"reverse\":1,\"levels\":[{\"name\":\"RAM\",\"slots\":4,\"write\":0,\"read\":0},{\"name\":\"DISK\",\"slots\":8,\"write\":2,\"read\":1}]}";
 
 // Books with none, two and three slots, and with a slot on each of two levels; and a program of four words.
@@ -167,7 +167,7 @@ fn a_run_past_the_exit_writes_a_line_for_each_stopped_state(rt: HostRuntime) -> 
 }
 
 // Recorded input of three items of thirty bytes.
-fn ninety_bytes(alloc: Global) -> Result<Vec<u8>, AllocError> {
+pub fn ninety_bytes(alloc: Global) -> Result<Vec<u8>, AllocError> {
     let mut journal = Vec::from_slice(alloc, b"RVJL\x01\0\0\0\x03\0\0\0")?;
     for _ in 0..3 {
         journal.extend_from_slice(b"\x1e\0\0\0")?;

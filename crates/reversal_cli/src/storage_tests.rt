@@ -46,7 +46,7 @@ fn four_steps<R: Threads + Sync, K: Keeper>(
 }
 
 // How often a keeper was called, by put, get and free, and how many slots hold an image.
-fn calls(keeper: &MemoryKeeper) -> (u64, u64, u64, u32) {
+pub fn calls(keeper: &MemoryKeeper) -> (u64, u64, u64, u32) {
     (
         keeper.puts(),
         keeper.gets(),
@@ -56,13 +56,13 @@ fn calls(keeper: &MemoryKeeper) -> (u64, u64, u64, u32) {
 }
 
 // A keeper whose call of this kind and number fails.
-fn failing(alloc: Global, slots: u32, op: Op, call: u64) -> Result<MemoryKeeper, AllocError> {
+pub fn failing(alloc: Global, slots: u32, op: Op, call: u64) -> Result<MemoryKeeper, AllocError> {
     let list = vec![in alloc; (op, call)]?;
     Ok(MemoryKeeper::new(alloc, slots).failing(list))
 }
 
 // An ending has this text.
-fn says(rt: &impl Abort, ended: &Ended, text: &str) {
+pub fn says(rt: &impl Abort, ended: &Ended, text: &str) {
     let mut line = Line::new();
     ended_text(ended, &mut line);
     assert_eq!(rt; line.bytes(), text.as_bytes());

@@ -1,4 +1,4 @@
-use Rattle.std.proofs.Common.{◌≡◌, ◌⊎◌, inl, inr, ◌∙◌, ℕ, List, [], ◌∷◌, length, map, get_or, Vec, Global, IfOk, IfErr, sym, subst, arith}
+use Rattle.std.proofs.Common.{◌≡◌, ◌⊎◌, inl, inr, ◌∙◌, ℕ, List, [], ◌∷◌, map, Vec, Global, IfOk, IfErr, sym, subst, arith}
 use Rattle.reversal.specs.Request.{Choice}
 use Rattle.reversal.specs.Decision.{accept, refuse, DecidesBytes}
 use Rattle.reversal.specs.Ending.{no_memory}
@@ -6,23 +6,19 @@ use Rattle.reversal.specs.JobReading.{job_of}
 use Rattle.reversal.specs.Request.{certify}
 use Rattle.reversal.specs.RequestReading.{as_certify}
 use Rattle.reversal.proofs.Answering.{if_okay, if_error}
+use Rattle.reversal.proofs.Taking.{three_texts}
 use Rattle.reversal.proofs.certifying.decide_certify.Goals as goal
-
--- the texts as code reads them
-three : (texts : List (Vec ℕ Global)) (a b c : Vec ℕ Global) → length texts ≡ 3 → a ≡ get_or texts 0 a → b ≡ get_or texts 1 b → c ≡ get_or texts 2 c → map (λ (t : Vec ℕ Global). t.items) texts ≡ a.items ∷ b.items ∷ c.items ∷ []
-three (x ∷ y ∷ z ∷ []) a b c h e f g = λ i. (sym e i).items ∷ (sym f i).items ∷ (sym g i).items ∷ []
-three other a b c h e f g = absurd (omega (arith, h))
 
 pub returns-clause-accepted : goal.returns-clause-accepted
 returns-clause-accepted c =
-    let same = three c.args.bytes.now c.book-item.result c.schedule-item.result c.certificate-item.result (omega arith) c.book-item.is c.schedule-item.is c.certificate-item.is in
+    let same = three_texts c.args.bytes.now c.book-item.result c.schedule-item.result c.certificate-item.result (omega arith) c.book-item.is c.schedule-item.is c.certificate-item.is in
     let deref : c.deref.result.now ∷ c.deref-2.result.now ∷ c.deref-3.result.now ∷ [] ≡ map (λ (t : Vec ℕ Global). t.items) c.args.bytes.now = (λ i. c.deref.ensures.value i ∷ c.deref-2.ensures.value i ∷ c.deref-3.ensures.value i ∷ []) ∙ sym same in
     let P : List (List ℕ) → Type 0 = λ l. IfOk c.certify_texts.result (λ job. (slots : List ℕ) → (options : List Choice) → DecidesBytes options (certify (as_certify c.args.certify.now)) l slots (accept (job_of job))) in
     subst P deref (if_okay c.certify_texts.result _ _ (λ job h slots options. h) c.certify_texts.ensures.accepted)
 
 pub returns-clause-refused : goal.returns-clause-refused
 returns-clause-refused c =
-    let same = three c.args.bytes.now c.book-item.result c.schedule-item.result c.certificate-item.result (omega arith) c.book-item.is c.schedule-item.is c.certificate-item.is in
+    let same = three_texts c.args.bytes.now c.book-item.result c.schedule-item.result c.certificate-item.result (omega arith) c.book-item.is c.schedule-item.is c.certificate-item.is in
     let deref : c.deref.result.now ∷ c.deref-2.result.now ∷ c.deref-3.result.now ∷ [] ≡ map (λ (t : Vec ℕ Global). t.items) c.args.bytes.now = (λ i. c.deref.ensures.value i ∷ c.deref-2.ensures.value i ∷ c.deref-3.ensures.value i ∷ []) ∙ sym same in
     let P : List (List ℕ) → Type 0 = λ l. IfErr c.certify_texts.result (λ e. (e ≡ no_memory) ⊎ ((slots : List ℕ) → (options : List Choice) → DecidesBytes options (certify (as_certify c.args.certify.now)) l slots (refuse e))) in
     subst P deref (if_error c.certify_texts.result _ _ (λ e h. elim h [ inl memory ↦ inl memory | inr decides ↦ inr (λ slots options. decides) ]) c.certify_texts.ensures.refused)

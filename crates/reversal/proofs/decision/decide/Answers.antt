@@ -92,11 +92,35 @@ decide_certify-requires-clause-steps g c =
     let P : Command → Type 0 = λ x. AllByRecursion IsWithin (command_numbers (as_command x)) in
     (subst P c.in-Certify.is (all_after _ _ c.requires.numbers)).0.1
 
+pub decide_ask-requires-clause-stack : goal.decide_ask-requires-clause-stack
+decide_ask-requires-clause-stack g c = stack_within c.args.request.now.options (all_front _ _ c.requires.numbers)
+
+pub decide_ask-requires-clause-steps : goal.decide_ask-requires-clause-steps
+decide_ask-requires-clause-steps g c =
+    let P : Command → Type 0 = λ x. AllByRecursion IsWithin (command_numbers (as_command x)) in
+    (subst P c.in-Ask.is (all_after _ _ c.requires.numbers)).0.1
+
+pub decide_ask-requires-clause-question : goal.decide_ask-requires-clause-question
+decide_ask-requires-clause-question g c =
+    let P : Command → Type 0 = λ x. AllByRecursion IsWithin (command_numbers (as_command x)) in
+    (subst P c.in-Ask.is (all_after _ _ c.requires.numbers)).1.0
+
+pub decide_price-requires-clause-steps : goal.decide_price-requires-clause-steps
+decide_price-requires-clause-steps g c =
+    let P : Command → Type 0 = λ x. AllByRecursion IsWithin (command_numbers (as_command x)) in
+    (subst P c.in-Price.is (all_after _ _ c.requires.numbers)).0.1
+
 pub returns-in-Run-clause-refused : goal.returns-in-Run-clause-refused
 returns-in-Run-clause-refused g c =
     let bytes : List (List ℕ) = map (λ b. b.items) c.args.bytes.now in
     let P : Command → Type 0 = λ x. IfErr c.decide_run.result (λ e. (e ≡ no_memory) ⊎ DecidesBytes c.args.request.now.options (as_command x) bytes c.args.counts.now (refuse e)) in
     subst P (sym c.in-Run.is) c.decide_run.ensures.refused
+
+pub returns-in-Ask-clause-refused : goal.returns-in-Ask-clause-refused
+returns-in-Ask-clause-refused g c =
+    let bytes : List (List ℕ) = map (λ b. b.items) c.args.bytes.now in
+    let P : Command → Type 0 = λ x. IfErr c.decide_ask.result (λ e. (e ≡ no_memory) ⊎ DecidesBytes c.args.request.now.options (as_command x) bytes c.args.counts.now (refuse e)) in
+    subst P (sym c.in-Ask.is) c.decide_ask.ensures.refused
 
 pub returns-in-Check-clause-accepted : goal.returns-in-Check-clause-accepted
 returns-in-Check-clause-accepted g c =
@@ -127,6 +151,21 @@ returns-in-Certify-clause-refused g c =
 
 pub returns-in-Certify-clause-room : goal.returns-in-Certify-clause-room
 returns-in-Certify-clause-room g c = if_okay c.decide_certify.result _ _ (λ job h. h c.args.counts.now) c.decide_certify.ensures.room
+
+pub returns-in-Price-clause-accepted : goal.returns-in-Price-clause-accepted
+returns-in-Price-clause-accepted g c =
+    let bytes : List (List ℕ) = map (λ b. b.items) c.args.bytes.now in
+    let P : Command → Type 0 = λ x. IfOk c.decide_price.result (λ job. DecidesBytes c.args.request.now.options (as_command x) bytes c.args.counts.now (accept (job_of job))) in
+    subst P (sym c.in-Price.is) (if_okay c.decide_price.result _ _ (λ job h. h c.args.counts.now c.args.request.now.options) c.decide_price.ensures.accepted)
+
+pub returns-in-Price-clause-refused : goal.returns-in-Price-clause-refused
+returns-in-Price-clause-refused g c =
+    let bytes : List (List ℕ) = map (λ b. b.items) c.args.bytes.now in
+    let P : Command → Type 0 = λ x. IfErr c.decide_price.result (λ e. (e ≡ no_memory) ⊎ DecidesBytes c.args.request.now.options (as_command x) bytes c.args.counts.now (refuse e)) in
+    subst P (sym c.in-Price.is) (if_error c.decide_price.result _ _ (λ e h. elim h [ inl memory ↦ inl memory | inr decides ↦ inr (decides c.args.counts.now c.args.request.now.options) ]) c.decide_price.ensures.refused)
+
+pub returns-in-Price-clause-room : goal.returns-in-Price-clause-room
+returns-in-Price-clause-room g c = if_okay c.decide_price.result _ _ (λ job h. h c.args.counts.now) c.decide_price.ensures.room
 
 pub returns-in-RunRevolve-clause-refused : goal.returns-in-RunRevolve-clause-refused
 returns-in-RunRevolve-clause-refused g c =

@@ -1,4 +1,4 @@
-use Rattle.std.proofs.Common.{◌≡◌, ◌⊎◌, inl, inr, ◌∙◌, ℕ, List, [], ◌∷◌, length, map, get_or, Vec, Global, IfOk, IfErr, sym, subst, arith}
+use Rattle.std.proofs.Common.{◌≡◌, ◌⊎◌, inl, inr, ◌∙◌, ℕ, List, [], ◌∷◌, map, Vec, Global, IfOk, IfErr, sym, subst, arith}
 use Rattle.reversal.specs.Request.{Choice}
 use Rattle.reversal.specs.Decision.{accept, refuse, DecidesBytes}
 use Rattle.reversal.specs.Ending.{no_memory}
@@ -6,23 +6,19 @@ use Rattle.reversal.specs.JobReading.{job_of}
 use Rattle.reversal.specs.Request.{check}
 use Rattle.reversal.specs.RequestReading.{as_check}
 use Rattle.reversal.proofs.Answering.{if_okay, if_error}
+use Rattle.reversal.proofs.Taking.{two_texts}
 use Rattle.reversal.proofs.decision.decide_check.Goals as goal
-
--- the texts of a judgement as code reads them
-two : (texts : List (Vec ℕ Global)) (a b : Vec ℕ Global) → length texts ≡ 2 → a ≡ get_or texts 0 a → b ≡ get_or texts 1 b → map (λ (t : Vec ℕ Global). t.items) texts ≡ a.items ∷ b.items ∷ []
-two (x ∷ y ∷ []) a b h e f = λ i. (sym e i).items ∷ (sym f i).items ∷ []
-two other a b h e f = absurd (omega (arith, h))
 
 pub returns-clause-accepted : goal.returns-clause-accepted
 returns-clause-accepted c =
-    let same = two c.args.bytes.now c.book-item.result c.schedule-item.result (omega arith) c.book-item.is c.schedule-item.is in
+    let same = two_texts c.args.bytes.now c.book-item.result c.schedule-item.result (omega arith) c.book-item.is c.schedule-item.is in
     let deref : c.deref.result.now ∷ c.deref-2.result.now ∷ [] ≡ map (λ (t : Vec ℕ Global). t.items) c.args.bytes.now = (λ i. c.deref.ensures.value i ∷ c.deref-2.ensures.value i ∷ []) ∙ sym same in
     let P : List (List ℕ) → Type 0 = λ l. IfOk c.judge_texts.result (λ job. (slots : List ℕ) → (options : List Choice) → DecidesBytes options (check (as_check c.args.check.now)) l slots (accept (job_of job))) in
     subst P deref (if_okay c.judge_texts.result _ _ (λ job h slots options. h) c.judge_texts.ensures.accepted)
 
 pub returns-clause-refused : goal.returns-clause-refused
 returns-clause-refused c =
-    let same = two c.args.bytes.now c.book-item.result c.schedule-item.result (omega arith) c.book-item.is c.schedule-item.is in
+    let same = two_texts c.args.bytes.now c.book-item.result c.schedule-item.result (omega arith) c.book-item.is c.schedule-item.is in
     let deref : c.deref.result.now ∷ c.deref-2.result.now ∷ [] ≡ map (λ (t : Vec ℕ Global). t.items) c.args.bytes.now = (λ i. c.deref.ensures.value i ∷ c.deref-2.ensures.value i ∷ []) ∙ sym same in
     let P : List (List ℕ) → Type 0 = λ l. IfErr c.judge_texts.result (λ e. (e ≡ no_memory) ⊎ ((slots : List ℕ) → (options : List Choice) → DecidesBytes options (check (as_check c.args.check.now)) l slots (refuse e))) in
     subst P deref (if_error c.judge_texts.result _ _ (λ e h. elim h [ inl memory ↦ inl memory | inr decides ↦ inr (λ slots options. decides) ]) c.judge_texts.ensures.refused)

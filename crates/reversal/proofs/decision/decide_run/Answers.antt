@@ -1,50 +1,28 @@
-use Rattle.std.proofs.Common.{◌≡◌, ◌⊎◌, ◌∙◌, ℕ, List, [], ◌∷◌, length, map, get_or, Vec, Global, IfOk, IfErr, sym, subst, arith}
-use Rattle.reversal.specs.Decision.{accept, refuse, DecidesBytes}
+use Rattle.std.proofs.Common.{◌≡◌, ◌⊎◌, ℕ, map, sym, subst}
+use Rattle.level_book.specs.BookCosts.{slots_of}
+use Rattle.reversal.specs.declared.ended.Ended.{Ended}
+use Rattle.reversal.specs.Deeds.{Job, perform}
+use Rattle.reversal.specs.Decision.{accept, refuse, performed, DecidesOverBytes}
 use Rattle.reversal.specs.Ending.{no_memory}
-use Rattle.reversal.specs.JobReading.{job_of}
-use Rattle.reversal.specs.Request.{run}
 use Rattle.reversal.specs.RequestReading.{as_run}
+use Rattle.reversal.proofs.Deciding.{on_error}
 use Rattle.reversal.proofs.decision.decide_run.Goals as goal
 
--- the texts of a run as code reads them
-three : (texts : List (Vec ℕ Global)) (a b c : Vec ℕ Global) → length texts ≡ 3 → a ≡ get_or texts 0 a → b ≡ get_or texts 1 b → c ≡ get_or texts 2 c →
-    map (λ (t : Vec ℕ Global). t.items) texts ≡ a.items ∷ b.items ∷ c.items ∷ []
-three (x ∷ y ∷ z ∷ []) a b c h e f g = λ i. (sym e i).items ∷ (sym f i).items ∷ (sym g i).items ∷ []
-three other a b c h e f g = absurd (omega (arith, h))
+pub decide_over-requires-clause-inputs : goal.decide_over-requires-clause-inputs
+decide_over-requires-clause-inputs c = (as_run c.args.run.now, c.requires.inputs)
 
-four : (texts : List (Vec ℕ Global)) (a b c d : Vec ℕ Global) → length texts ≡ 4 → a ≡ get_or texts 0 a → b ≡ get_or texts 1 b → c ≡ get_or texts 2 c → d ≡ get_or texts 3 d →
-    map (λ (t : Vec ℕ Global). t.items) texts ≡ a.items ∷ b.items ∷ c.items ∷ d.items ∷ []
-four (w ∷ x ∷ y ∷ z ∷ []) a b c d h e f g k = λ i. (sym e i).items ∷ (sym f i).items ∷ (sym g i).items ∷ (sym k i).items ∷ []
-four other a b c d h e f g k = absurd (omega (arith, h))
+pub returns-in_err-over-clause-refused : goal.returns-in_err-over-clause-refused
+returns-in_err-over-clause-refused c =
+    let steps = c.args.run.now.steps in
+    on_error c.from_residual.result _ _ c.from_residual.ensures.1 (λ e gives.
+    let same : c.in_err-over.field-0.0 ≡ e = cc in
+    let P : Ended → Type 0 = λ x. (x ≡ no_memory) ⊎ DecidesOverBytes (performed steps) c.args.options.now steps (map (λ b. b.items) c.args.bytes.now) c.args.counts.now (refuse x) in
+    subst P same (c.in_err-over.ensures.refused (performed steps)))
 
-pub returns-in-len3-clause-accepted : goal.returns-in-len3-clause-accepted
-returns-in-len3-clause-accepted c =
-    let same = three c.args.bytes.now c.program-item.result c.book-item.result c.schedule-item.result (omega arith) c.program-item.is c.book-item.is c.schedule-item.is in
-    let deref : c.deref.result.now ∷ c.deref-in-len3.result.now ∷ c.deref-in-len3-2.result.now ∷ [] ≡ map (λ (t : Vec ℕ Global). t.items) c.args.bytes.now =
-    (λ i. c.deref.ensures.value i ∷ c.deref-in-len3.ensures.value i ∷ c.deref-in-len3-2.ensures.value i ∷ []) ∙ sym same in
-    let P : List (List ℕ) → Type 0 = λ l. IfOk c.decide_texts.result (λ job. DecidesBytes c.args.options.now (run (as_run c.args.run.now)) l c.args.counts.now (accept (job_of job))) in
-    subst P deref c.decide_texts.ensures.accepted
-
-pub returns-in-len3-clause-refused : goal.returns-in-len3-clause-refused
-returns-in-len3-clause-refused c =
-    let same = three c.args.bytes.now c.program-item.result c.book-item.result c.schedule-item.result (omega arith) c.program-item.is c.book-item.is c.schedule-item.is in
-    let deref : c.deref.result.now ∷ c.deref-in-len3.result.now ∷ c.deref-in-len3-2.result.now ∷ [] ≡ map (λ (t : Vec ℕ Global). t.items) c.args.bytes.now =
-    (λ i. c.deref.ensures.value i ∷ c.deref-in-len3.ensures.value i ∷ c.deref-in-len3-2.ensures.value i ∷ []) ∙ sym same in
-    let P : List (List ℕ) → Type 0 = λ l. IfErr c.decide_texts.result (λ e. (e ≡ no_memory) ⊎ DecidesBytes c.args.options.now (run (as_run c.args.run.now)) l c.args.counts.now (refuse e)) in
-    subst P deref c.decide_texts.ensures.refused
-
-pub returns-in-len4-clause-accepted : goal.returns-in-len4-clause-accepted
-returns-in-len4-clause-accepted c =
-    let same = four c.args.bytes.now c.program-item-then-bytes-lt5.result c.journal-item.result c.book-item-then-bytes-lt5.result c.schedule-item-then-bytes-lt5.result (omega arith) c.program-item-then-bytes-lt5.is c.journal-item.is c.book-item-then-bytes-lt5.is c.schedule-item-then-bytes-lt5.is in
-    let deref : c.deref-in-len4.result.now ∷ c.deref-in-len4-2.result.now ∷ c.deref-in-len4-3.result.now ∷ c.deref-in-len4-4.result.now ∷ [] ≡ map (λ (t : Vec ℕ Global). t.items) c.args.bytes.now =
-    (λ i. c.deref-in-len4.ensures.value i ∷ c.deref-in-len4-2.ensures.value i ∷ c.deref-in-len4-3.ensures.value i ∷ c.deref-in-len4-4.ensures.value i ∷ []) ∙ sym same in
-    let P : List (List ℕ) → Type 0 = λ l. IfOk c.decide_texts-in-len4.result (λ job. DecidesBytes c.args.options.now (run (as_run c.args.run.now)) l c.args.counts.now (accept (job_of job))) in
-    subst P deref c.decide_texts-in-len4.ensures.accepted
-
-pub returns-in-len4-clause-refused : goal.returns-in-len4-clause-refused
-returns-in-len4-clause-refused c =
-    let same = four c.args.bytes.now c.program-item-then-bytes-lt5.result c.journal-item.result c.book-item-then-bytes-lt5.result c.schedule-item-then-bytes-lt5.result (omega arith) c.program-item-then-bytes-lt5.is c.journal-item.is c.book-item-then-bytes-lt5.is c.schedule-item-then-bytes-lt5.is in
-    let deref : c.deref-in-len4.result.now ∷ c.deref-in-len4-2.result.now ∷ c.deref-in-len4-3.result.now ∷ c.deref-in-len4-4.result.now ∷ [] ≡ map (λ (t : Vec ℕ Global). t.items) c.args.bytes.now =
-    (λ i. c.deref-in-len4.ensures.value i ∷ c.deref-in-len4-2.ensures.value i ∷ c.deref-in-len4-3.ensures.value i ∷ c.deref-in-len4-4.ensures.value i ∷ []) ∙ sym same in
-    let P : List (List ℕ) → Type 0 = λ l. IfErr c.decide_texts-in-len4.result (λ e. (e ≡ no_memory) ⊎ DecidesBytes c.args.options.now (run (as_run c.args.run.now)) l c.args.counts.now (refuse e)) in
-    subst P deref c.decide_texts-in-len4.ensures.refused
+pub returns-clause-accepted : goal.returns-clause-accepted
+returns-clause-accepted c =
+    let o = c.in_ok-over.over in
+    let steps = c.args.run.now.steps in
+    let D : Job → Type 0 = λ j. DecidesOverBytes (performed steps) c.args.options.now steps (map (λ b. b.items) c.args.bytes.now) c.args.counts.now (accept j) in
+    let P : ℕ → Type 0 = λ n. D (perform o.start o.journal n (slots_of o.book) o.list.items) in
+    subst D (sym c.performance.ensures.job) (subst P (sym c.in_ok-over.ensures.steps) (c.in_ok-over.ensures.accepted (performed steps)))

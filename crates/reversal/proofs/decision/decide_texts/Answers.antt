@@ -7,61 +7,58 @@ use Rattle.action_text.specs.Faults.{HasFirstFault}
 use Rattle.reversal.specs.declared.ended.Ended.{Ended}
 use Rattle.reversal.specs.Ending.{bad_program, bad_journal, bad_book, bad_text}
 use Rattle.reversal.specs.Request.{says_raw, stack_pages}
-use Rattle.reversal.specs.Deeds.{perform}
-use Rattle.reversal.specs.Decision.{refuse, accept, DecidesRun, Keep, HasBookFault, HasProgramFault, HasJournalFault}
+use Rattle.reversal.specs.Decision.{refuse, Keep, HasBookFault, HasProgramFault, HasJournalFault}
 use Rattle.reversal.specs.JobReading.{IsRefusal}
-use Rattle.reversal.proofs.Deciding.{on_error, IsBroken, run_by_book, run_by_keepers, run_by_program, run_by_journal, run_by_text, run_by_rules, run_accepted}
+use Rattle.reversal.proofs.Deciding.{on_error, IsBroken, over_by_book, over_by_keepers, over_by_program, over_by_journal, over_by_text, over_by_rules, over_accepted}
 use Rattle.reversal.proofs.decision.decide_texts.Goals as goal
 
 pub returns-in_err-book-clause-refused : goal.returns-in_err-book-clause-refused
-returns-in_err-book-clause-refused c =
+returns-in_err-book-clause-refused c job =
     on_error c.from_residual.result _ _ c.from_residual.ensures.1 (λ e gives.
     let same : c.in_err-book.field-0.0 ≡ e = cc in
     let P : Ended → Type 0 = λ x. IsRefusal (HasBookFault c.args.texts.book.now) bad_book x in
-    run_by_book c.args.options.now c.args.steps c.args.texts.program.now (option_copied c.args.texts.journal) c.args.texts.book.now c.args.texts.schedule.now c.args.counts.now e (subst P same c.in_err-book.ensures.refused))
+    over_by_book job c.args.options.now c.args.steps c.args.texts.program.now (option_copied c.args.texts.journal) c.args.texts.book.now c.args.texts.schedule.now c.args.counts.now e (subst P same c.in_err-book.ensures.refused))
 
 pub returns-in_err-keep-clause-refused : goal.returns-in_err-keep-clause-refused
-returns-in_err-keep-clause-refused c =
+returns-in_err-keep-clause-refused c job =
     on_error c.from_residual-in_err-keep.result _ _ c.from_residual-in_err-keep.ensures.1 (λ e gives.
     let same : c.in_err-keep.field-0.0 ≡ e = cc in
     let P : Ended → Type 0 = λ x. Keep c.args.steps (slots_of c.in_ok-book.book) c.args.counts.now (refuse x) ⊥ in
-    run_by_keepers c.args.options.now c.args.steps c.args.texts.program.now (option_copied c.args.texts.journal) c.args.texts.book.now c.args.texts.schedule.now c.args.counts.now e c.in_ok-book.book c.in_ok-book.ensures.found (subst P same c.in_err-keep.ensures.refused))
+    over_by_keepers job c.args.options.now c.args.steps c.args.texts.program.now (option_copied c.args.texts.journal) c.args.texts.book.now c.args.texts.schedule.now c.args.counts.now e c.in_ok-book.book c.in_ok-book.ensures.found (subst P same c.in_err-keep.ensures.refused))
 
 pub returns-in_err-start-clause-refused : goal.returns-in_err-start-clause-refused
-returns-in_err-start-clause-refused c =
+returns-in_err-start-clause-refused c job =
     on_error c.from_residual-in_err-start.result _ _ c.from_residual-in_err-start.ensures.1 (λ e gives.
     let same : c.in_err-start.field-0.0 ≡ e = cc in
     let P : Ended → Type 0 = λ x. IsRefusal (HasProgramFault (says_raw c.args.options.now) (stack_pages c.args.options.now) c.args.texts.program.now) bad_program x in
-    run_by_program c.args.options.now c.args.steps c.args.texts.program.now (option_copied c.args.texts.journal) c.args.texts.book.now c.args.texts.schedule.now c.args.counts.now e c.in_ok-book.book c.in_ok-book.ensures.found c.in_ok-keep.ensures.room (subst P same c.in_err-start.ensures.refused))
+    over_by_program job c.args.options.now c.args.steps c.args.texts.program.now (option_copied c.args.texts.journal) c.args.texts.book.now c.args.texts.schedule.now c.args.counts.now e c.in_ok-book.book c.in_ok-book.ensures.found c.in_ok-keep.ensures.room (subst P same c.in_err-start.ensures.refused))
 
 pub returns-in_err-journal-clause-refused : goal.returns-in_err-journal-clause-refused
-returns-in_err-journal-clause-refused c =
+returns-in_err-journal-clause-refused c job =
     on_error c.from_residual-in_err-journal.result _ _ c.from_residual-in_err-journal.ensures.1 (λ e gives.
     let same : c.in_err-journal.field-0.0 ≡ e = cc in
     let P : Ended → Type 0 = λ x. IsRefusal (HasJournalFault (option_copied c.args.texts.journal)) bad_journal x in
-    run_by_journal c.args.options.now c.args.steps c.args.texts.program.now (option_copied c.args.texts.journal) c.args.texts.book.now c.args.texts.schedule.now c.args.counts.now e c.in_ok-book.book c.in_ok-start.start c.in_ok-book.ensures.found c.in_ok-keep.ensures.room c.in_ok-start.ensures.found (subst P same c.in_err-journal.ensures.refused))
+    over_by_journal job c.args.options.now c.args.steps c.args.texts.program.now (option_copied c.args.texts.journal) c.args.texts.book.now c.args.texts.schedule.now c.args.counts.now e c.in_ok-book.book c.in_ok-start.start c.in_ok-book.ensures.found c.in_ok-keep.ensures.room c.in_ok-start.ensures.found (subst P same c.in_err-journal.ensures.refused))
 
 pub returns-in_err-list-clause-refused : goal.returns-in_err-list-clause-refused
-returns-in_err-list-clause-refused c =
+returns-in_err-list-clause-refused c job =
     on_error c.from_residual-in_err-list.result _ _ c.from_residual-in_err-list.ensures.1 (λ e gives.
     let same : c.in_err-list.field-0.0 ≡ e = cc in
     let P : Ended → Type 0 = λ x. IsRefusal (HasFirstFault (names_of c.in_ok-book.book) c.args.texts.schedule.now) bad_text x in
-    run_by_text c.args.options.now c.args.steps c.args.texts.program.now (option_copied c.args.texts.journal) c.args.texts.book.now c.args.texts.schedule.now c.args.counts.now e c.in_ok-book.book c.in_ok-start.start c.in_ok-journal.journal c.in_ok-book.ensures.found c.in_ok-keep.ensures.room c.in_ok-start.ensures.found c.in_ok-journal.ensures.found (subst P same c.in_err-list.ensures.refused))
+    over_by_text job c.args.options.now c.args.steps c.args.texts.program.now (option_copied c.args.texts.journal) c.args.texts.book.now c.args.texts.schedule.now c.args.counts.now e c.in_ok-book.book c.in_ok-start.start c.in_ok-journal.journal c.in_ok-book.ensures.found c.in_ok-keep.ensures.room c.in_ok-start.ensures.found c.in_ok-journal.ensures.found (subst P same c.in_err-list.ensures.refused))
 
 pub returns-in_err-judge-clause-refused : goal.returns-in_err-judge-clause-refused
-returns-in_err-judge-clause-refused c =
+returns-in_err-judge-clause-refused c job =
     on_error c.from_residual-in_err-judge.result _ _ c.from_residual-in_err-judge.ensures.1 (λ e gives.
     let same : c.in_err-judge.field-0.0 ≡ e = cc in
     let slots = slots_of c.in_ok-book.book in
     let L : List Action → Type 0 = λ l. IsBroken c.args.steps slots l c.in_err-judge.field-0.0 in
     let P : Ended → Type 0 = λ x. IsBroken c.args.steps slots c.in_ok-list.list.items x in
-    run_by_rules c.args.options.now c.args.steps c.args.texts.program.now (option_copied c.args.texts.journal) c.args.texts.book.now c.args.texts.schedule.now c.args.counts.now e c.in_ok-book.book c.in_ok-start.start c.in_ok-journal.journal c.in_ok-list.list.items c.in_ok-book.ensures.found c.in_ok-keep.ensures.room c.in_ok-start.ensures.found c.in_ok-journal.ensures.found c.in_ok-list.ensures.found
+    over_by_rules job c.args.options.now c.args.steps c.args.texts.program.now (option_copied c.args.texts.journal) c.args.texts.book.now c.args.texts.schedule.now c.args.counts.now e c.in_ok-book.book c.in_ok-start.start c.in_ok-journal.journal c.in_ok-list.list.items c.in_ok-book.ensures.found c.in_ok-keep.ensures.room c.in_ok-start.ensures.found c.in_ok-journal.ensures.found c.in_ok-list.ensures.found
     (subst P same (subst L c.deref.ensures.value c.in_err-judge.ensures.broken)))
 
 pub returns-clause-accepted : goal.returns-clause-accepted
-returns-clause-accepted c =
-    let slots = slots_of c.in_ok-book.book in
-    let L : List Action → Type 0 = λ l. Valid c.args.steps slots l in
-    let P : List Action → Type 0 = λ l. DecidesRun c.args.options.now c.args.steps c.args.texts.program.now (option_copied c.args.texts.journal) c.args.texts.book.now c.args.texts.schedule.now c.args.counts.now (accept (perform c.in_ok-start.start c.in_ok-journal.journal c.args.steps slots l)) in
-    subst P (sym c.new.ensures) (run_accepted c.args.options.now c.args.steps c.args.texts.program.now (option_copied c.args.texts.journal) c.args.texts.book.now c.args.texts.schedule.now c.args.counts.now c.in_ok-book.book c.in_ok-start.start c.in_ok-journal.journal c.in_ok-list.list.items
-    c.in_ok-book.ensures.found c.in_ok-keep.ensures.room c.in_ok-start.ensures.found c.in_ok-journal.ensures.found c.in_ok-list.ensures.found (subst L c.deref.ensures.value c.in_ok-judge.ensures.valid))
+returns-clause-accepted c job =
+    let L : List Action → Type 0 = λ l. Valid c.args.steps (slots_of c.in_ok-book.book) l in
+    over_accepted job c.args.options.now c.args.steps c.args.texts.program.now (option_copied c.args.texts.journal) c.args.texts.book.now c.args.texts.schedule.now c.args.counts.now c.in_ok-book.book c.in_ok-start.start c.in_ok-journal.journal c.in_ok-list.list.items
+    c.in_ok-book.ensures.found c.in_ok-keep.ensures.room c.in_ok-start.ensures.found c.in_ok-journal.ensures.found c.in_ok-list.ensures.found (subst L c.deref.ensures.value c.in_ok-judge.ensures.valid)

@@ -19,7 +19,7 @@ use Rattle.reversal.specs.ActionsLeft.{left_of}
 use Rattle.reversal.proofs.Lists.{at_front, none_left}
 use Rattle.reversal.proofs.OnTheWay.{allowed, led_on}
 use Rattle.reversal.proofs.Doing.{did_none, failed_at, damaged_at, halted_at}
-use Rattle.reversal.proofs.Showing.{showing, IsAbove, above_at_start}
+use Rattle.reversal.proofs.Showing.{showing, shown_by, IsAbove, above_at_start}
 use Rattle.reversal.proofs.Performing.{same_sink, same_sink_missed, bytes_performed, steps_performed, calls_named, calls_one, gets_pair}
 use Rattle.reversal.proofs.Progress.{did_so_far, did_before, broke_before, shown_so_far, above_so_far, past_is_unnamed, acts_keep_pages, wrong_of, empty_tell, held_at_end}
 use Rattle.reversal.proofs.job.perform_all.Goals as goal
@@ -219,7 +219,7 @@ returns-in-Err-Keeper-clause-works g c =
     c.in-Err-Keeper.ensures.uncounted c.in-Err-Keeper.ensures.called_at_most in
     let cause = c.perform.ensures.keeper_cause c.in-Err-Keeper.level fault in
     inl (
-      shown,
+      shown_by shown,
       (
         so_far.did.1.0,
         inr (inr (inl (
@@ -252,7 +252,7 @@ returns-in-Err-Damaged-clause-works g c =
     c.in-Err-Damaged.ensures.uncounted c.in-Err-Damaged.ensures.called_at_most in
     let damage = c.perform.ensures.damaged c.in-Err-Damaged.level c.in-Err-Damaged.put c.in-Err-Damaged.got fault in
     inl (
-      shown,
+      shown_by shown,
       (
         so_far.did.1.0,
         inr (inr (inr (
@@ -289,7 +289,7 @@ returns-in-Err-Memory-clause-works g c =
     let breaks = broke_before g.O.Sink.told g.O.Sink.call_count g.K.Keeper.told g.K.Keeper.put_count g.K.Keeper.get_count g.K.Keeper.free_count shown steps list i a old c.loop-action.writer c.perform.new.visitor _ c.loop-action.keepers.items c.perform.new.keepers.items _ _ at so_far.did.1.1 same last
     c.in-Err-Memory.ensures.uncounted c.in-Err-Memory.ensures.called_at_most in
     let one = calls_one shown steps a (c.perform.ensures.wants fault) in
-    inr (c.no_memory.ensures, (shown, (so_far.did.1.0, halted_at (perform first session.journal steps slots list) (map (deed_of shown steps) list) i (deed_of shown steps a) old _ breaks one)))
+    inr (c.no_memory.ensures, (shown_by shown, (so_far.did.1.0, halted_at (perform first session.journal steps slots list) (map (deed_of shown steps) list) i (deed_of shown steps a) old _ breaks one)))
 
 pub returns-in-Err-Visitor-clause-works : goal.returns-in-Err-Visitor-clause-works
 returns-in-Err-Visitor-clause-works g c =
@@ -319,7 +319,7 @@ returns-in-Err-Visitor-clause-works g c =
     c.in-Err-Visitor.ensures.uncounted c.in-Err-Visitor.ensures.called_at_most in
     let P : g.row.O.Denot → Type 0 = λ o. DidUntil (map (deed_of now steps) list) ended.place old (moment g.O.Sink.told g.O.Sink.call_count g.K.Keeper.told g.K.Keeper.put_count g.K.Keeper.get_count g.K.Keeper.free_count o c.perform.new.keepers.items c.perform.new.steps) in
     inl (
-      now,
+      shown_by now,
       (
         λ tells n within.
             shown_so_far first session.journal steps slots (take i list) before (told_by g.K.Keeper.told c.loop-action.keepers.items) a goes.0 shown n so_far.journal so_far.leads goes.1 (so_far.stands tells)
@@ -327,6 +327,7 @@ returns-in-Err-Visitor-clause-works g c =
         inr (inl (
           ended.place,
           c.stopped.ensures ∙ ap (λ k. ended_at 14 k) (sym place),
+          tt,
           subst P (sym last) until,
         )),
       ),
@@ -352,7 +353,7 @@ returns-clause-works g c =
     let did = subst P (sym last) (subst D whole so_far.did.1.1) in
     let B : List ℕ → Type 0 = λ bytes. Tells (g.O.Sink.told c.args.out.now) (g.O.Sink.told c.out-in_default-1.given.0) (Adds bytes) in
     inl (
-      shown,
+      shown_by shown,
       (
         so_far.did.1.0,
         inl (
@@ -361,6 +362,7 @@ returns-clause-works g c =
             did = did;
             output_whole = subst B (bytes_performed shown steps slots list c.requires.valid) did.added;
             stepped = did.counted ∙ ap (λ n. c.args.counter.now + n) (steps_performed shown steps list);
+            answered = tt;
             held = λ empty end leads k within.
                 held_at_end first session.journal steps slots list c.loop-action.session (told_by g.K.Keeper.told c.loop-action.keepers.items) end k so_far.journal (subst L all so_far.leads) leads
                 (so_far.stands (empty_tell (length slots) (told_by g.K.Keeper.told c.args.keepers.now.items) empty)) (so_far.alone empty) so_far.count within;

@@ -7,8 +7,8 @@ use Rattle.reverse_runner.specs.LevelsStand.{AreAlone}
 use Rattle.reverse_runner.specs.SessionState.{levels_of, SamePages}
 use Rattle.reverse_runner.specs.Standing.{StandsAt}
 use Rattle.reversal.specs.ActionsLeft.{left_of}
-use Rattle.reversal.specs.Deeds.{perform, deed_of, moment, Did, Shown, IsShown, AllTell, AllEmpty}
-use Rattle.reversal.proofs.Showing.{IsAbove}
+use Rattle.reversal.specs.Deeds.{perform, deed_of, moment, Did, States, IsShown, AllTell, AllEmpty}
+use Rattle.reversal.proofs.Showing.{IsAbove, shown_by}
 use Rattle.reversal.proofs.job.perform_all.Given as goal
 
 -- The actions that are left stand behind those so far. The actions so far lead to where the session stands. Over keepers that tell its states are those of the run, and over
@@ -30,8 +30,8 @@ invariant-loop-action g l = record {
   alone : AllEmpty (length l.fn.session.situation.slots) (told_by g.K.Keeper.told l.fn.keepers.items) → AreAlone (levels_of l.session (told_by g.K.Keeper.told l.keepers.items));
   above : IsAbove l.fn.session.situation.steps (handed l.fn.session.situation.steps (take l.place (left_of l.fn.actions))) l.session.situation.at;
   did :
-      (shown : Shown)
-      × (IsShown (perform l.fn.session.work l.fn.session.journal l.fn.session.situation.steps l.fn.session.situation.slots (left_of l.fn.actions)) shown
+      (shown : States)
+      × (IsShown (perform l.fn.session.work l.fn.session.journal l.fn.session.situation.steps l.fn.session.situation.slots (left_of l.fn.actions)) (shown_by shown)
       (moment g.O.Sink.told g.O.Sink.call_count g.K.Keeper.told g.K.Keeper.put_count g.K.Keeper.get_count g.K.Keeper.free_count l.fn.out l.fn.keepers.items l.fn.counter)
       × Did (take l.place (map (deed_of shown l.fn.session.situation.steps) (left_of l.fn.actions)))
       (moment g.O.Sink.told g.O.Sink.call_count g.K.Keeper.told g.K.Keeper.put_count g.K.Keeper.get_count g.K.Keeper.free_count l.fn.out l.fn.keepers.items l.fn.counter)

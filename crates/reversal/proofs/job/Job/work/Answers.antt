@@ -13,6 +13,13 @@ returns-in-Perform-clause-works g c =
     (moment g.O.Sink.told g.O.Sink.call_count g.K.Keeper.told g.K.Keeper.put_count g.K.Keeper.get_count g.K.Keeper.free_count c.perform.new.out c.perform.new.keepers.items c.perform.new.counter) in
     subst P (sym c.in-Perform.is) c.perform.ensures.works
 
+pub returns-in-Ask-clause-works : goal.returns-in-Ask-clause-works
+returns-in-Ask-clause-works g c =
+    let P : Job → Type 0 = λ j. ((c.answer.result ≡ no_memory) × (c.answer.new.out ≡ c.args.out.now) × (c.answer.new.keepers ≡ c.args.keepers.now) × (c.answer.new.counter ≡ c.args.counter.now)) ⊎ Works (job_of j) c.answer.result
+    (moment g.O.Sink.told g.O.Sink.call_count g.K.Keeper.told g.K.Keeper.put_count g.K.Keeper.get_count g.K.Keeper.free_count c.args.out.now c.args.keepers.now.items c.args.counter.now)
+    (moment g.O.Sink.told g.O.Sink.call_count g.K.Keeper.told g.K.Keeper.put_count g.K.Keeper.get_count g.K.Keeper.free_count c.answer.new.out c.answer.new.keepers.items c.answer.new.counter) in
+    subst P (sym c.in-Ask.is) c.answer.ensures.works
+
 pub returns-in-Write-clause-works : goal.returns-in-Write-clause-works
 returns-in-Write-clause-works g c =
     let P : Job → Type 0 = λ j. Works (job_of j) c.write_text.result
@@ -20,12 +27,19 @@ returns-in-Write-clause-works g c =
     (moment g.O.Sink.told g.O.Sink.call_count g.K.Keeper.told g.K.Keeper.put_count g.K.Keeper.get_count g.K.Keeper.free_count c.write_text.new.out c.args.keepers.now.items c.args.counter.now) in
     inr (subst P (sym c.in-Write.is) (inl (c.write_text.ensures.works _ _ _)))
 
-pub returns-in-Plan-clause-works : goal.returns-in-Plan-clause-works
-returns-in-Plan-clause-works g c =
+pub returns-in-Report-clause-works : goal.returns-in-Report-clause-works
+returns-in-Report-clause-works g c =
     let P : Job → Type 0 = λ j. Works (job_of j) c.write.result
     (moment g.O.Sink.told g.O.Sink.call_count g.K.Keeper.told g.K.Keeper.put_count g.K.Keeper.get_count g.K.Keeper.free_count c.args.out.now c.args.keepers.now.items c.args.counter.now)
     (moment g.O.Sink.told g.O.Sink.call_count g.K.Keeper.told g.K.Keeper.put_count g.K.Keeper.get_count g.K.Keeper.free_count c.write.new.out c.args.keepers.now.items c.args.counter.now) in
-    inr (subst P (sym c.in-Plan.is) (inl (c.write.ensures.works _ _ _)))
+    inr (subst P (sym c.in-Report.is) (inl (c.write.ensures.works _ _ _)))
+
+pub returns-in-Plan-clause-works : goal.returns-in-Plan-clause-works
+returns-in-Plan-clause-works g c =
+    let P : Job → Type 0 = λ j. Works (job_of j) c.write-in-Plan.result
+    (moment g.O.Sink.told g.O.Sink.call_count g.K.Keeper.told g.K.Keeper.put_count g.K.Keeper.get_count g.K.Keeper.free_count c.args.out.now c.args.keepers.now.items c.args.counter.now)
+    (moment g.O.Sink.told g.O.Sink.call_count g.K.Keeper.told g.K.Keeper.put_count g.K.Keeper.get_count g.K.Keeper.free_count c.write-in-Plan.new.out c.args.keepers.now.items c.args.counter.now) in
+    inr (subst P (sym c.in-Plan.is) (inl (c.write-in-Plan.ensures.works _ _ _)))
 
 pub returns-in-Demonstrate-clause-works : goal.returns-in-Demonstrate-clause-works
 returns-in-Demonstrate-clause-works g c =

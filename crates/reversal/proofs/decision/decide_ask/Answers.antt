@@ -1,0 +1,39 @@
+use Rattle.std.proofs.Common.{◌≡◌, ◌⊎◌, inl, inr, ℕ, map, sym, subst}
+use Rattle.level_book.specs.BookCosts.{slots_of}
+use Rattle.reversal.specs.declared.ended.Ended.{Ended}
+use Rattle.reversal.specs.Bounds.{IsWithin, question_bound}
+use Rattle.reversal.specs.Deeds.{ask}
+use Rattle.reversal.specs.Decision.{accept, refuse, asked_about, DecidesOverBytes}
+use Rattle.reversal.specs.Ending.{no_memory}
+use Rattle.reversal.specs.RequestReading.{as_run}
+use Rattle.reversal.proofs.Deciding.{on_error}
+use Rattle.reversal.proofs.decision.decide_ask.Goals as goal
+
+pub decide_over-requires-clause-inputs : goal.decide_over-requires-clause-inputs
+decide_over-requires-clause-inputs c = (as_run c.args.ask.now.run, c.requires.inputs)
+
+pub returns-in_err-over-clause-refused : goal.returns-in_err-over-clause-refused
+returns-in_err-over-clause-refused c =
+    let steps = c.args.ask.now.run.steps in
+    let job = asked_about c.args.ask.now.question steps in
+    on_error c.from_residual.result _ _ c.from_residual.ensures.1 (λ e gives.
+    let same : c.in_err-over.field-0.0 ≡ e = cc in
+    let P : Ended → Type 0 = λ x. (x ≡ no_memory) ⊎ DecidesOverBytes job c.args.options.now steps (map (λ b. b.items) c.args.bytes.now) c.args.counts.now (refuse x) in
+    elim (subst P same (c.in_err-over.ensures.refused job)) [
+      | inl memory ↦ inl memory
+      | inr decides ↦ inr (c.requires.question, decides)
+    ])
+
+pub returns-clause-accepted : goal.returns-clause-accepted
+returns-clause-accepted c =
+    let o = c.in_ok-over.over in
+    let steps = c.args.ask.now.run.steps in
+    let question = c.args.ask.now.question in
+    let job = asked_about question steps in
+    let P : ℕ → Type 0 = λ n. DecidesOverBytes job c.args.options.now steps (map (λ b. b.items) c.args.bytes.now) c.args.counts.now (accept (ask question o.start o.journal n (slots_of o.book) o.list.items)) in
+    (c.requires.question, subst P (sym c.in_ok-over.ensures.steps) (c.in_ok-over.ensures.accepted job))
+
+pub returns-clause-can_be_done : goal.returns-clause-can_be_done
+returns-clause-can_be_done c =
+    let P : ℕ → Type 0 = λ n. IsWithin (question_bound n c.args.ask.now.question) in
+    record { over = c.in_ok-over.ensures.over; within = subst P (sym c.in_ok-over.ensures.steps) c.requires.question }

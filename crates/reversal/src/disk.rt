@@ -1,0 +1,73 @@
+// The list of DiskRevolve for memory and an unlimited disk, as text.
+ghost use Rattle.std.specs.Prelude.{◌≡◌, ◌⊎◌, ℕ, ◌≤◌, List, length, IfOk, IfErr, OnOk};
+ghost use Rattle.level_book.specs.DiskUnderTable.{IsGreatestDisk};
+ghost use Rattle.cost_tables.specs.TableRows.{FitsFastest};
+ghost use Rattle.disk_gen.specs.DiskPlans.{HasDiskPlan};
+ghost use Rattle.disk_gen.specs.DiskRows.{AreDiskFor, disk_tables_in};
+ghost use Rattle.reversal.specs.Decision.{accept, refuse, DecidesPlanDisk};
+ghost use Rattle.reversal.specs.Ending.{no_memory};
+ghost use Rattle.reversal.specs.JobReading.{job_of, CanBeDone, KeepersHaveRoom};
+ghost use Rattle.reversal.specs.NoPlans.{IsUndisked};
+
+use crate::actions::{Actions, Listed};
+use crate::decision::book_in;
+use crate::ended::Ended;
+use crate::job::Job;
+use crate::planning::list_text;
+use disk_gen::{DiskTables, disk_list};
+use level_book::Book;
+use revolve_gen::GenFault;
+use std::alloc::Global;
+use std::thread::Threads;
+
+// How many images in memory tables count at most.
+const MOST_IMAGES: u32 = 64;
+
+/// What a plan of DiskRevolve comes to by the bytes of its book: the text of its list, whatever the number of workers.
+pub fn disk_text<R: Threads + Sync>(
+    rt: &R,
+    alloc: Global,
+    workers: u32,
+    steps: u32,
+    book: &[u8],
+) -> Result<Job, Ended>
+    requires workers { (1 ≤ workers) × (workers ≤ 64) }
+    requires steps { steps ≤ 8192 }
+    ensures accepted { IfOk result (λ job. DecidesPlanDisk steps book.now (accept (job_of job))) }
+    ensures can_be_done { IfOk result CanBeDone }
+    ensures room { IfOk result (λ job. (counts : List ℕ) → KeepersHaveRoom job counts) }
+    ensures refused { IfErr result (λ e. (e ≡ no_memory) ⊎ DecidesPlanDisk steps book.now (refuse e)) }
+{
+    let book = book_in(alloc, book)?;
+    let _levels = book.levels();
+    let room = book.room(0, steps);
+    if room > MOST_IMAGES {
+        return Err(Ended::out_of_range(room as u64, MOST_IMAGES as u64, 9));
+    }
+    let tables = tables_for(rt, alloc, workers, steps, &book)?;
+    let list = disk_list(alloc, &tables, steps, &book)?;
+    let job = list_text(alloc, Actions::Listed(Listed::new(list)), book)?;
+    Ok(job)
+}
+
+// The tables for so many steps and a book.
+fn tables_for<R: Threads + Sync>(
+    rt: &R,
+    alloc: Global,
+    workers: u32,
+    steps: u32,
+    book: &Book,
+) -> Result<DiskTables, Ended>
+    requires workers { (1 ≤ workers) × (workers ≤ 64) }
+    requires fits { FitsFastest steps book.now }
+    ensures sizes { IfOk result (AreDiskFor steps book.now) }
+    ensures greatest { IfOk result (λ t. IsGreatestDisk steps book.now (disk_tables_in t)) }
+    ensures plan { OnOk result (HasDiskPlan book.now) }
+    ensures refused { IfErr result (λ e. (e ≡ no_memory) ⊎ IsUndisked steps book.now e) }
+{
+    match DiskTables::build(rt, alloc, steps, book, workers) {
+        Ok(tables) => Ok(tables),
+        Err(GenFault::NoPlan(rule)) => Err(Ended::no_plan(steps, book.total_room(steps), rule)),
+        Err(GenFault::Memory) => Err(Ended::no_memory()),
+    }
+}

@@ -1,0 +1,97 @@
+// What a schedule costs.
+ghost use Rattle.std.specs.Prelude.{◌≡◌, ◌≢◌, ◌⊎◌, ℕ, ◌*◌, ◌^◌, ◌<◌, ◌≤◌, List, length, map, Option, IfOk, IfErr};
+ghost use Rattle.keepers.specs.Told.{Images};
+ghost use Rattle.keepers.specs.Counts.{Rose};
+ghost use Rattle.level_book.specs.BookCosts.{slots_of};
+ghost use Rattle.level_book.specs.Valid.{Valid};
+ghost use Rattle.cost_fold.specs.CountsOf.{all_of};
+ghost use Rattle.cost_report.specs.Report.{report_lines};
+ghost use Rattle.reverse_runner.specs.KeepersSeen.{Calls};
+ghost use Rattle.reversal.specs.Request.{Choice, price as price_command};
+ghost use Rattle.reversal.specs.Deeds.{write};
+ghost use Rattle.reversal.specs.Decision.{accept, refuse, EndsBy, DecidesPrice, DecidesBytes};
+ghost use Rattle.reversal.specs.Ending.{no_memory};
+ghost use Rattle.reversal.specs.Inputs.{inputs_of};
+ghost use Rattle.reversal.specs.InputReading.{AreWithinLimits};
+ghost use Rattle.reversal.specs.JobReading.{job_of, CanBeDone, KeepersHaveRoom};
+ghost use Rattle.reversal.specs.Pricing.{list_report};
+ghost use Rattle.reversal.specs.RequestReading.{as_price};
+
+use crate::decision::{book_in, judge, list_in};
+use crate::ended::Ended;
+use crate::job::Job;
+use crate::request::Price;
+use cost_fold::{Counts, tally};
+use cost_report::report;
+use keepers::Sink;
+use level_book::Book;
+use plan_types::Action;
+use std::alloc::Global;
+
+/// The counts of a list, and the book by which they cost something.
+#[derive(Drop)]
+pub struct Pricing {
+    pub counts: Counts,
+    pub book: Book,
+}
+
+impl Pricing {
+    /// Writes what the counts cost, a line in each write.
+    pub fn write<O: Sink>(self, out: &mut O) -> Ended
+        requires { all_of self.counts * 1000000 < 2 ^ 64 }
+        ensures works { (steps : ℕ) (calls : Calls) (images : ℕ → Option Images) → EndsBy (accept (write (report_lines self.book self.counts))) result
+            (record { told = O.told out.old; writes = O.call_count out.old; steps = steps; calls = calls; images = images })
+            (record { told = O.told out.new; writes = O.call_count out.new; steps = steps; calls = calls; images = images }) }
+        ensures statuses { (result.status ≡ 0) ⊎ (result.status ≡ 14) }
+        ensures quiet { result.status ≢ 14 → O.fault_count out.new ≡ O.fault_count out.old }
+        ensures cause { result.status ≡ 14 → Rose (O.fault_count out.old) (O.fault_count out.new) }
+    {
+        match report(&self.counts, &self.book, out) {
+            Ok(()) => Ended::done(),
+            Err(_) => Ended::stopped(0),
+        }
+    }
+}
+
+/// What a request for the cost of a schedule comes to by the bytes of its inputs.
+pub fn decide_price(alloc: Global, price: &Price<'_>, bytes: &[Vec<u8>]) -> Result<Job, Ended>
+    requires steps { price.now.steps ≤ 1000000 }
+    requires inputs { AreWithinLimits (inputs_of (price_command (as_price price.now))) (map (λ b. b.items) bytes.now) }
+    ensures accepted { IfOk result (λ job. (slots : List ℕ) → (options : List Choice) → DecidesBytes options (price_command (as_price price.now)) (map (λ b. b.items) bytes.now) slots (accept (job_of job))) }
+    ensures can_be_done { IfOk result CanBeDone }
+    ensures room { IfOk result (λ job. (counts : List ℕ) → KeepersHaveRoom job counts) }
+    ensures refused { IfErr result (λ e. (e ≡ no_memory) ⊎ ((slots : List ℕ) → (options : List Choice) → DecidesBytes options (price_command (as_price price.now)) (map (λ b. b.items) bytes.now) slots (refuse e))) }
+{
+    let [book, schedule] = bytes else {
+        unreachable!()
+    };
+    price_texts(alloc, price.steps as u32, book, schedule)
+}
+
+fn price_texts(alloc: Global, steps: u32, book: &[u8], schedule: &[u8]) -> Result<Job, Ended>
+    requires steps { steps ≤ 1000000 }
+    requires short { length schedule.now ≤ 536870912 }
+    ensures accepted { IfOk result (λ job. DecidesPrice steps book.now schedule.now (accept (job_of job))) }
+    ensures can_be_done { IfOk result CanBeDone }
+    ensures room { IfOk result (λ job. (counts : List ℕ) → KeepersHaveRoom job counts) }
+    ensures refused { IfErr result (λ e. (e ≡ no_memory) ⊎ DecidesPrice steps book.now schedule.now (refuse e)) }
+{
+    let book = book_in(alloc, book)?;
+    let list = list_in(alloc, schedule, &book)?;
+    judge(alloc, &list, steps, &book)?;
+    let counts = counts_of(&list, steps, &book);
+    Ok(Job::Report(Pricing { counts, book }))
+}
+
+// The counts of a valid list.
+fn counts_of(list: &[Action], steps: u32, book: &Book) -> Counts
+    requires steps { steps ≤ 1000000 }
+    requires few { length list.now ≤ 16777216 }
+    requires valid { Valid steps (slots_of book.now) list.now }
+    ensures report { report_lines book.now result ≡ list_report book.now list.now }
+    ensures bounded { all_of result * 1000000 < 2 ^ 64 }
+{
+    // A valid list names no level but the book's, of which there are four at most.
+    let _levels = book.levels();
+    tally(list)
+}
