@@ -390,6 +390,24 @@ fn least_cost(steps: usize, levels: [LevelCosts; 2]) -> u64 {
     below[steps]
 }
 
+// The least cost for memory and an unlimited disk that is written on the way forward alone, by filling its tables.
+fn least_disk_cost(steps: usize, slots: usize) -> u64 {
+    let mut one = vec![NEVER; steps + 1];
+    one[1] = 2;
+    let (fresh, _) = level_costs(LevelCosts { slots, write: 0, read: 0 }, &one);
+    let fast = &fresh[slots];
+    let (mut held, mut disk) = (vec![NEVER; steps + 1], vec![NEVER; steps + 1]);
+    for l in 1..=steps {
+        let split = (1..l).map(|i| i as u64 + fast[l - i] + held[i]).min().unwrap_or(NEVER);
+        held[l] = 1 + fast[l].min(split);
+    }
+    for l in 1..=steps {
+        let split = (1..l).map(|j| j as u64 + disk[l - j] + held[j]).min().unwrap_or(NEVER);
+        disk[l] = fast[l].min(2 + split);
+    }
+    disk[steps]
+}
+
 fn done(words: &[String]) -> Option<()> {
     let words: Vec<&str> = words.iter().map(String::as_str).collect();
     let mut out = BufWriter::with_capacity(1 << 20, io::stdout());
@@ -407,6 +425,7 @@ fn done(words: &[String]) -> Option<()> {
             let slow = LevelCosts { slots: slow.parse().ok()?, write: 2, read: 1 };
             writeln!(out, "{}", least_cost(n.parse().ok()?, [fast, slow])).ok()?
         }
+        ["disk", n, slots] => writeln!(out, "{}", least_disk_cost(n.parse().ok()?, slots.parse().ok()?)).ok()?,
         ["hash", times, bytes] => writeln!(out, "{}", hash(times.parse().ok()?, bytes.parse().ok()?)).ok()?,
         _ => return None,
     }
