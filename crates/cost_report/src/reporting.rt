@@ -4,7 +4,7 @@ ghost use Rattle.cost_fold.specs.CountsOf.{all_of};
 ghost use Rattle.keepers.specs.Counts.{Rose, raised};
 ghost use Rattle.keepers.specs.Told.{Tells, AddsPrefix};
 ghost use Rattle.cost_report.specs.Report.{step_lines, level_lines, report_lines, report_text};
-ghost use Rattle.cost_report.specs.Writing.{seen, AddsLines, StopsIn};
+ghost use Rattle.keepers.specs.Writing.{seen, AddsLines, StopsIn};
 
 use crate::lines::{write_count, write_level};
 use cost_fold::{Counts, total};

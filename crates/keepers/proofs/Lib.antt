@@ -2,3 +2,4 @@ pub mod Files
 pub mod Images
 pub mod Known
 pub mod Listed
+pub mod Adding

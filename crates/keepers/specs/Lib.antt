@@ -6,3 +6,4 @@ pub mod InputsState
 pub mod KeeperState
 pub mod SinkState
 pub mod Told
+pub mod Writing

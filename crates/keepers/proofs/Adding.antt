@@ -5,7 +5,7 @@ use Rattle.std.proofs.lemmas.List.Folds.{concat-append}
 use Rattle.std.proofs.Math.Seq.{take-append-add}
 use Rattle.keepers.specs.Counts.{Rose, raised}
 use Rattle.keepers.specs.Told.{Tells, AddsPrefix}
-use Rattle.cost_report.specs.Writing.{Seen, AddsLines, StopsIn}
+use Rattle.keepers.specs.Writing.{Seen, AddsLines, StopsIn}
 
 -- what is told after two calls
 tells_then : (x y z : Option (List ℕ)) (P Q R : List ℕ → List ℕ → Type 0) → ((a b c : List ℕ) → P a b → Q b c → R a c) → Tells x y P → Tells y z Q → Tells x z R
@@ -16,7 +16,7 @@ tells_then (Some a) None z P Q R f h g = absurd h
 tells_then (Some a) (Some b) None P Q R f h g = absurd g
 tells_then (Some a) (Some b) (Some c) P Q R f h g = f a b c h g
 
-tells_so : (x y : Option (List ℕ)) (P Q : List ℕ → List ℕ → Type 0) → ((a b : List ℕ) → P a b → Q a b) → Tells x y P → Tells x y Q
+pub tells_so : (x y : Option (List ℕ)) (P Q : List ℕ → List ℕ → Type 0) → ((a b : List ℕ) → P a b → Q a b) → Tells x y P → Tells x y Q
 tells_so None None P Q f h = tt
 tells_so None (Some b) P Q f h = absurd h
 tells_so (Some a) None P Q f h = absurd h
@@ -27,7 +27,7 @@ raised_then : (a b c j k : ℕ) → b ≡ raised a j → c ≡ raised b k → c 
 raised_then a b c j k e f = omega (arith, e, f)
 
 -- a line that was stopped in
-one_stopped : (line : List ℕ) (a b : Seen) → Tells a.told b.told (AddsPrefix line) → b.calls ≡ raised a.calls 1 → Rose a.faults b.faults → StopsIn (line ∷ []) a b
+pub one_stopped : (line : List ℕ) (a b : Seen) → Tells a.told b.told (AddsPrefix line) → b.calls ≡ raised a.calls 1 → Rose a.faults b.faults → StopsIn (line ∷ []) a b
 one_stopped line a b told calls cause = record {
   before = [];
   line = line;
@@ -36,6 +36,21 @@ one_stopped line a b told calls cause = record {
   told = tells_so a.told b.told (AddsPrefix line) (λ x y. AddsPrefix line (x ++ []) y) (λ x y is. (is.0, is.1 ∙ ap (λ (l : List ℕ). l ++ take is.0 line) (sym (append-nil x)))) told;
   calls = calls;
   cause = cause;
+}
+
+-- no line, and one that was added
+pub none_added : (a : Seen) → AddsLines [] a a
+none_added a = record { told = tells_same a.told; calls = omega arith; quiet = refl }
+  where
+    tells_same : (x : Option (List ℕ)) → Tells x x (λ a b. b ≡ a ++ concat [])
+    tells_same None = tt
+    tells_same (Some x) = sym (append-nil x)
+
+pub one_added : (line : List ℕ) (a b : Seen) → Tells a.told b.told (λ x y. y ≡ x ++ line) → b.calls ≡ raised a.calls 1 → b.faults ≡ a.faults → AddsLines (line ∷ []) a b
+one_added line a b told calls quiet = record {
+  told = tells_so a.told b.told (λ x y. y ≡ x ++ line) (λ x y. y ≡ x ++ concat (line ∷ [])) (λ x y is. is ∙ ap (λ (l : List ℕ). x ++ l) (sym (append-nil line))) told;
+  calls = calls;
+  quiet = quiet;
 }
 
 -- lines behind lines
