@@ -5,7 +5,11 @@ pub mod AllLevels
 pub mod Pushing
 pub mod Building
 pub mod Pieces
+pub mod InColumns
 pub mod Exact
+pub mod Keeping
+pub mod Setting
 pub mod Views
 pub mod Least
 pub mod Fastest
+pub mod Nevers

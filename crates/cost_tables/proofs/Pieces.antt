@@ -1,16 +1,17 @@
 -- Pieces of a row, one after the other, and the splits of a row, some at a time.
-use Rattle.std.proofs.Common.{◌≡◌, ℕ, zero, suc, ◌+◌, ◌-◌, ◌*◌, ◌/◌, ◌<◌, ◌≤◌, ◌^◌, min, List, [], ◌∷◌, ◌++◌, length, get_or, refl, sym, ap, ◌∙◌, subst, arith, inl, inr, length-append}
+use Rattle.std.proofs.Common.{◌≡◌, ℕ, zero, suc, ◌+◌, ◌-◌, ◌*◌, ◌/◌, ◌<◌, ◌≤◌, ◌^◌, min, List, [], ◌∷◌, ◌++◌, length, get_or, refl, sym, ap, ◌∙◌, map, subst, arith, inl, inr, length-append, Vec, Global}
 use Rattle.std.proofs.Math.Nat.{div-mul-le_self, mul-div_cancel_left, mul-le-mul}
 use Rattle.std.proofs.lemmas.Nat.{le-div}
 use Rattle.std.proofs.Math.ListN.{get_or-append}
 use Rattle.std.proofs.Math.Seq.{get_or-append_right}
+use Rattle.std.proofs.lemmas.List.{length-map, get_or-map}
 use Rattle.std.proofs.lemmas.List.Elements.{All-append}
 use Rattle.std.proofs.lemmas.Bool.{cases_lt}
 use Rattle.cost_tables.specs.declared.rows.Row.{Row}
 use Rattle.cost_tables.specs.Entries.{never_in_memory, fresh_in, held_in, least_split, least_after}
-use Rattle.cost_tables.specs.Rows.{partial_in, IsPiece}
+use Rattle.cost_tables.specs.Rows.{partial_in, row_in, IsPiece, AreStarted}
 use Rattle.cost_tables.proofs.Splits.{split_never}
-use Rattle.cost_tables.proofs.Pushing.{fresh_before, held_before}
+use Rattle.cost_tables.proofs.Pushing.{fresh_before, held_before, low_in}
 
 pub pieces_joined : (cost : ℕ → ℕ) (a b c : ℕ) (xs ys zs : List ℕ) → IsPiece cost a b xs → IsPiece cost b c ys → a ≤ b → b ≤ c → zs ≡ xs ++ ys → IsPiece cost a c zs
 pieces_joined cost a b c xs ys zs first second ab bc e =
@@ -108,3 +109,25 @@ partial_same rows more forward r m le =
     let n = length rows in
     after_same forward (λ q. fresh_in rows q m) (λ q. fresh_in (rows ++ more) q m) (λ q. held_in rows q m) (λ q. held_in (rows ++ more) q m) r (r - n) (n - (r - n))
     (λ i low high. (sym (fresh_before rows more (r - (i + 1)) m (omega arith)), sym (held_before rows more i m (omega arith))))
+
+-- what a piece has of one row
+some_slot : (i : ℕ) (pieces : List (Vec ℕ Global)) → i < length pieces → Vec ℕ Global × Unit {0}
+some_slot i [] h = absurd (omega arith)
+some_slot i (slot ∷ pieces) h = (slot, tt)
+
+pub piece_of_row : (rows : List Row) (forward count low high q : ℕ) (pieces : List (Vec ℕ Global)) → AreStarted rows forward count low high pieces → q < count →
+    IsPiece (partial_in rows forward (length rows) (length rows + q)) low high (row_in q pieces)
+piece_of_row rows forward count low high q pieces are lt =
+    let of : Vec ℕ Global → ℕ = λ slot. get_or slot.items q 0 in
+    let long : length (map of pieces) ≡ high - low = length-map pieces of ∙ are.wide in
+    record {
+      wide = long;
+      small = λ i d h.
+          let own = (some_slot i pieces (omega (arith, are.wide))).0 in
+          let e : get_or (map of pieces) i d ≡ of (get_or pieces i own) = get_or-map of pieces i own d (omega (arith, are.wide)) in
+          let low = low_in (2 ^ 61) (get_or pieces i own).items q (are.each i own (omega arith)).low in
+          omega arith;
+      value = λ i h.
+          let own = (some_slot i pieces (omega (arith, are.wide))).0 in
+          get_or-map of pieces i own 0 (omega (arith, are.wide)) ∙ (are.each i own h).value q lt;
+    }

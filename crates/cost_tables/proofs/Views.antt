@@ -7,19 +7,14 @@ use Rattle.cost_tables.specs.declared.tables.Tables.TheInside.{Inside}
 use Rattle.cost_tables.specs.TableRows.{entry_at, tables_in}
 use Rattle.cost_tables.specs.Entries.{entry}
 use Rattle.cost_tables.specs.Levels.{tables_of}
-use Rattle.cost_tables.specs.Built.{rows_at, fresh_at, held_at, fresh_entries, held_entries, view_of}
+use Rattle.cost_tables.specs.Built.{rows_at, fresh_at, held_at, fresh_entries, held_entries, AreLevelsOf, view_of}
+use Rattle.cost_tables.proofs.Keeping.{level_seen}
 
 -- what is read in a list that is seen by a function, where nothing is seen as the default
 seen : {X Y : Type 0} (f : X → Y) (xs : List X) (k : ℕ) (d : X) (e : Y) → f d ≡ e → get_or (map f xs) k e ≡ f (get_or xs k d)
 seen f [] k d e same = sym same
 seen f (x ∷ xs) zero d e same = refl
 seen f (x ∷ xs) (suc k) d e same = seen f xs k d e same
-
--- a level is seen by a function of its rows
-level_seen : (f : List Row → List (List Entry)) (levels : List (Vec Row Global)) (k : ℕ) → f [] ≡ [] → get_or (map (λ (rows : Vec Row Global). f rows.items) levels) k [] ≡ f (rows_at levels k)
-level_seen f [] k same = sym same
-level_seen f (rows ∷ levels) zero same = refl
-level_seen f (rows ∷ levels) (suc k) same = level_seen f levels k same
 
 row_seen : (items : Row → List ℕ) (rows : List Row) (r : ℕ) → get_or (map (λ (row : Row). map entry (items row)) rows) r [] ≡ map entry (get_or (map items rows) r [])
 row_seen items [] r = refl
@@ -38,6 +33,9 @@ held_seen levels k r m =
     ∙ ap (λ (row : List Entry). get_or row m (number 0)) (row_seen (λ (row : Row). row.held.items) (rows_at levels k) r)
     ∙ seen entry (get_or (map (λ (row : Row). row.held.items) (rows_at levels k)) r []) m 0 (number 0) refl
 
--- the tables that are seen
-pub tables_seen : (t : Inside) → tables_in (view_of t) ≡ tables_of (fresh_at t.levels.items) (held_at t.levels.items)
-tables_seen t = λ i. record { fresh = λ k l m. fresh_seen t.levels.items k (l - 1) m i; held = λ k l m. held_seen t.levels.items k (l - 1) m i }
+-- the tables that are seen, where what is kept is made of numbers
+pub tables_seen : (t : Inside) (levels : List (Vec Row Global)) → AreLevelsOf levels t.levels.items → tables_in (view_of t) ≡ tables_of (fresh_at levels) (held_at levels)
+tables_seen t levels are = λ i. record {
+  fresh = λ k l m. (ap (λ (xs : List (List (List Entry))). entry_at xs k (l - 1) m) are.fresh ∙ fresh_seen levels k (l - 1) m) i;
+  held = λ k l m. (ap (λ (xs : List (List (List Entry))). entry_at xs k (l - 1) m) are.held ∙ held_seen levels k (l - 1) m) i;
+}

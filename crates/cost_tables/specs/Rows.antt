@@ -1,5 +1,5 @@
 -- No public clause cites this file. What a row is, over the rows before it.
-use Rattle.std.specs.Prelude.{◌≡◌, ℕ, suc, ◌+◌, ◌-◌, ◌*◌, ◌/◌, ◌<◌, ◌≤◌, ◌^◌, min, All, IfOk, List, ◌++◌, Result, Vec, length, slice_index, slice_index_or}
+use Rattle.std.specs.Prelude.{◌≡◌, ℕ, suc, ◌+◌, ◌-◌, ◌*◌, ◌/◌, ◌<◌, ◌≤◌, ◌^◌, min, All, IfOk, List, ◌++◌, Result, Vec, length, map, slice_index, slice_index_or}
 use Rattle.std.specs.declared.alloc.Global.{Global}
 use Rattle.std.specs.declared.alloc.AllocError.{AllocError}
 use Rattle.cost_tables.specs.declared.rows.Row.{Row}
@@ -44,16 +44,26 @@ pub record IsPiece (cost : ℕ → ℕ) (low high : ℕ) (costs : List ℕ) : Ty
   pub small : All (λ n. n ≤ 2 ^ 61) costs
   pub value : (i : ℕ) → i < high - low → slice_index costs i ≡ cost (low + i)
 
--- a piece of each of so many rows that come next
+-- so many numbers, each at most `bound`
+pub record IsColumn (bound count : ℕ) (number : ℕ → ℕ) (column : List ℕ) : Type 0 where
+  pub long : length column ≡ count
+  pub low : All (λ n. n ≤ bound) column
+  pub value : (i : ℕ) → i < count → slice_index column i ≡ number i
+
+-- from m = low up to high, what so many rows that come next have
 pub record AreStarted (rows : List Row) (forward count low high : ℕ) (pieces : List (Vec ℕ Global)) : Type 0 where
-  pub long : length pieces ≡ count
-  pub each : (q : ℕ) (d : _) → q < count → IsPiece (partial_in rows forward (length rows) (length rows + q)) low high (slice_index_or pieces q d).items
+  pub wide : length pieces ≡ high - low
+  pub each : (i : ℕ) (d : _) → i < high - low → IsColumn (2 ^ 61) count (λ q. partial_in rows forward (length rows) (length rows + q) (low + i)) (slice_index_or pieces i d).items
 
 -- there are so many rows more
 abbrev pub IsMore : List Row → List Row → ℕ → Type 0
 IsMore old new count = (more : List Row) × (new ≡ old ++ more) × (length more ≡ count)
 
+-- what a piece has of row q
+abbrev pub row_in : ℕ → List (Vec ℕ Global) → List ℕ
+row_in q pieces = map (λ (slot : Vec ℕ Global). slice_index slot.items q) pieces
+
 -- the pieces of the row that comes after q others
 abbrev pub ArePieces : (ℕ → ℕ) → ℕ → ℕ → List (Result (Vec (Vec ℕ Global) Global) AllocError) → Type 0
-ArePieces cost q room parts = (i : ℕ) (d : _) (e : _) → i < length parts →
-    IfOk (slice_index_or parts i d) (λ p. IsPiece cost (cut_of room (length parts) i) (cut_of room (length parts) (i + 1)) (slice_index_or p.items q e).items)
+ArePieces cost q room parts = (i : ℕ) (d : _) → i < length parts →
+    IfOk (slice_index_or parts i d) (λ p. IsPiece cost (cut_of room (length parts) i) (cut_of room (length parts) (i + 1)) (row_in q p.items))

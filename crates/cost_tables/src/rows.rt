@@ -19,7 +19,7 @@ pub struct Row {
 }
 
 // How many rows are shared at a time. Workers are started for each time, and what the caller does alone grows with it.
-const ROWS: usize = 32;
+const ROWS: usize = 64;
 
 // What a forward step costs, and an image on a level.
 #[derive(Clone, Copy)]

@@ -1,14 +1,15 @@
 // The greater part of the splits of the next rows, shared by workers.
-ghost use Rattle.std.specs.Prelude.{◌≡◌, ℕ, ◌+◌, ◌-◌, ◌*◌, ◌/◌, ◌^◌, ◌<◌, ◌≤◌, length, All, IfOk, slice_index, slice_index_or};
-ghost use Rattle.cost_tables.specs.Rows.{partial_in, IsRow, cut_of, IsPiece, AreStarted, ArePieces};
+ghost use Rattle.std.specs.Prelude.{◌≡◌, ℕ, ◌+◌, ◌-◌, ◌*◌, ◌/◌, ◌^◌, ◌<◌, ◌≤◌, ◌++◌, length, All, IfOk, OnOk, slice_index, slice_index_or};
+ghost use Rattle.cost_tables.specs.Rows.{IsRow, cut_of, row_in, IsPiece, AreStarted, ArePieces};
 
-use crate::rows::{Row, least_cost};
+use crate::columns::slot_piece;
+use crate::rows::Row;
 use plan_types::Gate;
 use std::alloc::{AllocError, Global};
 use std::thread;
 use std::thread::Threads;
 
-// For each row that comes next, what its splits over filled rows cost, at some numbers of free slots.
+// At each of some numbers of free slots, what the splits over filled rows cost for the rows that come next.
 pub(crate) type Pieces = Vec<Vec<u64>>;
 
 // Where the i-th of so many pieces of a row begins.
@@ -22,34 +23,7 @@ fn cut(room: usize, pieces: usize, i: usize) -> usize
     i * room / pieces
 }
 
-// What the splits of row r over filled rows cost, from m = low up to high.
-fn row_piece(
-    alloc: Global,
-    rows: &[Row],
-    r: usize,
-    room: usize,
-    forward: u64,
-    low: usize,
-    high: usize,
-) -> Result<Vec<u64>, AllocError>
-    requires forward { forward < 2 ^ 32 }
-    requires few { r < 8192 }
-    requires r { length rows.now ≤ r }
-    requires shapes { All (IsRow room) rows.now }
-    requires order { low ≤ high }
-    requires within { high ≤ room }
-    ensures { IfOk result (λ costs. IsPiece (partial_in rows.now forward (length rows.now) r) low high costs.items) }
-{
-    let mut costs = Vec::with_capacity(alloc, high - low)?;
-    let filled = rows.len();
-    let started = r - filled;
-    for m in low..high {
-        costs.push(least_cost(rows, r, m, forward, started, filled.max(started)))?;
-    }
-    Ok(costs)
-}
-
-// The same for each of so many rows.
+// What the splits over filled rows cost for each of so many rows, from m = low up to high.
 fn rows_piece(
     alloc: Global,
     rows: &[Row],
@@ -66,9 +40,9 @@ fn rows_piece(
     requires within { high ≤ room }
     ensures { IfOk result (λ pieces. AreStarted rows.now forward count low high pieces.items) }
 {
-    let mut pieces = Vec::with_capacity(alloc, count)?;
-    for q in 0..count {
-        pieces.push(row_piece(alloc, rows, rows.len() + q, room, forward, low, high)?)?;
+    let mut pieces = Vec::with_capacity(alloc, high - low)?;
+    for m in low..high {
+        pieces.push(slot_piece(alloc, rows, room, forward, count, m)?)?;
     }
     Ok(pieces)
 }
@@ -125,7 +99,18 @@ pub(crate) fn start_rows<R: Threads + Sync, G: Gate + Sync>(
     )
 }
 
-// All pieces of one row, one after the other.
+// What one piece has of row q, behind what is there.
+fn join_piece(costs: &mut Vec<u64>, pieces: &[Vec<u64>], q: usize) -> Result<(), AllocError>
+    requires { All (λ slot. q < length slot.items) pieces.now }
+    ensures { OnOk result (costs.new.items ≡ costs.old.items ++ row_in q pieces.now) }
+{
+    for slot in pieces {
+        costs.push(slot[q])?;
+    }
+    Ok(())
+}
+
+// All pieces of row q, one after the other.
 pub(crate) fn joined(
     alloc: Global,
     parts: &[Result<Pieces, AllocError>],
@@ -134,13 +119,13 @@ pub(crate) fn joined(
 ) -> Result<Vec<u64>, AllocError>
     requires room { room ≤ 64 }
     requires pieces { (1 ≤ length parts.now) × (length parts.now ≤ 64) }
-    requires long { (i : ℕ) (d : _) → i < length parts.now → IfOk (slice_index_or parts.now i d) (λ p. q < length p.items) }
+    requires long { (i : ℕ) (d : _) → i < length parts.now → IfOk (slice_index_or parts.now i d) (λ p. All (λ slot. q < length slot.items) p.items) }
     ensures { (cost : ℕ → ℕ) → ArePieces cost q room parts.now → IfOk result (λ costs. IsPiece cost 0 room costs.items) }
 {
     let mut costs = Vec::with_capacity(alloc, room)?;
     for part in parts {
         match part {
-            Ok(pieces) => costs.extend_from_slice(&pieces[q])?,
+            Ok(pieces) => join_piece(&mut costs, pieces, q)?,
             Err(error) => return Err(*error),
         }
     }

@@ -2,10 +2,12 @@
 ghost use Rattle.std.specs.Prelude.{◌≡◌, ◌↔◌, ℕ, ◌+◌, ◌^◌, ◌<◌, ◌≤◌, true, length, All, IfOk, slice_index};
 ghost use Rattle.level_book.specs.UnderTable.{IsGreatest};
 ghost use Rattle.cost_tables.specs.TableRows.{AreFor, Fits, FitsFastest, fastest, tables_in, value_of};
-ghost use Rattle.cost_tables.specs.Entries.{entry, fresh_in};
+ghost use Rattle.cost_tables.specs.Filling.{AreAllNever, IsOther};
+ghost use Rattle.cost_tables.specs.Entries.{fresh_in};
 ghost use Rattle.cost_tables.specs.Rows.{IsRow};
 ghost use Rattle.cost_tables.specs.Built.{first_in};
 
+use crate::cells::{Cells, levels_of, never_cells};
 use crate::cost::Cost;
 use crate::rows::{Costs, NEVER, Row, level_rows};
 use level_book::Book;
@@ -26,7 +28,7 @@ const MOST_SLOTS: u32 = 64;
 pub struct Tables {
     steps: u32,
     rooms: Vec<u32>,
-    levels: Vec<Vec<Row>>,
+    levels: Vec<Vec<Cells>>,
 }
 
 impl Model for Tables {
@@ -115,6 +117,7 @@ impl Tables {
             levels.push(rows)?;
             rooms.push(room)?;
         }
+        let levels = levels_of(alloc, &levels)?;
         Ok(Tables {
             steps,
             rooms,
@@ -168,6 +171,7 @@ impl Tables {
         levels.push(rows)?;
         let mut rooms = Vec::new(alloc);
         rooms.push(room)?;
+        let levels = levels_of(alloc, &levels)?;
         Ok(Tables {
             steps,
             rooms,
@@ -175,15 +179,77 @@ impl Tables {
         })
     }
 
+    /// Tables of which each entry is Never, to be filled by `set_fresh` and `set_held`. They are refused for want of memory
+    /// alone.
+    pub fn never(alloc: Global, steps: u32, book: &Book) -> Result<Tables, AllocError>
+        requires { Fits steps book.now }
+        ensures sizes { IfOk result (AreFor steps book.now) }
+        ensures never { IfOk result (λ t. AreAllNever steps book.now (tables_in t)) }
+    {
+        let mut levels = Vec::new(alloc);
+        let mut rooms = Vec::new(alloc);
+        for k in 0..book.levels() {
+            let room = book.room(k, steps);
+            levels.push(never_cells(alloc, steps, room)?)?;
+            rooms.push(room)?;
+        }
+        Ok(Tables {
+            steps,
+            rooms,
+            levels,
+        })
+    }
+
+    /// The same for the fastest level alone, as if the book had no other.
+    pub fn never_fastest(alloc: Global, steps: u32, book: &Book) -> Result<Tables, AllocError>
+        requires { FitsFastest steps book.now }
+        ensures sizes { IfOk result (AreFor steps (fastest book.now)) }
+        ensures never { IfOk result (λ t. AreAllNever steps (fastest book.now) (tables_in t)) }
+    {
+        let _levels = book.levels();
+        let room = book.room(0, steps);
+        let mut levels = Vec::new(alloc);
+        levels.push(never_cells(alloc, steps, room)?)?;
+        let mut rooms = Vec::new(alloc);
+        rooms.push(room)?;
+        Ok(Tables {
+            steps,
+            rooms,
+            levels,
+        })
+    }
+
+    /// Whether the tables are for so many steps and the levels of a book. It takes no memory.
+    pub fn sized(&self, steps: u32, book: &Book) -> bool
+        ensures { result ≡ true ↔ AreFor steps book.now self.now }
+    {
+        if self.steps != steps || self.rooms.len() != book.levels() as usize {
+            return false;
+        }
+        for k in 0..book.levels() {
+            if self.rooms[k as usize] != book.room(k, steps) {
+                return false;
+            }
+        }
+        true
+    }
+
+    /// Whether they are for so many steps and the fastest level of a book alone. It takes no memory.
+    pub fn sized_fastest(&self, steps: u32, book: &Book) -> bool
+        ensures { result ≡ true ↔ AreFor steps (fastest book.now) self.now }
+    {
+        let _levels = book.levels();
+        self.steps == steps && self.rooms.len() == 1 && self.rooms[0] == book.room(0, steps)
+    }
+
     /// The entry of level k for a stretch of l steps and m free slots, with the first state in work. It takes no memory.
     pub fn fresh(&self, k: u8, l: u32, m: u32) -> Cost
         requires k { k < length self.now.rooms }
         requires l { (1 ≤ l) × (l ≤ self.now.steps) }
         requires m { m ≤ slice_index self.now.rooms k }
-        ensures value { value_of result ≡ (tables_in self.now).fresh k l m }
-        ensures bounded { (v : ℕ) → result ≡ Cost.Number v → v < 2 ^ 61 }
+        ensures { value_of result ≡ (tables_in self.now).fresh k l m }
     {
-        cost_of(self.levels[k as usize][l as usize - 1].fresh[m as usize])
+        self.levels[k as usize][l as usize - 1].fresh[m as usize]
     }
 
     /// The same with the first state held on the level, beside the free slots. It takes no memory.
@@ -191,10 +257,37 @@ impl Tables {
         requires k { k < length self.now.rooms }
         requires l { (1 ≤ l) × (l ≤ self.now.steps) }
         requires m { m < slice_index self.now.rooms k }
-        ensures value { value_of result ≡ (tables_in self.now).held k l m }
-        ensures bounded { (v : ℕ) → result ≡ Cost.Number v → v < 2 ^ 61 }
+        ensures { value_of result ≡ (tables_in self.now).held k l m }
     {
-        cost_of(self.levels[k as usize][l as usize - 1].held[m as usize])
+        self.levels[k as usize][l as usize - 1].held[m as usize]
+    }
+
+    /// Sets the entry of level k for a stretch of l steps and m free slots, with the first state in work. It takes no memory.
+    pub fn set_fresh(&mut self, k: u8, l: u32, m: u32, cost: Cost)
+        requires k { k < length self.old.rooms }
+        requires l { (1 ≤ l) × (l ≤ self.old.steps) }
+        requires m { m ≤ slice_index self.old.rooms k }
+        ensures steps { self.new.steps ≡ self.old.steps }
+        ensures rooms { self.new.rooms ≡ self.old.rooms }
+        ensures entry { (tables_in self.new).fresh k l m ≡ value_of cost }
+        ensures others { (i j n : ℕ) → 1 ≤ j → IsOther i j n k l m → (tables_in self.new).fresh i j n ≡ (tables_in self.old).fresh i j n }
+        ensures held { self.new.held ≡ self.old.held }
+    {
+        self.levels[k as usize][l as usize - 1].fresh[m as usize] = cost;
+    }
+
+    /// The same with the first state held on the level, beside the free slots. It takes no memory.
+    pub fn set_held(&mut self, k: u8, l: u32, m: u32, cost: Cost)
+        requires k { k < length self.old.rooms }
+        requires l { (1 ≤ l) × (l ≤ self.old.steps) }
+        requires m { m < slice_index self.old.rooms k }
+        ensures steps { self.new.steps ≡ self.old.steps }
+        ensures rooms { self.new.rooms ≡ self.old.rooms }
+        ensures entry { (tables_in self.new).held k l m ≡ value_of cost }
+        ensures others { (i j n : ℕ) → 1 ≤ j → IsOther i j n k l m → (tables_in self.new).held i j n ≡ (tables_in self.old).held i j n }
+        ensures fresh { self.new.fresh ≡ self.old.fresh }
+    {
+        self.levels[k as usize][l as usize - 1].held[m as usize] = cost;
     }
 
     /// For how many steps the tables are.
@@ -218,18 +311,6 @@ impl Tables {
         ensures { result ≡ slice_index self.now.rooms k }
     {
         self.rooms[k as usize]
-    }
-}
-
-// The entry of a number in memory.
-fn cost_of(n: u64) -> Cost
-    ensures value { value_of result ≡ entry n }
-    ensures bounded { (v : ℕ) → result ≡ Cost.Number v → v < 2 ^ 61 }
-{
-    if n < NEVER {
-        Cost::Number(n)
-    } else {
-        Cost::Never
     }
 }
 

@@ -27,6 +27,31 @@ fn held(tables: &Tables, k: u8, l: u32, m: u32) -> Option<Cost> {
     }
 }
 
+// Whether an entry, if the tables have it, is this one.
+fn is_own(entry: Option<Cost>, own: Cost) -> bool {
+    match entry {
+        Some(cost) => cost == own,
+        None => true,
+    }
+}
+
+// Sets an entry, if the tables have it.
+fn set_fresh(tables: &mut Tables, k: u8, l: u32, m: u32, cost: Cost) -> bool {
+    let known = k < tables.levels() && 1 <= l && l <= tables.steps() && m <= tables.room(k);
+    if known {
+        tables.set_fresh(k, l, m, cost);
+    }
+    known
+}
+
+fn set_held(tables: &mut Tables, k: u8, l: u32, m: u32, cost: Cost) -> bool {
+    let known = k < tables.levels() && 1 <= l && l <= tables.steps() && m < tables.room(k);
+    if known {
+        tables.set_held(k, l, m, cost);
+    }
+    known
+}
+
 // The entry of the slowest level with all its slots, for all steps.
 fn top(tables: &Tables) -> Option<Cost> {
     let last = tables.levels() - 1;
@@ -247,6 +272,64 @@ fn one_worker_and_many_build_the_same_tables(rt: HostRuntime) -> Result<(), Fail
             assert!(rt; are_same(&alone, &tables), "{workers} workers");
         }
     }
+    Ok(())
+}
+
+#[test]
+fn tables_are_filled_with_any_costs(rt: HostRuntime) -> Result<(), Fail> {
+    let text =
+        br#"{"forward":1,"reverse":1,"levels":[{"name":"A","slots":1,"write":0,"read":0},{"name":"B","slots":2,"write":2,"read":1}]}"#;
+    let book = read_book(rt.alloc(), text)?;
+    assert!(rt; Tables::fits(3, &book));
+    let mut tables = Tables::never(rt.alloc(), 3, &book)?;
+    assert!(rt; tables.sized(3, &book));
+    assert!(rt; !tables.sized(2, &book), "another number of steps");
+    assert!(rt;
+        !tables.sized(3, &Book::plain(1)),
+        "another number of levels"
+    );
+    assert!(rt; !tables.sized_fastest(3, &book), "two levels");
+    assert_eq!(rt; held(&tables, 1, 3, 1), Some(NEVER));
+    let most = Cost::Number(18_446_744_073_709_551_615);
+    assert!(rt; set_fresh(&mut tables, 1, 3, 2, most));
+    let seven = Cost::Number(7);
+    assert!(rt; set_held(&mut tables, 0, 2, 0, seven));
+    for k in 0..2 {
+        for l in 1..4 {
+            for m in 0..3 {
+                let own = if (k, l, m) == (1, 3, 2) { most } else { NEVER };
+                assert!(rt; is_own(fresh(&tables, k, l, m), own), "F {k} {l} {m}");
+                let own = if (k, l, m) == (0, 2, 0) { seven } else { NEVER };
+                assert!(rt; is_own(held(&tables, k, l, m), own), "H {k} {l} {m}");
+            }
+        }
+    }
+    assert_eq!(rt; fresh(&tables, 1, 3, 2), Some(most));
+    assert_eq!(rt; held(&tables, 0, 2, 0), Some(seven));
+    Ok(())
+}
+
+#[test]
+fn the_fastest_level_is_filled_alone(rt: HostRuntime) -> Result<(), Fail> {
+    let text =
+        br#"{"forward":1,"reverse":1,"levels":[{"name":"A","slots":1,"write":0,"read":0},{"name":"B","slots":null,"write":2,"read":1}]}"#;
+    let book = read_book(rt.alloc(), text)?;
+    assert!(rt; Tables::fits_fastest(3000, &book));
+    let mut tables = Tables::never_fastest(rt.alloc(), 3000, &book)?;
+    assert_eq!(rt; (tables.levels(), tables.room(0)), (1, 1));
+    assert!(rt; tables.sized_fastest(3000, &book));
+    assert!(rt;
+        !tables.sized_fastest(2999, &book),
+        "another number of steps"
+    );
+    assert!(rt;
+        !tables.sized_fastest(3000, &Book::plain(2)),
+        "another number of slots"
+    );
+    assert!(rt; !tables.sized(3000, &book), "one level");
+    assert!(rt; set_held(&mut tables, 0, 3000, 0, Cost::Number(0)));
+    assert_eq!(rt; held(&tables, 0, 3000, 0), Some(Cost::Number(0)));
+    assert_eq!(rt; fresh(&tables, 0, 3000, 0), Some(NEVER));
     Ok(())
 }
 

@@ -1,13 +1,13 @@
 -- One row more of a column, and the built tables as they are seen.
-use Rattle.std.proofs.Common.{◌≡◌, ℕ, zero, suc, ◌+◌, ◌-◌, ◌*◌, ◌<◌, ◌≤◌, ◌^◌, min, List, [], ◌∷◌, ◌++◌, length, map, get_or, refl, sym, ap, ◌∙◌, subst, add-one, arith, inl, inr}
+use Rattle.std.proofs.Common.{◌≡◌, ℕ, zero, suc, ◌+◌, ◌-◌, ◌<◌, ◌≤◌, ◌^◌, min, List, [], ◌∷◌, ◌++◌, length, map, get_or, refl, sym, ap, ◌∙◌, subst, add-one, arith, inl, inr}
 use Rattle.std.proofs.lemmas.Bool.{cases_lt}
 use Rattle.std.proofs.lemmas.List.{length-take}
 use Rattle.level_book.specs.declared.book.Level.{Level}
 use Rattle.level_book.specs.BookCosts.{BookCosts, room}
-use Rattle.level_book.specs.UnderTable.{Entry, number, never, Tables, IsAtMost, IsGreatest, write_cost, read_cost}
+use Rattle.level_book.specs.UnderTable.{Entry, number, Tables, IsAtMost, IsGreatest, write_cost, read_cost}
 use Rattle.level_book.specs.DiskUnderTable.{DiskTables, IsGreatestDisk}
 use Rattle.cost_tables.specs.Entries.{never_in_memory, entry, least_split}
-use Rattle.cost_tables.specs.TableRows.{AreFor, fastest, tables_in}
+use Rattle.cost_tables.specs.TableRows.{AreFor, fastest, tables_in, value_of}
 use Rattle.cost_tables.proofs.Splits.{entry_number, entry_never}
 use Rattle.cost_tables.proofs.Pushing.{pushed, All-pushed, split_same}
 use Rattle.cost_tables.proofs.Fastest.{same_room}
@@ -60,12 +60,12 @@ column_seen [] k = refl
 column_seen (x ∷ xs) zero = refl
 column_seen (x ∷ xs) (suc k) = column_seen xs k
 
-pub disk_seen : (t : Inside) → disk_tables_in (view_of t) ≡ over (tables_in t.fast) (at t.disk_fresh.items) (at t.disk_held.items)
-disk_seen t = λ i. record {
+pub disk_seen : (t : Inside) (fresh held : List ℕ) → map value_of t.disk_fresh.items ≡ map entry fresh → map value_of t.disk_held.items ≡ map entry held → disk_tables_in (view_of t) ≡ over (tables_in t.fast) (at fresh) (at held)
+disk_seen t fresh held is_fresh is_held = λ i. record {
   fresh = (tables_in t.fast).fresh 0;
   held = (tables_in t.fast).held 0;
-  disk_fresh = λ l. column_seen t.disk_fresh.items (l - 1) i;
-  disk_held = λ l. column_seen t.disk_held.items (l - 1) i;
+  disk_fresh = λ l. (ap (λ (xs : List Entry). get_or xs (l - 1) (number 0)) is_fresh ∙ column_seen fresh (l - 1)) i;
+  disk_held = λ l. (ap (λ (xs : List Entry). get_or xs (l - 1) (number 0)) is_held ∙ column_seen held (l - 1)) i;
 }
 
 -- an entry that is at most a number is a number that is
@@ -84,23 +84,24 @@ module _ (steps f r : ℕ) (t : Tables) (fast fresh held : ℕ → ℕ) where
   greatest_of [] some is seen small are = absurd (omega arith)
   greatest_of (x ∷ rest) some is seen small are = columns_greatest steps f r x rest t is fast fresh held seen small are
 
-module _ (steps : ℕ) (book : BookCosts) (made : Inside) (column : List ℕ) where
+module _ (steps : ℕ) (book : BookCosts) (made : Inside) (column disk_fresh disk_held : List ℕ) where
   abbrev T : Tables
   T = tables_in made.fast
 
   pub filled_greatest : 1 < length book.levels → AreFor steps (fastest book) made.fast → IsGreatest steps (fastest book) T → steps ≤ 8192 →
       book.forward < 2 ^ 32 → book.reverse < 2 ^ 32 → write_cost book 1 < 2 ^ 32 → read_cost book 1 < 2 ^ 32 →
       length column ≡ made.fast.steps → ((q : ℕ) → q < made.fast.steps → entry (at column q) ≡ T.fresh 0 (q + 1) (get_or made.fast.rooms 0 0)) →
-      IsHeldColumn book.forward (read_cost book 1) column made.disk_held.items → length made.disk_held.items ≡ length column →
-      IsFreshColumn book.forward (write_cost book 1) column made.disk_held.items made.disk_fresh.items → length made.disk_fresh.items ≡ length column →
+      IsHeldColumn book.forward (read_cost book 1) column disk_held → length disk_held ≡ length column →
+      IsFreshColumn book.forward (write_cost book 1) column disk_held disk_fresh → length disk_fresh ≡ length column →
+      map value_of made.disk_fresh.items ≡ map entry disk_fresh → map value_of made.disk_held.items ≡ map entry disk_held →
       IsGreatestDisk steps book (disk_tables_in (view_of made))
-  filled_greatest some sizes is few f b w c wide value held held_wide fresh fresh_wide =
+  filled_greatest some sizes is few f b w c wide value held held_wide fresh fresh_wide is_fresh is_held =
       let known : 0 < length (fastest book).levels = first_known book (omega arith) in
       let same = sizes.rooms_are 0 known ∙ same_room book steps in
       let es = sizes.steps_are in
       let seen = λ (q : ℕ) (lt : q < steps). value q (omega arith) ∙ (λ i. T.fresh 0 (add-one q i) (same i)) in
       let P : DiskTables → Type 0 = λ t. IsGreatestDisk steps book t in
-      subst P (sym (disk_seen made)) (greatest_of steps book.forward book.reverse T (at column) (at made.disk_fresh.items) (at made.disk_held.items) book.levels (omega arith) is seen
+      subst P (sym (disk_seen made disk_fresh disk_held is_fresh is_held)) (greatest_of steps book.forward book.reverse T (at column) (at disk_fresh) (at disk_held) book.levels (omega arith) is seen
       (record {
         few = few;
         cheap_steps = f;

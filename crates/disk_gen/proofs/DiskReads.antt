@@ -1,5 +1,5 @@
 -- A part that is read from disk tables, from its parts.
-use Rattle.std.proofs.Common.{◌≡◌, ◌≢◌, ℕ, zero, suc, ◌+◌, ◌-◌, ◌*◌, ◌<◌, ◌≤◌, Bool, true, false, List, [], ◌∷◌, ◌++◌, length, get_or, refl, sym, ap, ◌∙◌, subst, arith, append_assoc, Result, Ok, Err}
+use Rattle.std.proofs.Common.{◌≡◌, ◌≢◌, ℕ, zero, suc, ◌+◌, ◌-◌, ◌*◌, ◌<◌, ◌≤◌, Bool, true, false, List, [], ◌∷◌, ◌++◌, length, get_or, sym, ap, ◌∙◌, subst, arith, append_assoc, Result, Ok, Err}
 use Rattle.std.specs.Result.{IfOk}
 use Rattle.std.proofs.lemmas.List.{length-take}
 use Rattle.plan_types.specs.declared.action.Keep.TheVariants.{Nothing, Store}
@@ -13,9 +13,9 @@ use Rattle.cost_tables.specs.TableRows.{fastest, tables_in}
 use Rattle.cost_tables.specs.Exact.{IsExact, IsExactTo}
 use Rattle.cost_tables.proofs.Fastest.{same_room, first_exact}
 use Rattle.hrevolve_gen.specs.Written.{Part, one, faster, split, actions, Reads}
-use Rattle.hrevolve_gen.specs.Reading.{IsReadable, IsMore}
+use Rattle.hrevolve_gen.specs.Reading.{IsMore}
 use Rattle.disk_gen.specs.DiskRows.{DiskRows, AreDiskFor, disk_tables_in}
-use Rattle.disk_gen.specs.DiskWritten.{HeldPart, finally, again, DiskPart, alone, parted, held_actions, disk_actions, fast_tables, held_split, disk_split, IsLeast, ReadsHeld, ReadsDisk, IsDiskWritten}
+use Rattle.disk_gen.specs.DiskWritten.{finally, again, DiskPart, alone, parted, held_actions, disk_actions, fast_tables, ReadsDisk, IsDiskWritten}
 use Rattle.disk_gen.specs.DiskReading.{IsDiskExact, CanReadDisk, IsHeldMore, IsDiskMore}
 
 -- what is read of level 0 depends on its entries alone
@@ -44,12 +44,12 @@ part_first steps book t (split j p q) true l m is = (
 -- tables for so many steps can be read
 pub can_read_disk : (steps : ℕ) (book : BookCosts) (t : DiskRows) → AreDiskFor steps book t → IsExact steps (fastest book) (fast_tables (disk_tables_in t)) → IsDiskExact steps book (disk_tables_in t) → steps ≤ 8192 → CanReadDisk book t
 can_read_disk steps book t sizes exact disk few =
-    let es = sizes.fast.steps_are in
+    let es = sizes.sized.steps_are in
     let two = sizes.plan.two in
-    let single : length t.fast.rooms ≡ 1 = omega (arith, sizes.fast.level_count, length-take 1 book.levels) in
-    let known : 0 < length (fastest book).levels = omega (arith, sizes.fast.level_count) in
+    let single : length t.fast.rooms ≡ 1 = omega (arith, sizes.sized.level_count, length-take 1 book.levels) in
+    let known : 0 < length (fastest book).levels = omega (arith, sizes.sized.level_count) in
     let Room : ℕ → Type 0 = λ k. get_or t.fast.rooms k 0 ≡ room book k t.fast.steps in
-    let first : Room 0 = sizes.fast.rooms_are 0 known ∙ same_room book steps ∙ ap (λ n. room book 0 n) (sym es) in
+    let first : Room 0 = sizes.sized.rooms_are 0 known ∙ same_room book steps ∙ ap (λ n. room book 0 n) (sym es) in
     let Exact : ℕ → Type 0 = λ n. IsExactTo (length t.fast.rooms) n book (tables_in t.fast) in
     let Count : ℕ → Type 0 = λ n. IsExactTo n steps book (tables_in t.fast) in
     let Disk : ℕ → Type 0 = λ n. IsDiskExact n book (disk_tables_in t) in

@@ -12,3 +12,5 @@ pub mod DiskForwards
 pub mod DiskNested
 pub mod DiskWhole
 pub mod DiskUnique
+pub mod DiskNevers
+pub mod DiskSetting

@@ -1,6 +1,7 @@
 -- No public clause cites this file. What the numbers in memory say of one another, and as what they are seen.
 use Rattle.std.specs.Prelude.{◌≡◌, ℕ, ◌+◌, ◌<◌, ◌≤◌, ◌^◌, min, All, List, length, map, slice_index}
-use Rattle.cost_tables.specs.Entries.{entry, least_split}
+use Rattle.cost_tables.specs.Entries.{least_split}
+use Rattle.cost_tables.specs.TableRows.{value_of}
 use Rattle.disk_gen.specs.declared.disk_tables.DiskTables.TheInside.{Inside}
 use Rattle.disk_gen.specs.DiskRows.{DiskRows}
 
@@ -17,8 +18,8 @@ pub record IsFreshColumn (forward write : ℕ) (fast held fresh : List ℕ) : Ty
 abbrev pub view_of : Inside → DiskRows
 view_of t = record {
   fast = t.fast;
-  disk_fresh = map entry t.disk_fresh.items;
-  disk_held = map entry t.disk_held.items;
+  disk_fresh = map value_of t.disk_fresh.items;
+  disk_held = map value_of t.disk_held.items;
 }
 
 -- level 0 alone has rows, and there are as many entries over both levels as steps

@@ -1,7 +1,7 @@
 -- What built disk tables are seen as: their entries in rows, and for how many steps and slots they are.
-use Rattle.std.specs.Prelude.{ℕ, ◌-◌, List, slice_index_or}
-use Rattle.level_book.specs.BookCosts.{BookCosts}
-use Rattle.level_book.specs.UnderTable.{Entry, number}
+use Rattle.std.specs.Prelude.{◌≡◌, ℕ, ◌-◌, ◌<◌, ◌≤◌, List, slice_index_or}
+use Rattle.level_book.specs.BookCosts.{BookCosts, room}
+use Rattle.level_book.specs.UnderTable.{Entry, number, never}
 use Rattle.level_book.specs.DiskUnderTable.{DiskTables}
 use Rattle.cost_tables.specs.TableRows.{TableRows, AreFor, fastest, tables_in}
 use Rattle.disk_gen.specs.DiskPlans.{HasDiskPlan}
@@ -21,7 +21,18 @@ disk_tables_in t = record {
   disk_held = λ l. slice_index_or t.disk_held (l - 1) (number 0);
 }
 
--- the tables are for so many steps and a book that has a plan
+-- the tables are for so many steps and level 0 of a book
+abbrev pub AreDiskSized : ℕ → BookCosts → DiskRows → Type 0
+AreDiskSized steps book t = AreFor steps (fastest book) t.fast
+
+-- the same, and the book has a plan
 pub record AreDiskFor (steps : ℕ) (book : BookCosts) (t : DiskRows) : Type 0 where
-  pub fast : AreFor steps (fastest book) t.fast
+  pub sized : AreDiskSized steps book t
   pub plan : HasDiskPlan book
+
+-- each entry for at most so many steps and a book is Never
+pub record AreAllNeverDisk (steps : ℕ) (book : BookCosts) (t : DiskTables) : Type 0 where
+  pub fresh : (l m : ℕ) → 1 ≤ l → l ≤ steps → m ≤ room book 0 steps → t.fresh l m ≡ never
+  pub held : (l m : ℕ) → 1 ≤ l → l ≤ steps → m < room book 0 steps → t.held l m ≡ never
+  pub disk_fresh : (l : ℕ) → 1 ≤ l → l ≤ steps → t.disk_fresh l ≡ never
+  pub disk_held : (l : ℕ) → 1 ≤ l → l ≤ steps → t.disk_held l ≡ never

@@ -12,7 +12,7 @@ ghost use Rattle.disk_gen.specs.DiskReading.{CanReadDisk, IsHeldMore, IsDiskMore
 
 use crate::disk_tables::DiskTables;
 use cost_tables::Cost;
-use hrevolve_gen::{plus, write_fresh};
+use hrevolve_gen::{is_sum, write_fresh};
 use level_book::Book;
 use plan_types::{Action, Dest, Keep};
 use std::alloc::{AllocError, Global};
@@ -59,7 +59,7 @@ fn is_fast_held(tables: &DiskTables, own: Cost, read: u64, l: u32) -> bool
     ensures no { result ≡ false → value_of own ≢ sum_of read (number 0) ((disk_tables_in tables.now).fresh l (slice_index tables.now.fast.rooms 0)) }
 {
     let fast = tables.fresh(l, tables.room());
-    plus(read, Cost::Number(0), fast) == own
+    is_sum(own, read, Cost::Number(0), fast)
 }
 
 // The same where its first state is in work.
@@ -79,7 +79,7 @@ fn is_fresh_split(tables: &DiskTables, own: Cost, n: u64, l: u32, j: u32) -> boo
     ensures yes { result ≡ true → value_of own ≡ sum_of n ((disk_tables_in tables.now).disk_fresh (l - j)) ((disk_tables_in tables.now).disk_held j) }
     ensures no { result ≡ false → value_of own ≢ sum_of n ((disk_tables_in tables.now).disk_fresh (l - j)) ((disk_tables_in tables.now).disk_held j) }
 {
-    plus(n, tables.disk_fresh(l - j), tables.disk_held(j)) == own
+    is_sum(own, n, tables.disk_fresh(l - j), tables.disk_held(j))
 }
 
 // The fewest steps after which splitting costs so much, where the first state is held on level 1.
@@ -95,12 +95,9 @@ fn held_split(tables: &DiskTables, own: Cost, read: u64, forward: u64, l: u32) -
 {
     let room = tables.room();
     for i in 1..l {
-        let cost = plus(
-            read + i as u64 * forward,
-            tables.fresh(l - i, room),
-            tables.disk_held(i),
-        );
-        if cost == own {
+        let fast = tables.fresh(l - i, room);
+        let held = tables.disk_held(i);
+        if is_sum(own, read + i as u64 * forward, fast, held) {
             return i;
         }
     }

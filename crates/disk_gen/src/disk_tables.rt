@@ -1,10 +1,12 @@
 // Tables of least costs over two levels, of which the slow one is unlimited.
-ghost use Rattle.std.specs.Prelude.{◌≡◌, ◌↔◌, ℕ, ◌+◌, ◌-◌, ◌<◌, ◌≤◌, ◌^◌, true, All, length, IfOk, IfErr, OnOk, slice_index};
+ghost use Rattle.std.specs.Prelude.{◌≡◌, ◌≢◌, ◌↔◌, ℕ, ◌+◌, ◌-◌, ◌<◌, ◌≤◌, ◌^◌, true, All, length, map, IfOk, IfErr, OnOk, slice_index};
+ghost use Rattle.level_book.specs.UnderTable.{number};
 ghost use Rattle.level_book.specs.DiskUnderTable.{IsGreatestDisk};
 ghost use Rattle.cost_tables.specs.Entries.{entry, least_split};
 ghost use Rattle.cost_tables.specs.TableRows.{FitsFastest, tables_in, value_of};
+ghost use Rattle.cost_tables.specs.Filling.{IsOther};
 ghost use Rattle.disk_gen.specs.DiskPlans.{HasDiskPlan, IsDiskFault};
-ghost use Rattle.disk_gen.specs.DiskRows.{AreDiskFor, disk_tables_in};
+ghost use Rattle.disk_gen.specs.DiskRows.{AreDiskSized, AreDiskFor, AreAllNeverDisk, disk_tables_in};
 ghost use Rattle.disk_gen.specs.DiskBuilt.{IsHeldColumn, IsFreshColumn};
 
 use cost_tables::{Cost, Tables};
@@ -21,8 +23,8 @@ const NEVER: u64 = 2305843009213693952;
 #[derive(Drop)]
 pub struct DiskTables {
     fast: Tables,
-    disk_fresh: Vec<u64>,
-    disk_held: Vec<u64>,
+    disk_fresh: Vec<Cost>,
+    disk_held: Vec<Cost>,
 }
 
 impl Model for DiskTables {
@@ -74,12 +76,36 @@ impl DiskTables {
         }
     }
 
+    /// Tables of which each entry is Never, to be filled entry by entry. The book may also be one that has no greatest table here,
+    /// as of one level. They are refused for want of memory alone.
+    pub fn never(alloc: Global, steps: u32, book: &Book) -> Result<DiskTables, AllocError>
+        requires { FitsFastest steps book.now }
+        ensures sizes { IfOk result (AreDiskSized steps book.now) }
+        ensures never { IfOk result (λ t. AreAllNeverDisk steps book.now (disk_tables_in t)) }
+    {
+        let _levels = book.levels();
+        let fast = Tables::never_fastest(alloc, steps, book)?;
+        let disk_fresh = never_costs(alloc, steps)?;
+        let disk_held = never_costs(alloc, steps)?;
+        Ok(DiskTables {
+            fast,
+            disk_fresh,
+            disk_held,
+        })
+    }
+
+    /// Whether the tables are for so many steps and level 0 of a book. It takes no memory.
+    pub fn sized(&self, steps: u32, book: &Book) -> bool
+        ensures { result ≡ true ↔ AreDiskSized steps book.now self.now }
+    {
+        self.fast.sized_fastest(steps, book)
+    }
+
     /// The entry of level 0 alone for a stretch of l steps and m free slots, with the first state in work. It takes no memory.
     pub fn fresh(&self, l: u32, m: u32) -> Cost
         requires l { (1 ≤ l) × (l ≤ self.now.fast.steps) }
         requires m { m ≤ slice_index self.now.fast.rooms 0 }
-        ensures value { value_of result ≡ (disk_tables_in self.now).fresh l m }
-        ensures bounded { (v : ℕ) → result ≡ Cost.Number v → v < 2 ^ 61 }
+        ensures { value_of result ≡ (disk_tables_in self.now).fresh l m }
     {
         self.fast.fresh(0, l, m)
     }
@@ -88,8 +114,7 @@ impl DiskTables {
     pub fn held(&self, l: u32, m: u32) -> Cost
         requires l { (1 ≤ l) × (l ≤ self.now.fast.steps) }
         requires m { m < slice_index self.now.fast.rooms 0 }
-        ensures value { value_of result ≡ (disk_tables_in self.now).held l m }
-        ensures bounded { (v : ℕ) → result ≡ Cost.Number v → v < 2 ^ 61 }
+        ensures { value_of result ≡ (disk_tables_in self.now).held l m }
     {
         self.fast.held(0, l, m)
     }
@@ -97,19 +122,72 @@ impl DiskTables {
     /// The entry over both levels for a stretch of l steps with the first state in work. It takes no memory.
     pub fn disk_fresh(&self, l: u32) -> Cost
         requires { (1 ≤ l) × (l ≤ self.now.fast.steps) }
-        ensures value { value_of result ≡ (disk_tables_in self.now).disk_fresh l }
-        ensures bounded { (v : ℕ) → result ≡ Cost.Number v → v < 2 ^ 61 }
+        ensures { value_of result ≡ (disk_tables_in self.now).disk_fresh l }
     {
-        cost_of(self.disk_fresh[l as usize - 1])
+        let row = l as usize - 1;
+        self.disk_fresh[row]
     }
 
     /// The same with the first state held on level 1. It takes no memory.
     pub fn disk_held(&self, l: u32) -> Cost
         requires { (1 ≤ l) × (l ≤ self.now.fast.steps) }
-        ensures value { value_of result ≡ (disk_tables_in self.now).disk_held l }
-        ensures bounded { (v : ℕ) → result ≡ Cost.Number v → v < 2 ^ 61 }
+        ensures { value_of result ≡ (disk_tables_in self.now).disk_held l }
     {
-        cost_of(self.disk_held[l as usize - 1])
+        let row = l as usize - 1;
+        self.disk_held[row]
+    }
+
+    /// Sets the entry of level 0 alone for a stretch of l steps and m free slots, with the first state in work. It takes no
+    /// memory.
+    pub fn set_fresh(&mut self, l: u32, m: u32, cost: Cost)
+        requires l { (1 ≤ l) × (l ≤ self.old.fast.steps) }
+        requires m { m ≤ slice_index self.old.fast.rooms 0 }
+        ensures steps { self.new.fast.steps ≡ self.old.fast.steps }
+        ensures rooms { self.new.fast.rooms ≡ self.old.fast.rooms }
+        ensures entry { (disk_tables_in self.new).fresh l m ≡ value_of cost }
+        ensures others { (j n : ℕ) → 1 ≤ j → IsOther 0 j n 0 l m → (disk_tables_in self.new).fresh j n ≡ (disk_tables_in self.old).fresh j n }
+        ensures held { self.new.fast.held ≡ self.old.fast.held }
+        ensures disk_fresh { self.new.disk_fresh ≡ self.old.disk_fresh }
+        ensures disk_held { self.new.disk_held ≡ self.old.disk_held }
+    {
+        self.fast.set_fresh(0, l, m, cost);
+    }
+
+    /// The same with the first state held on level 0, beside the free slots. It takes no memory.
+    pub fn set_held(&mut self, l: u32, m: u32, cost: Cost)
+        requires l { (1 ≤ l) × (l ≤ self.old.fast.steps) }
+        requires m { m < slice_index self.old.fast.rooms 0 }
+        ensures steps { self.new.fast.steps ≡ self.old.fast.steps }
+        ensures rooms { self.new.fast.rooms ≡ self.old.fast.rooms }
+        ensures entry { (disk_tables_in self.new).held l m ≡ value_of cost }
+        ensures others { (j n : ℕ) → 1 ≤ j → IsOther 0 j n 0 l m → (disk_tables_in self.new).held j n ≡ (disk_tables_in self.old).held j n }
+        ensures fresh { self.new.fast.fresh ≡ self.old.fast.fresh }
+        ensures disk_fresh { self.new.disk_fresh ≡ self.old.disk_fresh }
+        ensures disk_held { self.new.disk_held ≡ self.old.disk_held }
+    {
+        self.fast.set_held(0, l, m, cost);
+    }
+
+    /// Sets the entry over both levels for a stretch of l steps with the first state in work. It takes no memory.
+    pub fn set_disk_fresh(&mut self, l: u32, cost: Cost)
+        requires { (1 ≤ l) × (l ≤ self.old.fast.steps) }
+        ensures fast { self.new.fast ≡ self.old.fast }
+        ensures entry { (disk_tables_in self.new).disk_fresh l ≡ value_of cost }
+        ensures others { (j : ℕ) → 1 ≤ j → j ≢ l → (disk_tables_in self.new).disk_fresh j ≡ (disk_tables_in self.old).disk_fresh j }
+        ensures disk_held { self.new.disk_held ≡ self.old.disk_held }
+    {
+        self.disk_fresh[l as usize - 1] = cost;
+    }
+
+    /// The same with the first state held on level 1. It takes no memory.
+    pub fn set_disk_held(&mut self, l: u32, cost: Cost)
+        requires { (1 ≤ l) × (l ≤ self.old.fast.steps) }
+        ensures fast { self.new.fast ≡ self.old.fast }
+        ensures entry { (disk_tables_in self.new).disk_held l ≡ value_of cost }
+        ensures others { (j : ℕ) → 1 ≤ j → j ≢ l → (disk_tables_in self.new).disk_held j ≡ (disk_tables_in self.old).disk_held j }
+        ensures disk_fresh { self.new.disk_fresh ≡ self.old.disk_fresh }
+    {
+        self.disk_held[l as usize - 1] = cost;
     }
 
     /// For how many steps the tables are.
@@ -126,8 +204,8 @@ impl DiskTables {
         self.fast.room(0)
     }
 
-    // The tables of level 0 alone.
-    pub(crate) fn fast(&self) -> &Tables
+    /// The tables of level 0 alone.
+    pub fn fast(&self) -> &Tables
         ensures value { result.now ≡ self.now.fast }
         ensures one { length self.now.fast.rooms ≡ 1 }
     {
@@ -137,14 +215,36 @@ impl DiskTables {
 
 // The entry of a number in memory.
 fn cost_of(n: u64) -> Cost
-    ensures value { value_of result ≡ entry n }
-    ensures bounded { (v : ℕ) → result ≡ Cost.Number v → v < 2 ^ 61 }
+    ensures { value_of result ≡ entry n }
 {
     if n < NEVER {
         Cost::Number(n)
     } else {
         Cost::Never
     }
+}
+
+// The entries of numbers in memory.
+fn costs_of(alloc: Global, numbers: &[u64]) -> Result<Vec<Cost>, AllocError>
+    ensures { IfOk result (λ costs. map value_of costs.items ≡ map entry numbers.now) }
+{
+    let mut costs = Vec::with_capacity(alloc, numbers.len())?;
+    for n in numbers {
+        costs.push(cost_of(*n))?;
+    }
+    Ok(costs)
+}
+
+// So many entries, each of them Never.
+fn never_costs(alloc: Global, count: u32) -> Result<Vec<Cost>, AllocError>
+    ensures count { IfOk result (λ costs. length costs.items ≡ count) }
+    ensures never { IfOk result (λ costs. All (λ cost. cost ≡ Cost.Never) costs.items) }
+{
+    let mut costs = Vec::with_capacity(alloc, count as usize)?;
+    for _ in 0..count {
+        costs.push(Cost::Never)?;
+    }
+    Ok(costs)
 }
 
 // The tables for a book that has a plan.
@@ -166,8 +266,10 @@ fn filled<R: Threads + Sync>(
     let column = fast_column(alloc, &fast)?;
     let forward = book.forward() as u64;
     let disk = book.level(1);
-    let disk_held = held_column(alloc, &column, forward, disk.read as u64)?;
-    let disk_fresh = fresh_column(alloc, &column, &disk_held, forward, disk.write as u64)?;
+    let held = held_column(alloc, &column, forward, disk.read as u64)?;
+    let fresh = fresh_column(alloc, &column, &held, forward, disk.write as u64)?;
+    let disk_held = costs_of(alloc, &held)?;
+    let disk_fresh = costs_of(alloc, &fresh)?;
     Ok(DiskTables {
         fast,
         disk_fresh,
@@ -177,7 +279,8 @@ fn filled<R: Threads + Sync>(
 
 // What each stretch costs with level 0 alone and all its slots.
 fn fast_column(alloc: Global, fast: &Tables) -> Result<Vec<u64>, AllocError>
-    requires { length fast.now.rooms ≡ 1 }
+    requires one { length fast.now.rooms ≡ 1 }
+    requires low { (l v : ℕ) → 1 ≤ l → l ≤ fast.now.steps → (tables_in fast.now).fresh 0 l (slice_index fast.now.rooms 0) ≡ number v → v < 2 ^ 61 }
     ensures count { IfOk result (λ column. length column.items ≡ fast.now.steps) }
     ensures low { IfOk result (λ column. All (λ n. n ≤ 2 ^ 61) column.items) }
     ensures value { IfOk result (λ column. (r : ℕ) → r < fast.now.steps → entry (slice_index column.items r) ≡ (tables_in fast.now).fresh 0 (r + 1) (slice_index fast.now.rooms 0)) }

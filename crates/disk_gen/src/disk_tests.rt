@@ -40,6 +40,35 @@ fn disk_held(tables: &DiskTables, l: u32) -> Option<Cost> {
     }
 }
 
+fn held(tables: &DiskTables, l: u32, m: u32) -> Option<Cost> {
+    if 1 <= l && l <= tables.steps() && m < tables.room() {
+        Some(tables.held(l, m))
+    } else {
+        None
+    }
+}
+
+// Sets an entry of each kind for l steps, if the tables have it.
+fn set(tables: &mut DiskTables, l: u32, costs: [Cost; 4]) -> bool {
+    let known = 1 <= l && l <= tables.steps() && 1 <= tables.room();
+    if known {
+        tables.set_fresh(l, 1, costs[0]);
+        tables.set_held(l, 0, costs[1]);
+        tables.set_disk_fresh(l, costs[2]);
+        tables.set_disk_held(l, costs[3]);
+    }
+    known
+}
+
+// The entry for l steps, where the one for two is set and the others are Never.
+fn set_at_two(l: u32, cost: Cost) -> Option<Cost> {
+    if l == 2 {
+        Some(cost)
+    } else {
+        Some(Cost::Never)
+    }
+}
+
 macro_rules! built {
     ($rt:expr, $steps:expr, $book:expr, $workers:expr) => {{
         let book = $book;
@@ -156,4 +185,43 @@ fn tables_fit_up_to_their_limits(rt: HostRuntime) {
             "{steps} and {slots}"
         );
     }
+}
+
+#[test]
+fn tables_are_filled_with_any_costs(rt: HostRuntime) -> Result<(), Fail> {
+    let most = Cost::Number(18_446_744_073_709_551_615);
+    let limited = read_book(rt.alloc(), ONE_DISK_SLOT)?;
+    for book in [&limited, &Book::plain(1)] {
+        assert!(rt; DiskTables::fits(3, book));
+        let mut tables = DiskTables::never(rt.alloc(), 3, book)?;
+        assert!(rt; tables.sized(3, book));
+        assert!(rt; !tables.sized(4, book), "another number of steps");
+        assert!(rt;
+            !tables.sized(3, &Book::plain(2)),
+            "another number of slots"
+        );
+        assert!(rt;
+            set(
+                &mut tables,
+                2,
+                [most, Cost::Number(1), Cost::Number(2), most]
+            )
+        );
+        for l in 1..4 {
+            assert_eq!(rt; fresh(&tables, l, 0), Some(Cost::Never), "{l} steps");
+            assert_eq!(rt; fresh(&tables, l, 1), set_at_two(l, most), "{l} steps");
+            assert_eq!(rt;
+                held(&tables, l, 0),
+                set_at_two(l, Cost::Number(1)),
+                "{l} steps"
+            );
+            assert_eq!(rt;
+                disk_fresh(&tables, l),
+                set_at_two(l, Cost::Number(2)),
+                "{l} steps"
+            );
+            assert_eq!(rt; disk_held(&tables, l), set_at_two(l, most), "{l} steps");
+        }
+    }
+    Ok(())
 }

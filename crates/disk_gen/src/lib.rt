@@ -2,10 +2,12 @@
 //! slow one is unlimited and the cost is the least. The crate stands on the lists of Revolve, and on the tables and lists of
 //! H-Revolve for the fast level. `specs/Periodic.antt` says which periodic list is written, `specs/Plans.antt` where there is none,
 //! and `specs/Laws.antt` that it is valid. `specs/DiskRows.antt` says as what the disk tables are seen, `specs/DiskPlans.antt`
-//! where there are none, and `specs/DiskWritten.antt` which list is read from them.
+//! where there are none, and `specs/DiskWritten.antt` which list is read from them; by `specs/Laws.antt` it is the only one.
 #![tactic(auto)]
 
 mod disk_reading;
+#[cfg(test)]
+mod disk_search_tests;
 mod disk_tables;
 #[cfg(test)]
 mod disk_tests;

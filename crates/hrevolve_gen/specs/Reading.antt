@@ -1,10 +1,8 @@
 -- Tables that a list can be read from, and what is read of a stretch.
-use Rattle.std.specs.Prelude.{◌≡◌, ℕ, ◌+◌, ◌-◌, ◌*◌, ◌<◌, ◌≤◌, ◌^◌, Bool, List, ◌++◌, length, slice_index_or}
+use Rattle.std.specs.Prelude.{◌≡◌, ℕ, ◌+◌, ◌-◌, ◌*◌, ◌<◌, ◌≤◌, Bool, List, ◌++◌, length, slice_index_or}
 use Rattle.plan_types.specs.declared.action.Action.{Action}
 use Rattle.level_book.specs.BookCosts.{BookCosts, room}
 use Rattle.level_book.specs.UnderTable.{Entry, Tables, sum_of}
-use Rattle.cost_tables.specs.declared.cost.Cost.{Cost}
-use Rattle.cost_tables.specs.declared.cost.Cost.TheVariants.{Number}
 use Rattle.cost_tables.specs.TableRows.{TableRows, AreFor, tables_in}
 use Rattle.cost_tables.specs.Exact.{IsExact, IsExactTo}
 use Rattle.hrevolve_gen.specs.Written.{Part, actions, Reads}
@@ -20,10 +18,6 @@ pub record IsReadable (book : BookCosts) (t : TableRows) : Type 0 where
   pub rooms_are : (k : ℕ) → k < length t.rooms → slice_index_or t.rooms k 0 ≡ room book k t.steps
   pub exact : IsExactTo (length t.rooms) t.steps book (tables_in t)
   pub few : t.steps ≤ 8192
-
--- a cost that is a number is below this one
-abbrev pub IsBounded : Cost → Type 0
-IsBounded cost = (v : ℕ) → cost ≡ Number v → v < 2 ^ 61
 
 -- what splitting after j steps costs, where the first state's image costs n
 abbrev pub split_cost : Tables → ℕ → ℕ → ℕ → ℕ → ℕ → ℕ → Entry

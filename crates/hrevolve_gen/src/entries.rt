@@ -1,24 +1,24 @@
 // Which right side an entry of the tables is.
-ghost use Rattle.std.specs.Prelude.{◌≡◌, ◌≢◌, ℕ, suc, ◌+◌, ◌-◌, ◌*◌, ◌^◌, ◌<◌, ◌≤◌, true, false, length, slice_index};
+ghost use Rattle.std.specs.Prelude.{◌≡◌, ◌≢◌, ◌↔◌, ℕ, suc, ◌+◌, ◌-◌, ◌*◌, ◌^◌, ◌<◌, ◌≤◌, true, false, length, slice_index};
 ghost use Rattle.level_book.specs.UnderTable.{number, sum_of};
 ghost use Rattle.cost_tables.specs.TableRows.{tables_in, value_of};
-ghost use Rattle.hrevolve_gen.specs.Reading.{IsBounded, split_cost};
+ghost use Rattle.hrevolve_gen.specs.Reading.{split_cost};
 
 use cost_tables::{Cost, Tables};
 
-/// The sum of a number and two entries.
-pub fn plus(n: u64, a: Cost, b: Cost) -> Cost
-    requires n { n ≤ 2 ^ 62 }
-    requires a { IsBounded a }
-    requires b { IsBounded b }
-    ensures { value_of result ≡ sum_of n (value_of a) (value_of b) }
+/// Whether an entry is the sum of a number and two entries. They may be any, also where the sum is past what a number holds.
+pub fn is_sum(own: Cost, n: u64, a: Cost, b: Cost) -> bool
+    ensures { result ≡ true ↔ value_of own ≡ sum_of n (value_of a) (value_of b) }
 {
     match a {
         Cost::Number(x) => match b {
-            Cost::Number(y) => Cost::Number(n + x + y),
-            Cost::Never => Cost::Never,
+            Cost::Number(y) => match own {
+                Cost::Number(v) => v as u128 == n as u128 + x as u128 + y as u128,
+                Cost::Never => false,
+            },
+            Cost::Never => own == Cost::Never,
         },
-        Cost::Never => Cost::Never,
+        Cost::Never => own == Cost::Never,
     }
 }
 
@@ -47,7 +47,7 @@ pub(crate) fn is_faster_held(tables: &Tables, own: Cost, read: u64, k: u8, l: u3
         return false;
     }
     let faster = tables.fresh(k - 1, l, tables.room(k - 1));
-    plus(read, Cost::Number(0), faster) == own
+    is_sum(own, read, Cost::Number(0), faster)
 }
 
 // The fewest steps after which splitting costs so much.
@@ -64,12 +64,9 @@ pub(crate) fn split(tables: &Tables, own: Cost, n: u64, forward: u64, k: u8, l: 
     ensures least { (j : ℕ) → 1 ≤ j → j < result → value_of own ≢ split_cost (tables_in tables.now) n forward k l m j }
 {
     for j in 1..l {
-        let cost = plus(
-            n + j as u64 * forward,
-            tables.fresh(k, l - j, m),
-            tables.held(k, j, m),
-        );
-        if cost == own {
+        let fresh = tables.fresh(k, l - j, m);
+        let held = tables.held(k, j, m);
+        if is_sum(own, n + j as u64 * forward, fresh, held) {
             return j;
         }
     }

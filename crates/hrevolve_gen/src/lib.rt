@@ -11,6 +11,6 @@ mod list;
 mod tests;
 mod writing;
 
-pub use crate::entries::plus;
+pub use crate::entries::is_sum;
 pub use crate::list::hrevolve_list;
 pub use crate::writing::write_fresh;

@@ -1,5 +1,5 @@
 use Rattle.cost_tables.specs.Rows.{AreStarted}
 use Rattle.cost_tables.proofs.sharing.rows_piece.Given as goal
 
-abbrev pub invariant-loop-q : goal.invariant-loop-q
-invariant-loop-q l = AreStarted l.rows l.forward l.q l.low l.high l.pieces.items
+abbrev pub invariant-loop-m : goal.invariant-loop-m
+invariant-loop-m l = AreStarted l.rows l.forward l.count l.low l.m l.pieces.items

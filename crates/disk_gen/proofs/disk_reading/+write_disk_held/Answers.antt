@@ -1,13 +1,10 @@
-use Rattle.std.proofs.Common.{◌≡◌, ℕ, List, ◌+◌, ◌-◌, ◌*◌, ◌<◌, ◌≤◌, arith, sym, ap, ◌∙◌, subst, get_or, false}
-use Rattle.plan_types.specs.declared.action.Action.{Action}
-use Rattle.level_book.specs.UnderTable.{sum_of, number}
-use Rattle.cost_tables.specs.TableRows.{TableRows, value_of}
+use Rattle.std.proofs.Common.{ℕ, ◌+◌, ◌-◌, arith, sym, ◌∙◌, subst, get_or, false}
+use Rattle.cost_tables.specs.TableRows.{TableRows}
 use Rattle.cost_tables.proofs.Building.{read_level}
 use Rattle.hrevolve_gen.specs.Reading.{IsMore}
 use Rattle.hrevolve_gen.proofs.PartReads.{if_ok}
 use Rattle.std.specs.Result.{IfOk}
-use Rattle.disk_gen.specs.DiskRows.{disk_tables_in}
-use Rattle.disk_gen.specs.DiskReading.{IsHeldMore, IsDiskMore}
+use Rattle.disk_gen.specs.DiskReading.{IsHeldMore}
 use Rattle.disk_gen.proofs.DiskReads.{some_held, more_moved, more_copied}
 use Rattle.disk_gen.proofs.disk_reading.+write_disk_held.Goals as goal
 
@@ -16,7 +13,7 @@ returns-then-is_fast_held t c =
     let a = c.args in let book = a.book.now in let tables = a.tables.now in let old = a.list.now.items in
     let xs = c.push.new.self.items in let new = c.write_fresh.new.list.items in
     let read = read_level (λ level. level.read) book.levels 1 0 c.level.result.now c.level.ensures in
-    let own = c.disk_held-own.ensures.value in
+    let own = c.disk_held-own.ensures in
     let yes = c.is_fast_held.ensures.yes c.if-is_fast_held.true in
     let room = get_or tables.fast.rooms 0 0 in
     let V : TableRows → Type 0 = λ v. IfOk c.write_fresh.result (λ _. IsMore book v false 0 a.b a.l c.room-room.result xs new) in
@@ -28,7 +25,7 @@ pub held_split-i-requires-clause-some : goal.held_split-i-requires-clause-some
 held_split-i-requires-clause-some t c =
     let a = c.args in let book = a.book.now in let tables = a.tables.now in
     let read = read_level (λ level. level.read) book.levels 1 0 c.level.result.now c.level.ensures in
-    let own = c.disk_held-own.ensures.value in
+    let own = c.disk_held-own.ensures in
     let no = c.is_fast_held.ensures.no c.if-is_fast_held.false in
     let by = some_held book tables c.requires.ready a.l c.level.result.now.read c.forward.result c.requires.l (omega arith) (sym read) c.forward.ensures (λ same. no (own ∙ same)) in
     (by.0, by.1, by.2, own ∙ by.3)
@@ -38,7 +35,7 @@ returns t c =
     let a = c.args in let book = a.book.now in let tables = a.tables.now in let old = a.list.now.items in
     let xs = c.extend_from_slice.new.self.items in let ys = c.write_fresh-2.new.list.items in let new = c.write_disk_held.new.list.items in
     let read = read_level (λ level. level.read) book.levels 1 0 c.level.result.now c.level.ensures in
-    let own = c.disk_held-own.ensures.value in
+    let own = c.disk_held-own.ensures in
     let no = c.is_fast_held.ensures.no c.if-is_fast_held.false in
     let i = c.held_split-i.result in let room = get_or tables.fast.rooms 0 0 in
     let V : TableRows → Type 0 = λ v. IsMore book v false 0 (a.b + i) (a.l - i) c.room-room.result xs ys in

@@ -1,4 +1,4 @@
-use Rattle.std.proofs.Common.{◌≡◌, ℕ, refl, sym, ap, ◌∙◌, subst, Vec}
+use Rattle.std.proofs.Common.{◌≡◌, ℕ, sym, ap, ◌∙◌, subst, Vec}
 use Rattle.std.specs.declared.alloc.Global.{Global}
 use Rattle.plan_types.specs.declared.action.Action.{Action}
 use Rattle.level_book.specs.BookCosts.{slots_of}
@@ -25,7 +25,7 @@ returns-clause-list c =
     let book = c.args.book.now in let t = disk_tables_in c.args.tables.now in
     let W : Vec Action Global → Type 0 = λ list. IsDiskWritten c.args.tables.now.fast.steps book t list.items in
     let Q : Vec Action Global → Type 0 = λ list. IsDiskWritten c.args.steps book t list.items in
-    if_all c.whole_list.result W Q c.whole_list.ensures (λ list is. let P : ℕ → Type 0 = λ n. IsDiskWritten n book t list.items in subst P c.requires.sizes.fast.steps_are is)
+    if_all c.whole_list.result W Q c.whole_list.ensures (λ list is. let P : ℕ → Type 0 = λ n. IsDiskWritten n book t list.items in subst P c.requires.sizes.sized.steps_are is)
 
 pub returns-clause-disk : goal.returns-clause-disk
 returns-clause-disk c =
@@ -33,7 +33,7 @@ returns-clause-disk c =
     let W : Vec Action Global → Type 0 = λ list. IsDiskWritten c.args.tables.now.fast.steps book t list.items in
     let Q : Vec Action Global → Type 0 = λ list. Disk c.args.steps (slots_of book) list.items in
     if_all c.whole_list.result W Q c.whole_list.ensures
-    (λ list is. let P : ℕ → Type 0 = λ n. IsDiskWritten n book t list.items in written_in_class c.args.steps book t list.items c.requires.sizes.plan (subst P c.requires.sizes.fast.steps_are is))
+    (λ list is. let P : ℕ → Type 0 = λ n. IsDiskWritten n book t list.items in written_in_class c.args.steps book t list.items c.requires.sizes.plan (subst P c.requires.sizes.sized.steps_are is))
 
 pub returns-clause-cost : goal.returns-clause-cost
 returns-clause-cost c =
@@ -46,4 +46,4 @@ returns-clause-cost c =
     if_all c.whole_list.result W Q c.whole_list.ensures
     (λ list is.
     let P : ℕ → Type 0 = λ n. IsDiskWritten n book t list.items in
-    v.1 ∙ ap (λ n. number n) (sym (written_disk_costs c.args.steps book t list.items v.0 (subst P c.requires.sizes.fast.steps_are is) v.1)))
+    v.1 ∙ ap (λ n. number n) (sym (written_disk_costs c.args.steps book t list.items v.0 (subst P c.requires.sizes.sized.steps_are is) v.1)))

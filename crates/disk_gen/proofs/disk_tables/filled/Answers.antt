@@ -1,15 +1,43 @@
-use Rattle.std.proofs.Common.{◌≡◌, ℕ, List, ◌<◌, ◌≤◌, ◌^◌, arith, sym, ap, ◌∙◌, subst, length}
-use Rattle.level_book.specs.UnderTable.{write_cost, read_cost}
+use Rattle.std.proofs.Common.{◌≡◌, ℕ, List, ◌<◌, ◌^◌, arith, sym, ap, ◌∙◌, subst, length, map, get_or}
+use Rattle.std.proofs.lemmas.List.{length-take, length-map}
+use Rattle.cost_tables.specs.TableRows.{fastest, tables_in, value_of}
+use Rattle.cost_tables.specs.declared.cost.Cost.{Cost}
+use Rattle.cost_tables.specs.Entries.{entry}
+use Rattle.cost_tables.proofs.Fastest.{same_room}
 use Rattle.cost_tables.proofs.Building.{read_level}
 use Rattle.disk_gen.specs.declared.disk_tables.DiskTables.TheInside.{Inside}
 use Rattle.disk_gen.specs.DiskBuilt.{IsHeldColumn, IsFreshColumn}
 use Rattle.disk_gen.proofs.DiskFilling.{filled_greatest}
+use Rattle.disk_gen.proofs.DiskNevers.{fastest_low}
 use Rattle.disk_gen.proofs.disk_tables.filled.Goals as goal
+
+same_count : (costs : List Cost) (numbers : List ℕ) → map value_of costs ≡ map entry numbers → length costs ≡ length numbers
+same_count costs numbers same = sym (length-map costs value_of) ∙ ap length same ∙ length-map numbers entry
+
+pub fast_column-requires-clause-low : goal.fast_column-requires-clause-low
+fast_column-requires-clause-low g c = λ l v one le e.
+    let book = c.args.book.now in let fast = c.in_ok-fast.fast in let sizes = c.in_ok-fast.ensures.sizes in
+    let two = c.requires.plan.two in
+    let known : 0 < length (fastest book).levels = omega (arith, length-take 1 book.levels) in
+    let same = sizes.rooms_are 0 known ∙ same_room book c.args.steps in
+    fastest_low c.args.steps book (tables_in fast) (omega arith) c.requires.fits.few c.is_within_limits.ensures c.in_ok-fast.ensures.greatest l (get_or fast.rooms 0 0) v one (omega (arith, sizes.steps_are)) (omega arith) e
+
+pub invariant_of-result : goal.invariant_of-result
+invariant_of-result g c =
+    let book = c.args.book.now in let sizes = c.in_ok-fast.ensures.sizes in let two = c.requires.plan.two in
+    let long = c.in_ok-column.ensures.count in
+    let held = c.in_ok-held.ensures.count ∙ ap length c.deref.ensures.value ∙ long in
+    let fresh = c.in_ok-fresh.ensures.count ∙ ap length c.deref-2.ensures.value ∙ long in
+    record {
+      one_level = omega (arith, sizes.level_count, length-take 1 book.levels);
+      fresh_count = same_count c.in_ok-disk_fresh.disk_fresh.items c.deref-5.result.now c.in_ok-disk_fresh.ensures ∙ ap length c.deref-5.ensures.value ∙ fresh;
+      held_count = same_count c.in_ok-disk_held.disk_held.items c.deref-4.result.now c.in_ok-disk_held.ensures ∙ ap length c.deref-4.ensures.value ∙ held;
+    }
 
 pub returns-clause-greatest : goal.returns-clause-greatest
 returns-clause-greatest g c =
     let book = c.args.book.now in let level = c.level-disk.result.now in
-    let column = c.in_ok-column.column.items in let held = c.in_ok-disk_held.disk_held.items in let fresh = c.in_ok-disk_fresh.disk_fresh.items in
+    let column = c.in_ok-column.column.items in let held = c.in_ok-held.held.items in let fresh = c.in_ok-fresh.fresh.items in
     let made : Inside = record { fast = c.in_ok-fast.fast; disk_fresh = c.in_ok-disk_fresh.disk_fresh; disk_held = c.in_ok-disk_held.disk_held } in
     let limits = c.is_within_limits.ensures in
     let f : book.forward < 2 ^ 32 = let le = limits.forward in omega arith in
@@ -26,9 +54,10 @@ returns-clause-greatest g c =
     let FH : List ℕ → Type 0 = λ xs. IsFreshColumn c.forward-forward.result level.write column xs fresh in
     let FF : ℕ → Type 0 = λ n. IsFreshColumn n level.write column held fresh in
     let FW : ℕ → Type 0 = λ n. IsFreshColumn book.forward n column held fresh in
-    filled_greatest c.args.steps book made column (let two = c.requires.plan.two in omega arith) c.in_ok-fast.ensures.sizes c.in_ok-fast.ensures.greatest c.requires.fits.few
+    filled_greatest c.args.steps book made column fresh held (let two = c.requires.plan.two in omega arith) c.in_ok-fast.ensures.sizes c.in_ok-fast.ensures.greatest c.requires.fits.few
     f b (subst Low (sym write) w) (subst Low (sym read) r) c.in_ok-column.ensures.count c.in_ok-column.ensures.value
-    (subst HR (sym read) (subst HF c.forward-forward.ensures (subst H c.deref.ensures.value c.in_ok-disk_held.ensures.column)))
-    (c.in_ok-disk_held.ensures.count ∙ ap length c.deref.ensures.value)
-    (subst FW (sym write) (subst FF c.forward-forward.ensures (subst FH c.deref-3.ensures.value (subst F c.deref-2.ensures.value c.in_ok-disk_fresh.ensures.column))))
-    (c.in_ok-disk_fresh.ensures.count ∙ ap length c.deref-2.ensures.value)
+    (subst HR (sym read) (subst HF c.forward-forward.ensures (subst H c.deref.ensures.value c.in_ok-held.ensures.column)))
+    (c.in_ok-held.ensures.count ∙ ap length c.deref.ensures.value)
+    (subst FW (sym write) (subst FF c.forward-forward.ensures (subst FH c.deref-3.ensures.value (subst F c.deref-2.ensures.value c.in_ok-fresh.ensures.column))))
+    (c.in_ok-fresh.ensures.count ∙ ap length c.deref-2.ensures.value)
+    (c.in_ok-disk_fresh.ensures ∙ ap (λ (xs : List ℕ). map entry xs) c.deref-5.ensures.value) (c.in_ok-disk_held.ensures ∙ ap (λ (xs : List ℕ). map entry xs) c.deref-4.ensures.value)

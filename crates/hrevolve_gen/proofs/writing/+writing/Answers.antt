@@ -10,7 +10,7 @@ write_fresh-returns-then-is_faster_fresh t c =
     let a = c.args in let book = a.book.now in let tables = a.tables.now in let old = a.list.now.items in let new = c.write_fresh.new.list.items in
     let yes = c.is_faster_fresh.ensures.yes c.if-is_faster_fresh.true in
     if_ok c.write_fresh.result (IsMore book tables false (a.k - 1) a.b a.l c.room.result old new) (IsMore book tables false a.k a.b a.l a.m old new) c.write_fresh.ensures
-    (more_faster_fresh book tables c.requires.ready a.k (a.k - 1) a.b a.l a.m c.room.result old new (omega (arith, yes.0)) c.requires.k (omega arith) c.room.ensures (sym c.fresh-own.ensures.value ∙ yes.1))
+    (more_faster_fresh book tables c.requires.ready a.k (a.k - 1) a.b a.l a.m c.room.result old new (omega (arith, yes.0)) c.requires.k (omega arith) c.room.ensures (sym c.fresh-own.ensures ∙ yes.1))
 
 pub write_fresh-split-j-requires-clause-some : goal.write_fresh-split-j-requires-clause-some
 write_fresh-split-j-requires-clause-some t c =
@@ -18,7 +18,7 @@ write_fresh-split-j-requires-clause-some t c =
     let no = c.is_faster_fresh.ensures.no c.if-is_faster_fresh.false in
     let write = read_level (λ level. level.write) book.levels a.k 0 c.level.result.now c.level.ensures in
     (fresh_some book tables c.requires.ready a.k a.l a.m c.level.result.now.write c.forward.result (value_of c.fresh-own.result) c.requires.k (omega arith) (omega arith) c.requires.m
-    c.fresh-own.ensures.value c.requires.number no (sym write) c.forward.ensures).1
+    c.fresh-own.ensures c.requires.number no (sym write) c.forward.ensures).1
 
 pub write_fresh-returns : goal.write_fresh-returns
 write_fresh-returns t c =
@@ -27,11 +27,11 @@ write_fresh-returns t c =
     let no = c.is_faster_fresh.ensures.no c.if-is_faster_fresh.false in
     let write = read_level (λ level. level.write) book.levels a.k 0 c.level.result.now c.level.ensures in
     let some = (fresh_some book tables c.requires.ready a.k a.l a.m c.level.result.now.write c.forward.result (value_of c.fresh-own.result) c.requires.k (omega arith) (omega arith) c.requires.m
-    c.fresh-own.ensures.value c.requires.number no (sym write) c.forward.ensures).0 in
+    c.fresh-own.ensures c.requires.number no (sym write) c.forward.ensures).0 in
     let j = c.split-j.result in
     if_ok c.write_held.result (IsMore book tables true a.k a.b j (a.m - 1) ys new) (IsMore book tables false a.k a.b a.l a.m old new) c.write_held.ensures
     (more_split_fresh book tables c.requires.ready a.k a.b a.l a.m (a.m - 1) j c.level.result.now.write c.forward.result (value_of c.fresh-own.result) old xs ys new (omega arith)
-    c.split-j.ensures.range.0 c.split-j.ensures.range.1 (sym write) c.forward.ensures c.fresh-own.ensures.value c.split-j.ensures.equal no c.split-j.ensures.least c.requires.k c.in_ok-push.ensures.items c.in_ok-write_fresh.ensures)
+    c.split-j.ensures.range.0 c.split-j.ensures.range.1 (sym write) c.forward.ensures c.fresh-own.ensures c.split-j.ensures.equal no c.split-j.ensures.least c.requires.k c.in_ok-push.ensures.items c.in_ok-write_fresh.ensures)
 
 pub write_held-returns-then-is_faster_held : goal.write_held-returns-then-is_faster_held
 write_held-returns-then-is_faster_held t c =
@@ -40,7 +40,7 @@ write_held-returns-then-is_faster_held t c =
     let read = read_level (λ level. level.read) book.levels a.k 0 c.level.result.now c.level.ensures in
     if_ok c.write_fresh.result (IsMore book tables false (a.k - 1) a.b a.l c.room.result xs new) (IsMore book tables true a.k a.b a.l a.m old new) c.write_fresh.ensures
     (more_faster_held book tables c.requires.ready a.k (a.k - 1) a.b a.l a.m c.room.result c.level.result.now.read old xs new (omega (arith, yes.0)) c.requires.k (omega arith) c.room.ensures (sym read)
-    (sym c.held-own.ensures.value ∙ yes.1) c.in_ok-push.ensures.items)
+    (sym c.held-own.ensures ∙ yes.1) c.in_ok-push.ensures.items)
 
 pub write_held-split-j-requires-clause-some : goal.write_held-split-j-requires-clause-some
 write_held-split-j-requires-clause-some t c =
@@ -48,7 +48,7 @@ write_held-split-j-requires-clause-some t c =
     let no = c.is_faster_held.ensures.no c.if-is_faster_held.false in
     let read = read_level (λ level. level.read) book.levels a.k 0 c.level.result.now c.level.ensures in
     held_some book tables c.requires.ready a.k a.l a.m c.level.result.now.read c.forward.result (value_of c.held-own.result) c.requires.k (omega arith) (omega arith) c.requires.m
-    c.held-own.ensures.value no (sym read) c.forward.ensures
+    c.held-own.ensures no (sym read) c.forward.ensures
 
 pub write_held-returns : goal.write_held-returns
 write_held-returns t c =
@@ -58,4 +58,4 @@ write_held-returns t c =
     let j = c.split-j.result in
     if_ok c.write_held.result (IsMore book tables true a.k a.b j a.m ys new) (IsMore book tables true a.k a.b a.l a.m old new) c.write_held.ensures
     (more_split_held book tables c.requires.ready a.k a.b a.l a.m j c.level.result.now.read c.forward.result (value_of c.held-own.result) old xs ys new
-    c.split-j.ensures.range.0 c.split-j.ensures.range.1 (sym read) c.forward.ensures c.held-own.ensures.value c.split-j.ensures.equal (c.is_faster_held.ensures.no c.if-is_faster_held.false) c.split-j.ensures.least c.requires.k c.in_ok-extend_from_slice.ensures.items c.in_ok-write_fresh.ensures)
+    c.split-j.ensures.range.0 c.split-j.ensures.range.1 (sym read) c.forward.ensures c.held-own.ensures c.split-j.ensures.equal (c.is_faster_held.ensures.no c.if-is_faster_held.false) c.split-j.ensures.least c.requires.k c.in_ok-extend_from_slice.ensures.items c.in_ok-write_fresh.ensures)

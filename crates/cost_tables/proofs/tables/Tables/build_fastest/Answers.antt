@@ -1,4 +1,4 @@
-use Rattle.std.proofs.Common.{◌≡◌, ℕ, List, [], ◌∷◌, ◌++◌, ◌+◌, ◌<◌, ◌^◌, arith, sym, ap, ◌∙◌, subst, length, Vec}
+use Rattle.std.proofs.Common.{ℕ, List, [], ◌∷◌, ◌++◌, ◌+◌, ◌<◌, ◌^◌, arith, sym, ap, ◌∙◌, subst, length, Vec}
 use Rattle.std.specs.declared.alloc.Global.{Global}
 use Rattle.level_book.specs.BookCosts.{room}
 use Rattle.level_book.specs.UnderTable.{Tables, IsGreatest, write_cost, read_cost}
@@ -6,17 +6,28 @@ use Rattle.cost_tables.specs.declared.rows.Row.{Row}
 use Rattle.cost_tables.specs.TableRows.{fastest}
 use Rattle.cost_tables.specs.Rows.{AreRows}
 use Rattle.cost_tables.specs.declared.tables.Tables.TheInside.{Inside}
-use Rattle.cost_tables.specs.Built.{first_in}
+use Rattle.cost_tables.specs.Built.{first_in, AreLevelsOf}
+use Rattle.cost_tables.proofs.Keeping.{fastest_whole}
 use Rattle.cost_tables.proofs.Views.{tables_seen}
 use Rattle.cost_tables.proofs.Building.{read_level}
 use Rattle.cost_tables.proofs.Fastest.{fastest_greatest}
 use Rattle.cost_tables.proofs.tables.Tables.build_fastest.Goals as goal
 
+pub invariant_of-result : goal.invariant_of-result
+invariant_of-result g c =
+    let rows = c.in_ok-rows.rows in let wide = c.room-room.result in
+    let made : Inside = record { steps = c.args.steps; rooms = c.push-2.new.self; levels = c.in_ok-levels.levels } in
+    let count = c.in_ok-rows.ensures.wide ∙ ap length c.deref.ensures.value ∙ c.in_ok-base.ensures.count in
+    let levels = c.in_ok-push.ensures.items ∙ ap (λ (levels : List (Vec Row Global)). levels ++ rows ∷ []) c.new-levels.ensures.items in
+    let rooms = c.in_ok-push-2.ensures.items ∙ ap (λ (rooms : List ℕ). rooms ++ wide ∷ []) c.new-rooms.ensures.items in
+    let From : List (Vec Row Global) → Type 0 = λ levels. AreLevelsOf levels c.in_ok-levels.levels.items in
+    fastest_whole made rows wide rooms (subst From (c.deref-2.ensures.value ∙ levels) c.in_ok-levels.ensures) count c.in_ok-rows.ensures.rows.shapes
+
 pub returns-clause-greatest : goal.returns-clause-greatest
 returns-clause-greatest g c =
     let book = c.args.book.now in let level = c.level-level.result.now in
     let rows = c.in_ok-rows.rows in let base = c.in_ok-base.base.items in
-    let made : Inside = record { steps = c.args.steps; rooms = c.push-2.new.self; levels = c.push.new.self } in
+    let made : Inside = record { steps = c.args.steps; rooms = c.push-2.new.self; levels = c.in_ok-levels.levels } in
     let f : book.forward < 2 ^ 32 = omega arith in
     let b : book.reverse < 2 ^ 32 = omega arith in
     let w : level.write < 2 ^ 32 = omega arith in
@@ -33,5 +44,7 @@ returns-clause-greatest g c =
     let count = c.in_ok-rows.ensures.wide ∙ ap length c.deref.ensures.value ∙ c.in_ok-base.ensures.count in
     let levels = c.in_ok-push.ensures.items ∙ ap (λ (levels : List (Vec Row Global)). levels ++ rows ∷ []) c.new-levels.ensures.items in
     let P : Tables → Type 0 = λ t. IsGreatest c.args.steps (fastest book) t in
-    subst P (sym (tables_seen made)) (fastest_greatest c.args.steps book c.push.new.self.items rows base levels c.requires.fits.few count is
+    let From : List (Vec Row Global) → Type 0 = λ levels. AreLevelsOf levels c.in_ok-levels.levels.items in
+    subst P (sym (tables_seen made c.push.new.self.items (subst From c.deref-2.ensures.value c.in_ok-levels.ensures)))
+    (fastest_greatest c.args.steps book c.push.new.self.items rows base levels c.requires.fits.few count is
     (λ q lt. c.in_ok-base.ensures.value q lt ∙ (λ i. first_in (c.forward-forward.ensures i + c.reverse.ensures i) q)) f b (subst Low (sym write) w) (subst Low (sym read) r))

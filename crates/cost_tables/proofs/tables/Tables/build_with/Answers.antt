@@ -1,29 +1,43 @@
-use Rattle.std.proofs.Common.{◌≡◌, ℕ, List, ◌+◌, ◌<◌, ◌≤◌, ◌^◌, arith, sym, ap, ◌∙◌, subst, get_or, length, Vec}
+use Rattle.std.proofs.Common.{◌≡◌, ℕ, List, ◌+◌, ◌<◌, ◌≤◌, ◌^◌, All, arith, sym, ap, ◌∙◌, subst, get_or, length, Vec}
 use Rattle.std.specs.declared.alloc.Global.{Global}
 use Rattle.level_book.specs.BookCosts.{room}
 use Rattle.level_book.specs.UnderTable.{Tables, IsGreatest, write_cost, read_cost}
 use Rattle.cost_tables.specs.declared.rows.Row.{Row}
 use Rattle.cost_tables.specs.Entries.{fresh_in}
-use Rattle.cost_tables.specs.Rows.{AreRows}
+use Rattle.cost_tables.specs.Rows.{AreRows, IsRow}
 use Rattle.cost_tables.specs.declared.tables.Tables.TheInside.{Inside}
-use Rattle.cost_tables.specs.Built.{AreBuilt, fresh_at, held_at}
+use Rattle.cost_tables.specs.Built.{AreBuilt, rows_at, fresh_at, held_at, AreLevelsOf}
+use Rattle.cost_tables.proofs.Keeping.{whole_of}
 use Rattle.cost_tables.proofs.Views.{tables_seen}
 use Rattle.cost_tables.proofs.AllLevels.{greatest}
 use Rattle.cost_tables.proofs.Building.{read_level, built_more, modest}
 use Rattle.cost_tables.proofs.tables.Tables.build_with.Goals as goal
 
+pub invariant_of-result : goal.invariant_of-result
+invariant_of-result g c =
+    let are = c.loop-k.invariant in let book = c.args.book.now in
+    let made : Inside = record { steps = c.args.steps; rooms = c.loop-k.rooms; levels = c.in_ok-levels.levels } in
+    let From : List (Vec Row Global) → Type 0 = λ levels. AreLevelsOf levels c.in_ok-levels.levels.items in
+    whole_of made c.loop-k.levels.items (subst From c.deref-2.ensures.value c.in_ok-levels.ensures) (omega (arith, are.room_count)) (omega (arith, are.room_count)) (omega (arith, are.room_count, are.count))
+    (λ k lt. are.row_count k (omega (arith, are.room_count)))
+    (λ k lt.
+    let known : k < c.loop-k.k = omega (arith, are.room_count) in
+    let P : ℕ → Type 0 = λ room. All (IsRow room) (rows_at c.loop-k.levels.items k) in
+    subst P (sym (are.rooms_are k known)) (are.shapes k known))
+
 pub returns-clause-greatest : goal.returns-clause-greatest
 returns-clause-greatest g c =
     let are = c.loop-k.invariant in
     let book = c.args.book.now in
-    let made : Inside = record { steps = c.args.steps; rooms = c.loop-k.rooms; levels = c.loop-k.levels } in
+    let made : Inside = record { steps = c.args.steps; rooms = c.loop-k.rooms; levels = c.in_ok-levels.levels } in
     let all : length book.levels ≤ c.loop-k.k = omega arith in
     let few : c.args.steps ≤ 8192 = let short = c.requires.fits.few in omega arith in
     let f : book.forward < 2 ^ 32 = omega arith in
     let b : book.reverse < 2 ^ 32 = omega arith in
+    let From : List (Vec Row Global) → Type 0 = λ levels. AreLevelsOf levels c.in_ok-levels.levels.items in
     let P : Tables → Type 0 = λ t. IsGreatest c.args.steps book t in
-    subst P (sym (tables_seen made)) (greatest c.args.steps book (fresh_at c.loop-k.levels.items) (held_at c.loop-k.levels.items)
-    (modest c.args.steps book c.loop-k.k c.loop-k.levels.items c.loop-k.rooms.items c.loop-k.base.items are all few f b)
+    subst P (sym (tables_seen made c.loop-k.levels.items (subst From c.deref-2.ensures.value c.in_ok-levels.ensures)))
+    (greatest c.args.steps book (fresh_at c.loop-k.levels.items) (held_at c.loop-k.levels.items) (modest c.args.steps book c.loop-k.k c.loop-k.levels.items c.loop-k.rooms.items c.loop-k.base.items are all few f b)
     (λ k known. are.are_levels k (omega arith)))
 
 pub level_rows-requires-clause-room : goal.level_rows-requires-clause-room
