@@ -1,0 +1,6 @@
+pub mod Places
+pub mod Pushing
+pub mod Unbroken
+pub mod Meanings
+pub mod DiskUnbroken
+pub mod DiskMeanings

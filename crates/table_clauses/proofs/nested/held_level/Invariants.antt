@@ -1,0 +1,8 @@
+use Rattle.std.proofs.Common.{◌≡◌, ◌<◌}
+use Rattle.cost_tables.specs.TableRows.{tables_in}
+use Rattle.table_clauses.specs.declared.entry.Entry.{Entry as Place}
+use Rattle.table_clauses.specs.Broken.{Breaks}
+use Rattle.table_clauses.proofs.nested.held_level.Given as goal
+
+abbrev pub invariant-loop-m : goal.invariant-loop-m
+invariant-loop-m l = (q : Place) → q.table ≡ 1 → q.level ≡ l.k → q.free < l.m → Breaks l.tables.steps l.book (tables_in l.tables) q → ⊥

@@ -1,0 +1,125 @@
+-- No public clause cites this file. Columns of a table, which clauses fail at their entries, and which place is the first.
+use Rattle.std.specs.Prelude.{◌≡◌, ◌⊎◌, ℕ, ◌+◌, ◌-◌, ◌^◌, ◌<◌, ◌≤◌, length, Option, MatchOption, IfSome, Vec, slice_index}
+use Rattle.std.specs.declared.alloc.Global.{Global}
+use Rattle.level_book.specs.BookCosts.{BookCosts}
+use Rattle.level_book.specs.UnderTable.{Entry, number, sum_of, write_cost, read_cost}
+use Rattle.cost_tables.specs.declared.cost.Cost.{Cost}
+use Rattle.cost_tables.specs.TableRows.{TableRows, tables_in}
+use Rattle.table_clauses.specs.declared.entry.Entry.{Entry as Place}
+use Rattle.table_clauses.specs.declared.search.LevelCosts.{LevelCosts}
+use Rattle.table_clauses.specs.declared.search.Pair.{Pair}
+use Rattle.table_clauses.specs.declared.search.FreshColumns.{FreshColumns}
+use Rattle.table_clauses.specs.declared.search.HeldColumns.{HeldColumns}
+use Rattle.table_clauses.specs.Broken.{IsAbove, IsFirst}
+use Rattle.table_clauses.specs.Splits.{at_step, IsColumn, SplitFails}
+
+-- ---- which clause fails, over columns
+
+abbrev pub FasterFails : Entry → Option (Vec Cost Global) → ℕ → Type 0
+FasterFails own faster l = MatchOption faster ⊥ (λ column. IsAbove own (at_step column.items l))
+
+abbrev pub MovedFails : Entry → ℕ → Option (Vec Cost Global) → ℕ → Type 0
+MovedFails own read faster l = MatchOption faster ⊥ (λ column. IsAbove own (sum_of read (number 0) (at_step column.items l)))
+
+abbrev pub BeforeSplitFails : Entry → LevelCosts → Option Pair → ℕ → Type 0
+BeforeSplitFails own costs before l =
+    MatchOption before ⊥ (λ pair. SplitFails own costs.write costs.forward pair.fresh.exact.items pair.held.exact.items l)
+
+abbrev pub StoredFails : Entry → ℕ → Option Pair → ℕ → Type 0
+StoredFails own write before l = MatchOption before ⊥ (λ pair. IsAbove own (sum_of write (number 0) (at_step pair.held.exact.items l)))
+
+-- the clause fails at the entry of table F, or of table H, for l steps
+abbrev pub FreshColumnFails : LevelCosts → FreshColumns → ℕ → ℕ → Type 0
+FreshColumnFails costs columns l clause =
+    ((clause ≡ 1) × ((l ≡ 1) × IsAbove (at_step columns.own.items l) (number (costs.forward + costs.reverse))))
+    ⊎ ((clause ≡ 2) × FasterFails (at_step columns.own.items l) columns.faster l)
+    ⊎ ((clause ≡ 3) × BeforeSplitFails (at_step columns.own.items l) costs columns.before l)
+    ⊎ ((clause ≡ 4) × StoredFails (at_step columns.own.items l) costs.write columns.before l)
+
+abbrev pub HeldColumnFails : LevelCosts → HeldColumns → ℕ → ℕ → Type 0
+HeldColumnFails costs columns l clause =
+    ((clause ≡ 5) × ((l ≡ 1) × IsAbove (at_step columns.here.held.exact.items l) (number (costs.read + costs.forward + costs.reverse))))
+    ⊎ ((clause ≡ 6) × MovedFails (at_step columns.here.held.exact.items l) costs.read columns.faster l)
+    ⊎ ((clause ≡ 7) × SplitFails (at_step columns.here.held.exact.items l) costs.read costs.forward columns.here.fresh.exact.items columns.here.held.exact.items l)
+
+-- sums of such costs don't wrap
+pub record AreCheap (costs : LevelCosts) : Type 0 where
+  pub forward : costs.forward < 2 ^ 32
+  pub reverse : costs.reverse < 2 ^ 32
+  pub write : costs.write < 2 ^ 32
+  pub read : costs.read < 2 ^ 32
+
+-- columns have entries for so many steps
+pub record AreLong (steps : ℕ) (columns : FreshColumns) : Type 0 where
+  pub own : steps ≤ length columns.own.items
+  pub faster : IfSome columns.faster (λ column. steps ≤ length column.items)
+  pub before : IfSome columns.before (λ pair. (steps ≤ length pair.fresh.exact.items) × (steps ≤ length pair.held.exact.items))
+
+pub record AreLongHeld (steps : ℕ) (columns : HeldColumns) : Type 0 where
+  pub faster : IfSome columns.faster (λ column. steps ≤ length column.items)
+  pub fresh : steps ≤ length columns.here.fresh.exact.items
+  pub held : steps ≤ length columns.here.held.exact.items
+
+-- ---- which place is the first
+
+-- the first clause that fails, or None where none does
+abbrev pub IsFirstClause : (ℕ → Type 0) → Option ℕ → Type 0
+IsFirstClause Fails o = MatchOption o ((c : ℕ) → Fails c → ⊥) (λ c. Fails c × ((d : ℕ) → d < c → Fails d → ⊥))
+
+-- the first place at which something is broken, or None where nothing is
+abbrev pub Finds : (Place → Type 0) → Option Place → Type 0
+Finds Broken o = MatchOption o ((p : Place) → Broken p → ⊥) (IsFirst Broken)
+
+-- what is broken in one table, and at one level of it
+abbrev pub InTable : ℕ → (Place → Type 0) → Place → Type 0
+InTable table Broken p = (p.table ≡ table) × Broken p
+
+abbrev pub InLevel : ℕ → ℕ → (Place → Type 0) → Place → Type 0
+InLevel table k Broken p = (p.table ≡ table) × (p.level ≡ k) × Broken p
+
+-- what is broken in one column
+pub record InColumn (table k m steps : ℕ) (Fails : ℕ → ℕ → Type 0) (p : Place) : Type 0 where
+  pub table_is : p.table ≡ table
+  pub level_is : p.level ≡ k
+  pub free_is : p.free ≡ m
+  pub some : 1 ≤ p.steps
+  pub within : p.steps ≤ steps
+  pub fails : Fails p.steps p.clause
+
+abbrev pub InFreshColumn : LevelCosts → FreshColumns → ℕ → ℕ → ℕ → Place → Type 0
+InFreshColumn costs columns k m steps = InColumn 0 k m steps (FreshColumnFails costs columns)
+
+abbrev pub InHeldColumn : LevelCosts → HeldColumns → ℕ → ℕ → ℕ → Place → Type 0
+InHeldColumn costs columns k m steps = InColumn 1 k m steps (HeldColumnFails costs columns)
+
+-- ---- columns of tables
+
+-- the costs are those of a book's level
+pub record AreCosts (book : BookCosts) (k : ℕ) (costs : LevelCosts) : Type 0 where
+  pub cheap : AreCheap costs
+  pub forward : costs.forward ≡ book.forward
+  pub reverse : costs.reverse ≡ book.reverse
+  pub write : costs.write ≡ write_cost book k
+  pub read : costs.read ≡ read_cost book k
+
+-- the columns of level k at m free slots
+pub record IsPair (t : TableRows) (k m : ℕ) (pair : Pair) : Type 0 where
+  pub fresh : IsColumn t.steps (λ l. (tables_in t).fresh k l m) pair.fresh.exact.items
+  pub held : IsColumn t.steps (λ l. (tables_in t).held k l m) pair.held.exact.items
+
+-- those for a free slot less
+abbrev pub IsPairBefore : TableRows → ℕ → ℕ → Option Pair → Type 0
+IsPairBefore t k m o = MatchOption o (m ≡ 0) (λ pair. (1 ≤ m) × IsPair t k (m - 1) pair)
+
+-- the column of the faster level with all its slots
+abbrev pub IsFaster : TableRows → ℕ → Option (Vec Cost Global) → Type 0
+IsFaster t k o = MatchOption o (k ≡ 0) (λ column. (1 ≤ k) × IsColumn t.steps (λ l. (tables_in t).fresh (k - 1) l (slice_index t.rooms (k - 1))) column.items)
+
+pub record AreFreshColumns (t : TableRows) (k m : ℕ) (columns : FreshColumns) : Type 0 where
+  pub own : IsColumn t.steps (λ l. (tables_in t).fresh k l m) columns.own.items
+  pub faster : IsFaster t k columns.faster
+  pub before : IsPairBefore t k m columns.before
+
+pub record AreHeldColumns (t : TableRows) (k m : ℕ) (columns : HeldColumns) : Type 0 where
+  pub faster : IsFaster t k columns.faster
+  pub here : IsPair t k m columns.here

@@ -1,0 +1,45 @@
+-- No public clause cites this file. Columns of disk tables, and which clauses fail at their entries.
+use Rattle.std.specs.Prelude.{◌≡◌, ◌⊎◌, ℕ, ◌≤◌, length, slice_index}
+use Rattle.level_book.specs.UnderTable.{number, sum_of}
+use Rattle.cost_tables.specs.TableRows.{tables_in}
+use Rattle.disk_gen.specs.DiskRows.{DiskRows, disk_tables_in}
+use Rattle.table_clauses.specs.declared.entry.Entry.{Entry as Place}
+use Rattle.table_clauses.specs.declared.search.LevelCosts.{LevelCosts}
+use Rattle.table_clauses.specs.declared.disk.DiskColumns.{DiskColumns}
+use Rattle.table_clauses.specs.Broken.{IsAbove}
+use Rattle.table_clauses.specs.Splits.{at_step, IsColumn, SplitFails}
+use Rattle.table_clauses.specs.Columns.{InColumn}
+
+-- the columns are those of the tables
+pub record AreDiskColumns (t : DiskRows) (columns : DiskColumns) : Type 0 where
+  pub fast : IsColumn t.fast.steps (λ l. (tables_in t.fast).fresh 0 l (slice_index t.fast.rooms 0)) columns.fast.exact.items
+  pub fresh : IsColumn t.fast.steps (disk_tables_in t).disk_fresh columns.fresh.exact.items
+  pub held : IsColumn t.fast.steps (disk_tables_in t).disk_held columns.held.exact.items
+
+-- columns have entries for so many steps
+pub record AreLongDisk (steps : ℕ) (columns : DiskColumns) : Type 0 where
+  pub fast : steps ≤ length columns.fast.exact.items
+  pub fresh : steps ≤ length columns.fresh.exact.items
+  pub held : steps ≤ length columns.held.exact.items
+
+-- the clause fails at the entry of table Fd, or of table Hd, for l steps
+abbrev pub DiskFreshColumnFails : LevelCosts → DiskColumns → ℕ → ℕ → Type 0
+DiskFreshColumnFails costs columns l clause =
+    ((clause ≡ 11) × IsAbove (at_step columns.fresh.exact.items l) (at_step columns.fast.exact.items l))
+    ⊎ ((clause ≡ 12) × SplitFails (at_step columns.fresh.exact.items l) costs.write costs.forward columns.fresh.exact.items columns.held.exact.items l)
+    ⊎ ((clause ≡ 13) × IsAbove (at_step columns.fresh.exact.items l) (sum_of costs.write (number 0) (at_step columns.held.exact.items l)))
+
+abbrev pub DiskHeldColumnFails : LevelCosts → DiskColumns → ℕ → ℕ → Type 0
+DiskHeldColumnFails costs columns l clause =
+    ((clause ≡ 14) × IsAbove (at_step columns.held.exact.items l) (sum_of costs.read (number 0) (at_step columns.fast.exact.items l)))
+    ⊎ ((clause ≡ 15) × SplitFails (at_step columns.held.exact.items l) costs.read costs.forward columns.fast.exact.items columns.held.exact.items l)
+
+-- what is broken in table Fd, in table Hd, and in both
+abbrev pub InDiskFreshColumn : LevelCosts → DiskColumns → ℕ → Place → Type 0
+InDiskFreshColumn costs columns steps = InColumn 2 1 0 steps (DiskFreshColumnFails costs columns)
+
+abbrev pub InDiskHeldColumn : LevelCosts → DiskColumns → ℕ → Place → Type 0
+InDiskHeldColumn costs columns steps = InColumn 3 1 0 steps (DiskHeldColumnFails costs columns)
+
+abbrev pub InDiskColumns : LevelCosts → DiskColumns → ℕ → Place → Type 0
+InDiskColumns costs columns steps p = InDiskFreshColumn costs columns steps p ⊎ InDiskHeldColumn costs columns steps p

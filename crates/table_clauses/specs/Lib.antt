@@ -1,0 +1,5 @@
+pub mod Broken
+pub mod Splits
+pub mod Columns
+pub mod DiskColumns
+pub mod Laws

@@ -1,0 +1,27 @@
+-- No public clause cites this file. Columns of a table, and what the splits of a stretch cost by them.
+use Rattle.std.specs.Prelude.{◌≡◌, ℕ, ◌+◌, ◌-◌, ◌*◌, ◌^◌, ◌<◌, ◌≤◌, All, List, length, slice_index, slice_index_or}
+use Rattle.level_book.specs.UnderTable.{Entry, sum_of}
+use Rattle.cost_tables.specs.declared.cost.Cost.{Cost}
+use Rattle.cost_tables.specs.declared.cost.Cost.TheVariants.{Number}
+use Rattle.cost_tables.specs.TableRows.{value_of}
+use Rattle.table_clauses.specs.Broken.{IsAbove}
+
+-- the entry of a column for so many steps, of which the first is 1
+abbrev pub at_step : List Cost → ℕ → Entry
+at_step column l = value_of (slice_index_or column (l - 1) (Number 0))
+
+-- a column has these entries
+pub record IsColumn (steps : ℕ) (entries : ℕ → Entry) (column : List Cost) : Type 0 where
+  pub count : length column ≡ steps
+  pub value : (l : ℕ) → 1 ≤ l → l ≤ steps → at_step column l ≡ entries l
+
+-- small numbers that are at most the entries of a column
+pub record IsLow (column : List Cost) (low : List ℕ) : Type 0 where
+  pub count : length low ≡ length column
+  pub small : All (λ n. n ≤ 2 ^ 62) low
+  pub below : (r v : ℕ) → r < length column → slice_index_or column r (Number 0) ≡ Number v → slice_index low r ≤ v
+
+-- an entry for l steps is above what some split costs
+abbrev pub SplitFails : Entry → ℕ → ℕ → List Cost → List Cost → ℕ → Type 0
+SplitFails own first forward fresh held l =
+    (j : ℕ) × (i : ℕ) × (1 ≤ j) × (1 ≤ i) × (j + i ≡ l) × IsAbove own (sum_of (first + j * forward) (at_step fresh i) (at_step held j))

@@ -1,0 +1,210 @@
+// Tables over memory and an unlimited disk.
+ghost use Rattle.std.specs.Prelude.{◌≡◌, ℕ, ◌<◌, ◌≤◌, IfOk, MatchOption};
+ghost use Rattle.level_book.specs.DiskUnderTable.{IsDiskUnderTable};
+ghost use Rattle.disk_gen.specs.DiskRows.{AreDiskSized, disk_tables_in};
+ghost use Rattle.table_clauses.specs.Broken.{DiskBreaks, IsFirst};
+ghost use Rattle.table_clauses.specs.Columns.{AreCheap, AreCosts, IsFirstClause, Finds};
+ghost use Rattle.table_clauses.specs.Splits.{IsColumn};
+ghost use Rattle.table_clauses.specs.DiskColumns.{AreDiskColumns, AreLongDisk, DiskFreshColumnFails, DiskHeldColumnFails, InDiskFreshColumn, InDiskHeldColumn, InDiskColumns};
+
+use crate::column::Column;
+use crate::compare::{is_at_most, is_within};
+use crate::entry::Entry;
+use crate::nested::{costs_of, fresh_costs, fresh_level, held_level};
+use crate::search::LevelCosts;
+use crate::splits::breaks_split;
+use cost_tables::Cost;
+use disk_gen::DiskTables;
+use level_book::Book;
+use std::alloc::{AllocError, Global};
+
+// The column of level 0 with all its slots, and those over both levels.
+#[derive(Drop)]
+pub(crate) struct DiskColumns {
+    pub(crate) fast: Column,
+    pub(crate) fresh: Column,
+    pub(crate) held: Column,
+}
+
+/// The first place at which the tables aren't a disk under-table, or None where they are one. The book may have one level; an
+/// image on level 1 costs nothing then. It is refused for want of memory alone.
+pub fn first_broken_disk(
+    alloc: Global,
+    tables: &DiskTables,
+    book: &Book,
+) -> Result<Option<Entry>, AllocError>
+    requires sizes { AreDiskSized tables.now.fast.steps book.now tables.now }
+    requires few { tables.now.fast.steps ≤ 8192 }
+    ensures { IfOk result (λ o. MatchOption o (IsDiskUnderTable tables.now.fast.steps book.now (disk_tables_in tables.now)) (IsFirst (DiskBreaks tables.now.fast.steps book.now (disk_tables_in tables.now)))) }
+{
+    let _levels = book.levels();
+    let fast = tables.fast();
+    if let Some(entry) = fresh_level(alloc, fast, book, 0)? {
+        return Ok(Some(entry));
+    }
+    if let Some(entry) = held_level(alloc, fast, book, 0)? {
+        return Ok(Some(entry));
+    }
+    let costs = disk_costs(book);
+    let columns = disk_columns(alloc, tables)?;
+    Ok(first_over_both(&columns, costs, tables.steps()))
+}
+
+// What steps cost, and an image on level 1. A book of one level has no costs there.
+fn disk_costs(book: &Book) -> LevelCosts
+    ensures { AreCosts book.now 1 result }
+{
+    if book.levels() > 1 {
+        return costs_of(book, 1);
+    }
+    LevelCosts {
+        write: 0,
+        read: 0,
+        ..costs_of(book, 0)
+    }
+}
+
+// The columns that the entries over both levels are compared with.
+fn disk_columns(alloc: Global, tables: &DiskTables) -> Result<DiskColumns, AllocError>
+    ensures { IfOk result (AreDiskColumns tables.now) }
+{
+    let fast = fresh_costs(alloc, tables.fast(), 0, tables.room())?;
+    let fresh = disk_fresh_costs(alloc, tables)?;
+    let held = disk_held_costs(alloc, tables)?;
+    Ok(DiskColumns {
+        fast: Column::new(alloc, fast)?,
+        fresh: Column::new(alloc, fresh)?,
+        held: Column::new(alloc, held)?,
+    })
+}
+
+// The column of table Fd.
+fn disk_fresh_costs(alloc: Global, tables: &DiskTables) -> Result<Vec<Cost>, AllocError>
+    ensures { IfOk result (λ column. IsColumn tables.now.fast.steps (disk_tables_in tables.now).disk_fresh column.items) }
+{
+    let mut column = Vec::with_capacity(alloc, tables.steps() as usize)?;
+    for r in 0..tables.steps() {
+        column.push(tables.disk_fresh(r + 1))?;
+    }
+    Ok(column)
+}
+
+// The same of table Hd.
+fn disk_held_costs(alloc: Global, tables: &DiskTables) -> Result<Vec<Cost>, AllocError>
+    ensures { IfOk result (λ column. IsColumn tables.now.fast.steps (disk_tables_in tables.now).disk_held column.items) }
+{
+    let mut column = Vec::with_capacity(alloc, tables.steps() as usize)?;
+    for r in 0..tables.steps() {
+        column.push(tables.disk_held(r + 1))?;
+    }
+    Ok(column)
+}
+
+// The first place in tables Fd and Hd.
+fn first_over_both(columns: &DiskColumns, costs: LevelCosts, steps: u32) -> Option<Entry>
+    requires few { steps ≤ 8192 }
+    requires cheap { AreCheap costs }
+    requires long { AreLongDisk steps columns.now }
+    ensures { Finds (InDiskColumns costs columns.now steps) result }
+{
+    if let Some(entry) = disk_fresh_column(columns, costs, steps) {
+        return Some(entry);
+    }
+    disk_held_column(columns, costs, steps)
+}
+
+// The first place in table Fd.
+fn disk_fresh_column(columns: &DiskColumns, costs: LevelCosts, steps: u32) -> Option<Entry>
+    requires few { steps ≤ 8192 }
+    requires cheap { AreCheap costs }
+    requires long { AreLongDisk steps columns.now }
+    ensures { Finds (InDiskFreshColumn costs columns.now steps) result }
+{
+    for r in 0..steps {
+        if let Some(clause) = disk_fresh_clause(columns, costs, r + 1) {
+            return Some(Entry {
+                table: 2,
+                level: 1,
+                free: 0,
+                steps: r + 1,
+                clause,
+            });
+        }
+    }
+    None
+}
+
+// The first place in table Hd.
+fn disk_held_column(columns: &DiskColumns, costs: LevelCosts, steps: u32) -> Option<Entry>
+    requires few { steps ≤ 8192 }
+    requires cheap { AreCheap costs }
+    requires long { AreLongDisk steps columns.now }
+    ensures { Finds (InDiskHeldColumn costs columns.now steps) result }
+{
+    for r in 0..steps {
+        if let Some(clause) = disk_held_clause(columns, costs, r + 1) {
+            return Some(Entry {
+                table: 3,
+                level: 1,
+                free: 0,
+                steps: r + 1,
+                clause,
+            });
+        }
+    }
+    None
+}
+
+// The first clause that fails at an entry of table Fd.
+fn disk_fresh_clause(columns: &DiskColumns, costs: LevelCosts, l: u32) -> Option<u8>
+    requires l { (1 ≤ l) × (l ≤ 8192) }
+    requires cheap { AreCheap costs }
+    requires long { AreLongDisk l columns.now }
+    ensures { IsFirstClause (DiskFreshColumnFails costs columns.now l) result }
+{
+    let own = columns.fresh.exact[l as usize - 1];
+    let fast = columns.fast.exact[l as usize - 1];
+    let held = columns.held.exact[l as usize - 1];
+    if !is_within(own, fast) {
+        return Some(11);
+    }
+    if breaks_split(
+        own,
+        costs.write,
+        costs.forward,
+        &columns.fresh,
+        &columns.held,
+        l,
+    ) {
+        return Some(12);
+    }
+    if !is_at_most(own, costs.write, Cost::Number(0), held) {
+        return Some(13);
+    }
+    None
+}
+
+// The first clause that fails at an entry of table Hd.
+fn disk_held_clause(columns: &DiskColumns, costs: LevelCosts, l: u32) -> Option<u8>
+    requires l { (1 ≤ l) × (l ≤ 8192) }
+    requires cheap { AreCheap costs }
+    requires long { AreLongDisk l columns.now }
+    ensures { IsFirstClause (DiskHeldColumnFails costs columns.now l) result }
+{
+    let own = columns.held.exact[l as usize - 1];
+    let fast = columns.fast.exact[l as usize - 1];
+    if !is_at_most(own, costs.read, Cost::Number(0), fast) {
+        return Some(14);
+    }
+    if breaks_split(
+        own,
+        costs.read,
+        costs.forward,
+        &columns.fast,
+        &columns.held,
+        l,
+    ) {
+        return Some(15);
+    }
+    None
+}

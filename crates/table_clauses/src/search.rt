@@ -1,0 +1,205 @@
+// The clauses of one entry, and of the entries of one column.
+ghost use Rattle.std.specs.Prelude.{◌≡◌, ◌↔◌, ℕ, ◌+◌, ◌*◌, ◌^◌, ◌<◌, ◌≤◌, true, MatchOption, IfSome, length};
+ghost use Rattle.level_book.specs.UnderTable.{number, IsAtMost, sum_of};
+ghost use Rattle.cost_tables.specs.TableRows.{value_of};
+ghost use Rattle.table_clauses.specs.Broken.{IsAbove};
+ghost use Rattle.table_clauses.specs.Columns.{AreCheap, AreLong, AreLongHeld, FasterFails, MovedFails, BeforeSplitFails, StoredFails, FreshColumnFails, HeldColumnFails, IsFirstClause, Finds, InFreshColumn, InHeldColumn};
+
+use crate::column::Column;
+use crate::compare::{is_at_most, is_within};
+use crate::entry::Entry;
+use crate::splits::breaks_split;
+use cost_tables::Cost;
+
+// What steps cost, and an image on a level.
+#[derive(Clone, Copy)]
+pub(crate) struct LevelCosts {
+    pub(crate) forward: u64,
+    pub(crate) reverse: u64,
+    pub(crate) write: u64,
+    pub(crate) read: u64,
+}
+
+// The columns of tables F and H for a level and a number of free slots.
+#[derive(Drop)]
+pub(crate) struct Pair {
+    pub(crate) fresh: Column,
+    pub(crate) held: Column,
+}
+
+// What the clauses of an entry of table F speak of: its own column, that of the faster level with all its slots, and those
+// of its level with a free slot less.
+#[derive(Drop)]
+pub(crate) struct FreshColumns {
+    pub(crate) own: Vec<Cost>,
+    pub(crate) faster: Option<Vec<Cost>>,
+    pub(crate) before: Option<Pair>,
+}
+
+// What the clauses of an entry of table H speak of: the columns of its level and free slots, and that of the faster level
+// with all its slots.
+#[derive(Drop)]
+pub(crate) struct HeldColumns {
+    pub(crate) faster: Option<Vec<Cost>>,
+    pub(crate) here: Pair,
+}
+
+// Whether the entry of one step is above a number.
+pub(crate) fn breaks_one(own: Cost, l: u32, most: u64) -> bool
+    ensures { result ≡ true ↔ (l ≡ 1) × IsAbove (value_of own) (number most) }
+{
+    if l != 1 {
+        return false;
+    }
+    !is_within(own, Cost::Number(most))
+}
+
+// Whether an entry is above that of the faster level.
+fn breaks_faster(own: Cost, faster: &Option<Vec<Cost>>, l: u32) -> bool
+    requires l { 1 ≤ l }
+    requires long { IfSome faster.now (λ column. l ≤ length column.items) }
+    ensures { result ≡ true ↔ FasterFails (value_of own) faster.now l }
+{
+    match faster {
+        Some(column) => !is_within(own, column[l as usize - 1]),
+        None => false,
+    }
+}
+
+// Whether an entry is above what it costs to read the first state and use the faster levels.
+fn breaks_moved(own: Cost, read: u64, faster: &Option<Vec<Cost>>, l: u32) -> bool
+    requires l { 1 ≤ l }
+    requires long { IfSome faster.now (λ column. l ≤ length column.items) }
+    ensures { result ≡ true ↔ MovedFails (value_of own) read faster.now l }
+{
+    match faster {
+        Some(column) => !is_at_most(own, read, Cost::Number(0), column[l as usize - 1]),
+        None => false,
+    }
+}
+
+// Whether an entry is above what it costs to store the first state and split the stretch.
+fn breaks_before(own: Cost, costs: LevelCosts, before: &Option<Pair>, l: u32) -> bool
+    requires l { (1 ≤ l) × (l ≤ 8192) }
+    requires cheap { AreCheap costs }
+    requires long { IfSome before.now (λ pair. (l ≤ length pair.fresh.exact.items) × (l ≤ length pair.held.exact.items)) }
+    ensures { result ≡ true ↔ BeforeSplitFails (value_of own) costs before.now l }
+{
+    match before {
+        Some(pair) => breaks_split(own, costs.write, costs.forward, &pair.fresh, &pair.held, l),
+        None => false,
+    }
+}
+
+// Whether an entry is above what it costs to store the first state, where the stretch isn't split.
+fn breaks_stored(own: Cost, write: u64, before: &Option<Pair>, l: u32) -> bool
+    requires l { 1 ≤ l }
+    requires long { IfSome before.now (λ pair. l ≤ length pair.held.exact.items) }
+    ensures { result ≡ true ↔ StoredFails (value_of own) write before.now l }
+{
+    match before {
+        Some(pair) => {
+            let held = pair.held.exact[l as usize - 1];
+            !is_at_most(own, write, Cost::Number(0), held)
+        }
+        None => false,
+    }
+}
+
+// The first clause that fails at an entry of table F.
+fn fresh_clause(columns: &FreshColumns, costs: LevelCosts, l: u32) -> Option<u8>
+    requires l { (1 ≤ l) × (l ≤ 8192) }
+    requires cheap { AreCheap costs }
+    requires long { AreLong l columns.now }
+    ensures { IsFirstClause (FreshColumnFails costs columns.now l) result }
+{
+    let own = columns.own[l as usize - 1];
+    if breaks_one(own, l, costs.forward + costs.reverse) {
+        return Some(1);
+    }
+    if breaks_faster(own, &columns.faster, l) {
+        return Some(2);
+    }
+    if breaks_before(own, costs, &columns.before, l) {
+        return Some(3);
+    }
+    if breaks_stored(own, costs.write, &columns.before, l) {
+        return Some(4);
+    }
+    None
+}
+
+// The first clause that fails at an entry of table H.
+fn held_clause(columns: &HeldColumns, costs: LevelCosts, l: u32) -> Option<u8>
+    requires l { (1 ≤ l) × (l ≤ 8192) }
+    requires cheap { AreCheap costs }
+    requires long { AreLongHeld l columns.now }
+    ensures { IsFirstClause (HeldColumnFails costs columns.now l) result }
+{
+    let here = &columns.here;
+    let own = here.held.exact[l as usize - 1];
+    if breaks_one(own, l, costs.read + costs.forward + costs.reverse) {
+        return Some(5);
+    }
+    if breaks_moved(own, costs.read, &columns.faster, l) {
+        return Some(6);
+    }
+    if breaks_split(own, costs.read, costs.forward, &here.fresh, &here.held, l) {
+        return Some(7);
+    }
+    None
+}
+
+// The first place in a column of table F.
+pub(crate) fn fresh_column(
+    columns: &FreshColumns,
+    costs: LevelCosts,
+    level: u8,
+    free: u32,
+    steps: u32,
+) -> Option<Entry>
+    requires few { steps ≤ 8192 }
+    requires cheap { AreCheap costs }
+    requires long { AreLong steps columns.now }
+    ensures { Finds (InFreshColumn costs columns.now level free steps) result }
+{
+    for r in 0..steps {
+        if let Some(clause) = fresh_clause(columns, costs, r + 1) {
+            return Some(Entry {
+                table: 0,
+                level,
+                free,
+                steps: r + 1,
+                clause,
+            });
+        }
+    }
+    None
+}
+
+// The first place in a column of table H.
+pub(crate) fn held_column(
+    columns: &HeldColumns,
+    costs: LevelCosts,
+    level: u8,
+    free: u32,
+    steps: u32,
+) -> Option<Entry>
+    requires few { steps ≤ 8192 }
+    requires cheap { AreCheap costs }
+    requires long { AreLongHeld steps columns.now }
+    ensures { Finds (InHeldColumn costs columns.now level free steps) result }
+{
+    for r in 0..steps {
+        if let Some(clause) = held_clause(columns, costs, r + 1) {
+            return Some(Entry {
+                table: 1,
+                level,
+                free,
+                steps: r + 1,
+                clause,
+            });
+        }
+    }
+    None
+}
