@@ -1,27 +1,38 @@
 -- What is accepted, and for what reason another certificate isn't, are told apart.
-use Rattle.std.proofs.Common.{◌≡◌, ◌↔◌, ℕ, ◌≤◌, List, refl, sym, ◌∙◌, ap, subst, inl, inr, arith}
+use Rattle.std.proofs.Common.{◌≡◌, ◌↔◌, ℕ, ◌≤◌, List, [], ◌∷◌, refl, sym, ◌∙◌, ap, subst, inl, inr, arith}
 use Rattle.plan_types.specs.declared.action.Action.{Action}
+use Rattle.level_book.specs.declared.book.Level.{Level}
 use Rattle.level_book.specs.BookCosts.{BookCosts, slots_of, total_room}
 use Rattle.level_book.specs.Valid.{Valid}
-use Rattle.level_book.specs.CostFold.{forward}
+use Rattle.level_book.specs.CostFold.{forward, cost}
 use Rattle.pebble_bound.proofs.Bounding.{forward_bounded}
-use Rattle.bound_cert.specs.declared.certificate.Certificate.{Certificate}
-use Rattle.bound_cert.specs.declared.certificate.Certificate.TheVariants.{Revolve}
-use Rattle.bound_cert.specs.declared.certificate.Class.TheVariants as class
-use Rattle.bound_cert.specs.declared.certificate.CertVerdict.{CertVerdict}
-use Rattle.bound_cert.specs.declared.certificate.CertVerdict.TheVariants.{Least, Not}
-use Rattle.bound_cert.specs.declared.certificate.Reason.{Reason}
-use Rattle.bound_cert.specs.declared.certificate.Reason.TheVariants.{Invalid, ValueDiffers}
-use Rattle.bound_cert.specs.Accepted.{bound, IsAccepted, IsFirstReason, Differs}
-use Rattle.bound_cert.specs.Verdicts.{IsVerdict}
+use Rattle.revolve_gen.specs.Multistage.{IsMultistage}
+use Rattle.multistage_gen.proofs.Exchange.{multistage_least}
+use Rattle.cert_text.specs.declared.certificate.Certificate.{Certificate}
+use Rattle.cert_text.specs.declared.certificate.Certificate.TheVariants.{Revolve, Places}
+use Rattle.bound_cert.specs.declared.verdict.Class.{Class}
+use Rattle.bound_cert.specs.declared.verdict.Class.TheVariants as class
+use Rattle.bound_cert.specs.declared.verdict.CertVerdict.{CertVerdict}
+use Rattle.bound_cert.specs.declared.verdict.CertVerdict.TheVariants.{Least, Not}
+use Rattle.bound_cert.specs.declared.verdict.Reason.{Reason}
+use Rattle.bound_cert.specs.declared.verdict.Reason.TheVariants.{Invalid, OutsideClass, Inequality, ValueDiffers}
+use Rattle.bound_cert.specs.Accepted.{bound, class_of, IsAccepted, IsFirstReason, IsLeastOf, Differs}
+use Rattle.bound_cert.specs.Verdicts.{IsVerdict, IsComparison}
+use Rattle.bound_cert.proofs.Fitting.{one_misfit, fits_or_misfits, fits_in_class, misfits_in_class}
 
 -- what is accepted isn't refused
 pub apart : (list : List Action) (steps : ℕ) (book : BookCosts) (certificate : Certificate) (reason : Reason) → IsFirstReason list steps book certificate reason → IsAccepted list steps book certificate → ⊥
 apart list steps book (Revolve k value) Invalid is accepted = is accepted.0
+apart list steps book (Revolve k value) OutsideClass is accepted = is
+apart list steps book (Revolve k value) (Inequality entry) is accepted = is
 apart list steps book (Revolve k value) (ValueDiffers cost other) is accepted = elim is.2 [
   | inl value_differs ↦ value_differs.0 (is.1 ∙ accepted.1)
   | inr number_differs ↦ number_differs.1 accepted.2
 ]
+apart list steps book (Places threshold) Invalid is accepted = is accepted.0
+apart list steps book (Places threshold) OutsideClass is accepted = is.1 (fits_in_class threshold steps book list accepted.1)
+apart list steps book (Places threshold) (Inequality entry) is accepted = fits_or_misfits threshold steps book list accepted.1 entry is.1
+apart list steps book (Places threshold) (ValueDiffers cost other) is accepted = is
 
 one_value : (cost value number a b : ℕ) → Differs cost value number a → Differs cost value number b → a ≡ b
 one_value cost value number a b (inl x) (inl y) = x.1 ∙ sym y.1
@@ -32,31 +43,100 @@ one_value cost value number a b (inr x) (inr y) = x.2 ∙ sym y.2
 -- there is one first reason at most
 pub one_reason : (list : List Action) (steps : ℕ) (book : BookCosts) (certificate : Certificate) (a b : Reason) → IsFirstReason list steps book certificate a → IsFirstReason list steps book certificate b → a ≡ b
 one_reason list steps book (Revolve k value) Invalid Invalid x y = refl
+one_reason list steps book (Revolve k value) Invalid OutsideClass x y = absurd y
+one_reason list steps book (Revolve k value) Invalid (Inequality b) x y = absurd y
 one_reason list steps book (Revolve k value) Invalid (ValueDiffers cost other) x y = absurd (x y.0)
+one_reason list steps book (Revolve k value) OutsideClass b x y = absurd x
+one_reason list steps book (Revolve k value) (Inequality a) b x y = absurd x
 one_reason list steps book (Revolve k value) (ValueDiffers cost other) Invalid x y = absurd (y x.0)
+one_reason list steps book (Revolve k value) (ValueDiffers cost other) OutsideClass x y = absurd y
+one_reason list steps book (Revolve k value) (ValueDiffers cost other) (Inequality b) x y = absurd y
 one_reason list steps book (Revolve k value) (ValueDiffers cost other) (ValueDiffers cost' other') x y =
     let costs : cost ≡ cost' = x.1 ∙ sym y.1 in
     let same = one_value cost value _ other other' x.2 (subst (λ (c : ℕ). Differs c value (bound steps (total_room book steps) k) other') (sym costs) y.2) in
     ap (λ (c : ℕ). ValueDiffers c other) costs ∙ ap (ValueDiffers cost') same
+one_reason list steps book (Places threshold) Invalid Invalid x y = refl
+one_reason list steps book (Places threshold) Invalid OutsideClass x y = absurd (x y.0)
+one_reason list steps book (Places threshold) Invalid (Inequality b) x y = absurd (x y.0)
+one_reason list steps book (Places threshold) Invalid (ValueDiffers cost other) x y = absurd y
+one_reason list steps book (Places threshold) OutsideClass Invalid x y = absurd (y x.0)
+one_reason list steps book (Places threshold) OutsideClass OutsideClass x y = refl
+one_reason list steps book (Places threshold) OutsideClass (Inequality b) x y = absurd (x.1 (misfits_in_class threshold steps book list b y.1))
+one_reason list steps book (Places threshold) OutsideClass (ValueDiffers cost other) x y = absurd y
+one_reason list steps book (Places threshold) (Inequality a) Invalid x y = absurd (y x.0)
+one_reason list steps book (Places threshold) (Inequality a) OutsideClass x y = absurd (y.1 (misfits_in_class threshold steps book list a x.1))
+one_reason list steps book (Places threshold) (Inequality a) (Inequality b) x y = ap Inequality (one_misfit threshold steps book list a b x.1 y.1)
+one_reason list steps book (Places threshold) (Inequality a) (ValueDiffers cost other) x y = absurd y
+one_reason list steps book (Places threshold) (ValueDiffers cost other) b x y = absurd x
 
--- a verdict is Least exactly where the certificate is accepted
-pub least_exactly : (list : List Action) (steps : ℕ) (book : BookCosts) (certificate : Certificate) (v : CertVerdict) → IsVerdict list steps book certificate v → (v ≡ Least class.Valid) ↔ IsAccepted list steps book certificate
-least_exactly list steps book certificate (Least class.Valid) is = (λ _. is, λ _. refl)
-least_exactly list steps book certificate (Not reason) is = (λ e. absurd cc, λ accepted. absurd (apart list steps book certificate reason is accepted))
+-- a verdict is Least of a class exactly where the certificate is one of that class, and accepted
+pub least_exactly : (list : List Action) (steps : ℕ) (book : BookCosts) (certificate : Certificate) (v : CertVerdict) → IsVerdict list steps book certificate v →
+    (c : Class) → (v ≡ Least c) ↔ ((c ≡ class_of certificate) × IsAccepted list steps book certificate)
+least_exactly list steps book certificate (Least other) is c = (
+  λ e. let same : other ≡ c = cc in (sym same ∙ is.0, is.1),
+  λ accepted. ap Least (is.0 ∙ sym accepted.0),
+)
+least_exactly list steps book certificate (Not reason) is c = (λ e. absurd cc, λ accepted. absurd (apart list steps book certificate reason is accepted.1))
 
 -- and Not for a reason exactly where that is the first
 pub not_exactly : (list : List Action) (steps : ℕ) (book : BookCosts) (certificate : Certificate) (v : CertVerdict) → IsVerdict list steps book certificate v → (reason : Reason) → (v ≡ Not reason) ↔ IsFirstReason list steps book certificate reason
-not_exactly list steps book certificate (Least class.Valid) is reason = (λ e. absurd cc, λ first. absurd (apart list steps book certificate reason first is))
+not_exactly list steps book certificate (Least c) is reason = (λ e. absurd cc, λ first. absurd (apart list steps book certificate reason first is.1))
 not_exactly list steps book certificate (Not other) is reason = (
   λ e. let same : other ≡ reason = cc in subst (IsFirstReason list steps book certificate) same is,
   λ first. ap Not (one_reason list steps book certificate other reason is first),
 )
 
--- no valid list takes fewer forward steps than one whose certificate is accepted
-pub none_fewer : (list : List Action) (steps : ℕ) (book : BookCosts) (certificate : Certificate) → IsAccepted list steps book certificate → (other : List Action) → Valid steps (slots_of book) other → forward list ≤ forward other
-none_fewer list steps book (Revolve k value) accepted other valid =
+-- what three numbers come to is the verdict on the certificate of Revolve
+pub compared : (list : List Action) (steps : ℕ) (book : BookCosts) (k value : ℕ) (v : CertVerdict) → Valid steps (slots_of book) list →
+    IsComparison (forward list) value (bound steps (total_room book steps) k) v → IsVerdict list steps book (Revolve k value) v
+compared list steps book k value (Least class.Valid) valid is = (refl, (valid, is.0, is.1))
+compared list steps book k value (Least class.Multistage) valid is = absurd is
+compared list steps book k value (Not Invalid) valid is = absurd is
+compared list steps book k value (Not OutsideClass) valid is = absurd is
+compared list steps book k value (Not (Inequality entry)) valid is = absurd is
+compared list steps book k value (Not (ValueDiffers cost other)) valid is =
+    (valid, is.0, subst (λ (c : ℕ). Differs c value (bound steps (total_room book steps) k) other) (sym is.0) is.1)
+
+-- ---- what an accepted certificate shows
+
+-- no valid list takes fewer forward steps
+pub none_fewer : (list : List Action) (steps : ℕ) (book : BookCosts) (certificate : Certificate) → class.Valid ≡ class_of certificate → IsAccepted list steps book certificate →
+    (other : List Action) → Valid steps (slots_of book) other → forward list ≤ forward other
+none_fewer list steps book (Revolve k value) of accepted other valid =
     let bounded = forward_bounded steps book (total_room book steps) other (record { valid = valid; room = omega arith }) k in
     omega (arith, accepted.1, accepted.2, bounded)
+none_fewer list steps book (Places threshold) of accepted other valid = absurd cc
 
-pub least_is_least : (list : List Action) (steps : ℕ) (book : BookCosts) (certificate : Certificate) (v : CertVerdict) → IsVerdict list steps book certificate v → v ≡ Least class.Valid → (other : List Action) → Valid steps (slots_of book) other → forward list ≤ forward other
-least_is_least list steps book certificate v is e = none_fewer list steps book certificate ((least_exactly list steps book certificate v is).0 e)
+-- no list of the multistage class costs less
+pub none_cheaper : (list : List Action) (steps : ℕ) (book : BookCosts) (certificate : Certificate) → class.Multistage ≡ class_of certificate → IsAccepted list steps book certificate →
+    (fast slow : Level) → book.levels ≡ fast ∷ slow ∷ [] → fast.write ≤ slow.write → fast.read ≤ slow.read → (other : List Action) → IsMultistage steps book other → cost list book ≤ cost other book
+none_cheaper list steps book (Revolve k value) of accepted fast slow two write read other member = absurd cc
+none_cheaper list steps book (Places threshold) of accepted fast slow two write read other member =
+    let fits = accepted.1 in
+    let e : fast ∷ slow ∷ [] ≡ fits.fast ∷ fits.slow ∷ [] = sym two ∙ fits.are_on.two in
+    let f : fast ≡ fits.fast = cc in
+    let s : slow ≡ fits.slow = cc in
+    let dearer_write : fits.fast.write ≤ fits.slow.write = let a = ap (λ (l : Level). l.write) f in let b = ap (λ (l : Level). l.write) s in omega arith in
+    let dearer_read : fits.fast.read ≤ fits.slow.read = let a = ap (λ (l : Level). l.read) f in let b = ap (λ (l : Level). l.read) s in omega arith in
+    multistage_least steps book threshold fits.fast fits.slow _ list other fits.are_on.two dearer_write dearer_read fits.are_on.has.placed fits.meets member
+
+-- over a book whose costs rise, the list is the least of its class
+pub accepted_least : (list : List Action) (steps : ℕ) (book : BookCosts) (certificate : Certificate) →
+    ((fast slow : Level) → book.levels ≡ fast ∷ slow ∷ [] → (fast.write ≤ slow.write) × (fast.read ≤ slow.read)) → IsAccepted list steps book certificate → IsLeastOf (class_of certificate) steps book list
+accepted_least list steps book (Revolve k value) rise accepted = none_fewer list steps book (Revolve k value) refl accepted
+accepted_least list steps book (Places threshold) rise accepted = λ other member.
+    let fits = accepted.1 in
+    let rises = rise fits.fast fits.slow fits.are_on.two in
+    none_cheaper list steps book (Places threshold) refl accepted fits.fast fits.slow fits.are_on.two rises.0 rises.1 other member
+
+pub least_is_least : (list : List Action) (steps : ℕ) (book : BookCosts) (certificate : Certificate) (v : CertVerdict) → IsVerdict list steps book certificate v → v ≡ Least class.Valid →
+    (other : List Action) → Valid steps (slots_of book) other → forward list ≤ forward other
+least_is_least list steps book certificate v is e =
+    let accepted = (least_exactly list steps book certificate v is class.Valid).0 e in
+    none_fewer list steps book certificate accepted.0 accepted.1
+
+pub least_is_cheapest : (list : List Action) (steps : ℕ) (book : BookCosts) (certificate : Certificate) (v : CertVerdict) → IsVerdict list steps book certificate v → v ≡ Least class.Multistage →
+    (fast slow : Level) → book.levels ≡ fast ∷ slow ∷ [] → fast.write ≤ slow.write → fast.read ≤ slow.read → (other : List Action) → IsMultistage steps book other → cost list book ≤ cost other book
+least_is_cheapest list steps book certificate v is e =
+    let accepted = (least_exactly list steps book certificate v is class.Multistage).0 e in
+    none_cheaper list steps book certificate accepted.0 accepted.1

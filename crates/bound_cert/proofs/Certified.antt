@@ -5,7 +5,7 @@ use Rattle.binomials.specs.Advances.{repeats, least_advances}
 use Rattle.revolve_gen.specs.Plans.{HasPlan}
 use Rattle.revolve_gen.specs.Written.{revolve_list}
 use Rattle.revolve_gen.proofs.Books.{book_right}
-use Rattle.bound_cert.specs.declared.certificate.Certificate.TheVariants.{Revolve}
+use Rattle.cert_text.specs.declared.certificate.Certificate.TheVariants.{Revolve}
 use Rattle.bound_cert.specs.Accepted.{bound, IsAccepted}
 use Rattle.bound_cert.proofs.Numbers.{at_repeats}
 

@@ -1,11 +1,5 @@
+pub mod Fitting
 pub mod Numbers
 pub mod Tallied
 pub mod Accepting
 pub mod Certified
-pub mod Numerals
-pub mod WordLemmas
-pub mod LineLemmas
-pub mod Saying
-pub mod Taking
-pub mod TextLaws
-pub mod Spelled

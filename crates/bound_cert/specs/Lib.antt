@@ -1,9 +1,3 @@
+pub mod Thresholds
 pub mod Accepted
 pub mod Verdicts
-pub mod MarkedLines
-pub mod Words
-pub mod Meaning
-pub mod Faults
-pub mod Canonical
-pub mod Laws
-pub mod Left

@@ -1,14 +1,44 @@
--- No public clause cites this file. What a verdict says of a list.
-use Rattle.std.specs.Prelude.{ℕ, List}
+-- No public clause cites this file. What a verdict says of a list, and what is found of the places of one.
+use Rattle.std.specs.Prelude.{◌≡◌, ◌≢◌, ℕ, ◌<◌, List, length, Option, MatchOption, slice_index}
 use Rattle.plan_types.specs.declared.action.Action.{Action}
+use Rattle.level_book.specs.declared.book.Level.{Level}
 use Rattle.level_book.specs.BookCosts.{BookCosts}
-use Rattle.bound_cert.specs.declared.certificate.Certificate.{Certificate}
-use Rattle.bound_cert.specs.declared.certificate.Class.TheVariants as class
-use Rattle.bound_cert.specs.declared.certificate.CertVerdict.{CertVerdict}
-use Rattle.bound_cert.specs.declared.certificate.CertVerdict.TheVariants.{Least, Not}
-use Rattle.bound_cert.specs.Accepted.{IsAccepted, IsFirstReason}
+use Rattle.cert_text.specs.declared.certificate.Certificate.{Certificate}
+use Rattle.bound_cert.specs.declared.verdict.CertVerdict.{CertVerdict}
+use Rattle.bound_cert.specs.declared.verdict.CertVerdict.TheVariants.{Least, Not}
+use Rattle.table_clauses.specs.declared.entry.Entry.{Entry}
+use Rattle.bound_cert.specs.Thresholds.{Misfits, StandsBefore}
+use Rattle.bound_cert.specs.declared.verdict.Class.TheVariants as class
+use Rattle.bound_cert.specs.declared.verdict.Reason.TheVariants.{Invalid, OutsideClass, Inequality, ValueDiffers}
+use Rattle.bound_cert.specs.Accepted.{class_of, IsAccepted, IsFirstReason, Differs}
 
 -- the certificate is accepted, or isn't, for this reason first
 abbrev pub IsVerdict : List Action → ℕ → BookCosts → Certificate → CertVerdict → Type 0
-IsVerdict list steps book certificate (Least class.Valid) = IsAccepted list steps book certificate
+IsVerdict list steps book certificate (Least class) = (class ≡ class_of certificate) × IsAccepted list steps book certificate
 IsVerdict list steps book certificate (Not reason) = IsFirstReason list steps book certificate reason
+
+-- the first place on a level of which something holds
+pub record IsFirstOn (level : ℕ) (levels : List ℕ) (Holds : ℕ → Type 0) (p : ℕ) : Type 0 where
+  pub within : p < length levels
+  pub on : slice_index levels p ≡ level
+  pub holds : Holds p
+  pub none_before : (q : ℕ) → q < p → slice_index levels q ≡ level → Holds q → ⊥
+
+-- it, or None where it holds of no place there
+abbrev pub FindsOn : ℕ → List ℕ → (ℕ → Type 0) → Option ℕ → Type 0
+FindsOn level levels Holds found = MatchOption found ((p : ℕ) → p < length levels → slice_index levels p ≡ level → Holds p → ⊥) (IsFirstOn level levels Holds)
+
+-- the first entry at which a threshold doesn't fit, or None where it fits
+abbrev pub FindsMisfit : ℕ → ℕ → BookCosts → List Action → Level → Level → List ℕ → Option Entry → Type 0
+FindsMisfit threshold steps book list fast slow levels found =
+    MatchOption found ((e : Entry) → Misfits threshold steps book list fast slow levels e → ⊥)
+    (λ e. Misfits threshold steps book list fast slow levels e × ((other : Entry) → StandsBefore other e → Misfits threshold steps book list fast slow levels other → ⊥))
+
+-- what three numbers come to: the forward steps of a list, the value of its certificate, and the number of its k
+abbrev pub IsComparison : ℕ → ℕ → ℕ → CertVerdict → Type 0
+IsComparison cost value number (Least class.Valid) = (cost ≡ value) × (value ≡ number)
+IsComparison cost value number (Least class.Multistage) = ⊥
+IsComparison cost value number (Not Invalid) = ⊥
+IsComparison cost value number (Not OutsideClass) = ⊥
+IsComparison cost value number (Not (Inequality entry)) = ⊥
+IsComparison cost value number (Not (ValueDiffers c other)) = (c ≡ cost) × Differs cost value number other

@@ -1,5 +1,5 @@
-// The certificate of a Revolve list.
-ghost use Rattle.std.specs.Prelude.{◌≡◌, ◌≤◌, ◌+◌, List};
+// The certificates of Revolve lists and of multistage lists.
+ghost use Rattle.std.specs.Prelude.{◌≡◌, ◌≤◌, ◌+◌, List, length, IfOk};
 ghost use Rattle.plan_types.specs.declared.action.Action.{Action};
 ghost use Rattle.level_book.specs.BookCosts.{slots_of, total_room};
 ghost use Rattle.level_book.specs.Valid.{Valid};
@@ -7,11 +7,19 @@ ghost use Rattle.level_book.specs.CostFold.{forward};
 ghost use Rattle.binomials.specs.Advances.{repeats, least_advances};
 ghost use Rattle.revolve_gen.specs.Plans.{HasPlan};
 ghost use Rattle.revolve_gen.specs.Written.{revolve_list};
-ghost use Rattle.bound_cert.specs.Accepted.{IsAccepted};
+ghost use Rattle.revolve_gen.specs.Multistage.{IsMultistage};
+ghost use Rattle.multistage_gen.specs.Planned.{IsMultistageList};
+ghost use Rattle.bound_cert.specs.Accepted.{IsAccepted, IsPlaces};
+ghost use Rattle.bound_cert.specs.Thresholds.{IsThresholdOf};
 
-use crate::certificate::Certificate;
+use crate::places::greatest_slow;
 use binomials::{least_advances, repeats};
+use cert_text::Certificate;
+use class_rules::place_levels;
 use level_book::Book;
+use multistage_gen::place_savings;
+use plan_types::Action;
+use std::alloc::{AllocError, Global};
 
 /// The certificate of the list that `revolve_gen::revolve_list` gives for these steps and this book. It takes no memory.
 pub fn certify_revolve(steps: u32, book: &Book) -> Certificate
@@ -36,4 +44,29 @@ pub fn certify_revolve(steps: u32, book: &Book) -> Certificate
         k: repeats(steps, slots),
         value: u64::from(steps) + least_advances(steps, slots),
     }
+}
+
+/// The certificate of a list of the multistage class: the most that the images of a place on the slower level would save on the
+/// faster one.
+pub fn certify_places(
+    alloc: Global,
+    list: &[Action],
+    steps: u32,
+    book: &Book,
+) -> Result<Certificate, AllocError>
+    requires short { steps ≤ 1000000 }
+    requires few { length list.now ≤ 16777216 }
+    requires class { IsMultistage steps book.now list.now }
+    ensures threshold { IfOk result (IsPlaces (λ threshold. IsThresholdOf threshold steps book.now list.now)) }
+
+    // It is accepted for the list that is planned.
+    ensures accepted { IfOk result (λ certificate. IsMultistageList steps book.now list.now → IsAccepted list.now steps book.now certificate) }
+{
+    let Some(levels) = place_levels(alloc, list, steps, book)? else {
+        unreachable!()
+    };
+    let savings = place_savings(alloc, list, book)?;
+    Ok(Certificate::Places {
+        threshold: greatest_slow(&levels, &savings),
+    })
 }

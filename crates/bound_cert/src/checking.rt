@@ -1,22 +1,29 @@
 // Whether a certificate is accepted for a list.
-ghost use Rattle.std.specs.Prelude.{◌≡◌, ◌≤◌, ◌↔◌, List, length, IfOk};
+ghost use Rattle.std.specs.Prelude.{◌≡◌, ◌≤◌, ◌↔◌, List, [], ◌∷◌, length, IfOk};
 ghost use Rattle.plan_types.specs.declared.action.Action.{Action};
+ghost use Rattle.level_book.specs.declared.book.Level.{Level};
 ghost use Rattle.level_book.specs.BookCosts.{slots_of};
 ghost use Rattle.level_book.specs.Valid.{Valid};
-ghost use Rattle.level_book.specs.CostFold.{forward};
-ghost use Rattle.bound_cert.specs.declared.certificate.Reason.{Reason};
-ghost use Rattle.bound_cert.specs.Accepted.{IsAccepted, IsFirstReason};
-ghost use Rattle.bound_cert.specs.Verdicts.{IsVerdict};
+ghost use Rattle.level_book.specs.CostFold.{forward, cost};
+ghost use Rattle.revolve_gen.specs.Multistage.{IsMultistage};
+ghost use Rattle.cert_text.specs.declared.certificate.Certificate.{Certificate};
+ghost use Rattle.bound_cert.specs.declared.verdict.Class.{Class};
+ghost use Rattle.bound_cert.specs.declared.verdict.Reason.{Reason};
+ghost use Rattle.bound_cert.specs.Accepted.{class_of, IsAccepted, IsFirstReason};
+ghost use Rattle.bound_cert.specs.Verdicts.{IsVerdict, IsComparison};
 
 use crate::bound::bound;
-use crate::certificate::{CertVerdict, Certificate, Class, Reason};
+use crate::places::weigh_places;
+use crate::verdict::{CertVerdict, Class, Reason};
+use cert_text::Certificate;
 use cost_fold::tally;
 use level_book::Book;
 use plan_types::Action;
 use schedule_rules::{Verdict, check};
 use std::alloc::{AllocError, Global};
 
-/// Checks a certificate for a list, a number of steps and a book. The memory that it takes is the validator's.
+/// Checks a certificate for a list, a number of steps and a book. The memory that it takes is the validator's, and for a
+/// threshold that of the list's places.
 pub fn check_certificate(
     alloc: Global,
     list: &[Action],
@@ -26,19 +33,42 @@ pub fn check_certificate(
 ) -> Result<CertVerdict, AllocError>
     requires short { steps ≤ 1000000 }
     requires few { length list.now ≤ 16777216 }
-    ensures accepted { IfOk result (λ v. (v ≡ CertVerdict.Least Class.Valid) ↔ (IsAccepted list.now steps book.now certificate.now)) }
+    ensures accepted { IfOk result (λ v. (class : Class) → (v ≡ CertVerdict.Least class) ↔ ((class ≡ class_of certificate.now) × IsAccepted list.now steps book.now certificate.now)) }
     ensures refused { IfOk result (λ v. (reason : Reason) → (v ≡ CertVerdict.Not reason) ↔ (IsFirstReason list.now steps book.now certificate.now reason)) }
 
-    // An accepted certificate shows that no valid list takes fewer forward steps.
+    // An accepted certificate shows that no valid list takes fewer forward steps, or that no list of the class costs less. The
+    // second level of the book costs no less than the first.
     ensures least { IfOk result (λ v. v ≡ CertVerdict.Least Class.Valid →
         (other : List Action) → Valid steps (slots_of book.now) other → forward list.now ≤ forward other) }
+    ensures least_multistage { IfOk result (λ v. v ≡ CertVerdict.Least Class.Multistage →
+        (fast slow : Level) → book.now.levels ≡ fast ∷ slow ∷ [] → fast.write ≤ slow.write → fast.read ≤ slow.read →
+        (other : List Action) → IsMultistage steps book.now other → cost list.now book.now ≤ cost other book.now) }
 {
     match check(alloc, list, steps, book)? {
-        Verdict::Valid => {
-            let cost = forward_steps(list, steps, book);
-            Ok(compare(cost, steps, book, certificate))
-        }
+        Verdict::Valid => weigh(alloc, list, steps, book, certificate),
         Verdict::Broken { .. } => Ok(CertVerdict::Not(Reason::Invalid)),
+    }
+}
+
+// The verdict on a valid list.
+fn weigh(
+    alloc: Global,
+    list: &[Action],
+    steps: u32,
+    book: &Book,
+    certificate: &Certificate,
+) -> Result<CertVerdict, AllocError>
+    requires short { steps ≤ 1000000 }
+    requires few { length list.now ≤ 16777216 }
+    requires valid { Valid steps (slots_of book.now) list.now }
+    ensures { IfOk result (IsVerdict list.now steps book.now certificate.now) }
+{
+    match certificate {
+        Certificate::Revolve { k, value } => {
+            let number = bound(steps, book.total_room(steps), *k);
+            Ok(compare(forward_steps(list, steps, book), *value, number))
+        }
+        Certificate::Places { threshold } => weigh_places(alloc, list, steps, book, *threshold),
     }
 }
 
@@ -54,25 +84,18 @@ fn forward_steps(list: &[Action], steps: u32, book: &Book) -> u64
     tally(list).forward
 }
 
-// The verdict on a valid list that takes so many forward steps.
-fn compare(cost: u64, steps: u32, book: &Book, certificate: &Certificate) -> CertVerdict
-    requires { steps ≤ 1000000 }
-    ensures { (list : List Action) → Valid steps (slots_of book.now) list → cost ≡ forward list →
-        IsVerdict list steps book.now certificate.now result }
+// The verdict on a list that takes so many forward steps, by the value of its certificate and the number of its k.
+fn compare(cost: u64, value: u64, number: u64) -> CertVerdict
+    ensures { IsComparison cost value number result }
 {
-    match *certificate {
-        Certificate::Revolve { k, value } => {
-            let number = bound(steps, book.total_room(steps), k);
-            if cost != value {
-                CertVerdict::Not(Reason::ValueDiffers { cost, value })
-            } else if value != number {
-                CertVerdict::Not(Reason::ValueDiffers {
-                    cost,
-                    value: number,
-                })
-            } else {
-                CertVerdict::Least(Class::Valid)
-            }
-        }
+    if cost != value {
+        CertVerdict::Not(Reason::ValueDiffers { cost, value })
+    } else if value != number {
+        CertVerdict::Not(Reason::ValueDiffers {
+            cost,
+            value: number,
+        })
+    } else {
+        CertVerdict::Least(Class::Valid)
     }
 }

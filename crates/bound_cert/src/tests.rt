@@ -1,11 +1,8 @@
 // Certificates by hand: the numbers by the formula with factorials, the texts by their grammar.
 ghost use Rattle.std.specs.Prelude.{◌<◌, ◌^◌, length};
 
-use crate::{
-    CertFault, CertVerdict, Certificate, Class, Reason, certify_revolve, check_certificate,
-    print_certificate, read_certificate,
-};
-use keepers::{MemorySink, SinkFault};
+use crate::{CertVerdict, Class, Reason, certify_revolve, check_certificate};
+use cert_text::Certificate;
 use level_book::Book;
 use plan_types::{Action, Dest, Keep};
 use revolve_gen::revolve_list;
@@ -149,79 +146,4 @@ fn certificates_of_revolve_have_the_repeats_and_the_least_steps(rt: HostRuntime)
             );
         }
     }
-}
-
-// What a text is read as: a certificate, or the rule, line and column of its first fault.
-fn read(text: &str) -> Result<(u32, u64), (u8, u32, u32)>
-    requires { length text.now < 2 ^ 31 }
-{
-    match read_certificate(text.as_bytes(), 10, &Book::plain(3)) {
-        Ok(Certificate::Revolve { k, value }) => Ok((k, value)),
-        Err(CertFault::At { rule, line, column }) => Err((rule, line, column)),
-        Err(CertFault::Memory) => Err((0, 0, 0)),
-    }
-}
-
-#[test]
-fn texts_are_read_as_by_their_grammar(rt: HostRuntime) {
-    for (text, want) in [
-        ("#! revolve 2 25\n", Ok((2, 25))),
-        ("#! revolve 2 25", Ok((2, 25))),
-        ("#!revolve 0 0\n", Ok((0, 0))),
-        (
-            "#!\t revolve \r 1000000\t18446744073709551615 \r\n",
-            Ok((1_000_000, u64::MAX)),
-        ),
-        (
-            "EndForward()\n\n# !\n!#\n #! revolve 1 1\n#! revolve 2 25\nEndReverse()\n",
-            Ok((2, 25)),
-        ),
-        ("", Err((1, 0, 0))),
-        ("#\n", Err((1, 0, 0))),
-        ("EndForward()\nEndReverse()\n", Err((1, 0, 0))),
-        ("#! best 2\n", Err((2, 1, 4))),
-        ("#! revolves 2 25\n", Err((2, 1, 4))),
-        ("\n#!", Err((2, 2, 3))),
-        ("\n\n#!  \n", Err((2, 3, 5))),
-        ("#! revolve 02 25\n", Err((3, 1, 12))),
-        ("#! revolve 1000001 25\n", Err((3, 1, 12))),
-        ("#! revolve 2 18446744073709551616\n", Err((3, 1, 14))),
-        ("#! revolve 2 2x\n", Err((3, 1, 14))),
-        ("#! revolve x\n", Err((3, 1, 12))),
-        ("#! revolve", Err((4, 1, 11))),
-        ("#! revolve 2", Err((4, 1, 13))),
-        ("#! revolve 2 \n", Err((4, 1, 14))),
-        ("#! revolve 2 25 7\n", Err((4, 1, 17))),
-        ("#! revolve 2 25\n\n#! revolve 2 25\n", Err((4, 3, 4))),
-        ("#! revolve 2 25\n#!\t", Err((4, 2, 4))),
-        ("#! revolve 2 25 7\n#! best\n", Err((4, 1, 17))),
-    ] {
-        assert!(rt; text.len() < 1000);
-        assert_eq!(rt; read(text), want, "{text:?}");
-    }
-}
-
-#[test]
-fn certificates_are_printed_in_one_write(rt: HostRuntime) -> Result<(), Fail> {
-    let certificate = Certificate::Revolve { k: 2, value: 25 };
-    let listed = vec![in rt.alloc(); 2u64]?;
-    let mut sink = MemorySink::new(rt.alloc(), 40)?.failing(listed);
-    assert_eq!(rt; print_certificate(&certificate, &mut sink), Ok(()));
-    assert_eq!(rt; sink.bytes(), b"#! revolve 2 25\n".as_slice());
-    assert_eq!(rt;
-        print_certificate(&certificate, &mut sink),
-        Err(SinkFault::Failed)
-    );
-    assert_eq!(rt; sink.faults(), 1);
-    let greatest = Certificate::Revolve {
-        k: u32::MAX,
-        value: u64::MAX,
-    };
-    let mut sink = MemorySink::new(rt.alloc(), 60)?;
-    assert_eq!(rt; print_certificate(&greatest, &mut sink), Ok(()));
-    assert_eq!(rt;
-        sink.bytes(),
-        b"#! revolve 4294967295 18446744073709551615\n".as_slice()
-    );
-    Ok(())
 }

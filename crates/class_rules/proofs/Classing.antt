@@ -12,6 +12,7 @@ use Rattle.revolve_gen.specs.Stack.{places_used, placed}
 use Rattle.revolve_gen.specs.Multistage.{HasPlaces, HasLevels, IsMultistage}
 use Rattle.revolve_gen.specs.Written.{revolve_list}
 use Rattle.revolve_gen.proofs.Stacked.{levels_free, used_same}
+use Rattle.class_rules.specs.PlaceLevels.{HasPlaceLevels}
 use Rattle.class_rules.specs.Walked.{Agrees, AreTheLevels, Fit}
 
 -- the slots of a level of the book
@@ -44,16 +45,23 @@ fits book levels first second fast slow at_first at_second on_fast on_slow known
 abbrev one_at : ℕ → ℕ → ℕ
 one_at k l = cond (l == k) 1 0
 
-places_same : (level other : ℕ → ℕ) (k n : ℕ) → ((p : ℕ) → p < n → level p ≡ other p) → places_on level k n ≡ places_on other k n
+pub places_same : (level other : ℕ → ℕ) (k n : ℕ) → ((p : ℕ) → p < n → level p ≡ other p) → places_on level k n ≡ places_on other k n
 places_same level other k zero same = refl
 places_same level other k (suc n) same =
     let so_far = places_same level other k n (λ p h. same p (omega arith)) in
     let here = ap (one_at k) (same n (omega arith)) in
     omega arith
 
+-- a list whose places have levels is in the class
+pub levelled_in_class : (steps : ℕ) (book : BookCosts) (list : List Action) (levels : List ℕ) → HasPlaceLevels steps book list levels → IsMultistage steps book list
+levelled_in_class steps book list levels has = record { two = has.two; plan = has.plan; level = λ p. get_or levels p 0; levels = has.placed }
+
 module _ (steps : ℕ) (book : BookCosts) (list base : List Action) (levels : List ℕ) (base_is : base ≡ revolve_list steps book) where
+  from_levels : (level : ℕ → ℕ) → HasLevels steps book level list → list ≡ placed level 0 base
+  from_levels level has = has.is ∙ sym (levels_free steps (total_room book steps) level (level_at (slots_of book))) ∙ ap (placed level 0) (sym base_is)
+
   from_class : (is : IsMultistage steps book list) → list ≡ placed is.level 0 base
-  from_class is = is.levels.is ∙ sym (levels_free steps (total_room book steps) is.level (level_at (slots_of book))) ∙ ap (placed is.level 0) (sym base_is)
+  from_class is = from_levels is.level is.levels
 
   pub not_in_class : ((level : ℕ → ℕ) → list ≡ placed level 0 base → ⊥) → IsMultistage steps book list → ⊥
   not_in_class none is = none is.level (from_class is)
@@ -61,7 +69,7 @@ module _ (steps : ℕ) (book : BookCosts) (list base : List Action) (levels : Li
   used_of : (level : ℕ → ℕ) → list ≡ placed level 0 base → AreTheLevels base list levels → places_used list ≡ length levels
   used_of level e are = ap places_used e ∙ used_same level base ∙ sym are.many
 
-  pub in_class : length book.levels ≡ 2 → HasPlan steps (total_room book steps) → AreTheLevels base list levels → Fit (slots_of book) levels → IsMultistage steps book list
+  pub in_class : length book.levels ≡ 2 → HasPlan steps (total_room book steps) → AreTheLevels base list levels → Fit (slots_of book) levels → HasPlaceLevels steps book list levels
   in_class two plan are fit =
       let level : ℕ → ℕ = λ p. get_or levels p 0 in
       let e = (are.same level).1 (λ p h. refl) in
@@ -69,12 +77,13 @@ module _ (steps : ℕ) (book : BookCosts) (list base : List Action) (levels : Li
       record {
         two = two;
         plan = plan;
-        level = level;
-        levels = record {
+        count = sym used;
+        placed = record {
           is = e ∙ ap (placed level 0) base_is ∙ levels_free steps (total_room book steps) level (level_at (slots_of book));
           known = λ p h. fit.known p (omega arith);
           room = λ k h. subst (λ n. HasPlaces (get_or (slots_of book) k (Count 0)) (places_on level k n)) (sym used) (fit.room k h);
         };
+        only = λ other has. (are.same other).0 (from_levels other has);
       }
 
   pub fits_in_class : AreTheLevels base list levels → IsMultistage steps book list → Fit (slots_of book) levels

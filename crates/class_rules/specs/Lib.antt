@@ -1,2 +1,3 @@
+pub mod PlaceLevels
 pub mod Walked
 pub mod Stacks

@@ -11,5 +11,5 @@ mod stack;
 mod tests;
 
 pub use crate::disk::in_disk;
-pub use crate::multistage::in_multistage;
+pub use crate::multistage::{in_multistage, place_levels};
 pub use crate::nested::in_nested;

@@ -3,6 +3,7 @@ ghost use Rattle.std.specs.Prelude.{◌≡◌, ◌↔◌, ℕ, ◌+◌, ◌≤�
 ghost use Rattle.level_book.specs.BookCosts.{slots_of};
 ghost use Rattle.revolve_gen.specs.Stack.{placed, places_used};
 ghost use Rattle.revolve_gen.specs.Multistage.{IsMultistage, HasPlaces};
+ghost use Rattle.class_rules.specs.PlaceLevels.{HasPlaceLevels};
 ghost use Rattle.class_rules.specs.Walked.{level_named, Agrees, AreTheLevels, Fit};
 
 use level_book::{Book, Slots};
@@ -20,16 +21,33 @@ pub fn in_multistage(
     requires { steps ≤ 1000000 }
     ensures { IfOk result (λ is. IsTrue is ↔ IsMultistage steps book.now list.now) }
 {
+    let levels = place_levels(alloc, list, steps, book)?;
+    Ok(levels.is_some())
+}
+
+/// The level of each place of a list of the multistage class for so many steps and this book, or None where the list isn't in
+/// it. It takes memory for the slots of the book.
+pub fn place_levels(
+    alloc: Global,
+    list: &[Action],
+    steps: u32,
+    book: &Book,
+) -> Result<Option<Vec<u8>>, AllocError>
+    requires { steps ≤ 1000000 }
+    ensures { IfOk result (λ found. MatchOption found (IsMultistage steps book.now list.now → ⊥) (λ levels. HasPlaceLevels steps book.now list.now levels.items)) }
+{
     let slots = book.total_room(steps);
     if book.levels() != 2 || steps >= 2 && slots == 0 {
-        return Ok(false);
+        return Ok(None);
     }
     let room = Vec::with_capacity(alloc, slots as usize)?;
-    let found = levels_of(alloc, list, Revolve::over(steps, book, room))?;
-    match found {
-        Some(levels) => Ok(fit(&levels, book)),
-        None => Ok(false),
+    let Some(levels) = levels_of(alloc, list, Revolve::over(steps, book, room))? else {
+        return Ok(None);
+    };
+    if !fit(&levels, book) {
+        return Ok(None);
     }
+    Ok(Some(levels))
 }
 
 // The level of each place, where the list is this one of Revolve with any levels of its places.

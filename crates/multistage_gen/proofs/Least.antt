@@ -60,7 +60,7 @@ all_at_most : (level : ℕ → ℕ) (n : ℕ) → places_on level 0 n ≤ n
 all_at_most level zero = omega arith
 all_at_most level (suc n) = omega (arith, all_at_most level n, one_at_most (level n == 0))
 
-not_all : (level : ℕ → ℕ) (q n : ℕ) → q < n → (level q ≡ 0 → ⊥) → places_on level 0 n < n
+pub not_all : (level : ℕ → ℕ) (q n : ℕ) → q < n → (level q ≡ 0 → ⊥) → places_on level 0 n < n
 not_all level q zero h off = absurd (omega (arith, h))
 not_all level q (suc n) h off = elim (cases_eq q n) [
   | inl same ↦

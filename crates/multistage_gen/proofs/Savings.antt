@@ -1,8 +1,9 @@
 -- What the places of a list save, and their levels by it.
-use Rattle.std.proofs.Common.{◌≡◌, ◌==◌, ◌⊎◌, ℕ, zero, suc, ◌+◌, ◌-◌, ◌*◌, ◌<◌, ◌≤◌, min, Bool, true, nat_lt, ◌&&◌, ◌||◌, All, List, [], ◌∷◌, ◌++◌, length, length-append, get_or, Some, refl, sym, ap, subst, ◌∙◌, inl, inr, arith}
+use Rattle.std.proofs.Common.{◌≡◌, ◌==◌, ◌⊎◌, ℕ, zero, suc, ◌+◌, ◌-◌, ◌*◌, ◌<◌, ◌≤◌, min, Bool, true, nat_lt, ◌&&◌, ◌||◌, All, List, [], ◌∷◌, ◌++◌, length, length-append, map, get_or, Some, refl, sym, ap, subst, ◌∙◌, inl, inr, arith}
 use Rattle.std.specs.List.{slice_get}
 use Rattle.std.proofs.lemmas.Bool.{or_cases, and_parts, ltb-true, eqb-true}
 use Rattle.std.proofs.lemmas.List.Sums.{count_by-le-length}
+use Rattle.std.proofs.lemmas.List.{length-map, get_or-map}
 use Rattle.plan_types.specs.declared.action.Action.{Action}
 use Rattle.level_book.specs.declared.book.Level.{Level}
 use Rattle.revolve_gen.specs.declared.stack.StackStep.{StackStep}
@@ -14,7 +15,8 @@ use Rattle.multistage_gen.specs.declared.ranking.Rank.{Rank}
 use Rattle.multistage_gen.specs.declared.traffic.PlaceTraffic.{PlaceTraffic}
 use Rattle.multistage_gen.specs.Traffic.{IsTraffic}
 use Rattle.multistage_gen.specs.Planned.{ComesBefore}
-use Rattle.multistage_gen.specs.Ranks.{is_before, StandByPlace, AreLevels, rank_of, ranks_from, IsCounted, ArePlanned}
+use Rattle.multistage_gen.specs.Threshold.{AreSavings}
+use Rattle.multistage_gen.specs.Ranks.{is_before, StandByPlace, AreLevels, rank_of, ranks_from, IsCounted, ArePlanned, saving_of}
 use Rattle.multistage_gen.proofs.Counts.{at_get}
 
 -- an action writes and reads one place at most
@@ -82,6 +84,15 @@ list_rank : (list : List Action) (traffic : List PlaceTraffic) (fast slow : Leve
 list_rank list traffic fast slow p d is h =
     let z : p + 0 ≡ p = omega arith in
     rank_at fast slow 0 p traffic d no_traffic h ∙ (λ i. rank_of fast slow (z i) (at_place list traffic p no_traffic is h i))
+
+-- the savings of places with this traffic are those of the list
+pub traffic_savings : (list : List Action) (traffic : List PlaceTraffic) (fast slow : Level) → IsTraffic (written 0 list) (read 0 list) traffic → AreSavings list fast slow (map (saving_of fast slow) traffic)
+traffic_savings list traffic fast slow is = record {
+  count = length-map traffic (saving_of fast slow) ∙ is.many;
+  each = λ p h.
+      let within : p < length traffic = let many = is.many in omega arith in
+      get_or-map (saving_of fast slow) traffic p no_traffic 0 within ∙ ap (saving_of fast slow) (at_place list traffic p no_traffic is within);
+}
 
 comes_before : (s t p q : ℕ) → (nat_lt t s || (t == s) && nat_lt p q) ≡ true → (t < s) ⊎ ((t ≡ s) × (p < q))
 comes_before s t p q h = elim (or_cases (nat_lt t s) ((t == s) && nat_lt p q) h) [

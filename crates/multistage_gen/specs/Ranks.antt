@@ -24,9 +24,13 @@ pub record AreLevels (ranks : List Rank) (room : ℕ) (levels : List ℕ) : Type
   pub order : (p q : ℕ) (d : Rank) → p < length ranks → q < length ranks → slice_index levels p ≡ 0 → slice_index levels q ≡ 1 →
       is_before (slice_index_or ranks p d) (slice_index_or ranks q d) ≡ true
 
--- the rank of a place with this traffic
+-- what a place with this traffic saves
+abbrev pub saving_of : Level → Level → PlaceTraffic → ℕ
+saving_of fast slow t = t.writes * (slow.write - fast.write) + t.reads * (slow.read - fast.read)
+
+-- its rank
 abbrev pub rank_of : Level → Level → ℕ → PlaceTraffic → Rank
-rank_of fast slow p t = record { saving = record { 0 = t.writes * (slow.write - fast.write) + t.reads * (slow.read - fast.read) }; place = p }
+rank_of fast slow p t = record { saving = record { 0 = saving_of fast slow t }; place = p }
 
 -- those of the places from p on
 abbrev pub ranks_from : Level → Level → ℕ → List PlaceTraffic → List Rank

@@ -1,6 +1,6 @@
 -- Why a list of the multistage class costs the least of its class: a threshold parts the places on its two levels. The exchange of
 -- two places that it rests on is our own, and so is its form.
-use Rattle.std.specs.Prelude.{◌≡◌, ◌⊎◌, ℕ, ◌<◌, ◌≤◌, List, [], ◌∷◌}
+use Rattle.std.specs.Prelude.{◌≡◌, ◌⊎◌, ℕ, ◌<◌, ◌≤◌, List, [], ◌∷◌, length, slice_index}
 use Rattle.plan_types.specs.declared.action.Action.{Action}
 use Rattle.level_book.specs.declared.book.Level.{Level}
 use Rattle.level_book.specs.BookCosts.{BookCosts, room}
@@ -9,6 +9,11 @@ use Rattle.revolve_gen.specs.Places.{places_on}
 use Rattle.revolve_gen.specs.Stack.{places_used}
 use Rattle.revolve_gen.specs.Multistage.{HasLevels, IsMultistage, saving}
 use Rattle.multistage_gen.specs.Planned.{IsMultistageList}
+
+-- what the places of a list save, each at its number
+pub record AreSavings (list : List Action) (fast slow : Level) (savings : List ℕ) : Type 0 where
+  pub count : length savings ≡ places_used list
+  pub each : (p : ℕ) → p < places_used list → slice_index savings p ≡ saving list fast slow p
 
 -- The list's places, which stand on these levels, meet the threshold: each used place on level 0 saves at least as much, each on
 -- level 1 would save at most as much, and the threshold is 0 or level 0 has as many used places as it has room for.

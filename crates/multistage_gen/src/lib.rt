@@ -14,4 +14,5 @@ mod tests;
 mod traffic;
 
 pub use crate::list::multistage_list;
+pub use crate::planning::place_savings;
 pub use crate::traffic::{PlaceTraffic, places};

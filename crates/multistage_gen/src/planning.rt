@@ -1,8 +1,9 @@
 // The levels of the places of a list, by what they save.
-ghost use Rattle.std.specs.Prelude.{◌≡◌, ℕ, ◌+◌, ◌-◌, ◌*◌, ◌≤◌, All, List, [], ◌∷◌, length, IfOk};
+ghost use Rattle.std.specs.Prelude.{◌≡◌, ℕ, ◌+◌, ◌-◌, ◌*◌, ◌≤◌, All, List, [], ◌∷◌, length, map, IfOk};
 ghost use Rattle.level_book.specs.declared.book.Level.{Level};
 ghost use Rattle.level_book.specs.BookCosts.{room};
-ghost use Rattle.multistage_gen.specs.Ranks.{IsCounted, ranks_from, ArePlanned};
+ghost use Rattle.multistage_gen.specs.Threshold.{AreSavings};
+ghost use Rattle.multistage_gen.specs.Ranks.{IsCounted, saving_of, ranks_from, ArePlanned};
 
 use crate::ranking::{Rank, levels_by_rank};
 use crate::traffic::{PlaceTraffic, places};
@@ -14,11 +15,38 @@ use std::cmp::Reverse;
 // How much less the traffic of a place costs on the faster level.
 fn saving(traffic: &PlaceTraffic, fast: &Level, slow: &Level) -> u64
     requires { IsCounted traffic.now }
-    ensures { result ≡ traffic.now.writes * (slow.now.write - fast.now.write) + traffic.now.reads * (slow.now.read - fast.now.read) }
+    ensures { result ≡ saving_of fast.now slow.now traffic.now }
 {
     let write = u64::from(slow.write.saturating_sub(fast.write));
     let read = u64::from(slow.read.saturating_sub(fast.read));
     traffic.writes * write + traffic.reads * read
+}
+
+// What places with this traffic save.
+fn savings_of(
+    alloc: Global,
+    traffic: &[PlaceTraffic],
+    fast: &Level,
+    slow: &Level,
+) -> Result<Vec<u64>, AllocError>
+    requires { All IsCounted traffic.now }
+    ensures { IfOk result (λ savings. savings.items ≡ map (saving_of fast.now slow.now) traffic.now) }
+{
+    let mut savings = Vec::new(alloc);
+    for of in traffic {
+        savings.push(saving(of, fast, slow))?;
+    }
+    Ok(savings)
+}
+
+/// How much less the images at each place of a list cost on the faster of two levels than on the slower one.
+pub fn place_savings(alloc: Global, list: &[Action], book: &Book) -> Result<Vec<u64>, AllocError>
+    requires two { length book.now.levels ≡ 2 }
+    requires few { length list.now ≤ 16777216 }
+    ensures { IfOk result (λ savings. (fast slow : Level) → book.now.levels ≡ fast ∷ slow ∷ [] → AreSavings list.now fast slow savings.items) }
+{
+    let traffic = places(alloc, list)?;
+    savings_of(alloc, &traffic, book.level(0), book.level(1))
 }
 
 // The ranks of the places with this traffic.

@@ -1,9 +1,25 @@
-use Rattle.level_book.specs.BookCosts.{slots_of}
-use Rattle.level_book.specs.Valid.{Valid}
-use Rattle.bound_cert.proofs.Accepting.{least_is_least}
+use Rattle.std.proofs.Common.{◌≡◌}
+use Rattle.std.proofs.lemmas.Result.{IfOk-weaker}
+use Rattle.bound_cert.specs.Verdicts.{IsVerdict}
+use Rattle.bound_cert.proofs.Accepting.{least_exactly, not_exactly, least_is_least, least_is_cheapest}
 use Rattle.bound_cert.proofs.checking.check_certificate.Goals as goal
+
+pub returns-in-Valid-clause-accepted : goal.returns-in-Valid-clause-accepted
+returns-in-Valid-clause-accepted c =
+    IfOk-weaker c.weigh.result (IsVerdict c.args.list.now c.args.steps c.args.book.now c.args.certificate.now) _
+    (λ v is. least_exactly c.args.list.now c.args.steps c.args.book.now c.args.certificate.now v is) c.weigh.ensures
+
+pub returns-in-Valid-clause-refused : goal.returns-in-Valid-clause-refused
+returns-in-Valid-clause-refused c =
+    IfOk-weaker c.weigh.result (IsVerdict c.args.list.now c.args.steps c.args.book.now c.args.certificate.now) _
+    (λ v is. not_exactly c.args.list.now c.args.steps c.args.book.now c.args.certificate.now v is) c.weigh.ensures
 
 pub returns-in-Valid-clause-least : goal.returns-in-Valid-clause-least
 returns-in-Valid-clause-least c =
-    let valid : Valid c.args.steps (slots_of c.args.book.now) c.args.list.now = rw c.in-Valid.is at c.in_ok-check.ensures in
-    least_is_least c.args.list.now c.args.steps c.args.book.now c.args.certificate.now c.compare.result (c.compare.ensures c.args.list.now valid c.forward_steps-cost.ensures)
+    IfOk-weaker c.weigh.result (IsVerdict c.args.list.now c.args.steps c.args.book.now c.args.certificate.now) _
+    (λ v is. least_is_least c.args.list.now c.args.steps c.args.book.now c.args.certificate.now v is) c.weigh.ensures
+
+pub returns-in-Valid-clause-least_multistage : goal.returns-in-Valid-clause-least_multistage
+returns-in-Valid-clause-least_multistage c =
+    IfOk-weaker c.weigh.result (IsVerdict c.args.list.now c.args.steps c.args.book.now c.args.certificate.now) _
+    (λ v is. least_is_cheapest c.args.list.now c.args.steps c.args.book.now c.args.certificate.now v is) c.weigh.ensures

@@ -1,8 +1,0 @@
-use Rattle.bound_cert.proofs.TextLaws.{one_fault, no_fault}
-use Rattle.bound_cert.proofs.laws.faults_are_unique.Goals as goal
-
-pub returns-clause-one : goal.returns-clause-one
-returns-clause-one c = one_fault
-
-pub returns-clause-none : goal.returns-clause-none
-returns-clause-none c = no_fault

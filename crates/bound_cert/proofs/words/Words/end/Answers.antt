@@ -1,7 +1,0 @@
-use Rattle.std.proofs.Common.{ap}
-use Rattle.bound_cert.specs.Left.{Left, left}
-use Rattle.bound_cert.proofs.words.Words.end.Goals as goal
-
-pub returns : goal.returns
-unfolding left
-returns c = ap (λ (l : Left). l.end) c.self.view_is

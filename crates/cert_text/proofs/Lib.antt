@@ -1,0 +1,10 @@
+pub mod Fitting
+pub mod OfKind
+pub mod LineLemmas
+pub mod Numerals
+pub mod Putting
+pub mod Rest
+pub mod Spelled
+pub mod TextLaws
+pub mod WordLemmas
+pub mod Behind

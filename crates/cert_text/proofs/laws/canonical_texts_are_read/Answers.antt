@@ -1,0 +1,5 @@
+use Rattle.cert_text.proofs.Spelled.{canonical_read}
+use Rattle.cert_text.proofs.laws.canonical_texts_are_read.Goals as goal
+
+pub returns : goal.returns
+returns c = canonical_read

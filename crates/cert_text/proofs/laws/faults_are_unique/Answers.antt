@@ -1,0 +1,8 @@
+use Rattle.cert_text.proofs.TextLaws.{one_fault, no_fault}
+use Rattle.cert_text.proofs.laws.faults_are_unique.Goals as goal
+
+pub returns-clause-one : goal.returns-clause-one
+returns-clause-one c = one_fault
+
+pub returns-clause-none : goal.returns-clause-none
+returns-clause-none c = no_fault

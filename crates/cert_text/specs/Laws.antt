@@ -1,0 +1,41 @@
+-- What the definitions of texts imply.
+use Rattle.std.specs.Prelude.{◌≡◌, ◌≢◌, ◌⊎◌, ℕ, false, List, [], ◌∷◌, ◌++◌}
+use Rattle.std.specs.List.{AllByRecursion, flat_map}
+use Rattle.level_book.specs.BookCosts.{BookCosts}
+use Rattle.cert_text.specs.declared.certificate.Certificate.{Certificate}
+use Rattle.cert_text.specs.declared.fault.CertFault.{CertFault}
+use Rattle.cert_text.specs.MarkedLines.{is_marked}
+use Rattle.cert_text.specs.Meaning.{IsCertificateText, HasText}
+use Rattle.cert_text.specs.Faults.{HasFirstFault}
+use Rattle.cert_text.specs.Canonical.{canonical}
+
+-- bytes say one certificate at most
+abbrev pub OneCertificate : Type 0
+OneCertificate =
+    (steps : ℕ) (book : BookCosts) (bytes : List ℕ) (a b : Certificate) → IsCertificateText steps book bytes a → IsCertificateText steps book bytes b → a ≡ b
+
+-- they have one first fault at most, and those that say a certificate have none
+abbrev pub OneFault : Type 0
+OneFault = (steps : ℕ) (book : BookCosts) (bytes : List ℕ) (a b : CertFault) → HasFirstFault steps book bytes a → HasFirstFault steps book bytes b → a ≡ b
+
+abbrev pub CertificatesHaveNoFault : Type 0
+CertificatesHaveNoFault =
+    (steps : ℕ) (book : BookCosts) (bytes : List ℕ) (certificate : Certificate) (fault : CertFault) →
+    IsCertificateText steps book bytes certificate → HasFirstFault steps book bytes fault → ⊥
+
+-- all bytes say a certificate or have a first fault
+abbrev pub CertificateOrFault : Type 0
+CertificateOrFault =
+    (steps : ℕ) (book : BookCosts) (bytes : List ℕ) →
+    ((certificate : Certificate) × IsCertificateText steps book bytes certificate) ⊎ ((fault : CertFault) × HasFirstFault steps book bytes fault)
+
+-- a line that isn't one of a certificate, without the byte 10 that ends it
+pub record IsOtherLine (line : List ℕ) : Type 0 where
+  pub unmarked : is_marked line ≡ false
+  pub one_end : AllByRecursion (λ b. b ≢ 10) line
+
+-- the canonical text of a certificate, behind any other lines, says that certificate
+abbrev pub CanonicalIsRead : Type 0
+CanonicalIsRead =
+    (steps : ℕ) (book : BookCosts) (certificate : Certificate) → HasText steps book certificate → (others : List (List ℕ)) → AllByRecursion IsOtherLine others →
+    IsCertificateText steps book (flat_map (λ line. line ++ 10 ∷ []) others ++ canonical certificate) certificate

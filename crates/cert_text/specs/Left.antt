@@ -1,0 +1,65 @@
+-- No public clause cites this file. What is left of a line's words and of a text's lines, and how those before were taken.
+use Rattle.std.specs.Prelude.{◌≡◌, ◌⊎◌, ℕ, ◌+◌, List, ◌∷◌, length, map}
+use Rattle.level_book.specs.BookCosts.{BookCosts}
+use Rattle.action_text.specs.Tokens.{Token}
+use Rattle.action_text.specs.ScheduleText.{lines}
+use Rattle.cert_text.specs.declared.certificate.Certificate.{Certificate}
+use Rattle.cert_text.specs.declared.fault.CertFault.{CertFault}
+use Rattle.cert_text.specs.declared.fault.CertFault.TheVariants.{At, Memory}
+use Rattle.cert_text.specs.declared.fault.Rule.{Rule}
+use Rattle.cert_text.specs.declared.fault.Rule.TheVariants as rule
+use Rattle.cert_text.specs.declared.kind.Kind.{Kind}
+use Rattle.cert_text.specs.MarkedLines.{CertificateLine, marked, line_count}
+use Rattle.cert_text.specs.Words.{words, texts_of}
+use Rattle.cert_text.specs.WordLines.{word_lines}
+use Rattle.cert_text.specs.Meaning.{HasText}
+use Rattle.cert_text.specs.Wanted.{kind_word, first_wants, later_wants}
+use Rattle.cert_text.specs.Faults.{FitAll, IsWordFault, IsLineFault}
+
+-- the words that are left, and the column one past the line's bytes
+pub record Left : Type 0 where
+  pub words : List Token
+  pub end : ℕ
+
+-- what is left where the bytes that are left begin in this column
+unfoldable pub left : ℕ → List ℕ → Left
+left column bytes = record { words = words column bytes; end = column + length bytes }
+
+-- the next word, which has this text, is gone past
+pub record Takes (text : List ℕ) (old new : Left) : Type 0 where
+  pub column : ℕ
+  pub parts : old.words ≡ record { column = column; text = text } ∷ new.words
+  pub end : new.end ≡ old.end
+
+abbrev pub number_of_rule : Rule → ℕ
+number_of_rule rule.Number = 3
+number_of_rule rule.Shape = 4
+
+-- the texts of words
+abbrev pub texts : List Token → List (List ℕ)
+texts ws = map (λ w. w.text) ws
+
+-- the certificate lines that are left, and how many lines the text has
+pub record Unread : Type 0 where
+  pub lines : List CertificateLine
+  pub count : ℕ
+
+-- what is left where so many lines stand before these bytes
+unfoldable pub unread : ℕ → List ℕ → Unread
+unread before bytes = record { lines = marked (before + 1) (lines bytes); count = before + line_count (lines bytes) }
+
+-- the fault is of a place, of which this holds
+abbrev pub IsAt : (ℕ → ℕ → ℕ → Type 0) → CertFault → Type 0
+IsAt P (At rule line column) = P rule line column
+IsAt P Memory = ⊥
+
+-- The words behind the kind's, which stand in the line of this number, and the lines after it have this fault first.
+abbrev pub IsRestFault : Kind → ℕ → BookCosts → ℕ → Left → Unread → ℕ → ℕ → ℕ → Type 0
+IsRestFault kind steps book number behind later rule line column =
+    (IsWordFault (first_wants kind) behind.words behind.end rule column × (line ≡ number))
+    ⊎ (FitAll (first_wants kind) behind.words × IsLineFault (later_wants kind steps book) later.lines later.count rule line column)
+
+-- with the kind's word before them, they say this certificate
+pub record SaysRest (kind : Kind) (steps : ℕ) (book : BookCosts) (behind : Left) (later : Unread) (certificate : Certificate) : Type 0 where
+  pub has_text : HasText steps book certificate
+  pub says : (kind_word kind ∷ texts behind.words) ∷ map texts_of later.lines ≡ word_lines certificate

@@ -1,0 +1,10 @@
+pub mod MarkedLines
+pub mod Words
+pub mod WordLines
+pub mod Meaning
+pub mod Wanted
+pub mod Faults
+pub mod Canonical
+pub mod Laws
+pub mod Left
+pub mod Printing

@@ -1,0 +1,23 @@
+// Laws of the texts of certificates. Each function does nothing; its contract is the law.
+ghost use Rattle.cert_text.specs.Laws.{OneCertificate, OneFault, CertificatesHaveNoFault, CertificateOrFault, CanonicalIsRead};
+
+/// Bytes say one certificate at most.
+pub fn texts_say_one_certificate()
+    ensures { OneCertificate }
+{}
+
+/// Bytes have one first fault at most, and those that say a certificate have none.
+pub fn faults_are_unique()
+    ensures one { OneFault }
+    ensures none { CertificatesHaveNoFault }
+{}
+
+/// All bytes say a certificate or have a first fault.
+pub fn bytes_say_a_certificate_or_have_a_fault()
+    ensures { CertificateOrFault }
+{}
+
+/// The canonical text of a certificate says it, also behind lines of other kinds.
+pub fn canonical_texts_are_read()
+    ensures { CanonicalIsRead }
+{}

@@ -1,0 +1,78 @@
+// The certificate lines of a text, one after the other.
+ghost use Rattle.std.specs.Prelude.{◌≡◌, ◌<◌, ◌+◌, ◌^◌, [], ◌∷◌, length, MatchResult};
+ghost use Rattle.cert_text.specs.Faults.{IsLineFault};
+ghost use Rattle.cert_text.specs.Left.{IsAt, unread};
+
+use crate::fault::CertFault;
+use crate::lines::{MarkedLine, next_marked};
+use crate::words::Words;
+use std::marker::Model;
+
+// The bytes that are left of a text, and how many lines stand before them.
+#[derive(Drop)]
+pub(crate) struct Reader<'a> {
+    rest: &'a [u8],
+    before: u32,
+}
+
+impl<'a> Model for Reader<'a> {
+    ghost use Rattle.std.specs.Prelude.{◌+◌, ◌<◌, ◌^◌, length};
+    ghost use Rattle.cert_text.specs.Left.{Unread, unread};
+
+    ghost Value = { Unread };
+
+    ghost view = { λ r. unread r.before r.rest.now };
+
+    ghost invariant = { λ r. r.before + length r.rest.now < 2 ^ 31 };
+}
+
+impl<'a> Reader<'a> {
+    // The lines of a text.
+    pub(crate) fn new(bytes: &'a [u8]) -> Reader<'a>
+        requires { length bytes.now < 2 ^ 31 }
+        ensures { result ≡ unread 0 bytes.now }
+    {
+        Reader {
+            rest: bytes,
+            before: 0,
+        }
+    }
+
+    // Goes past the next certificate line. Where there is none, it is missing behind all lines.
+    pub(crate) fn line(&mut self) -> Result<MarkedLine<'a>, CertFault>
+        ensures { MatchResult result
+            (λ line. (self.old.lines ≡ record { number = line.number; text = line.text.now } ∷ self.new.lines) × (self.new.count ≡ self.old.count)
+            × (length line.text.now < 2 ^ 31))
+            (λ fault. (self.old.lines ≡ []) × (fault ≡ CertFault.At 4 (self.old.count + 1) 1)) }
+    {
+        match next_marked(self.rest, self.before) {
+            Ok(line) => {
+                self.rest = line.later;
+                self.before = line.number;
+                Ok(line)
+            }
+            Err(all) => Err(CertFault::At {
+                rule: 4,
+                line: all + 1,
+                column: 1,
+            }),
+        }
+    }
+
+    // Sees that no certificate line is left. A line too many is at fault at its first word, or one past its bytes.
+    pub(crate) fn finish(&mut self) -> Result<(), CertFault>
+        ensures { MatchResult result (λ _. self.old.lines ≡ []) (λ fault. IsAt (IsLineFault [] self.old.lines self.old.count) fault) }
+    {
+        match self.line() {
+            Err(_) => Ok(()),
+            Ok(line) => {
+                let column = Words::new(line.text, 3).first_column();
+                Err(CertFault::At {
+                    rule: 4,
+                    line: line.number,
+                    column,
+                })
+            }
+        }
+    }
+}

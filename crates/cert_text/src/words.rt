@@ -1,0 +1,169 @@
+// The words of a line, one after the other.
+ghost use Rattle.std.specs.Prelude.{◌≡◌, ◌<◌, ◌≤◌, ◌+◌, ◌^◌, List, [], ◌∷◌, not, length, decimal, MatchOption, MatchResult};
+ghost use Rattle.std.specs.List.{prefix_len};
+ghost use Rattle.action_text.specs.Tokens.{is_blank};
+ghost use Rattle.cert_text.specs.declared.kind.Kind.{Kind};
+ghost use Rattle.cert_text.specs.Wanted.{Want, number_to, kind_word};
+ghost use Rattle.cert_text.specs.Faults.{IsWordFault, Names, first_column};
+ghost use Rattle.cert_text.specs.Left.{left, Takes, number_of_rule};
+
+use crate::fault::{LineFault, Rule};
+use crate::kind::Kind;
+use crate::number::number;
+use std::marker::Model;
+
+// The bytes that are left of a line, and the column in which they begin.
+#[derive(Drop)]
+pub(crate) struct Words<'a> {
+    rest: &'a [u8],
+    column: u32,
+}
+
+impl<'a> Model for Words<'a> {
+    ghost use Rattle.std.specs.Prelude.{◌+◌, ◌<◌, ◌^◌, length};
+    ghost use Rattle.cert_text.specs.Left.{Left, left};
+
+    ghost Value = { Left };
+
+    ghost view = { λ w. left w.column w.rest.now };
+
+    ghost invariant = { λ w. w.column + length w.rest.now < 2 ^ 32 };
+}
+
+// A word and its column.
+#[derive(Clone, Copy)]
+pub(crate) struct Word<'a> {
+    pub text: &'a [u8],
+    pub column: u32,
+}
+
+impl<'a> Words<'a> {
+    // The words of bytes that begin in this column.
+    pub(crate) fn new(rest: &'a [u8], column: u32) -> Words<'a>
+        requires { column + length rest.now < 2 ^ 32 }
+        ensures { result ≡ left column rest.now }
+    {
+        Words { rest, column }
+    }
+
+    // Goes past the next word, if there is one.
+    pub(crate) fn next(&mut self) -> Option<Word<'a>>
+        ensures { MatchOption result ((self.old.words ≡ []) × (self.new ≡ self.old))
+            (λ w. (self.old.words ≡ record { column = w.column; text = w.text.now } ∷ self.new.words) × (self.new.end ≡ self.old.end)) }
+    {
+        let blanks = blanks_before(self.rest);
+        let (_, from) = self.rest.split_at(blanks);
+        let length = word_length(from);
+        if length == 0 {
+            return None;
+        }
+        let column = self.column + blanks as u32;
+        let (text, rest) = from.split_at(length);
+        self.rest = rest;
+        self.column = column + length as u32;
+        Some(Word { text, column })
+    }
+
+    // The column one past the line's bytes.
+    pub(crate) fn end(&self) -> u32
+        ensures { result ≡ self.now.end }
+    {
+        self.column + self.rest.len() as u32
+    }
+
+    // The column of the next word, or the one past the line's bytes.
+    pub(crate) fn first_column(&mut self) -> u32
+        ensures { result ≡ first_column self.old.words self.old.end }
+    {
+        match self.next() {
+            Some(word) => word.column,
+            None => self.end(),
+        }
+    }
+
+    // Goes past the next word, which is to name a kind of certificate, or tells where it begins.
+    pub(crate) fn kind(&mut self) -> Result<Kind, u32>
+        ensures { MatchResult result
+            (λ kind. Takes (kind_word kind) self.old self.new)
+            (λ column. ((kind : Kind) → Names kind self.old.words → ⊥) × (column ≡ first_column self.old.words self.old.end)) }
+    {
+        let Some(word) = self.next() else {
+            return Err(self.end());
+        };
+        if word.text == b"revolve".as_slice() {
+            return Ok(Kind::Revolve);
+        }
+        if word.text == b"places".as_slice() {
+            return Ok(Kind::Places);
+        }
+        Err(word.column)
+    }
+
+    // Goes past the next word, which is to be a number of at most `most`.
+    pub(crate) fn number(&mut self, most: u64) -> Result<u64, LineFault>
+        ensures { MatchResult result
+            (λ n. (n ≤ most) × Takes (decimal n) self.old self.new)
+            (λ fault. (more : List Want) → IsWordFault (number_to most ∷ more) self.old.words self.old.end (number_of_rule fault.rule) fault.column) }
+    {
+        let Some(word) = self.next() else {
+            return Err(LineFault {
+                rule: Rule::Shape,
+                column: self.end(),
+            });
+        };
+        match number(word.text, most) {
+            Some(n) => Ok(n),
+            None => Err(LineFault {
+                rule: Rule::Number,
+                column: word.column,
+            }),
+        }
+    }
+
+    // Sees that no word is left.
+    pub(crate) fn finish(&mut self) -> Result<(), LineFault>
+        ensures { MatchResult result
+            (λ _. self.old.words ≡ [])
+            (λ fault. IsWordFault [] self.old.words self.old.end (number_of_rule fault.rule) fault.column) }
+    {
+        match self.next() {
+            None => Ok(()),
+            Some(word) => Err(LineFault {
+                rule: Rule::Shape,
+                column: word.column,
+            }),
+        }
+    }
+}
+
+// How many blanks stand at the front.
+fn blanks_before(bytes: &[u8]) -> usize
+    ensures value { result ≡ prefix_len is_blank bytes.now }
+    ensures within { result ≤ length bytes.now }
+{
+    for (i, byte) in bytes.iter().enumerate() {
+        if !is_blank(*byte) {
+            return i;
+        }
+    }
+    bytes.len()
+}
+
+// How many other bytes stand at the front.
+fn word_length(bytes: &[u8]) -> usize
+    ensures value { result ≡ prefix_len (λ b. not (is_blank b)) bytes.now }
+    ensures within { result ≤ length bytes.now }
+{
+    for (i, byte) in bytes.iter().enumerate() {
+        if is_blank(*byte) {
+            return i;
+        }
+    }
+    bytes.len()
+}
+
+fn is_blank(b: u8) -> bool
+    ensures { result ≡ is_blank b }
+{
+    b == b' ' || b == b'\t' || b == b'\r'
+}
