@@ -1,5 +1,5 @@
 -- Which calls an action makes of the keepers, and that a fault of a session fits the action that it refused.
-use Rattle.std.proofs.Common.{◌≡◌, ◌⊎◌, inl, inr, ℕ, zero, suc, ◌+◌, ◌==◌, ◌<◌, Bool, true, List, [], ◌∷◌, take, slice_get, Option, Some, Contains, Result, Err, OnErr, IfErr, Ok, refl, sym, ◌∙◌, ap, subst, arith, add-one, eq-eqb}
+use Rattle.std.proofs.Common.{◌≡◌, inl, inr, ℕ, zero, suc, ◌+◌, ◌==◌, ◌<◌, Bool, true, List, [], ◌∷◌, take, slice_get, Some, Contains, Result, Err, OnErr, IfErr, Ok, refl, sym, ◌∙◌, ap, subst, arith, add-one, eq-eqb}
 use Rattle.std.proofs.lemmas.Bool.{false≢true}
 use Rattle.std.proofs.lemmas.Option.{same_Some}
 use Rattle.plan_types.specs.declared.action.Keep.TheVariants.{Nothing, Store, Tape}

@@ -13,6 +13,7 @@ use Rattle.rv_machine.specs.MachineState.{MachineState}
 use Rattle.rv_machine.specs.States.{state_number}
 use Rattle.reverse_runner.specs.Performed.{Gets, Misses}
 use Rattle.reverse_queries.specs.Queries.{hands_out}
+use Rattle.reverse_queries.specs.OnTheWay.{state_out}
 
 pub record Turns (steps : ℕ) (c : Configuration) : Type 0 where
   pub whole : c.forward_ended ≡ false → c.reverse ≡ steps
@@ -141,24 +142,34 @@ pub record GotState {V : Type 0} (got : V → ℕ → MachineState → List (Lis
   pub got_it : got x n state journal y
   pub is : (first : MachineState) → AreOfRun first journal c work tape → state ≡ state_number first journal n
 
+-- the visitor gets the state that an action hands out
+pub gets_out : {V : Type 0} (got : V → ℕ → MachineState → List (List ℕ) → V → Type 0) (steps : ℕ) (slots : List Slots) (journal : List (List ℕ)) (c : Configuration) (a : Action) (d : Configuration) (n : ℕ)
+    (work tape : MachineState) (x y : V) → Goes steps slots c a d → hands_out steps n a ≡ true → Gets got journal a c.work work tape x y → got x n (state_out a work tape) journal y
+gets_out got steps slots journal c (Forward from to keep) d n work tape x y g hands h = absurd (true≢false (sym hands))
+gets_out got steps slots journal c (Copy m k dest) d n work tape x y g hands h = absurd (true≢false (sym hands))
+gets_out got steps slots journal c (Move m k dest) d n work tape x y g hands h = absurd (true≢false (sym hands))
+gets_out got steps slots journal c EndReverse d n work tape x y g hands h = absurd (true≢false (sym hands))
+gets_out got steps slots journal c EndForward d n work tape x y g hands h = let P : ℕ → Type 0 = λ m. got x m work journal y in subst P (g.2 ∙ eqb-true steps n hands) h
+gets_out got steps slots journal c (Reverse from to) d n work tape x y g hands h = let P : ℕ → Type 0 = λ m. got x m tape journal y in subst P (eqb-true to n hands) h
+
+-- where the states are of a run, that one is its own
+pub out_of_run : (first : MachineState) (steps : ℕ) (slots : List Slots) (journal : List (List ℕ)) (c : Configuration) (a : Action) (d : Configuration) (n : ℕ) (work tape : MachineState) → Goes steps slots c a d → IsSound steps slots c →
+    hands_out steps n a ≡ true → AreOfRun first journal c work tape → state_number first journal n ≡ state_out a work tape
+out_of_run first steps slots journal c (Forward from to keep) d n work tape g sound hands are = absurd (true≢false (sym hands))
+out_of_run first steps slots journal c (Copy m k dest) d n work tape g sound hands are = absurd (true≢false (sym hands))
+out_of_run first steps slots journal c (Move m k dest) d n work tape g sound hands are = absurd (true≢false (sym hands))
+out_of_run first steps slots journal c EndReverse d n work tape g sound hands are = absurd (true≢false (sym hands))
+out_of_run first steps slots journal c EndForward d n work tape g sound hands are = sym (are.0 ∙ ap (state_number first journal) (g.2 ∙ eqb-true steps n hands))
+out_of_run first steps slots journal c (Reverse from to) d n work tape g sound hands are =
+    sym (on_tape first journal c.tape tape c.reverse from to g.2 sound.tape_is_next are.1 g.3 g.4 ∙ ap (state_number first journal) (eqb-true to n hands))
+
 pub gets_hands : {V : Type 0} (got : V → ℕ → MachineState → List (List ℕ) → V → Type 0) (steps : ℕ) (slots : List Slots) (journal : List (List ℕ)) (c : Configuration) (a : Action) (d : Configuration) (n : ℕ)
     (work tape : MachineState) (x y : V) → Goes steps slots c a d → IsSound steps slots c → hands_out steps n a ≡ true → Gets got journal a c.work work tape x y → GotState got journal c n work tape x y
-gets_hands got steps slots journal c (Forward from to keep) d n work tape x y g sound hands h = absurd (true≢false (sym hands))
-gets_hands got steps slots journal c (Copy m k dest) d n work tape x y g sound hands h = absurd (true≢false (sym hands))
-gets_hands got steps slots journal c (Move m k dest) d n work tape x y g sound hands h = absurd (true≢false (sym hands))
-gets_hands got steps slots journal c EndReverse d n work tape x y g sound hands h = absurd (true≢false (sym hands))
-gets_hands got steps slots journal c EndForward d n work tape x y g sound hands h =
-    let same : c.work ≡ n = g.2 ∙ eqb-true steps n hands in
-    let P : ℕ → Type 0 = λ m. got x m work journal y in
-    record { state = work; got_it = subst P same h; is = λ first are. are.0 ∙ ap (state_number first journal) same }
-gets_hands got steps slots journal c (Reverse from to) d n work tape x y g sound hands h =
-    let same : to ≡ n = eqb-true to n hands in
-    let P : ℕ → Type 0 = λ m. got x m tape journal y in
-    record {
-      state = tape;
-      got_it = subst P same h;
-      is = λ first are. on_tape first journal c.tape tape c.reverse from to g.2 sound.tape_is_next are.1 g.3 g.4 ∙ ap (state_number first journal) same;
-    }
+gets_hands got steps slots journal c a d n work tape x y g sound hands h = record {
+  state = state_out a work tape;
+  got_it = gets_out got steps slots journal c a d n work tape x y g hands h;
+  is = λ first are. sym (out_of_run first steps slots journal c a d n work tape g sound hands are);
+}
 
 -- where an action hands nothing out the visitor is as before
 pub gets_silent : {V : Type 0} (got : V → ℕ → MachineState → List (List ℕ) → V → Type 0) (steps : ℕ) (journal : List (List ℕ)) (a : Action) (position : ℕ) (work tape : MachineState) (x y : V) →

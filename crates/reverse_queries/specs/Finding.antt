@@ -6,7 +6,7 @@ use Rattle.rv_machine.specs.StepTable.{written}
 use Rattle.reverse_queries.specs.declared.finder.Question.{Question}
 use Rattle.reverse_queries.specs.declared.finder.Question.TheVariants.{Write, Change}
 use Rattle.reverse_queries.specs.declared.finder.Finder.{Finder}
-use Rattle.reverse_queries.specs.Queries.{WritesWord, ChangesWord, Differ}
+use Rattle.reverse_queries.specs.Queries.{WritesIn, ChangesIn, Differ}
 
 -- the bytes of the word at an address
 abbrev pub word_bytes : Memory → ℕ → List (Option ℕ)
@@ -16,10 +16,10 @@ word_bytes m word = byte_at m word ∷ byte_at m (word + 1) ∷ byte_at m (word 
 abbrev pub SomeDiffer : List (Option ℕ) → List (Option ℕ) → Type 0
 SomeDiffer before after = (k : ℕ) × ((k < 4) × Differ (slice_index_or before k None) (slice_index_or after k None))
 
--- step m of the run does what is asked
-abbrev pub Does : Question → MachineState → List (List ℕ) → ℕ → ℕ → Type 0
-Does Write first journal word m = WritesWord first journal word m
-Does Change first journal word m = ChangesWord first journal word m
+-- the step of state m does what is asked
+abbrev pub Does : Question → List (List ℕ) → ℕ → (ℕ → MachineState) → ℕ → Type 0
+Does Write journal word states m = WritesIn states journal word m
+Does Change journal word states m = ChangesIn states word m
 
 -- the next step of a state does it, where the word has these bytes in the state after it
 abbrev pub Finds : Question → ℕ → List (Option ℕ) → MachineState → List (List ℕ) → Type 0

@@ -8,19 +8,27 @@ use Rattle.rv_machine.specs.MachineState.{MachineState}
 use Rattle.rv_machine.specs.States.{state_number}
 use Rattle.rv_machine.specs.StepTable.{written}
 
--- step m of the run writes a byte of the word, also where it writes the byte that is there
+-- the step of state m writes a byte of the word, also where it writes the byte that is there; the states go by their numbers
+abbrev pub WritesIn : (ℕ → MachineState) → List (List ℕ) → ℕ → ℕ → Type 0
+WritesIn states journal word m = Any (λ at. (word ≤ at) × (at < word + 4)) (written (states m) journal)
+
+-- the same of the states of a run
 abbrev pub WritesWord : MachineState → List (List ℕ) → ℕ → ℕ → Type 0
-WritesWord first journal word m = Any (λ at. (word ≤ at) × (at < word + 4)) (written (state_number first journal m) journal)
+WritesWord first journal word m = WritesIn (state_number first journal) journal word m
 
 -- two bytes are mapped, and are not the same; a byte that isn't mapped never differs
 abbrev pub Differ : Option ℕ → Option ℕ → Type 0
 Differ (Some before) (Some after) = before ≢ after
 Differ _ _ = ⊥
 
--- a byte of the word differs between state m of the run and state m + 1
+-- a byte of the word differs between state m and state m + 1
+abbrev pub ChangesIn : (ℕ → MachineState) → ℕ → ℕ → Type 0
+ChangesIn states word m =
+    (k : ℕ) × ((k < 4) × Differ (byte_at (states m).memory (word + k)) (byte_at (states (m + 1)).memory (word + k)))
+
+-- the same of the states of a run
 abbrev pub ChangesWord : MachineState → List (List ℕ) → ℕ → ℕ → Type 0
-ChangesWord first journal word m =
-    (k : ℕ) × ((k < 4) × Differ (byte_at (state_number first journal m).memory (word + k)) (byte_at (state_number first journal (m + 1)).memory (word + k)))
+ChangesWord first journal word m = ChangesIn (state_number first journal) word m
 
 -- the last place below a bound at which something holds, or that there is none
 abbrev pub IsLast : (ℕ → Type 0) → ℕ → Option ℕ → Type 0

@@ -5,12 +5,14 @@ ghost use Rattle.level_book.specs.Configuration.{start};
 ghost use Rattle.level_book.specs.Valid.{Valid};
 ghost use Rattle.keepers.specs.Counts.{Rose};
 ghost use Rattle.rv_machine.specs.MachineState.{MachineState, IsMachineState};
+ghost use Rattle.rv_machine.specs.States.{state_number};
 ghost use Rattle.reverse_runner.specs.KeepersSeen.{by_number, told_by, calls_to, HaveRoom, Called};
 ghost use Rattle.reverse_runner.specs.LevelsStand.{AreAlone};
-ghost use Rattle.reverse_runner.specs.SessionState.{levels_of};
+ghost use Rattle.reverse_runner.specs.SessionState.{levels_of, holdings_of};
 ghost use Rattle.reverse_runner.specs.Standing.{StandsAt};
 ghost use Rattle.reverse_queries.specs.Queries.{Differ, IsLast, up_to};
 ghost use Rattle.reverse_queries.specs.Performing.{calls_of_all, PerformsAll, RefusedIn, IsDamaged};
+ghost use Rattle.reverse_queries.specs.OnTheWay.{IsFoundOn};
 ghost use Rattle.reverse_queries.specs.Finding.{word_bytes, SomeDiffer, Does, Finds, Got};
 
 use crate::finder::{Finder, Question};
@@ -119,7 +121,10 @@ pub(crate) fn find_last<K: Keeper, L: Ledger>(
     requires word { word ≤ 0xFFFFFFFC }
 
     // The answer, where the session stands at its start.
-    ensures answer { (first : MachineState) → IsMachineState first → StandsAt first session.old (told_by K.told keepers.old.items) → IfOk result (IsLast (Does question first session.old.journal word) session.old.situation.steps) }
+    ensures answer { (first : MachineState) → IsMachineState first → StandsAt first session.old (told_by K.told keepers.old.items) → IfOk result (IsLast (Does question session.old.journal word (state_number first session.old.journal)) session.old.situation.steps) }
+
+    // The same by the states that were handed out on the way, also where nothing stands.
+    ensures found { IfOk result (λ answer. IsFoundOn (Does question session.old.journal word) session.old.situation.steps session.old.journal (up_to session.old.situation.steps answer list.now) (holdings_of session.old (told_by K.told keepers.old.items)) (holdings_of session.new (told_by K.told keepers.new.items)) answer) }
 
     // What was performed for it.
     ensures performs { IfOk result (λ answer. PerformsAll session.old (up_to session.old.situation.steps answer list.now) session.new) }

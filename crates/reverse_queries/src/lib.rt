@@ -1,7 +1,7 @@
 //! Questions on a run that a session goes through: a state by its number, the last step that wrote a word, and the last
 //! that changed it. Each performs a list of actions from its start, up to the state that answers. It stands on the runner,
-//! and is to stand below the top call. `specs/Queries.antt` says what is asked and how much of a list is performed,
-//! `specs/Performing.antt` what that does to a session.
+//! and below the top call. `specs/Queries.antt` says what is asked and how much of a list is performed,
+//! `specs/Performing.antt` what that does to a session, and `specs/OnTheWay.antt` which states are handed out then.
 #![tactic(auto)]
 
 mod finder;

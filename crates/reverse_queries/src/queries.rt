@@ -8,9 +8,10 @@ ghost use Rattle.rv_machine.specs.MachineState.{MachineState, IsMachineState};
 ghost use Rattle.rv_machine.specs.States.{state_number};
 ghost use Rattle.reverse_runner.specs.KeepersSeen.{by_number, told_by, calls_to, HaveRoom, Called};
 ghost use Rattle.reverse_runner.specs.LevelsStand.{AreAlone};
-ghost use Rattle.reverse_runner.specs.SessionState.{levels_of};
+ghost use Rattle.reverse_runner.specs.SessionState.{levels_of, holdings_of};
 ghost use Rattle.reverse_runner.specs.Standing.{StandsAt};
-ghost use Rattle.reverse_queries.specs.Queries.{WritesWord, ChangesWord, IsLast, hands_out, front_to, up_to};
+ghost use Rattle.reverse_queries.specs.Queries.{WritesIn, ChangesIn, WritesWord, ChangesWord, IsLast, hands_out, front_to, up_to};
+ghost use Rattle.reverse_queries.specs.OnTheWay.{IsFoundOn};
 ghost use Rattle.reverse_queries.specs.Performing.{calls_of_all, PerformsAll, RefusedIn, IsDamaged};
 
 use crate::finder::Question;
@@ -106,6 +107,9 @@ pub fn last_write<K: Keeper, L: Ledger>(
     // The answer, where the session stands at its start.
     ensures answer { (first : MachineState) → IsMachineState first → StandsAt first session.old (told_by K.told keepers.old.items) → IfOk result (IsLast (WritesWord first session.old.journal word) session.old.situation.steps) }
 
+    // The same by the states that were handed out on the way, also where it doesn't stand there.
+    ensures found { IfOk result (λ answer. IsFoundOn (λ states. WritesIn states session.old.journal word) session.old.situation.steps session.old.journal (up_to session.old.situation.steps answer list.now) (holdings_of session.old (told_by K.told keepers.old.items)) (holdings_of session.new (told_by K.told keepers.new.items)) answer) }
+
     // What was performed for it.
     ensures performs { IfOk result (λ answer. PerformsAll session.old (up_to session.old.situation.steps answer list.now) session.new) }
     ensures counted { IfOk result (λ answer. steps.new ≡ steps.old + forward (up_to session.old.situation.steps answer list.now)) }
@@ -147,6 +151,9 @@ pub fn last_change<K: Keeper, L: Ledger>(
 
     // The answer, where the session stands at its start.
     ensures answer { (first : MachineState) → IsMachineState first → StandsAt first session.old (told_by K.told keepers.old.items) → IfOk result (IsLast (ChangesWord first session.old.journal word) session.old.situation.steps) }
+
+    // The same by the states that were handed out on the way, also where it doesn't stand there.
+    ensures found { IfOk result (λ answer. IsFoundOn (λ states. ChangesIn states word) session.old.situation.steps session.old.journal (up_to session.old.situation.steps answer list.now) (holdings_of session.old (told_by K.told keepers.old.items)) (holdings_of session.new (told_by K.told keepers.new.items)) answer) }
 
     // What was performed for it.
     ensures performs { IfOk result (λ answer. PerformsAll session.old (up_to session.old.situation.steps answer list.now) session.new) }

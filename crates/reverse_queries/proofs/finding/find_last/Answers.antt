@@ -10,15 +10,19 @@ use Rattle.level_book.specs.CostFold.{forward}
 use Rattle.keepers.specs.Counts.{Rose}
 use Rattle.schedule_rules.specs.Situation.{Situation}
 use Rattle.reverse_runner.specs.declared.fault.RunFault.TheVariants.{Keeper, Damaged, Visitor, Ended}
-use Rattle.reverse_runner.specs.KeepersSeen.{calls_to, by_number, Called}
+use Rattle.reverse_runner.specs.KeepersSeen.{calls_to, by_number, told_by, Called}
 use Rattle.reverse_queries.specs.Performing.{calls_of_all, PerformsAll}
+use Rattle.reverse_queries.specs.Queries.{up_to}
 use Rattle.reverse_queries.proofs.Fronts.{front_past, front_ends}
 use Rattle.std.proofs.lemmas.List.{take_all}
-use Rattle.rv_machine.specs.MachineState.{MachineState}
+use Rattle.rv_machine.specs.States.{state_number}
+use Rattle.reverse_runner.specs.Acts.{Holdings, Acts}
+use Rattle.reverse_runner.specs.SessionState.{holdings_of}
 use Rattle.reverse_runner.specs.Performed.{Gets}
 use Rattle.reverse_queries.specs.Finding.{Got}
+use Rattle.reverse_queries.proofs.Going.{gone_start, going_on, found_on, through}
 use Rattle.reverse_queries.proofs.Looking.{finder_on, finder_ends, found_none}
-use Rattle.reverse_queries.proofs.Turning.{AreOfRun, hands_of, left_before}
+use Rattle.reverse_queries.proofs.Turning.{AreOfRun, out_of_run, hands_of, left_before}
 use Rattle.reverse_queries.proofs.Ways.{way_start, way_on, may_perform, has_room, refused_in, damaged_of, at_end, is_sound, goes_from, past_levels, same_fault, not_both}
 use Rattle.reverse_queries.proofs.Fitting.{fault_fits, if_err_at}
 use Rattle.reverse_queries.proofs.finding.find_last.Goals as goal
@@ -30,6 +34,10 @@ at_place list i within = slice_get-get_or list i (Forward 0 0 Nothing) within
 -- the number of the last state is that of the steps
 last_is : (last : ℕ) (now was : Situation) (steps : ℕ) (slots : List Slots) → last ≡ now.at.reverse → now ≡ was → was.at ≡ start steps slots → last ≡ steps
 last_is last now was steps slots e f at = e ∙ ap (λ (s : Situation). s.at.reverse) f ∙ ap (λ (c : Configuration). c.reverse) at
+
+-- what an action does, by a journal that is the same
+acts_of : (was journal : List (List ℕ)) (a : Action) (old new : Holdings) → was ≡ journal → Acts was a old new → Acts journal a old new
+acts_of was journal a old new same acts = let P : List (List ℕ) → Type 0 = λ j. Acts j a old new in subst P same acts
 
 pub loop-action-init : goal.loop-action-init
 loop-action-init g c =
@@ -44,9 +52,13 @@ loop-action-init g c =
         last_is = finder.last ∙ last_is c.reverse-last.result c.config.result.now old.situation old.situation.steps old.situation.slots c.reverse-last.ensures c.config.ensures at;
         unanswered = finder.answer;
       };
-      unfound = λ first is stands. record {
-        none = λ m from lt does. (let all = ap (λ (x : Configuration). x.reverse) at in absurd (omega (arith, from, lt, all)));
-        later = λ ended. absurd (true≢false (sym ended ∙ ap (λ (x : Configuration). x.forward_ended) at));
+      going = record {
+        gone = gone_start old.situation.steps old.journal c.args.list.now (holdings_of old (told_by g.K.Keeper.told c.args.keepers.now.items)) old.situation.at;
+        unfound = λ states have. record {
+          none = λ m from lt does. (let all = ap (λ (x : Configuration). x.reverse) at in absurd (omega (arith, from, lt, all)));
+          later = λ ended. absurd (true≢false (sym ended ∙ ap (λ (x : Configuration). x.forward_ended) at));
+        };
+        of_run = λ first is i a n lt. absurd (omega (arith, lt));
       };
       front = λ n left. refl;
     }
@@ -180,12 +192,36 @@ returns-in-Some-clause-answer g c first is stands =
     let sound = is_sound old mid (take i list) c.requires.start so_far.way.performs in
     let J : List (List ℕ) → Type 0 = λ j. Gets Got j a mid.situation.at.work mid.work mid.tape c.loop-action.finder c.perform.new.visitor in
     let gets = subst J so_far.way.performs.journal done.gets in
-    let are : (first : MachineState) → AreOfRun first mid.journal mid.situation.at mid.work mid.tape → AreOfRun first old.journal mid.situation.at mid.work mid.tape = λ first h.
-    (let A : List (List ℕ) → Type 0 = λ j. AreOfRun first j mid.situation.at mid.work mid.tape in subst A so_far.way.performs.journal h) in
-    let ends = finder_ends c.args.question c.args.word steps slots old.journal mid.situation.at a new.situation.at mid.work mid.tape c.loop-action.finder c.perform.new.visitor c.in-Some.place goes sound so_far.way.turns gets so_far.asked c.in-Some.is in
-    let front = front_ends steps c.in-Some.place list i a at ends.0 (so_far.front c.in-Some.place ends.1) in
+    let ends = finder_ends c.args.question c.args.word steps slots old.journal mid.situation.at a new.situation.at mid.work mid.tape c.loop-action.finder c.perform.new.visitor c.in-Some.place goes so_far.way.turns gets so_far.asked c.in-Some.is in
     let there = so_far.way.stands first is stands in
-    ends.2 first (are first (there.work, there.tape)) (so_far.unfound first is stands)
+    let A : List (List ℕ) → Type 0 = λ j. AreOfRun first j mid.situation.at mid.work mid.tape in
+    let are = subst A so_far.way.performs.journal (there.work, there.tape) in
+    let states = state_number first old.journal in
+    ends.2 states (λ n hands. out_of_run first steps slots old.journal mid.situation.at a new.situation.at n mid.work mid.tape goes sound hands are) (so_far.going.unfound states (so_far.going.of_run first (is, stands)))
+
+pub returns-in-Some-clause-found : goal.returns-in-Some-clause-found
+returns-in-Some-clause-found g c =
+    let so_far = c.loop-action.invariant in
+    let old = c.args.session.now in
+    let mid = c.loop-action.session in
+    let list = c.args.list.now in
+    let i = c.loop-action.action-index in
+    let a = slice_index_or list i (Forward 0 0 Nothing) in
+    let within : i < length list = omega arith in
+    let at = at_place list i within in
+    let new = c.perform.new.self in
+    let done = c.in_ok-perform.ensures in
+    let steps = old.situation.steps in
+    let slots = old.situation.slots in
+    let goes = goes_from old mid new (take i list) a so_far.way.performs done.performs in
+    let J : List (List ℕ) → Type 0 = λ j. Gets Got j a mid.situation.at.work mid.work mid.tape c.loop-action.finder c.perform.new.visitor in
+    let gets = subst J so_far.way.performs.journal done.gets in
+    let ends = finder_ends c.args.question c.args.word steps slots old.journal mid.situation.at a new.situation.at mid.work mid.tape c.loop-action.finder c.perform.new.visitor c.in-Some.place goes so_far.way.turns gets so_far.asked c.in-Some.is in
+    let front = front_ends steps c.in-Some.place list i a at ends.0 (so_far.front c.in-Some.place ends.1) in
+    let told = told_by g.K.Keeper.told in
+    let acts = acts_of mid.journal old.journal a _ _ so_far.way.performs.journal done.acts in
+    found_on c.args.question c.args.word steps slots old.journal list (up_to steps (Some c.in-Some.place) list) i (holdings_of old (told c.args.keepers.now.items)) (holdings_of mid (told c.loop-action.keepers.items))
+    (holdings_of new (told c.perform.new.keepers.items)) mid.situation.at a new.situation.at c.loop-action.finder (Some c.in-Some.place) _ (omega (arith, within)) front goes so_far.way.turns at acts ends.2 so_far.going
 
 pub returns-in-Some-clause-performs : goal.returns-in-Some-clause-performs
 returns-in-Some-clause-performs g c =
@@ -202,10 +238,9 @@ returns-in-Some-clause-performs g c =
     let steps = old.situation.steps in
     let slots = old.situation.slots in
     let goes = goes_from old mid new (take i list) a so_far.way.performs done.performs in
-    let sound = is_sound old mid (take i list) c.requires.start so_far.way.performs in
     let J : List (List ℕ) → Type 0 = λ j. Gets Got j a mid.situation.at.work mid.work mid.tape c.loop-action.finder c.perform.new.visitor in
     let gets = subst J so_far.way.performs.journal done.gets in
-    let ends = finder_ends c.args.question c.args.word steps slots old.journal mid.situation.at a new.situation.at mid.work mid.tape c.loop-action.finder c.perform.new.visitor c.in-Some.place goes sound so_far.way.turns gets so_far.asked c.in-Some.is in
+    let ends = finder_ends c.args.question c.args.word steps slots old.journal mid.situation.at a new.situation.at mid.work mid.tape c.loop-action.finder c.perform.new.visitor c.in-Some.place goes so_far.way.turns gets so_far.asked c.in-Some.is in
     let front = front_ends steps c.in-Some.place list i a at ends.0 (so_far.front c.in-Some.place ends.1) in
     let on = way_on _ _ _ _ _ _ list i old mid new _ _ c.perform.new.keepers.items _ _ _ a c.requires.start at so_far.way (record {
       performs = done.performs;
@@ -236,10 +271,9 @@ returns-in-Some-clause-counted g c =
     let steps = old.situation.steps in
     let slots = old.situation.slots in
     let goes = goes_from old mid new (take i list) a so_far.way.performs done.performs in
-    let sound = is_sound old mid (take i list) c.requires.start so_far.way.performs in
     let J : List (List ℕ) → Type 0 = λ j. Gets Got j a mid.situation.at.work mid.work mid.tape c.loop-action.finder c.perform.new.visitor in
     let gets = subst J so_far.way.performs.journal done.gets in
-    let ends = finder_ends c.args.question c.args.word steps slots old.journal mid.situation.at a new.situation.at mid.work mid.tape c.loop-action.finder c.perform.new.visitor c.in-Some.place goes sound so_far.way.turns gets so_far.asked c.in-Some.is in
+    let ends = finder_ends c.args.question c.args.word steps slots old.journal mid.situation.at a new.situation.at mid.work mid.tape c.loop-action.finder c.perform.new.visitor c.in-Some.place goes so_far.way.turns gets so_far.asked c.in-Some.is in
     let front = front_ends steps c.in-Some.place list i a at ends.0 (so_far.front c.in-Some.place ends.1) in
     let on = way_on _ _ _ _ _ _ list i old mid new _ _ c.perform.new.keepers.items _ _ _ a c.requires.start at so_far.way (record {
       performs = done.performs;
@@ -270,10 +304,9 @@ returns-in-Some-clause-called g c =
     let steps = old.situation.steps in
     let slots = old.situation.slots in
     let goes = goes_from old mid new (take i list) a so_far.way.performs done.performs in
-    let sound = is_sound old mid (take i list) c.requires.start so_far.way.performs in
     let J : List (List ℕ) → Type 0 = λ j. Gets Got j a mid.situation.at.work mid.work mid.tape c.loop-action.finder c.perform.new.visitor in
     let gets = subst J so_far.way.performs.journal done.gets in
-    let ends = finder_ends c.args.question c.args.word steps slots old.journal mid.situation.at a new.situation.at mid.work mid.tape c.loop-action.finder c.perform.new.visitor c.in-Some.place goes sound so_far.way.turns gets so_far.asked c.in-Some.is in
+    let ends = finder_ends c.args.question c.args.word steps slots old.journal mid.situation.at a new.situation.at mid.work mid.tape c.loop-action.finder c.perform.new.visitor c.in-Some.place goes so_far.way.turns gets so_far.asked c.in-Some.is in
     let front = front_ends steps c.in-Some.place list i a at ends.0 (so_far.front c.in-Some.place ends.1) in
     let on = way_on _ _ _ _ _ _ list i old mid new _ _ c.perform.new.keepers.items _ _ _ a c.requires.start at so_far.way (record {
       performs = done.performs;
@@ -343,8 +376,6 @@ loop-action-preserved g c =
     let sound = is_sound old mid (take i list) c.requires.start so_far.way.performs in
     let J : List (List ℕ) → Type 0 = λ j. Gets Got j a mid.situation.at.work mid.work mid.tape c.loop-action.finder c.perform.new.visitor in
     let gets = subst J so_far.way.performs.journal done.gets in
-    let are : (first : MachineState) → AreOfRun first mid.journal mid.situation.at mid.work mid.tape → AreOfRun first old.journal mid.situation.at mid.work mid.tape = λ first h.
-    (let A : List (List ℕ) → Type 0 = λ j. AreOfRun first j mid.situation.at mid.work mid.tape in subst A so_far.way.performs.journal h) in
     let on = way_on _ _ _ _ _ _ list i old mid new _ _ c.perform.new.keepers.items _ _ _ a c.requires.start at so_far.way (record {
       performs = done.performs;
       acts = done.acts;
@@ -356,11 +387,21 @@ loop-action-preserved g c =
       stands = done.stands;
       alone = done.alone;
     }) in
-    let next = finder_on c.args.question c.args.word steps slots old.journal mid.situation.at a new.situation.at mid.work mid.tape c.loop-action.finder c.perform.new.visitor goes sound so_far.way.turns gets so_far.asked c.in_default.is in
+    let next = finder_on c.args.question c.args.word steps slots old.journal mid.situation.at a new.situation.at mid.work mid.tape c.loop-action.finder c.perform.new.visitor goes so_far.way.turns gets so_far.asked c.in_default.is in
+    let told = told_by g.K.Keeper.told in
+    let acts = acts_of mid.journal old.journal a _ _ so_far.way.performs.journal done.acts in
     record {
       way = on;
       asked = next.0;
-      unfound = λ first is stands. (let there = so_far.way.stands first is stands in next.1 first (are first (there.work, there.tape)) (so_far.unfound first is stands));
+      going =
+          going_on c.args.question c.args.word steps slots old.journal list i (holdings_of old (told c.args.keepers.now.items)) (holdings_of mid (told c.loop-action.keepers.items)) (holdings_of new (told c.perform.new.keepers.items))
+          mid.situation.at a new.situation.at c.loop-action.finder c.perform.new.visitor _ goes so_far.way.turns at acts next.1
+          (λ first is n hands.
+          (let there = so_far.way.stands first is.0 is.1 in
+          let A : List (List ℕ) → Type 0 = λ j. AreOfRun first j mid.situation.at mid.work mid.tape in
+          let are = subst A so_far.way.performs.journal (there.work, there.tape) in
+          out_of_run first steps slots old.journal mid.situation.at a new.situation.at n mid.work mid.tape goes sound hands are))
+          so_far.going;
       front = λ n left.
           (let before = left_before steps mid.situation.at a new.situation.at n (hands_of steps slots mid.situation.at a new.situation.at goes so_far.way.turns) left in
           front_past steps n list i a at before.1 (so_far.front n before.0));
@@ -371,9 +412,23 @@ returns-clause-answer g c first is stands =
     let so_far = c.loop-action.invariant in
     let old = c.args.session.now in
     let list = c.args.list.now in
-    let whole : take c.loop-action.action-index list ≡ list = take_all c.loop-action.action-index list (omega arith) in
     let over = at_end _ _ _ _ _ _ list c.loop-action.action-index old c.loop-action.session _ _ _ _ c.requires.start c.requires.valid (omega arith) so_far.way in
-    found_none c.args.question first old.journal c.args.word old.situation.steps c.loop-action.session.situation.at c.loop-action.finder (so_far.way.turns.over over).1 (so_far.unfound first is stands)
+    let states = state_number first old.journal in
+    found_none c.args.question states old.journal c.args.word old.situation.steps c.loop-action.session.situation.at c.loop-action.finder (so_far.way.turns.over over).1 (so_far.going.unfound states (so_far.going.of_run first (is, stands)))
+
+pub returns-clause-found : goal.returns-clause-found
+returns-clause-found g c =
+    let so_far = c.loop-action.invariant in
+    let old = c.args.session.now in
+    let list = c.args.list.now in
+    let i = c.loop-action.action-index in
+    let gone = so_far.going.gone in
+    let over = at_end _ _ _ _ _ _ list i old c.loop-action.session _ _ _ _ c.requires.start c.requires.valid (omega arith) so_far.way in
+    record {
+      states = gone.states;
+      through = through old.situation.steps old.journal list list i _ _ c.loop-action.session.situation.at (omega arith) (sym (take_all i list (omega arith))) gone;
+      last = found_none c.args.question gone.states old.journal c.args.word old.situation.steps c.loop-action.session.situation.at c.loop-action.finder (so_far.way.turns.over over).1 (so_far.going.unfound gone.states gone.have);
+    }
 
 pub returns-clause-performs : goal.returns-clause-performs
 returns-clause-performs g c =
