@@ -18,16 +18,19 @@ use Rattle.rv_machine.specs.States.{state_number}
 use Rattle.reverse_runner.specs.declared.fault.RunFault.{RunFault}
 use Rattle.reverse_runner.specs.declared.fault.RunFault.TheVariants.{Keeper, Damaged, Visitor, Memory, Ended}
 use Rattle.reverse_runner.specs.KeepersSeen.{Calls, Called, CalledAtMost, CalledBetween, calls_of, is_release}
-use Rattle.reverse_runner.specs.SessionState.{SessionState}
+use Rattle.reverse_runner.specs.Acts.{Holdings}
+use Rattle.reverse_runner.specs.SessionState.{SessionState, holdings_of}
+use Rattle.reverse_runner.specs.Standing.{begun}
 use Rattle.schedule_rules.proofs.Judging.{take_one_more}
 use Rattle.reverse_queries.specs.Queries.{hands_out, front_to, up_to}
+use Rattle.reverse_queries.specs.OnTheWay.{IsFoundOn}
 use Rattle.reverse_queries.specs.Performing.{calls_of_all, done_after, Fits, RefusedIn, IsDamaged}
 use Rattle.reversal.specs.declared.ended.Ended.{Ended as Ending}
 use Rattle.reversal.specs.declared.question.Question.{Question}
 use Rattle.reversal.specs.declared.question.Question.TheVariants.{State, LastWrite, LastChange}
 use Rattle.reversal.specs.Output.{line_of, Adds}
 use Rattle.reversal.specs.Ending.{done, stopped, keeper_failed, damaged, no_memory}
-use Rattle.reversal.specs.Deeds.{Job, Deed, States, Shown, ask, deed_for, unseen_deed, writing, answer_text, deeds, no_calls, bytes_of, bytes_written, writes_made, steps_made, calls_made, Moment, Did, DidUntil, BreaksOff, IsShown, IsAnswered, AllTell, output, steps_taken, shown_place}
+use Rattle.reversal.specs.Deeds.{Job, Deed, States, Shown, ask, deed_for, unseen_deed, writing, answer_text, deeds, no_calls, bytes_of, bytes_written, writes_made, steps_made, calls_made, Moment, Did, DidUntil, BreaksOff, IsShown, IsFound, IsAnswered, AllTell, output, steps_taken, shown_place}
 use Rattle.reversal.specs.Decision.{accept, EndsBy}
 use Rattle.reversal.specs.JobReading.{Works, fault_ending}
 use Rattle.reversal.proofs.Doing.{tells_nothing, tells_then, raised_none, did_then, did_one, did_until, failed_at, damaged_at, halted_at}
@@ -433,3 +436,33 @@ module _ (question : Question) (first : MachineState) (journal : List (List ℕ)
           )),
         ),
       )
+
+  -- the whole of it was written, or a part
+  pub step_told : (answer : Option ℕ) (e : Ending) (a c : Moment) → IsAnswered (ask question first journal steps slots list) (with_answer answer) a →
+      ((e ≡ done) × Tells a.told c.told (Adds (answer_text answer))) ⊎ ((e ≡ stopped 0) × Tells a.told c.told (AddsPrefix (answer_text answer))) → c.writes ≡ raised a.writes 1 →
+      c.steps ≡ a.steps + forward (up_to steps answer list) → Called (calls_of_all (up_to steps answer list)) a.calls c.calls →
+      output (with_answer answer) (ask question first journal steps slots list) ≡ answer_text answer → steps_taken (with_answer answer) (ask question first journal steps slots list) ≡ forward (up_to steps answer list) →
+      ((n : ℕ) → shown_place (ask question first journal steps slots list) n ≡ 0) → Works (ask question first journal steps slots list) e a c
+  step_told answer e a c answered ends once counted called text_is steps_are at_none =
+      let E : Ending → Type 0 = λ x. Works (ask question first journal steps slots list) x a c in
+      elim ends [
+        | inl whole ↦ subst E (sym whole.0) (step_done answer a c answered whole.1 once counted called text_is steps_are)
+        | inr part ↦ subst E (sym part.0) (step_stopped answer a c answered part.1 once counted called at_none)
+      ]
+
+  -- the list was refused, which nothing had been done of before
+  pub step_over : (fault : RunFault) (old new : SessionState) (e : Ending) (a c : Moment) → old.done ≡ 0 → length list ≤ 16777216 → RefusedIn (λ action. false) list fault old new a.steps c.steps a.calls c.calls →
+      e ≡ fault_ending (new.done + 1) fault → c.told ≡ a.told → c.writes ≡ a.writes →
+      fault ≢ Visitor → ((k : ℕ) (put got : List ℕ) → fault ≡ Damaged k put got → IsDamaged first put got × (AllTell (length slots) a.images → ⊥)) → Works (ask question first journal steps slots list) e a c
+  step_over fault old new e a c none few refused ending told wrote seen damage =
+      let count = refused.done ∙ ap (λ n. done_after n refused.place) none ∙ performed_so_far refused.place (omega (arith, refused.within, few)) in
+      let E : Ending → Type 0 = λ x. Works (ask question first journal steps slots list) x a c in
+      subst E (sym (ending ∙ ap (λ n. fault_ending (n + 1) fault) count)) (step_refused (λ action. false) fault old new a c refused told wrote seen damage)
+
+-- the answer was found by the states that a session handed out that had just begun
+pub is_found : (Holds : (ℕ → MachineState) → ℕ → Type 0) (old new : SessionState) (list : List Action) (answer : Option ℕ) (a c : Moment) → old ≡ begun old.work old.journal old.situation.steps old.situation.slots →
+    IsFoundOn Holds old.situation.steps old.journal (up_to old.situation.steps answer list) (holdings_of old a.images) (holdings_of new c.images) answer →
+    IsFound Holds old.work old.journal old.situation.steps old.situation.slots list answer a
+is_found Holds old new list answer a c is found =
+    let P : Holdings → Type 0 = λ h. IsFoundOn Holds old.situation.steps old.journal (up_to old.situation.steps answer list) h (holdings_of new c.images) answer in
+    (holdings_of new c.images, subst P (ap (λ s. holdings_of s a.images) is) found)

@@ -1,5 +1,5 @@
 -- What is written of a plan of H-Revolve, of DiskRevolve, and of a multistage plan, costs the least of its class.
-use Rattle.std.proofs.Common.{◌≡◌, ℕ, zero, suc, ◌+◌, ◌-◌, ◌*◌, ◌≤◌, Bool, true, false, List, refl, sym, ◌∙◌, ap}
+use Rattle.std.proofs.Common.{◌≡◌, ℕ, zero, suc, ◌+◌, ◌-◌, ◌*◌, ◌≤◌, ◌++◌, Bool, true, false, List, refl, sym, ◌∙◌, ap}
 use Rattle.plan_types.specs.declared.action.Action.{Action}
 use Rattle.level_book.specs.BookCosts.{BookCosts, slots_of, names_of, room}
 use Rattle.level_book.specs.BookFaults.{IsBookText}
@@ -11,6 +11,11 @@ use Rattle.hrevolve_gen.proofs.Whole.{written_costs, written_nested}
 use Rattle.revolve_gen.specs.Multistage.{IsMultistage}
 use Rattle.multistage_gen.proofs.Classed.{planned_in_class}
 use Rattle.multistage_gen.proofs.Least.{planned_least}
+use Rattle.revolve_gen.proofs.Extending.{multistage_valid}
+use Rattle.cert_text.specs.declared.certificate.Certificate.TheVariants.{Places}
+use Rattle.cert_text.specs.Canonical as certificate_text
+use Rattle.bound_cert.specs.Accepted.{IsAccepted}
+use Rattle.bound_cert.proofs.Fitting.{planned_fits}
 use Rattle.class_bounds.proofs.NestedCosts.{nested_least}
 use Rattle.class_bounds.proofs.DiskCosts.{disk_least as disk_list_least}
 use Rattle.level_book.specs.DiskClass.{Disk}
@@ -115,14 +120,26 @@ disk_least steps book job h =
     let costs = top.1 ∙ ap (λ n. number n) (sym (written_disk_costs steps b.0 tables list top.0 is top.1)) in
     (b.0, b.1.0, list, ap (job_or job) unlimited.1.1.1.1.1, written_in_class steps b.0 tables list plan is, λ other member. disk_list_least steps b.0 tables list other unlimited.1.1.0.under costs member)
 
--- a multistage plan is in its class, and no list of the class costs less
+-- a multistage plan is in its class, its certificate is accepted for it, and no list of the class costs less
 pub multistage_least : (steps : ℕ) (book : List ℕ) (job : Job) → DecidesPlanMultistage steps book (accept job) →
-    (b : BookCosts) × IsBookText book b × (list : List Action) × (job ≡ write (list_pieces (names_of b) list)) × IsMultistage steps b list × ((other : List Action) → IsMultistage steps b other → cost list b ≤ cost other b)
+    (b : BookCosts) × IsBookText book b × (list : List Action) × (threshold : ℕ) × (job ≡ write (list_pieces (names_of b) list ++ certificate_text.pieces (Places threshold))) × IsMultistage steps b list
+    × IsAccepted list steps b (Places threshold) × ((other : List Action) → IsMultistage steps b other → cost list b ≤ cost other b)
 multistage_least steps book job h =
     let b = read_said (IsBookText book) _ bad_book job _ h in
     let two = need_met _ _ job _ b.1.1 in
     let plan = need_met _ _ job _ two.1 in
     let list = plan.1.0 in
     let is = plan.1.1.0 in
-    let rise = costs_rise book b.0 is.fast is.slow b.1.0 is.two in
-    (b.0, b.1.0, list, ap (job_or job) plan.1.1.1, planned_in_class steps b.0 list is, λ other member. planned_least steps b.0 list other is rise.0 rise.1 member)
+    let threshold = plan.1.1.1.0 in
+    let of = plan.1.1.1.1.0 in
+    let member = planned_in_class steps b.0 list is in
+    let rise = costs_rise book b.0 is.fast is.slow b.1.0 is.two in (
+      b.0,
+      b.1.0,
+      list,
+      threshold,
+      ap (job_or job) plan.1.1.1.1.1,
+      member,
+      (multistage_valid steps b.0 list member, planned_fits threshold steps b.0 list of is),
+      λ other other_member. planned_least steps b.0 list other is rise.0 rise.1 other_member,
+    )

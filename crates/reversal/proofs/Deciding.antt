@@ -24,6 +24,10 @@ use Rattle.reversal.specs.Inputs.{Input, inputs_of}
 use Rattle.reversal.specs.InputReading.{Reading, all, too_long, not_there, with_front, reading}
 use Rattle.multistage_gen.specs.Planned.{IsMultistageList}
 use Rattle.multistage_gen.proofs.Unique.{plans_unique}
+use Rattle.bound_cert.specs.Thresholds.{IsThresholdOf}
+use Rattle.bound_cert.proofs.Fitting.{one_threshold}
+use Rattle.cert_text.specs.declared.certificate.Certificate.TheVariants.{Places}
+use Rattle.cert_text.specs.Canonical as certificate_text
 use Rattle.level_book.specs.UnderTable.{Tables, IsGreatest}
 use Rattle.hrevolve_gen.specs.Plans as nested
 use Rattle.hrevolve_gen.specs.Written.{IsWritten}
@@ -34,7 +38,7 @@ use Rattle.reversal.specs.NoPlans.{IsUnperiodic, IsUndisked, IsUnnested}
 use Rattle.reversal.specs.declared.kind.PlanKind.{PlanKind}
 use Rattle.reversal.specs.declared.kind.PlanKind.TheVariants.{Revolve, Multistage, Disk, Hrevolve}
 use Rattle.reversal.specs.Plans.{list_pieces, plan_pieces, certificate_of}
-use Rattle.reversal.proofs.Planned.{plan_valid, plan_certified}
+use Rattle.reversal.proofs.Planned.{plan_valid, plan_certified, revolve_least}
 use Rattle.reversal.proofs.ReadAgain.{plan_read_again}
 use Rattle.reversal.specs.Demo as demonstration
 use Rattle.reversal.specs.declared.question.Question.{Question}
@@ -45,16 +49,18 @@ use Rattle.level_book.specs.DiskUnderTable.{DiskTables, IsGreatestDisk}
 use Rattle.disk_gen.specs.DiskWritten.{IsDiskWritten}
 use Rattle.disk_gen.proofs.DiskUnique.{disk_plan_unique}
 use Rattle.reversal.specs.Deeds.{Job, perform, ask as ask_job, write, demonstrate, Shown, deeds, silent_deed, writing, Deed, bytes_of, bytes_written, steps_made, output, steps_taken}
-use Rattle.reversal.specs.Decision.{Decision, refuse, accept, Need, Read, Judge, Keep, Take, Plan, IsFirstWide, Tabulate, DecidesRunRevolve, DecidesPlan, DecidesPlanRevolve, DecidesPlanMultistage, DecidesPlanDisk, DecidesPlanHrevolve, DecidesPlanPeriodic, DecidesDemo, HasBookFault, IsStartOf, HasProgramFault, AreItemsOf, HasJournalFault, Over, DecidesOver, performed, asked_about, DecidesOverBytes, DecidesPrice, DecidesCheck, DecidesCertify, DecidesBytes, Decides}
-use Rattle.reversal.specs.JobReading.{IsRefusal}
+use Rattle.reversal.specs.Decision.{Decision, refuse, accept, Need, Read, Judge, Keep, Take, Plan, IsFirstWide, Tabulate, DecidesRunRevolve, DecidesPlan, DecidesPlanRevolve, DecidesPlanMultistage, DecidesPlanDisk, DecidesPlanHrevolve, DecidesPlanPeriodic, DecidesDemo, HasBookFault, IsStartOf, HasProgramFault, AreItemsOf, HasJournalFault, Maker, DecidesOver, performed, asked_about, DecidesOverBytes, DecidesPrice, DecidesCheck, DecidesCertify, DecidesBytes, Decides, least_line}
+use Rattle.reversal.specs.JobReading.{IsRefusal, IsUnweighed}
 use Rattle.reversal.proofs.Refused.{IsOne, Excludes, book_one, book_fault_one, book_excludes, start_one, program_fault_one, start_excludes, items_one, journal_fault_one, items_exclude, list_one, text_fault_one, list_excludes, IsRefusing, refusing_at, program_refuses, journal_refuses, book_refuses, text_refuses, program_fault_is_other, journal_fault_is_other, text_fault_is_other, certificate_one, certificate_fault_one, certificate_excludes, certificate_refuses, certificate_fault_is_other}
-use Rattle.bound_cert.specs.declared.certificate.Certificate.{Certificate}
-use Rattle.bound_cert.specs.Meaning.{IsCertificateText}
-use Rattle.bound_cert.specs.Faults.{HasFirstFault as CertificateFirst}
-use Rattle.bound_cert.specs.Accepted.{IsAccepted}
+use Rattle.cert_text.specs.declared.certificate.Certificate.{Certificate}
+use Rattle.cert_text.specs.Meaning.{IsCertificateText}
+use Rattle.cert_text.specs.Faults.{HasFirstFault as CertificateFirst}
+use Rattle.bound_cert.specs.Accepted.{class_of, IsAccepted, IsLeastOf}
 use Rattle.level_book.specs.CostFold.{forward}
-use Rattle.bound_cert.proofs.Accepting.{none_fewer}
-use Rattle.reversal.proofs.Weighing.{weigh_one, weigh_met, weigh_refusing, IsWeighed, weigh_refuses}
+use Rattle.bound_cert.proofs.Accepting.{accepted_least}
+use Rattle.level_book.specs.declared.book.Level.{Level}
+use Rattle.reversal.proofs.BookTexts.{costs_rise}
+use Rattle.reversal.proofs.Weighing.{weigh_one, weigh_met, weigh_refusing, weigh_refuses}
 use Rattle.reversal.proofs.Keeping.{keep_one, keep_met, keep_refusing, keep_refuses, keep_accepts, keep_passes}
 use Rattle.action_text.specs.Faults.{HasFirstFault}
 use Rattle.reversal.proofs.Performing.{bytes_performed, steps_performed}
@@ -95,7 +101,7 @@ take_one place (i ∷ is) (Some bytes ∷ given) c d Below Other one h g =
     need_one (length bytes ≤ i.limit) (longer place i.limit) c d _ _
     (take_one (place + 1) is given c d (λ more. Below (bytes ∷ more)) (λ more. Other (bytes ∷ more)) (λ more. one (bytes ∷ more))) h g
 
-over_one : (make : Over) (options : List Choice) (steps : ℕ) (program : List ℕ) (journal : Option (List ℕ)) (book schedule counts : List ℕ) (c d : Decision) → DecidesOver make options steps program journal book schedule counts c → DecidesOver make options steps program journal book schedule counts d → c ≡ d
+over_one : (make : Maker) (options : List Choice) (steps : ℕ) (program : List ℕ) (journal : Option (List ℕ)) (book schedule counts : List ℕ) (c d : Decision) → DecidesOver make options steps program journal book schedule counts c → DecidesOver make options steps program journal book schedule counts d → c ≡ d
 over_one make options steps program journal book schedule counts c d =
     let raw = says_raw options in
     let stack = stack_pages options in
@@ -123,7 +129,7 @@ certify_one steps book schedule certificate c d =
     read_one (IsBookText book) (HasBookFault book) bad_book c d _ _ (book_one book) (book_fault_one book) (book_excludes book) (λ b is_book.
     read_one (IsSchedule (names_of b) schedule) (HasFirstFault (names_of b) schedule) bad_text c d _ _ (list_one book b schedule is_book) (text_fault_one book b schedule is_book) (list_excludes book b schedule is_book) (λ list is_list.
     judge_one steps (slots_of b) list c d _ _ (
-    read_one (IsCertificateText certificate) (CertificateFirst certificate) bad_certificate c d _ _ (certificate_one certificate) (certificate_fault_one certificate) (certificate_excludes certificate) (λ k is_certificate.
+    read_one (IsCertificateText steps b certificate) (CertificateFirst steps b certificate) bad_certificate c d _ _ (certificate_one steps b certificate) (certificate_fault_one steps b certificate) (certificate_excludes steps b certificate) (λ k is_certificate.
     weigh_one steps b list k c d _ _ (λ x y. x ∙ sym y)))))
 
 revolve_one : (options : List Choice) (steps : ℕ) (program : List ℕ) (journal : Option (List ℕ)) (book counts : List ℕ) (c d : Decision) → DecidesRunRevolve options steps program journal book counts c → DecidesRunRevolve options steps program journal book counts d → c ≡ d
@@ -147,7 +153,9 @@ multistage_one steps book c d =
     read_one (IsBookText book) (HasBookFault book) bad_book c d _ _ (book_one book) (book_fault_one book) (book_excludes book) (λ b is_book.
     need_one (length b.levels ≡ 2) (no_plan steps (total_room b steps) 2) c d _ _ (
     need_one (HasPlan steps (total_room b steps)) (no_plan steps (total_room b steps) 1) c d _ _ (λ x y.
-    x.1.1 ∙ ap (λ l. accept (write (list_pieces (names_of b) l))) (plans_unique steps b x.0 y.0 x.1.0 y.1.0) ∙ sym y.1.1)))
+    let list = plans_unique steps b x.0 y.0 x.1.0 y.1.0 in
+    let threshold = one_threshold steps b y.0 x.1.1.0 y.1.1.0 (subst (λ (l : List Action). IsThresholdOf x.1.1.0 steps b l) list x.1.1.1.0) y.1.1.1.0 in
+    x.1.1.1.1 ∙ (λ i. accept (write (list_pieces (names_of b) (list i) ++ certificate_text.pieces (Places (threshold i))))) ∙ sym y.1.1.1.1)))
 
 -- two levels that are the first of their kind are one
 one_wide : (steps : ℕ) (book : BookCosts) (k l : ℕ) → IsFirstWide steps book k → IsFirstWide steps book l → k ≡ l
@@ -208,7 +216,7 @@ demo_one number steps slots c d =
     need_one (HasPlan steps (total_room (plain slots) steps)) (no_plan steps (total_room (plain slots) steps) 1) c d _ _ (λ x y.
     x.2 ∙ ap (λ s. accept (demonstrate number s steps slots)) (start_one true 16 (demonstration.program number) x.0 y.0 x.1 y.1) ∙ sym y.2)
 
-over_bytes_one : (make : Over) (options : List Choice) (steps : ℕ) (bytes : List (List ℕ)) (slots : List ℕ) (c d : Decision) → DecidesOverBytes make options steps bytes slots c → DecidesOverBytes make options steps bytes slots d → c ≡ d
+over_bytes_one : (make : Maker) (options : List Choice) (steps : ℕ) (bytes : List (List ℕ)) (slots : List ℕ) (c d : Decision) → DecidesOverBytes make options steps bytes slots c → DecidesOverBytes make options steps bytes slots d → c ≡ d
 over_bytes_one make options steps (program ∷ book ∷ schedule ∷ []) slots c d h g = over_one make options steps program None book schedule slots c d h g
 over_bytes_one make options steps (program ∷ journal ∷ book ∷ schedule ∷ []) slots c d h g = over_one make options steps program (Some journal) book schedule slots c d h g
 over_bytes_one make options steps other slots c d h g = absurd h
@@ -273,7 +281,7 @@ pub need_met : (Holds : Type 0) (e : Ended) (job : Job) (Below : Type 0) → Nee
 need_met Holds e job Below h = elim h [ inl n ↦ absurd (accept_refuse job e n.1) | inr y ↦ y ]
 
 -- the job is made of a valid list and what it is performed over
-pub record IsMade (make : Over) (steps : ℕ) (job : Job) : Type 0 where
+pub record IsMade (make : Maker) (steps : ℕ) (job : Job) : Type 0 where
   pub first : MachineState
   pub journal : List (List ℕ)
   pub slots : List Slots
@@ -289,7 +297,7 @@ pub data IsMet (job : Job) : Type 0 where
   writes : (texts : List (List ℕ)) → job ≡ write texts → IsMet job
   shows : (number : ℕ) (first : MachineState) (steps slots : ℕ) → job ≡ demonstrate number first steps slots → IsMet job
 
-over_met : (make : Over) (options : List Choice) (steps : ℕ) (program : List ℕ) (journal : Option (List ℕ)) (book schedule counts : List ℕ) (job : Job) → DecidesOver make options steps program journal book schedule counts (accept job) → IsMade make steps job
+over_met : (make : Maker) (options : List Choice) (steps : ℕ) (program : List ℕ) (journal : Option (List ℕ)) (book schedule counts : List ℕ) (job : Job) → DecidesOver make options steps program journal book schedule counts (accept job) → IsMade make steps job
 over_met make options steps program journal book schedule counts job h =
     let b = read_met _ _ bad_book job _ h in
     let kept = keep_met steps (slots_of b.0) counts job _ b.1 in
@@ -299,7 +307,7 @@ over_met make options steps program journal book schedule counts job h =
     let valid = judge_met _ _ _ job _ list.1 in
     record { first = start.0; journal = items.0; slots = slots_of b.0; list = list.0; valid = valid.0; is = ap (job_or job) valid.1 }
 
-over_bytes_met : (make : Over) (options : List Choice) (steps : ℕ) (bytes : List (List ℕ)) (slots : List ℕ) (job : Job) → DecidesOverBytes make options steps bytes slots (accept job) → IsMade make steps job
+over_bytes_met : (make : Maker) (options : List Choice) (steps : ℕ) (bytes : List (List ℕ)) (slots : List ℕ) (job : Job) → DecidesOverBytes make options steps bytes slots (accept job) → IsMade make steps job
 over_bytes_met make options steps (program ∷ book ∷ schedule ∷ []) slots job h = over_met make options steps program None book schedule slots job h
 over_bytes_met make options steps (program ∷ journal ∷ book ∷ schedule ∷ []) slots job h = over_met make options steps program (Some journal) book schedule slots job h
 over_bytes_met make options steps other slots job h = absurd h
@@ -324,7 +332,7 @@ multistage_met steps book job h =
     let b = read_met _ _ bad_book job _ h in
     let two = need_met _ _ job _ b.1 in
     let plan = need_met _ _ job _ two.1 in
-    writes _ (ap (job_or job) plan.1.1.1)
+    writes _ (ap (job_or job) plan.1.1.1.1.1)
 
 pub tabulate_met : (steps : ℕ) (b : BookCosts) (job : Job) (Below : Type 0) → Tabulate steps b (accept job) Below → Below
 tabulate_met steps b job Below h = elim h [ inl n ↦ absurd (accept_refuse job _ n.1.1) | inr y ↦ y.1 ]
@@ -378,16 +386,18 @@ read_said IsText HasFault ended job Below h = elim h [
   | inr y ↦ (y.0, (y.1, y.2))
 ]
 
--- a list that is certified is the least
+-- a list that is certified is the least of its class
 pub certified_least : (steps : ℕ) (book schedule certificate : List ℕ) (job : Job) → DecidesCertify steps book schedule certificate (accept job) →
-    (b : BookCosts) × IsBookText book b × (list : List Action) × IsSchedule (names_of b) schedule list × Valid steps (slots_of b) list × ((other : List Action) → Valid steps (slots_of b) other → forward list ≤ forward other)
+    (b : BookCosts) × IsBookText book b × (list : List Action) × IsSchedule (names_of b) schedule list × Valid steps (slots_of b) list
+    × (k : Certificate) × IsCertificateText steps b certificate k × (job ≡ write (least_line (class_of k) ∷ [])) × IsLeastOf (class_of k) steps b list
 certified_least steps book schedule certificate job h =
     let b = read_said (IsBookText book) _ bad_book job _ h in
     let list = read_said (IsSchedule (names_of b.0) schedule) _ bad_text job _ b.1.1 in
     let valid = judge_met _ _ _ job _ list.1.1 in
-    let k = read_met _ _ bad_certificate job _ valid.1 in
-    let weighed = weigh_met steps b.0 list.0 k.0 job _ k.1 in
-    (b.0, b.1.0, list.0, list.1.0, valid.0, none_fewer list.0 steps b.0 k.0 weighed.0)
+    let k = read_said (IsCertificateText steps b.0 certificate) _ bad_certificate job _ valid.1 in
+    let weighed = weigh_met steps b.0 list.0 k.0 job _ k.1.1 in
+    let rise : (fast slow : Level) → b.0.levels ≡ fast ∷ slow ∷ [] → (fast.write ≤ slow.write) × (fast.read ≤ slow.read) = λ fast slow two. costs_rise book b.0 fast slow b.1.0 two in
+    (b.0, b.1.0, list.0, list.1.0, valid.0, k.0, k.1.0, ap (job_or job) weighed.1, accepted_least list.0 steps b.0 k.0 rise weighed.0)
 
 -- a plan is the least, and its certificate is accepted
 pub planned_least : (steps : ℕ) (book : List ℕ) (job : Job) → DecidesPlanRevolve steps book (accept job) →
@@ -397,15 +407,15 @@ planned_least steps book job h =
     let b = read_said (IsBookText book) _ bad_book job _ h in
     let plan = need_met _ _ job _ b.1.1 in
     let accepted = plan_certified steps b.0 plan.0 in
-    (b.0, b.1.0, ap (job_or job) plan.1, plan_valid steps b.0 plan.0, accepted, none_fewer (revolve_list steps b.0) steps b.0 (certificate_of steps b.0) accepted)
+    (b.0, b.1.0, ap (job_or job) plan.1, plan_valid steps b.0 plan.0, accepted, revolve_least steps b.0 accepted)
 
 -- and it is read again as it was written
 pub planned_again : (steps : ℕ) (book : List ℕ) (job : Job) → steps ≤ 1000000 → DecidesPlanRevolve steps book (accept job) →
-    (b : BookCosts) × IsBookText book b × ((shown : Shown) → IsSchedule (names_of b) (output shown job) (revolve_list steps b) × IsCertificateText (output shown job) (certificate_of steps b))
+    (b : BookCosts) × IsBookText book b × ((shown : Shown) → IsSchedule (names_of b) (output shown job) (revolve_list steps b) × IsCertificateText steps b (output shown job) (certificate_of steps b))
 planned_again steps book job short h =
     let b = read_said (IsBookText book) _ bad_book job _ h in
     let plan = need_met _ _ job _ b.1.1 in
-    let P : Shown → Job → Type 0 = λ shown j. IsSchedule (names_of b.0) (output shown j) (revolve_list steps b.0) × IsCertificateText (output shown j) (certificate_of steps b.0) in
+    let P : Shown → Job → Type 0 = λ shown j. IsSchedule (names_of b.0) (output shown j) (revolve_list steps b.0) × IsCertificateText steps b.0 (output shown j) (certificate_of steps b.0) in
     (b.0, b.1.0, λ shown. subst (P shown) (sym (ap (job_or job) plan.1)) (plan_read_again steps book b.0 short b.1.0 plan.0))
 
 price_met : (steps : ℕ) (book schedule : List ℕ) (job : Job) → DecidesPrice steps book schedule (accept job) → IsMet job
@@ -613,7 +623,7 @@ plan_line_refusing steps b e Below below h = elim h [
   | inr y ↦ below y.1
 ]
 
-over_refusing : (make : Over) (options : List Choice) (steps : ℕ) (program : List ℕ) (journal : Option (List ℕ)) (book schedule counts : List ℕ) (e : Ended) → DecidesOver make options steps program journal book schedule counts (refuse e) → IsRefusing e
+over_refusing : (make : Maker) (options : List Choice) (steps : ℕ) (program : List ℕ) (journal : Option (List ℕ)) (book schedule counts : List ℕ) (e : Ended) → DecidesOver make options steps program journal book schedule counts (refuse e) → IsRefusing e
 over_refusing make options steps program journal book schedule counts e =
     let raw = says_raw options in
     let stack = stack_pages options in
@@ -624,7 +634,7 @@ over_refusing make options steps program journal book schedule counts e =
     read_refusing _ _ bad_text e _ (λ f h. text_refuses f (text_fault_is_other (names_of b) schedule f h)) (λ list.
     judge_refusing steps (slots_of b) list e _)))))
 
-over_bytes_refusing : (make : Over) (options : List Choice) (steps : ℕ) (bytes : List (List ℕ)) (slots : List ℕ) (e : Ended) → DecidesOverBytes make options steps bytes slots (refuse e) → IsRefusing e
+over_bytes_refusing : (make : Maker) (options : List Choice) (steps : ℕ) (bytes : List (List ℕ)) (slots : List ℕ) (e : Ended) → DecidesOverBytes make options steps bytes slots (refuse e) → IsRefusing e
 over_bytes_refusing make options steps (program ∷ book ∷ schedule ∷ []) slots e h = over_refusing make options steps program None book schedule slots e h
 over_bytes_refusing make options steps (program ∷ journal ∷ book ∷ schedule ∷ []) slots e h = over_refusing make options steps program (Some journal) book schedule slots e h
 over_bytes_refusing make options steps other slots e h = absurd h
@@ -656,7 +666,7 @@ multistage_refusing : (steps : ℕ) (book : List ℕ) (e : Ended) → DecidesPla
 multistage_refusing steps book e =
     read_refusing _ _ bad_book e _ (λ f h. book_refuses f h.1) (λ b.
     no_plan_refusing _ _ _ _ e _ (
-    plan_line_refusing steps b e _ (λ is. absurd (refuse_accept e _ is.1.1))))
+    plan_line_refusing steps b e _ (λ is. absurd (refuse_accept e _ is.1.1.1.1))))
 
 tabulate_refusing : (steps : ℕ) (b : BookCosts) (e : Ended) (Below : Type 0) → (Below → IsRefusing e) → Tabulate steps b (refuse e) Below → IsRefusing e
 tabulate_refusing steps b e Below below h = elim h [
@@ -716,7 +726,7 @@ certify_refusing steps book schedule certificate e =
     read_refusing _ _ bad_book e _ (λ f h. book_refuses f h.1) (λ b.
     read_refusing _ _ bad_text e _ (λ f h. text_refuses f (text_fault_is_other (names_of b) schedule f h)) (λ list.
     judge_refusing_by steps (slots_of b) list e _ (
-    read_refusing _ _ bad_certificate e _ (λ f h. certificate_refuses f (certificate_fault_is_other certificate f h)) (λ k.
+    read_refusing _ _ bad_certificate e _ (λ f h. certificate_refuses f (certificate_fault_is_other steps b certificate f h)) (λ k.
     weigh_refusing steps b list k e _ (λ is. absurd (refuse_accept e _ is))))))
 
 pub decided_refusal : (options : List Choice) (command : Command) (bytes : List (List ℕ)) (slots : List ℕ) (e : Ended) → DecidesBytes options command bytes slots (refuse e) → IsRefusing e
@@ -740,21 +750,21 @@ decided_refusal options (demo r) other slots e h = absurd h
 
 -- ---- the lines of a run, and of a judgement
 
-pub over_by_book : (make : Over) (options : List Choice) (steps : ℕ) (program : List ℕ) (journal : Option (List ℕ)) (book schedule counts : List ℕ) (e : Ended) → IsRefusal (HasBookFault book) bad_book e → (e ≡ no_memory) ⊎ DecidesOver make options steps program journal book schedule counts (refuse e)
+pub over_by_book : (make : Maker) (options : List Choice) (steps : ℕ) (program : List ℕ) (journal : Option (List ℕ)) (book schedule counts : List ℕ) (e : Ended) → IsRefusal (HasBookFault book) bad_book e → (e ≡ no_memory) ⊎ DecidesOver make options steps program journal book schedule counts (refuse e)
 over_by_book make options steps program journal book schedule counts e h = read_refuses (IsBookText book) (HasBookFault book) bad_book e _ h
 
-pub over_by_keepers : (make : Over) (options : List Choice) (steps : ℕ) (program : List ℕ) (journal : Option (List ℕ)) (book schedule counts : List ℕ) (e : Ended) (b : BookCosts) → IsBookText book b → Keep steps (slots_of b) counts (refuse e) ⊥ →
+pub over_by_keepers : (make : Maker) (options : List Choice) (steps : ℕ) (program : List ℕ) (journal : Option (List ℕ)) (book schedule counts : List ℕ) (e : Ended) (b : BookCosts) → IsBookText book b → Keep steps (slots_of b) counts (refuse e) ⊥ →
     (e ≡ no_memory) ⊎ DecidesOver make options steps program journal book schedule counts (refuse e)
 over_by_keepers make options steps program journal book schedule counts e b is_book h = inr (inr (b, is_book, keep_refuses steps (slots_of b) counts (refuse e) _ h))
 
-pub over_by_program : (make : Over) (options : List Choice) (steps : ℕ) (program : List ℕ) (journal : Option (List ℕ)) (book schedule counts : List ℕ) (e : Ended) (b : BookCosts) → IsBookText book b → HaveRoom steps (slots_of b) counts → IsRefusal (HasProgramFault (says_raw options) (stack_pages options) program) bad_program e →
+pub over_by_program : (make : Maker) (options : List Choice) (steps : ℕ) (program : List ℕ) (journal : Option (List ℕ)) (book schedule counts : List ℕ) (e : Ended) (b : BookCosts) → IsBookText book b → HaveRoom steps (slots_of b) counts → IsRefusal (HasProgramFault (says_raw options) (stack_pages options) program) bad_program e →
     (e ≡ no_memory) ⊎ DecidesOver make options steps program journal book schedule counts (refuse e)
 over_by_program make options steps program journal book schedule counts e b is_book room h =
     read_passes (IsBookText book) (HasBookFault book) bad_book e _ b is_book
     (keep_passes steps (slots_of b) counts e _ room
     (read_refuses (IsStartOf (says_raw options) (stack_pages options) program) (HasProgramFault (says_raw options) (stack_pages options) program) bad_program e _ h))
 
-pub over_by_journal : (make : Over) (options : List Choice) (steps : ℕ) (program : List ℕ) (journal : Option (List ℕ)) (book schedule counts : List ℕ) (e : Ended) (b : BookCosts) (start : MachineState) → IsBookText book b → HaveRoom steps (slots_of b) counts → IsStartOf (says_raw options) (stack_pages options) program start →
+pub over_by_journal : (make : Maker) (options : List Choice) (steps : ℕ) (program : List ℕ) (journal : Option (List ℕ)) (book schedule counts : List ℕ) (e : Ended) (b : BookCosts) (start : MachineState) → IsBookText book b → HaveRoom steps (slots_of b) counts → IsStartOf (says_raw options) (stack_pages options) program start →
     IsRefusal (HasJournalFault journal) bad_journal e → (e ≡ no_memory) ⊎ DecidesOver make options steps program journal book schedule counts (refuse e)
 over_by_journal make options steps program journal book schedule counts e b start is_book room is_start h =
     read_passes (IsBookText book) (HasBookFault book) bad_book e _ b is_book
@@ -762,7 +772,7 @@ over_by_journal make options steps program journal book schedule counts e b star
     (read_passes (IsStartOf (says_raw options) (stack_pages options) program) (HasProgramFault (says_raw options) (stack_pages options) program) bad_program e _ start is_start
     (read_refuses (AreItemsOf journal) (HasJournalFault journal) bad_journal e _ h)))
 
-pub over_by_text : (make : Over) (options : List Choice) (steps : ℕ) (program : List ℕ) (journal : Option (List ℕ)) (book schedule counts : List ℕ) (e : Ended) (b : BookCosts) (start : MachineState) (items : List (List ℕ)) → IsBookText book b → HaveRoom steps (slots_of b) counts → IsStartOf (says_raw options) (stack_pages options) program start →
+pub over_by_text : (make : Maker) (options : List Choice) (steps : ℕ) (program : List ℕ) (journal : Option (List ℕ)) (book schedule counts : List ℕ) (e : Ended) (b : BookCosts) (start : MachineState) (items : List (List ℕ)) → IsBookText book b → HaveRoom steps (slots_of b) counts → IsStartOf (says_raw options) (stack_pages options) program start →
     AreItemsOf journal items → IsRefusal (HasFirstFault (names_of b) schedule) bad_text e → (e ≡ no_memory) ⊎ DecidesOver make options steps program journal book schedule counts (refuse e)
 over_by_text make options steps program journal book schedule counts e b start items is_book room is_start are_items h =
     read_passes (IsBookText book) (HasBookFault book) bad_book e _ b is_book
@@ -771,7 +781,7 @@ over_by_text make options steps program journal book schedule counts e b start i
     (read_passes (AreItemsOf journal) (HasJournalFault journal) bad_journal e _ items are_items
     (read_refuses (IsSchedule (names_of b) schedule) (HasFirstFault (names_of b) schedule) bad_text e _ h))))
 
-pub over_by_rules : (make : Over) (options : List Choice) (steps : ℕ) (program : List ℕ) (journal : Option (List ℕ)) (book schedule counts : List ℕ) (e : Ended) (b : BookCosts) (start : MachineState) (items : List (List ℕ)) (list : List Action) → IsBookText book b → HaveRoom steps (slots_of b) counts →
+pub over_by_rules : (make : Maker) (options : List Choice) (steps : ℕ) (program : List ℕ) (journal : Option (List ℕ)) (book schedule counts : List ℕ) (e : Ended) (b : BookCosts) (start : MachineState) (items : List (List ℕ)) (list : List Action) → IsBookText book b → HaveRoom steps (slots_of b) counts →
     IsStartOf (says_raw options) (stack_pages options) program start → AreItemsOf journal items → IsSchedule (names_of b) schedule list → IsBroken steps (slots_of b) list e → (e ≡ no_memory) ⊎ DecidesOver make options steps program journal book schedule counts (refuse e)
 over_by_rules make options steps program journal book schedule counts e b start items list is_book room is_start are_items is_list h =
     read_passes (IsBookText book) (HasBookFault book) bad_book e _ b is_book
@@ -781,7 +791,7 @@ over_by_rules make options steps program journal book schedule counts e b start 
     (read_passes (IsSchedule (names_of b) schedule) (HasFirstFault (names_of b) schedule) bad_text e _ list is_list
     (judge_refuses steps (slots_of b) list e _ h)))))
 
-pub over_accepted : (make : Over) (options : List Choice) (steps : ℕ) (program : List ℕ) (journal : Option (List ℕ)) (book schedule counts : List ℕ) (b : BookCosts) (start : MachineState) (items : List (List ℕ)) (list : List Action) → IsBookText book b → HaveRoom steps (slots_of b) counts →
+pub over_accepted : (make : Maker) (options : List Choice) (steps : ℕ) (program : List ℕ) (journal : Option (List ℕ)) (book schedule counts : List ℕ) (b : BookCosts) (start : MachineState) (items : List (List ℕ)) (list : List Action) → IsBookText book b → HaveRoom steps (slots_of b) counts →
     IsStartOf (says_raw options) (stack_pages options) program start → AreItemsOf journal items → IsSchedule (names_of b) schedule list → Valid steps (slots_of b) list →
     DecidesOver make options steps program journal book schedule counts (accept (make start items (slots_of b) list))
 over_accepted make options steps program journal book schedule counts b start items list is_book room is_start are_items is_list valid =
@@ -851,8 +861,9 @@ multistage_by_plan steps book e b is_book h = elim h [
   ]
 ]
 
-pub multistage_accepted : (steps : ℕ) (book : List ℕ) (b : BookCosts) (list : List Action) → IsBookText book b → IsMultistageList steps b list → DecidesPlanMultistage steps book (accept (write (list_pieces (names_of b) list)))
-multistage_accepted steps book b list is_book is = inr (b, is_book, inr (ap length is.two, inr (is.plan, (list, (is, refl)))))
+pub multistage_accepted : (steps : ℕ) (book : List ℕ) (b : BookCosts) (list : List Action) (threshold : ℕ) → IsBookText book b → IsMultistageList steps b list → IsThresholdOf threshold steps b list →
+    DecidesPlanMultistage steps book (accept (write (list_pieces (names_of b) list ++ certificate_text.pieces (Places threshold))))
+multistage_accepted steps book b list threshold is_book is of = inr (b, is_book, inr (ap length is.two, inr (is.plan, (list, (is, (threshold, (of, refl)))))))
 
 -- ---- the lines of a plan of H-Revolve
 
@@ -977,23 +988,23 @@ certify_by_rules steps book schedule certificate e b list is_book is_list h =
     (judge_refuses steps (slots_of b) list e _ h))
 
 pub certify_by_certificate : (steps : ℕ) (book schedule certificate : List ℕ) (e : Ended) (b : BookCosts) (list : List Action) → IsBookText book b → IsSchedule (names_of b) schedule list → Valid steps (slots_of b) list →
-    IsRefusal (CertificateFirst certificate) bad_certificate e → (e ≡ no_memory) ⊎ DecidesCertify steps book schedule certificate (refuse e)
+    IsRefusal (CertificateFirst steps b certificate) bad_certificate e → (e ≡ no_memory) ⊎ DecidesCertify steps book schedule certificate (refuse e)
 certify_by_certificate steps book schedule certificate e b list is_book is_list valid h =
     read_passes (IsBookText book) (HasBookFault book) bad_book e _ b is_book
     (read_passes (IsSchedule (names_of b) schedule) (HasFirstFault (names_of b) schedule) bad_text e _ list is_list
     (judge_passes steps (slots_of b) list e _ valid
-    (read_refuses (IsCertificateText certificate) (CertificateFirst certificate) bad_certificate e _ h)))
+    (read_refuses (IsCertificateText steps b certificate) (CertificateFirst steps b certificate) bad_certificate e _ h)))
 
-pub certify_by_weight : (steps : ℕ) (book schedule certificate : List ℕ) (e : Ended) (b : BookCosts) (list : List Action) (k : Certificate) → IsBookText book b → IsSchedule (names_of b) schedule list → Valid steps (slots_of b) list → IsCertificateText certificate k →
-    IsWeighed steps b list k e → (e ≡ no_memory) ⊎ DecidesCertify steps book schedule certificate (refuse e)
+pub certify_by_weight : (steps : ℕ) (book schedule certificate : List ℕ) (e : Ended) (b : BookCosts) (list : List Action) (k : Certificate) → IsBookText book b → IsSchedule (names_of b) schedule list → Valid steps (slots_of b) list → IsCertificateText steps b certificate k →
+    IsUnweighed steps b list k e → (e ≡ no_memory) ⊎ DecidesCertify steps book schedule certificate (refuse e)
 certify_by_weight steps book schedule certificate e b list k is_book is_list valid is_certificate h =
     read_passes (IsBookText book) (HasBookFault book) bad_book e _ b is_book
     (read_passes (IsSchedule (names_of b) schedule) (HasFirstFault (names_of b) schedule) bad_text e _ list is_list
     (judge_passes steps (slots_of b) list e _ valid
-    (read_passes (IsCertificateText certificate) (CertificateFirst certificate) bad_certificate e _ k is_certificate
+    (read_passes (IsCertificateText steps b certificate) (CertificateFirst steps b certificate) bad_certificate e _ k is_certificate
     (weigh_refuses steps b list k e _ h))))
 
-pub certify_accepted : (steps : ℕ) (book schedule certificate : List ℕ) (b : BookCosts) (list : List Action) (k : Certificate) → IsBookText book b → IsSchedule (names_of b) schedule list → Valid steps (slots_of b) list → IsCertificateText certificate k →
-    IsAccepted list steps b k → DecidesCertify steps book schedule certificate (accept (write (codes "least valid\n" ∷ [])))
+pub certify_accepted : (steps : ℕ) (book schedule certificate : List ℕ) (b : BookCosts) (list : List Action) (k : Certificate) → IsBookText book b → IsSchedule (names_of b) schedule list → Valid steps (slots_of b) list → IsCertificateText steps b certificate k →
+    IsAccepted list steps b k → DecidesCertify steps book schedule certificate (accept (write (least_line (class_of k) ∷ [])))
 certify_accepted steps book schedule certificate b list k is_book is_list valid is_certificate accepted =
     inr (b, is_book, inr (list, is_list, inr (valid, inr (k, is_certificate, inr (accepted, refl)))))

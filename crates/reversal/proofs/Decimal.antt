@@ -1,10 +1,10 @@
 -- A number that is read is spelled so, and a number that is spelled so is read.
-use Rattle.std.proofs.Common.{◌≡◌, ℕ, ◌+◌, ◌-◌, ◌*◌, ◌/◌, ◌%◌, ◌^◌, ◌<◌, ◌≤◌, ◌≢◌, true, false, cond, eqb, ltb, List, [], ◌∷◌, ◌++◌, Option, Some, None, refl, sym, ap, subst, ◌∙◌, append_assoc, arith, inl, inr, Bor}
+use Rattle.std.proofs.Common.{◌≡◌, ℕ, ◌+◌, ◌-◌, ◌*◌, ◌/◌, ◌%◌, ◌^◌, ◌<◌, ◌≤◌, ◌≢◌, true, false, cond, eqb, ltb, List, [], ◌∷◌, ◌++◌, length, Option, Some, None, refl, sym, ap, subst, ◌∙◌, append_assoc, arith, inl, inr, Bor}
 use Rattle.std.specs.Prelude.{decimal, IfSome, IfNone}
 use Rattle.std.specs.Char.{is_ascii_digit}
 use Rattle.std.proofs.lemmas.Bool.{cases_eq, ltb-false, le-ltb, eqb-true, eqb-false, ne_eqb}
 use Rattle.std.proofs.lemmas.Option.{some_pair_parts, none-some}
-use Rattle.std.proofs.lemmas.Fmt.{decimal_digit, decimal_step, decimal_by_steps}
+use Rattle.std.proofs.lemmas.Fmt.{decimal_digit, decimal_step, decimal_by_steps, length-decimal-le}
 use Rattle.std.proofs.lemmas.Bool.Decides.{nat_tests}
 use Rattle.reversal.specs.Reading.{Gives, starts_with_digit, IsNumberAt, digits_at, number_at}
 use Rattle.reversal.proofs.Steps.{chosen, passed, passed_then}
@@ -125,3 +125,7 @@ number_none limit bytes None wide e = λ n rest h.
     let again = number_again limit n rest wide h.small h.whole in
     absurd (none-some (n, rest) (sym e ∙ ap (number_at limit) h.text ∙ again))
 number_none limit bytes (Some x) wide e = tt
+
+-- a number of the machine has at most twenty digits
+pub decimal_is_short : (n : ℕ) → n < 2 ^ 64 → length (decimal n) ≤ 20
+decimal_is_short n small = length-decimal-le 20 n (omega arith) (omega arith) small

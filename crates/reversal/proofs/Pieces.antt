@@ -1,6 +1,7 @@
 -- Texts that are written one after the other, and the pieces of a list's text.
 use Rattle.std.proofs.Common.{◌≡◌, ◌≢◌, ℕ, zero, suc, ◌+◌, ◌≤◌, ◌++◌, ◌<◌, true, false, inl, inr, List, [], ◌∷◌, length, map, take, drop, append_assoc, append-nil, Option, Some, None, refl, sym, ◌∙◌, ap, subst, arith, add-zero, slice_get}
-use Rattle.std.specs.List.{flat_map, AllByRecursion}
+use Rattle.std.specs.List.{flat_map, concat, AllByRecursion}
+use Rattle.std.proofs.lemmas.List.Concat.{concat_is}
 use Rattle.std.proofs.lemmas.Bool.{false≢true}
 use Rattle.action_text.specs.Canonical.{HasSpelling}
 use Rattle.std.specs.FinMap as finmap
@@ -213,19 +214,33 @@ written_whole f all last rest e old mid w u steps calls images so_far none no_la
     let P : List (List ℕ) → Type 0 = λ l. Tells old mid (Adds (bytes_of l)) in
     texts_done all e old mid w u steps calls images ended (subst P (sym is) so_far.told) (so_far.writes ∙ ap (raised w) (sym (ap length is)))
 
-pub written_all : {A : Type 0} (f : A → List ℕ) (all last : List (List ℕ)) (rest : List A) (text : List ℕ) (e : Ended) (old mid new : Option (List ℕ)) (w u v steps : ℕ) (calls : Calls) (images : ℕ → Option Images) → IsWritten f all last rest old mid w u → rest ≡ [] → last ≡ text ∷ [] →
-    e ≡ done → Tells mid new (Adds text) → v ≡ raised u 1 → EndsBy (accept (write all)) e (seen old w steps calls images) (seen new v steps calls images)
-written_all f all last rest text e old mid new w u v steps calls images so_far none one ended added once =
+-- texts more
+texts_more : (front last : List (List ℕ)) (old mid new : Option (List ℕ)) → Tells old mid (Adds (bytes_of front)) → Tells mid new (Adds (concat last)) → Tells old new (Adds (bytes_of (front ++ last)))
+texts_more front last old mid new = tells_then old mid new (Adds (bytes_of front)) (Adds (concat last)) (Adds (bytes_of (front ++ last))) (λ a b c p q.
+    q ∙ (λ i. p i ++ concat_is last i) ∙ append_assoc a (bytes_of front) (bytes_of last) ∙ ap (λ l. a ++ l) (sym (flat_map-append (λ l. l) front last)))
+
+pub written_all : {A : Type 0} (f : A → List ℕ) (all last : List (List ℕ)) (rest : List A) (texts : List (List ℕ)) (e : Ended) (old mid new : Option (List ℕ)) (w u v steps : ℕ) (calls : Calls) (images : ℕ → Option Images) → IsWritten f all last rest old mid w u → rest ≡ [] → last ≡ texts →
+    e ≡ done → Tells mid new (Adds (concat texts)) → v ≡ raised u (length texts) → EndsBy (accept (write all)) e (seen old w steps calls images) (seen new v steps calls images)
+written_all f all last rest texts e old mid new w u v steps calls images so_far none one ended added once =
     let is = last_are f all last rest old mid w u so_far none ∙ ap (λ l. so_far.front ++ l) one in
     let P : List (List ℕ) → Type 0 = λ l. Tells old new (Adds (bytes_of l)) in
-    let longer = length-append so_far.front (text ∷ []) in
-    let all_writes = raised_then w u v (length so_far.front) 1 so_far.writes once in
-    texts_done all e old new w v steps calls images ended (subst P (sym is) (text_more so_far.front text old mid new so_far.told added)) (all_writes ∙ ap (raised w) (sym longer ∙ sym (ap length is)))
+    let longer = length-append so_far.front texts in
+    let all_writes = raised_then w u v (length so_far.front) (length texts) so_far.writes once in
+    texts_done all e old new w v steps calls images ended (subst P (sym is) (texts_more so_far.front texts old mid new so_far.told added)) (all_writes ∙ ap (raised w) (sym longer ∙ sym (ap length is)))
 
-pub written_but_the_last : {A : Type 0} (f : A → List ℕ) (all last : List (List ℕ)) (rest : List A) (text : List ℕ) (e : Ended) (old mid new : Option (List ℕ)) (w u v steps : ℕ) (calls : Calls) (images : ℕ → Option Images) → IsWritten f all last rest old mid w u → rest ≡ [] → last ≡ text ∷ [] →
-    e ≡ stopped 0 → Tells mid new (AddsPrefix text) → v ≡ raised u 1 → EndsBy (accept (write all)) e (seen old w steps calls images) (seen new v steps calls images)
-written_but_the_last f all last rest text e old mid new w u v steps calls images so_far none one ended part once =
-    texts_stopped so_far.front text [] all e old mid new w u v steps calls images (last_are f all last rest old mid w u so_far none ∙ ap (λ l. so_far.front ++ l) one) ended so_far.told so_far.writes part once
+-- the last texts were written but for one of them and those behind it
+pub written_but_some : {A : Type 0} (f : A → List ℕ) (all last : List (List ℕ)) (rest : List A) (before : List (List ℕ)) (piece : List ℕ) (after : List (List ℕ)) (e : Ended) (old mid new : Option (List ℕ)) (w u v steps : ℕ) (calls : Calls) (images : ℕ → Option Images) →
+    IsWritten f all last rest old mid w u → rest ≡ [] → last ≡ before ++ piece ∷ after →
+    e ≡ stopped 0 → Tells mid new (λ a b. AddsPrefix piece (a ++ concat before) b) → v ≡ raised u (length before + 1) → EndsBy (accept (write all)) e (seen old w steps calls images) (seen new v steps calls images)
+written_but_some f all last rest before piece after e old mid new w u v steps calls images so_far none some ended part once =
+    let front = so_far.front in
+    let are = last_are f all last rest old mid w u so_far none ∙ ap (λ l. front ++ l) some ∙ sym (append_assoc front before (piece ∷ after)) in
+    let longer = length-append front before in
+    let told : Tells old new (AddsAndPart (bytes_of (front ++ before)) piece) =
+    tells_then old mid new (Adds (bytes_of front)) (λ a b. AddsPrefix piece (a ++ concat before) b) (AddsAndPart (bytes_of (front ++ before)) piece) (λ a b c p q.
+    (q.0, q.1 ∙ ap (λ l. l ++ take q.0 piece) ((λ i. p i ++ concat_is before i) ∙ append_assoc a (bytes_of front) (bytes_of before) ∙ ap (λ l. a ++ l) (sym (flat_map-append (λ l. l) front before))))) so_far.told part in
+    texts_cut (front ++ before) piece after all e old new w v steps calls images are ended told
+    (let all_writes = raised_then w u v (length front) (length before + 1) so_far.writes once in all_writes ∙ ap (raised w) (omega (arith, longer)))
 
 -- ---- what is left
 

@@ -1,5 +1,5 @@
 -- The list of Revolve for a book: how long it is, that it is valid and has a text, and that its certificate holds.
-use Rattle.std.proofs.Common.{◌≡◌, ℕ, zero, suc, ◌+◌, ◌≤◌, Bool, true, false, cond, nat_le, length, refl, sym, ◌∙◌, ap, arith}
+use Rattle.std.proofs.Common.{◌≡◌, ℕ, zero, suc, ◌+◌, ◌≤◌, Bool, true, false, cond, nat_le, List, length, refl, sym, ◌∙◌, ap, arith}
 use Rattle.std.proofs.lemmas.Bool.{leb-true, leb-false}
 use Rattle.std.proofs.lemmas.List.{length-map}
 use Rattle.std.specs.List.{AllByRecursion}
@@ -8,12 +8,16 @@ use Rattle.level_book.specs.declared.book.Level.{Level}
 use Rattle.level_book.specs.Valid.{Valid}
 use Rattle.action_text.specs.Canonical.{HasSpelling}
 use Rattle.binomials.specs.Advances.{repeats, least_advances}
-use Rattle.bound_cert.specs.declared.certificate.Certificate.{Certificate}
-use Rattle.bound_cert.specs.declared.certificate.Certificate.TheVariants.{Revolve}
+use Rattle.cert_text.specs.declared.certificate.Certificate.{Certificate}
+use Rattle.cert_text.specs.declared.certificate.Certificate.TheVariants.{Revolve}
 use Rattle.revolve_gen.specs.Plans.{HasPlan}
 use Rattle.revolve_gen.specs.Written.{revolve_list}
 use Rattle.revolve_gen.proofs.Books.{book_right}
-use Rattle.bound_cert.specs.Accepted.{IsAccepted}
+use Rattle.plan_types.specs.declared.action.Action.{Action}
+use Rattle.level_book.specs.CostFold.{forward}
+use Rattle.bound_cert.specs.declared.verdict.Class.TheVariants as class
+use Rattle.bound_cert.specs.Accepted.{class_of, IsAccepted}
+use Rattle.bound_cert.proofs.Accepting.{none_fewer}
 use Rattle.bound_cert.proofs.Certified.{few_accepted, many_accepted}
 use Rattle.reversal.specs.Plans.{certificate_of}
 use Rattle.reversal.proofs.Spelled.{valid_spelled}
@@ -50,3 +54,11 @@ accepted_by steps b false e plan = let above = leb-false steps 1 e in many_accep
 
 pub plan_certified : (steps : ℕ) (b : BookCosts) → HasPlan steps (total_room b steps) → IsAccepted (revolve_list steps b) steps b (certificate_of steps b)
 plan_certified steps b plan = accepted_by steps b (nat_le steps 1) refl plan
+
+-- no valid list takes fewer forward steps
+pub revolve_least : (steps : ℕ) (b : BookCosts) → IsAccepted (revolve_list steps b) steps b (certificate_of steps b) → (other : List Action) → Valid steps (slots_of b) other → forward (revolve_list steps b) ≤ forward other
+revolve_least steps b accepted = none_fewer (revolve_list steps b) steps b (certificate_of steps b) (its_class steps b (nat_le steps 1)) accepted
+  where
+    its_class : (steps : ℕ) (b : BookCosts) (t : Bool) → class.Valid ≡ class_of (cond t (Revolve 0 steps) (Revolve (repeats steps (total_room b steps)) (steps + least_advances steps (total_room b steps))))
+    its_class steps b true = refl
+    its_class steps b false = refl

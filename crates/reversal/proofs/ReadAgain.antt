@@ -21,14 +21,17 @@ use Rattle.binomials.specs.Binomials.{beta}
 use Rattle.binomials.specs.Advances.{IsRepeats, repeats, least_advances}
 use Rattle.binomials.proofs.Advancing.{repeats_found}
 use Rattle.binomials.proofs.Ratio.{repeats_short}
-use Rattle.bound_cert.specs.declared.certificate.Certificate.{Certificate}
-use Rattle.bound_cert.specs.declared.certificate.Certificate.TheVariants.{Revolve}
-use Rattle.bound_cert.specs.Canonical as certificate
-use Rattle.bound_cert.specs.Laws.{IsOtherLine}
-use Rattle.bound_cert.specs.MarkedLines.{is_marked}
-use Rattle.bound_cert.specs.Meaning.{IsCertificateText}
+use Rattle.cert_text.specs.declared.certificate.Certificate.{Certificate}
+use Rattle.cert_text.specs.declared.certificate.Certificate.TheVariants.{Revolve}
+use Rattle.cert_text.specs.Canonical as certificate
+use Rattle.cert_text.specs.Meaning as meaning
+use Rattle.std.proofs.lemmas.List.Concat.{concat_is}
+use Rattle.cert_text.specs.Laws.{IsOtherLine}
+use Rattle.cert_text.specs.MarkedLines.{is_marked}
+use Rattle.cert_text.specs.Meaning.{IsCertificateText}
 use Rattle.bound_cert.proofs.Numbers.{at_repeats}
-use Rattle.bound_cert.proofs.Spelled.{said, no_end_said, canonical_read as certificate_read}
+use Rattle.cert_text.proofs.Spelled.{canonical_read as certificate_read}
+use Rattle.cert_text.proofs.Behind.{stands_behind}
 use Rattle.revolve_gen.specs.Plans.{HasPlan}
 use Rattle.revolve_gen.specs.Written.{revolve_list}
 use Rattle.reversal.specs.Plans.{certificate_of, line_of_action, list_pieces, plan_pieces}
@@ -42,11 +45,10 @@ plan_text_is : (steps : ℕ) (b : BookCosts) → bytes_of (plan_pieces steps b) 
 plan_text_is steps b =
     let names = names_of b in
     let list = revolve_list steps b in
-    let line = certificate.canonical (certificate_of steps b) in
+    let pieces = certificate.pieces (certificate_of steps b) in
     let many = length-map list (line_of_action names) in
-    flat_map-append (λ l. l) (list_pieces names list) (line ∷ [])
-    ∙ ap (λ l. l ++ (line ++ [])) (pieces_bytes (length list) (map (line_of_action names) list) (omega (arith, many)) ∙ flat_map-map (λ l. l) (line_of_action names) list)
-    ∙ ap (λ l. text_of names list ++ l) (append-nil line)
+    flat_map-append (λ l. l) (list_pieces names list) pieces
+    ∙ (λ i. (pieces_bytes (length list) (map (line_of_action names) list) (omega (arith, many)) ∙ flat_map-map (λ l. l) (line_of_action names) list) i ++ sym (concat_is pieces) i)
 
 -- ---- its numbers
 
@@ -54,8 +56,8 @@ few_repeats : (l c r : ℕ) → 0 < c → 1 ≤ l → IsRepeats l c r → r ≤ 
 few_repeats l c zero some long is = omega arith
 few_repeats l c (suc k) some long is = let short = repeats_short c k (beta c k) l some refl is.above in omega (arith, short)
 
-many_have_text : (steps c : ℕ) → 1 < steps → steps ≤ 1000000 → 1 ≤ c → certificate.HasText (Revolve (repeats steps c) (steps + least_advances steps c))
-many_have_text steps c more short some =
+many_have_text : (steps c : ℕ) (b : BookCosts) → 1 < steps → steps ≤ 1000000 → 1 ≤ c → meaning.HasText steps b (Revolve (repeats steps c) (steps + least_advances steps c))
+many_have_text steps c b more short some =
     let r = repeats steps c in
     let found = repeats_found steps c (record { some = omega (arith, more); slots = λ none. absurd (omega (arith, none, some)) }) in
     let few = few_repeats steps c r (omega (arith, some)) (omega (arith, more)) found in
@@ -65,27 +67,23 @@ many_have_text steps c more short some =
     (omega (arith, few, short), omega (arith, value, product, short))
 
 has_text_by : (steps : ℕ) (b : BookCosts) (t : Bool) → nat_le steps 1 ≡ t → steps ≤ 1000000 → HasPlan steps (total_room b steps) →
-    certificate.HasText (cond t (Revolve 0 steps) (Revolve (repeats steps (total_room b steps)) (steps + least_advances steps (total_room b steps))))
+    meaning.HasText steps b (cond t (Revolve 0 steps) (Revolve (repeats steps (total_room b steps)) (steps + least_advances steps (total_room b steps))))
 has_text_by steps b true e short plan = (omega arith, omega (arith, short))
 has_text_by steps b false e short plan =
     let above = leb-false steps 1 e in
-    many_have_text steps (total_room b steps) (omega (arith, above)) short (plan (omega (arith, above)))
+    many_have_text steps (total_room b steps) b (omega (arith, above)) short (plan (omega (arith, above)))
 
-has_text : (steps : ℕ) (b : BookCosts) → steps ≤ 1000000 → HasPlan steps (total_room b steps) → certificate.HasText (certificate_of steps b)
+has_text : (steps : ℕ) (b : BookCosts) → steps ≤ 1000000 → HasPlan steps (total_room b steps) → meaning.HasText steps b (certificate_of steps b)
 has_text steps b short plan = has_text_by steps b (nat_le steps 1) refl short plan
 
 -- ---- as a schedule
 
--- the certificate is one line behind the list
-one_line : (k v : ℕ) → certificate.canonical (Revolve k v) ≡ flat_map certificate_line (said k v ∷ [])
-one_line k v =
-    ap (λ (bs : List ℕ). codes "#! revolve " ++ (bs ++ 10 ∷ [])) (append_assoc (decimal k) (32 ∷ []) (decimal v))
-    ∙ sym (append-nil (35 ∷ 33 ∷ (said k v ++ 10 ∷ [])))
-
-read_as_schedule : (names : List (List ℕ)) (list : List Action) (c : Certificate) → AreNames names → length list ≤ 16777216 → AllByRecursion (HasSpelling names) list → certificate.HasText c → IsSchedule names (text_of names list ++ certificate.canonical c) list
-read_as_schedule names list (Revolve k v) are few spelled has =
+-- the certificate's one line stands behind the list
+read_as_schedule : (names : List (List ℕ)) (list : List Action) (steps : ℕ) (b : BookCosts) (c : Certificate) → AreNames names → length list ≤ 16777216 → AllByRecursion (HasSpelling names) list → meaning.HasText steps b c → IsSchedule names (text_of names list ++ certificate.canonical c) list
+read_as_schedule names list steps b c are few spelled has =
+    let behind = stands_behind steps b c has in
     let P : List ℕ → Type 0 = λ l. IsSchedule names (text_of names list ++ l) list in
-    subst P (sym (one_line k v)) (canonical_read names are list few spelled (said k v ∷ []) (no_end_said k v (omega (arith, has.0)) has.1, tt))
+    subst P (sym behind.1) (canonical_read names are list few spelled behind.0 behind.2)
 
 -- ---- as a certificate
 
@@ -105,15 +103,15 @@ others_pass : (names : List (List ℕ)) (list : List Action) → AreNames names 
 others_pass names [] are spelled = tt
 others_pass names (a ∷ list) are spelled = (record { unmarked = unmarked names a; one_end = no_tens (canonical names a) (endless names a are spelled.0) }, others_pass names list are spelled.1)
 
-read_as_certificate : (names : List (List ℕ)) (list : List Action) (c : Certificate) → AreNames names → AllByRecursion (HasSpelling names) list → certificate.HasText c → IsCertificateText (text_of names list ++ certificate.canonical c) c
-read_as_certificate names list c are spelled has =
-    let P : List ℕ → Type 0 = λ l. IsCertificateText (l ++ certificate.canonical c) c in
-    subst P (flat_map-map (λ line. line ++ 10 ∷ []) (canonical names) list) (certificate_read c has (map (canonical names) list) (others_pass names list are spelled))
+read_as_certificate : (names : List (List ℕ)) (list : List Action) (steps : ℕ) (b : BookCosts) (c : Certificate) → AreNames names → AllByRecursion (HasSpelling names) list → meaning.HasText steps b c → IsCertificateText steps b (text_of names list ++ certificate.canonical c) c
+read_as_certificate names list steps b c are spelled has =
+    let P : List ℕ → Type 0 = λ l. IsCertificateText steps b (l ++ certificate.canonical c) c in
+    subst P (flat_map-map (λ line. line ++ 10 ∷ []) (canonical names) list) (certificate_read steps b c has (map (canonical names) list) (others_pass names list are spelled))
 
 -- ---- both
 
 pub plan_read_again : (steps : ℕ) (book : List ℕ) (b : BookCosts) → steps ≤ 1000000 → IsBookText book b → HasPlan steps (total_room b steps) →
-    IsSchedule (names_of b) (bytes_of (plan_pieces steps b)) (revolve_list steps b) × IsCertificateText (bytes_of (plan_pieces steps b)) (certificate_of steps b)
+    IsSchedule (names_of b) (bytes_of (plan_pieces steps b)) (revolve_list steps b) × IsCertificateText steps b (bytes_of (plan_pieces steps b)) (certificate_of steps b)
 plan_read_again steps book b short is plan =
     let names = names_of b in
     let list = revolve_list steps b in
@@ -121,7 +119,7 @@ plan_read_again steps book b short is plan =
     let spelled = plan_spelled steps b short plan in
     let has = has_text steps b short plan in
     let S : List ℕ → Type 0 = λ l. IsSchedule names l list in
-    let C : List ℕ → Type 0 = λ l. IsCertificateText l (certificate_of steps b) in (
-      subst S (sym (plan_text_is steps b)) (read_as_schedule names list (certificate_of steps b) are (plan_few steps b short plan) spelled has),
-      subst C (sym (plan_text_is steps b)) (read_as_certificate names list (certificate_of steps b) are spelled has),
+    let C : List ℕ → Type 0 = λ l. IsCertificateText steps b l (certificate_of steps b) in (
+      subst S (sym (plan_text_is steps b)) (read_as_schedule names list steps b (certificate_of steps b) are (plan_few steps b short plan) spelled has),
+      subst C (sym (plan_text_is steps b)) (read_as_certificate names list steps b (certificate_of steps b) are spelled has),
     )

@@ -18,11 +18,11 @@ use Rattle.elf_load.specs.declared.fault.ElfFault.{ElfFault}
 use Rattle.elf_load.specs.declared.fault.ElfFault.TheVariants as program
 use Rattle.elf_load.specs.Faults.{number_of}
 use Rattle.elf_load.proofs.Once.{one_start, one_fault as one_file_fault, programs_have_no_fault, one_raw_start, one_raw_fault, raw_programs_have_no_fault}
-use Rattle.bound_cert.specs.declared.fault.CertFault.{CertFault}
-use Rattle.bound_cert.specs.declared.fault.CertFault.TheVariants as certificate
-use Rattle.bound_cert.specs.Meaning.{IsCertificateText}
-use Rattle.bound_cert.specs.Faults.{HasFirstFault as CertificateFirst}
-use Rattle.bound_cert.proofs.TextLaws.{one_certificate, one_fault as one_certificate_fault, no_fault as certificates_have_no_fault}
+use Rattle.cert_text.specs.declared.fault.CertFault.{CertFault}
+use Rattle.cert_text.specs.declared.fault.CertFault.TheVariants as certificate
+use Rattle.cert_text.specs.Meaning.{IsCertificateText}
+use Rattle.cert_text.specs.Faults.{HasFirstFault as CertificateFirst}
+use Rattle.cert_text.proofs.TextLaws.{one_certificate, one_fault as one_certificate_fault, no_fault as certificates_have_no_fault}
 use Rattle.reversal.specs.declared.ended.Ended.{Ended}
 use Rattle.reversal.specs.Ending.{bad_program, bad_journal, bad_book, bad_text, bad_certificate}
 use Rattle.reversal.specs.JobReading.{IsRefusal}
@@ -112,8 +112,8 @@ journal_fault_is_other (Some bytes) f h e = let P : JournalFault → Type 0 = λ
 pub text_fault_is_other : (names : List (List ℕ)) (bytes : List ℕ) (f : TextFault) → HasFirstFault names bytes f → f ≡ text.Memory → ⊥
 text_fault_is_other names bytes f h e = let P : TextFault → Type 0 = λ x. HasFirstFault names bytes x in subst P e h
 
-pub certificate_fault_is_other : (bytes : List ℕ) (f : CertFault) → CertificateFirst bytes f → f ≡ certificate.Memory → ⊥
-certificate_fault_is_other bytes f h e = let P : CertFault → Type 0 = λ x. CertificateFirst bytes x in subst P e h
+pub certificate_fault_is_other : (steps : ℕ) (b : BookCosts) (bytes : List ℕ) (f : CertFault) → CertificateFirst steps b bytes f → f ≡ certificate.Memory → ⊥
+certificate_fault_is_other steps b bytes f h e = let P : CertFault → Type 0 = λ x. CertificateFirst steps b bytes x in subst P e h
 
 -- a file that isn't loaded has a fault, or memory ran out
 memory_by_number : (f : ElfFault) → number_of f ≡ 10 → f ≡ program.Memory
@@ -189,11 +189,11 @@ list_excludes text b bytes is list f h g = schedule_faultless (names_of b) (text
 
 -- certificates
 
-pub certificate_one : (bytes : List ℕ) → IsOne (IsCertificateText bytes)
-certificate_one bytes a b h g = one_certificate bytes a b h g
+pub certificate_one : (steps : ℕ) (b : BookCosts) (bytes : List ℕ) → IsOne (IsCertificateText steps b bytes)
+certificate_one steps b bytes k l h g = one_certificate steps b bytes k l h g
 
-pub certificate_fault_one : (bytes : List ℕ) → IsOne (CertificateFirst bytes)
-certificate_fault_one bytes a b h g = one_certificate_fault bytes a b h g
+pub certificate_fault_one : (steps : ℕ) (b : BookCosts) (bytes : List ℕ) → IsOne (CertificateFirst steps b bytes)
+certificate_fault_one steps b bytes f e h g = one_certificate_fault steps b bytes f e h g
 
-pub certificate_excludes : (bytes : List ℕ) → Excludes (IsCertificateText bytes) (CertificateFirst bytes)
-certificate_excludes bytes c f h g = certificates_have_no_fault bytes c f h g
+pub certificate_excludes : (steps : ℕ) (b : BookCosts) (bytes : List ℕ) → Excludes (IsCertificateText steps b bytes) (CertificateFirst steps b bytes)
+certificate_excludes steps b bytes c f h g = certificates_have_no_fault steps b bytes c f h g

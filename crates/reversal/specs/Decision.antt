@@ -25,11 +25,16 @@ use Rattle.elf_load.specs.declared.fault.ElfFault.{ElfFault}
 use Rattle.elf_load.specs.Elf.{IsProgram}
 use Rattle.elf_load.specs.Raw.{IsRawProgram}
 use Rattle.elf_load.specs.Faults.{FirstFault as ProgramFirst, FirstRawFault}
-use Rattle.bound_cert.specs.declared.certificate.Certificate.{Certificate}
-use Rattle.bound_cert.specs.declared.certificate.Reason.TheVariants.{ValueDiffers}
-use Rattle.bound_cert.specs.Meaning.{IsCertificateText}
-use Rattle.bound_cert.specs.Faults.{HasFirstFault as CertificateFirst}
-use Rattle.bound_cert.specs.Accepted.{IsAccepted, IsFirstReason}
+use Rattle.cert_text.specs.declared.certificate.Certificate.{Certificate}
+use Rattle.cert_text.specs.declared.certificate.Certificate.TheVariants.{Places}
+use Rattle.cert_text.specs.Canonical as certificate_text
+use Rattle.bound_cert.specs.declared.verdict.Reason.{Reason}
+use Rattle.bound_cert.specs.declared.verdict.Class.{Class}
+use Rattle.bound_cert.specs.declared.verdict.Class.TheVariants as class
+use Rattle.bound_cert.specs.Thresholds.{IsThresholdOf}
+use Rattle.cert_text.specs.Meaning.{IsCertificateText}
+use Rattle.cert_text.specs.Faults.{HasFirstFault as CertificateFirst}
+use Rattle.bound_cert.specs.Accepted.{class_of, IsAccepted, IsFirstReason}
 use Rattle.revolve_gen.specs.Plans.{HasPlan}
 use Rattle.revolve_gen.specs.Written.{revolve_list}
 use Rattle.reversal.specs.declared.ended.Ended.{Ended}
@@ -87,11 +92,16 @@ Tabulate steps book d below =
     ((level : ℕ) × (IsFirstWide steps book level × (d ≡ refuse (out_of_range (room book level steps) 64 9))))
     ⊎ (((k : ℕ) → k < length book.levels → room book k steps ≤ 64) × below)
 
--- the certificate of a valid list is accepted and the lines below decide, or it is refused for the numbers that differ
+-- the certificate of a valid list is accepted and the lines below decide, or it is refused for the first reason
 abbrev pub Weigh : ℕ → BookCosts → List Action → Certificate → Decision → Type 0 → Type 0
 Weigh steps book list certificate d below =
-    ((cost : ℕ) × (value : ℕ) × IsFirstReason list steps book certificate (ValueDiffers cost value) × (d ≡ refuse (not_least cost value)))
+    ((reason : Reason) × IsFirstReason list steps book certificate reason × (d ≡ refuse (not_least reason)))
     ⊎ (IsAccepted list steps book certificate × below)
+
+-- what is written of a list that is the least of its class
+abbrev pub least_line : Class → List ℕ
+least_line class.Valid = codes "least valid\n"
+least_line class.Multistage = codes "least multistage\n"
 
 -- the keeper of this level is the first that has fewer slots than a run of so many steps can use there
 pub record IsFirstSmall (steps : ℕ) (slots : List Slots) (counts : List ℕ) (level : ℕ) : Type 0 where
@@ -141,12 +151,12 @@ HasJournalFault (Some bytes) fault = JournalFirst bytes fault
 
 -- ---- the tables, a command each
 
--- What is done over a run by a list, by the bytes of its inputs and the numbers of the keepers' slots. The job is made of the
--- first state, the recorded input, the slots of the book and the list.
-abbrev pub Over : Type 0
-Over = MachineState → List (List ℕ) → List Slots → List Action → Job
+-- How a job over a run is made: of the first state, the recorded input, the slots of the book and the list.
+abbrev pub Maker : Type 0
+Maker = MachineState → List (List ℕ) → List Slots → List Action → Job
 
-abbrev pub DecidesOver : Over → List Choice → ℕ → List ℕ → Option (List ℕ) → List ℕ → List ℕ → List ℕ → Decision → Type 0
+-- what is done over a run by a list, by the bytes of its inputs and the numbers of the keepers' slots
+abbrev pub DecidesOver : Maker → List Choice → ℕ → List ℕ → Option (List ℕ) → List ℕ → List ℕ → List ℕ → Decision → Type 0
 DecidesOver job options steps program journal book schedule counts d =
     Read (IsBookText book) (HasBookFault book) bad_book d (λ (b : BookCosts).
     Keep steps (slots_of b) counts d (
@@ -157,10 +167,10 @@ DecidesOver job options steps program journal book schedule counts d =
     (d ≡ accept (job start items (slots_of b) list)))))))
 
 -- a run by a list, and a question about it
-abbrev pub performed : ℕ → Over
+abbrev pub performed : ℕ → Maker
 performed steps start items slots list = perform start items steps slots list
 
-abbrev pub asked_about : Question → ℕ → Over
+abbrev pub asked_about : Question → ℕ → Maker
 asked_about question steps start items slots list = ask_job question start items steps slots list
 
 -- a run by the list of Revolve for the book
@@ -180,13 +190,14 @@ DecidesPlanRevolve steps book d =
     Plan steps b d
     (d ≡ accept (write (plan_pieces steps b))))
 
--- the text of the multistage list for the two levels of a book
+-- the text of the multistage list for the two levels of a book, and of its threshold
 abbrev pub DecidesPlanMultistage : ℕ → List ℕ → Decision → Type 0
 DecidesPlanMultistage steps book d =
     Read (IsBookText book) (HasBookFault book) bad_book d (λ (b : BookCosts).
     Need (length b.levels ≡ 2) (no_plan steps (total_room b steps) 2) d (
     Plan steps b d
-    ((list : List Action) × (IsMultistageList steps b list × (d ≡ accept (write (list_pieces (names_of b) list)))))))
+    ((list : List Action) × (IsMultistageList steps b list × ((threshold : ℕ) × (IsThresholdOf threshold steps b list
+    × (d ≡ accept (write (list_pieces (names_of b) list ++ certificate_text.pieces (Places threshold))))))))))
 
 -- the text of the list of DiskRevolve for memory and an unlimited disk, which is read from the greatest disk tables
 abbrev pub DecidesPlanDisk : ℕ → List ℕ → Decision → Type 0
@@ -237,15 +248,15 @@ DecidesPrice steps book schedule d =
     Judge steps (slots_of b) list d
     (d ≡ accept (write (list_report b list)))))
 
--- that a valid schedule takes the fewest forward steps of all valid lists, by a certificate
+-- that a valid schedule is the least by a certificate: of all valid lists by its forward steps, or of its class by its cost
 abbrev pub DecidesCertify : ℕ → List ℕ → List ℕ → List ℕ → Decision → Type 0
 DecidesCertify steps book schedule certificate d =
     Read (IsBookText book) (HasBookFault book) bad_book d (λ (b : BookCosts).
     Read (IsSchedule (names_of b) schedule) (HasFirstFault (names_of b) schedule) bad_text d (λ list.
     Judge steps (slots_of b) list d (
-    Read (IsCertificateText certificate) (CertificateFirst certificate) bad_certificate d (λ c.
+    Read (IsCertificateText steps b certificate) (CertificateFirst steps b certificate) bad_certificate d (λ c.
     Weigh steps b list c d
-    (d ≡ accept (write (codes "least valid\n" ∷ [])))))))
+    (d ≡ accept (write (least_line (class_of c) ∷ [])))))))
 
 -- a demonstration, whose program is raw words over a stack of 16 pages
 abbrev pub DecidesDemo : ℕ → ℕ → ℕ → Decision → Type 0
@@ -254,7 +265,7 @@ DecidesDemo number steps slots d =
     ((first : MachineState) × IsRawProgram (demonstration.program number) 16 first × (d ≡ accept (demonstrate number first steps slots)))
 
 -- what is done over a run, by the bytes of its inputs; without a name for recorded input none is read
-abbrev pub DecidesOverBytes : Over → List Choice → ℕ → List (List ℕ) → List ℕ → Decision → Type 0
+abbrev pub DecidesOverBytes : Maker → List Choice → ℕ → List (List ℕ) → List ℕ → Decision → Type 0
 DecidesOverBytes job options steps (program ∷ book ∷ schedule ∷ []) slots d = DecidesOver job options steps program None book schedule slots d
 DecidesOverBytes job options steps (program ∷ journal ∷ book ∷ schedule ∷ []) slots d = DecidesOver job options steps program (Some journal) book schedule slots d
 DecidesOverBytes job options steps _ slots d = ⊥

@@ -16,9 +16,12 @@ use Rattle.rv_machine.specs.States.{state_number}
 use Rattle.image_store.specs.Standing.{IsToldAnd}
 use Rattle.reverse_runner.specs.Handed.{handed_by}
 use Rattle.reverse_runner.specs.HoldsJust.{HoldsJust}
+use Rattle.reverse_runner.specs.Acts.{Holdings}
 use Rattle.reverse_runner.specs.KeepersSeen.{Calls, calls_of, calls_to, told_by, Called, CalledBetween}
-use Rattle.reverse_runner.specs.Standing.{IsNoImage}
-use Rattle.reverse_queries.specs.Queries.{WritesWord, ChangesWord, IsLast, hands_out, front_to, up_to}
+use Rattle.reverse_runner.specs.SessionState.{holdings_of}
+use Rattle.reverse_runner.specs.Standing.{IsNoImage, begun}
+use Rattle.reverse_queries.specs.Queries.{WritesIn, WritesWord, ChangesIn, ChangesWord, IsLast, hands_out, front_to, up_to}
+use Rattle.reverse_queries.specs.OnTheWay.{IsFoundOn}
 use Rattle.reversal.specs.declared.question.Question.{Question}
 use Rattle.reversal.specs.declared.question.Question.TheVariants.{State, LastWrite, LastChange}
 use Rattle.reversal.specs.Output.{line_of, lines_down, Adds}
@@ -195,11 +198,22 @@ IsShown (ask question first journal steps slots list) shown old = AllTell (lengt
 IsShown (write texts) shown old = Unit {0}
 IsShown (demonstrate number first steps slots) shown old = Unit {0}
 
--- the answer that a job shows is that of its question, where the keepers of its levels tell
+-- A list was gone through from its start as far as an answer takes it, and the answer is the last place at which something holds of the
+-- states that it handed out. What these are the bytes that came back say, each with the digest that it was put with.
+abbrev pub IsFound : ((ℕ → MachineState) → ℕ → Type 0) → MachineState → List (List ℕ) → ℕ → List Slots → List Action → Option ℕ → Moment → Type 0
+IsFound Holds first journal steps slots list answer old =
+    (last : Holdings) × IsFoundOn Holds steps journal (up_to steps answer list) (holdings_of (begun first journal steps slots) old.images) last answer
+
+-- the answer that a job shows is that of its question: by the states that were handed out, and, where the keepers of its levels
+-- tell, by those of the run
 abbrev pub IsAnswered : Job → Shown → Moment → Type 0
 IsAnswered (ask (State place) first journal steps slots list) shown old = Unit {0}
-IsAnswered (ask (LastWrite address) first journal steps slots list) shown old = AllTell (length slots) old.images → IsLast (WritesWord first journal address) steps shown.answer
-IsAnswered (ask (LastChange address) first journal steps slots list) shown old = AllTell (length slots) old.images → IsLast (ChangesWord first journal address) steps shown.answer
+IsAnswered (ask (LastWrite address) first journal steps slots list) shown old =
+    IsFound (λ states. WritesIn states journal address) first journal steps slots list shown.answer old
+    × (AllTell (length slots) old.images → IsLast (WritesWord first journal address) steps shown.answer)
+IsAnswered (ask (LastChange address) first journal steps slots list) shown old =
+    IsFound (λ states. ChangesIn states address) first journal steps slots list shown.answer old
+    × (AllTell (length slots) old.images → IsLast (ChangesWord first journal address) steps shown.answer)
 IsAnswered (perform first journal steps slots list) shown old = Unit {0}
 IsAnswered (write texts) shown old = Unit {0}
 IsAnswered (demonstrate number first steps slots) shown old = Unit {0}

@@ -1,5 +1,5 @@
 -- How a call may end, and what it writes of that.
-use Rattle.std.specs.Prelude.{ℕ, ◌==◌, ◌++◌, if◌then◌else◌, List, [], codes, decimal, replicate}
+use Rattle.std.specs.Prelude.{ℕ, ◌==◌, ◌&&◌, ◌++◌, if◌then◌else◌, List, [], codes, decimal, replicate}
 use Rattle.hex.specs.Hex.{encode_lower}
 use Rattle.level_book.specs.declared.fault.BookFault.{BookFault}
 use Rattle.level_book.specs.declared.fault.BookFault.TheVariants as book
@@ -9,13 +9,20 @@ use Rattle.input_journal.specs.declared.fault.JournalFault.{JournalFault}
 use Rattle.input_journal.specs.declared.fault.JournalFault.TheVariants as journal
 use Rattle.elf_load.specs.declared.fault.ElfFault.{ElfFault}
 use Rattle.elf_load.specs.declared.fault.ElfFault.TheVariants as program
-use Rattle.bound_cert.specs.declared.fault.CertFault.{CertFault}
-use Rattle.bound_cert.specs.declared.fault.CertFault.TheVariants as certificate
+use Rattle.cert_text.specs.declared.fault.CertFault.{CertFault}
+use Rattle.cert_text.specs.declared.fault.CertFault.TheVariants as certificate
+use Rattle.bound_cert.specs.declared.verdict.Reason.{Reason}
+use Rattle.bound_cert.specs.declared.verdict.Reason.TheVariants as reason
+use Rattle.table_clauses.specs.declared.entry.Entry.{Entry}
 use Rattle.reversal.specs.declared.ended.Ended.{Ended}
 
--- an ending by its status, its three numbers and its two digests
-abbrev pub ended_with : ℕ → ℕ → ℕ → ℕ → List ℕ → List ℕ → Ended
-ended_with status place more rule put got = record { status = status; place = place; more = more; rule = rule; put = put; got = got }
+-- an ending by its status, its three numbers, its entry and its two digests
+abbrev pub ended_with : ℕ → ℕ → ℕ → ℕ → Entry → List ℕ → List ℕ → Ended
+ended_with status place more rule entry put got = record { status = status; place = place; more = more; rule = rule; entry = entry; put = put; got = got }
+
+-- what stands for an entry that a status doesn't name
+abbrev pub no_entry : Entry
+no_entry = record { table = 0; level = 0; free = 0; steps = 0; clause = 0 }
 
 -- what stands for a digest that a status doesn't name
 abbrev pub no_digest : List ℕ
@@ -23,7 +30,7 @@ no_digest = replicate 32 0
 
 -- an ending by its status and its three numbers
 abbrev pub ended_by : ℕ → ℕ → ℕ → ℕ → Ended
-ended_by status place more rule = ended_with status place more rule no_digest no_digest
+ended_by status place more rule = ended_with status place more rule no_entry no_digest no_digest
 
 -- an ending that has a status and a place alone
 abbrev pub ended_at : ℕ → ℕ → Ended
@@ -113,15 +120,18 @@ keeper_failed place level = ended_by 12 place level 0
 -- in the action at this place, bytes came back from this level that aren't those that were put, or are no image; the digests
 -- of both
 abbrev pub damaged : ℕ → ℕ → List ℕ → List ℕ → Ended
-damaged place level put got = ended_with 13 place level 0 put got
+damaged place level put got = ended_with 13 place level 0 no_entry put got
 
 -- the sink failed in the deed at this place
 abbrev pub stopped : ℕ → Ended
 stopped place = ended_at 14 place
 
--- the forward steps of the list differ from a number of its certificate: reason 4
-abbrev pub not_least : ℕ → ℕ → Ended
-not_least cost value = ended_by 15 cost value 4
+-- a valid list isn't the least by its certificate, for this reason: its number is the rule; 1 never comes for a valid list
+abbrev pub not_least : Reason → Ended
+not_least reason.Invalid = ended_by 15 0 0 1
+not_least reason.OutsideClass = ended_by 15 0 0 2
+not_least (reason.Inequality entry) = ended_with 15 0 0 3 entry no_digest no_digest
+not_least (reason.ValueDiffers cost value) = ended_by 15 cost value 4
 
 -- the book has more levels than there are keepers: rule 1
 abbrev pub few_keepers : ℕ → ℕ → Ended
@@ -156,10 +166,27 @@ status_name status =
 abbrev pub digests_text : Ended → List ℕ
 digests_text e = if e.status == 13 then codes " put " ++ encode_lower e.put ++ codes " got " ++ encode_lower e.got else []
 
--- the text of an ending: its status with the name, its three numbers, and the digests of status 13; nothing for status 0
+-- the name of a table of a certificate
+abbrev pub table_name : ℕ → List ℕ
+table_name table =
+    if table == 0 then codes "F"
+    else (if table == 1 then codes "H"
+    else (if table == 2 then codes "Fd"
+    else (if table == 3 then codes "Hd"
+    else codes "places")))
+
+-- the entry of status 15 by rule 3: its table, level, free slots and steps, and the clause
+abbrev pub entry_text : Ended → List ℕ
+entry_text e =
+    if e.status == 15 && e.rule == 3 then codes " entry " ++ table_name e.entry.table ++ codes " " ++ decimal e.entry.level ++ codes " " ++ decimal e.entry.free
+    ++ codes " " ++ decimal e.entry.steps ++ codes " " ++ decimal e.entry.clause
+    else []
+
+-- the text of an ending: its status with the name, its three numbers, the entry of status 15, and the digests of status 13; nothing
+-- for status 0
 abbrev pub text_of_ended : Ended → List ℕ
 text_of_ended e =
     if e.status == 0 then []
     else codes "reversal:" ++ codes " " ++ decimal e.status ++ codes " " ++ status_name e.status
     ++ codes " " ++ decimal e.place ++ codes " " ++ decimal e.more ++ codes " " ++ decimal e.rule
-    ++ digests_text e
+    ++ entry_text e ++ digests_text e

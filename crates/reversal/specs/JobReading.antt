@@ -2,11 +2,14 @@
 use Rattle.std.specs.Prelude.{◌≡◌, ◌⊎◌, ℕ, ◌*◌, ◌<◌, ◌≤◌, ◌^◌, ◌++◌, List, [], ◌∷◌, length, Option, None, Some}
 use Rattle.std.specs.Vec.{vec_capacity}
 use Rattle.std.specs.List.{AllByRecursion}
-use Rattle.level_book.specs.BookCosts.{slots_of, names_of, total_room, plain}
+use Rattle.plan_types.specs.declared.action.Action.{Action}
+use Rattle.level_book.specs.BookCosts.{BookCosts, slots_of, names_of, total_room, plain}
 use Rattle.level_book.specs.Valid.{Valid}
 use Rattle.action_text.specs.Canonical.{HasSpelling}
-use Rattle.bound_cert.specs.declared.certificate.Certificate.{Certificate}
-use Rattle.bound_cert.specs.Canonical as certificate
+use Rattle.cert_text.specs.declared.certificate.Certificate.{Certificate}
+use Rattle.cert_text.specs.Canonical as certificate
+use Rattle.bound_cert.specs.declared.verdict.Reason.{Reason}
+use Rattle.bound_cert.specs.Accepted.{IsFirstReason}
 use Rattle.revolve_gen.specs.Plans.{HasPlan}
 use Rattle.reverse_runner.specs.KeepersSeen.{HaveRoom}
 use Rattle.reversal.specs.declared.ended.Ended.{Ended}
@@ -27,12 +30,12 @@ use Rattle.reversal.specs.Deeds.{Job, perform, ask, write, demonstrate, Moment, 
 use Rattle.reversal.specs.Decision.{accept, EndsBy}
 use Rattle.reverse_runner.specs.declared.fault.RunFault.{RunFault}
 use Rattle.reverse_runner.specs.declared.fault.RunFault.TheVariants as fault
-use Rattle.reversal.specs.Ending.{no_memory, keeper_failed, damaged, stopped}
+use Rattle.reversal.specs.Ending.{no_memory, not_least, keeper_failed, damaged, stopped}
 
--- the line of a certificate, if there is one
+-- the writes of a certificate, if there is one
 abbrev pub certificate_pieces : Option Certificate → List (List ℕ)
 certificate_pieces None = []
-certificate_pieces (Some c) = certificate.canonical c ∷ []
+certificate_pieces (Some c) = certificate.pieces c
 
 -- the writes of a plan
 abbrev pub pieces_of : plan_in_memory.Plan → List (List ℕ)
@@ -92,6 +95,11 @@ KeepersHaveRoom (Demonstrate d) counts = Unit {0}
 -- why bytes aren't read: they have a fault, by which the call ends, or memory ran out
 abbrev pub IsRefusal : {F : Type 0} → (F → Type 0) → (F → Ended) → Ended → Type 0
 IsRefusal {F} HasFault ended e = (e ≡ no_memory) ⊎ ((fault : F) × HasFault fault × (e ≡ ended fault))
+
+-- why a list isn't shown to be the least: its certificate isn't accepted, for the first reason, or memory ran out
+abbrev pub IsUnweighed : ℕ → BookCosts → List Action → Certificate → Ended → Type 0
+IsUnweighed steps book list certificate e =
+    (e ≡ no_memory) ⊎ ((reason : Reason) × (IsFirstReason list steps book certificate reason × (e ≡ not_least reason)))
 
 -- a job that was begun was done, stopped, or wanted memory
 abbrev pub Works : Job → Ended → Moment → Moment → Type 0

@@ -6,9 +6,9 @@ use Rattle.level_book.specs.BookCosts.{BookCosts, names_of, total_room}
 use Rattle.action_text.specs.Canonical.{canonical}
 use Rattle.binomials.specs.Advances.{repeats, least_advances}
 use Rattle.revolve_gen.specs.Written.{revolve_list}
-use Rattle.bound_cert.specs.declared.certificate.Certificate.{Certificate}
-use Rattle.bound_cert.specs.declared.certificate.Certificate.TheVariants.{Revolve}
-use Rattle.bound_cert.specs.Canonical as certificate
+use Rattle.cert_text.specs.declared.certificate.Certificate.{Certificate}
+use Rattle.cert_text.specs.declared.certificate.Certificate.TheVariants.{Revolve}
+use Rattle.cert_text.specs.Canonical as certificate
 
 -- The certificate of Revolve's list: its number of repeats, and its forward steps. For no step and for one these are known
 -- without a number of repeats.
@@ -30,6 +30,6 @@ in_pieces (suc more) (line ∷ lines) = flat_map (λ l. l) (take 64 (line ∷ li
 abbrev pub list_pieces : List (List ℕ) → List Action → List (List ℕ)
 list_pieces names list = in_pieces (length list) (map (line_of_action names) list)
 
--- the writes of a plan: the text of the list, and the line of its certificate
+-- the writes of a plan: the text of the list, and that of its certificate
 abbrev pub plan_pieces : ℕ → BookCosts → List (List ℕ)
-plan_pieces steps book = list_pieces (names_of book) (revolve_list steps book) ++ certificate.canonical (certificate_of steps book) ∷ []
+plan_pieces steps book = list_pieces (names_of book) (revolve_list steps book) ++ certificate.pieces (certificate_of steps book)

@@ -1,17 +1,16 @@
-// Whether a list takes the fewest forward steps of all valid lists, by its certificate.
+// Whether a list is the least by its certificate: of all valid lists, or of its class.
 ghost use Rattle.std.specs.Prelude.{◌≡◌, ◌⊎◌, ℕ, ◌≤◌, List, length, map, codes, IfOk, IfErr, OnOk};
 ghost use Rattle.level_book.specs.BookCosts.{slots_of};
 ghost use Rattle.level_book.specs.Valid.{Valid};
-ghost use Rattle.bound_cert.specs.declared.certificate.Reason.{Reason};
-ghost use Rattle.bound_cert.specs.Meaning.{IsCertificateText};
-ghost use Rattle.bound_cert.specs.Faults.{HasFirstFault};
-ghost use Rattle.bound_cert.specs.Accepted.{IsAccepted, IsFirstReason};
+ghost use Rattle.cert_text.specs.Meaning.{IsCertificateText};
+ghost use Rattle.cert_text.specs.Faults.{HasFirstFault};
+ghost use Rattle.bound_cert.specs.Accepted.{class_of, IsAccepted};
 ghost use Rattle.reversal.specs.Request.{Choice};
-ghost use Rattle.reversal.specs.Decision.{accept, refuse, DecidesCertify, DecidesBytes};
-ghost use Rattle.reversal.specs.Ending.{no_memory, bad_certificate, not_least};
+ghost use Rattle.reversal.specs.Decision.{accept, refuse, least_line, DecidesCertify, DecidesBytes};
+ghost use Rattle.reversal.specs.Ending.{no_memory, bad_certificate};
 ghost use Rattle.reversal.specs.Inputs.{inputs_of};
 ghost use Rattle.reversal.specs.InputReading.{AreWithinLimits};
-ghost use Rattle.reversal.specs.JobReading.{job_of, CanBeDone, KeepersHaveRoom, IsRefusal};
+ghost use Rattle.reversal.specs.JobReading.{job_of, CanBeDone, KeepersHaveRoom, IsRefusal, IsUnweighed};
 ghost use Rattle.reversal.specs.Request.{certify as certify_command};
 ghost use Rattle.reversal.specs.RequestReading.{as_certify};
 
@@ -19,7 +18,8 @@ use crate::decision::{book_in, judge, list_in};
 use crate::ended::Ended;
 use crate::job::Job;
 use crate::request::Certify;
-use bound_cert::{CertVerdict, Certificate, Class, Reason, check_certificate, read_certificate};
+use bound_cert::{CertVerdict, Class, check_certificate};
+use cert_text::{Certificate, read_certificate};
 use level_book::Book;
 use plan_types::{Action, Line};
 use std::alloc::Global;
@@ -57,48 +57,53 @@ fn certify_texts(
     let book = book_in(alloc, book)?;
     let list = list_in(alloc, schedule, &book)?;
     judge(alloc, &list, steps, &book)?;
-    let certificate = certificate_in(certificate, steps, &book)?;
-    weigh(alloc, &list, steps, &book, &certificate)?;
-    Ok(Job::Write(least_line()))
+    let certificate = certificate_in(alloc, certificate, steps, &book)?;
+    let class = weigh(alloc, &list, steps, &book, &certificate)?;
+    Ok(Job::Write(least_line(class)))
 }
 
-// What is written of a list that is least.
-fn least_line() -> Line
-    ensures { result ≡ codes "least valid\n" }
+// What is written of a list that is the least of its class.
+fn least_line(class: Class) -> Line
+    ensures { result ≡ least_line class }
 {
     let mut line = Line::new();
-    line.push(b"least valid\n");
+    line.push(match class {
+        Class::Valid => b"least valid\n",
+        Class::Multistage => b"least multistage\n",
+    });
     line
 }
 
 // The certificate that bytes say.
-fn certificate_in(bytes: &[u8], steps: u32, book: &Book) -> Result<Certificate, Ended>
-    requires { length bytes.now ≤ 536870912 }
-    ensures found { IfOk result (IsCertificateText bytes.now) }
-    ensures refused { IfErr result (IsRefusal (HasFirstFault bytes.now) bad_certificate) }
+fn certificate_in(
+    alloc: Global,
+    bytes: &[u8],
+    steps: u32,
+    book: &Book,
+) -> Result<Certificate, Ended>
+    requires steps { steps ≤ 1000000 }
+    requires small { length bytes.now ≤ 536870912 }
+    ensures found { IfOk result (IsCertificateText steps book.now bytes.now) }
+    ensures refused { IfErr result (IsRefusal (HasFirstFault steps book.now bytes.now) bad_certificate) }
 {
-    Ok(read_certificate(bytes, steps, book)?)
+    Ok(read_certificate(alloc, bytes, steps, book)?)
 }
 
-// Weighs a valid list by its certificate.
+// The class of which a valid list is the least by its certificate.
 fn weigh(
     alloc: Global,
     list: &[Action],
     steps: u32,
     book: &Book,
     certificate: &Certificate,
-) -> Result<(), Ended>
+) -> Result<Class, Ended>
     requires steps { steps ≤ 1000000 }
     requires few { length list.now ≤ 16777216 }
-    requires valid { Valid steps (slots_of book.now) list.now }
-    ensures accepted { OnOk result (IsAccepted list.now steps book.now certificate.now) }
-    ensures refused { IfErr result (λ e. (e ≡ no_memory) ⊎ ((e ≡ not_least e.place e.more) × IsFirstReason list.now steps book.now certificate.now (Reason.ValueDiffers e.place e.more))) }
+    ensures accepted { IfOk result (λ class. (class ≡ class_of certificate.now) × IsAccepted list.now steps book.now certificate.now) }
+    ensures refused { IfErr result (IsUnweighed steps book.now list.now certificate.now) }
 {
     match check_certificate(alloc, list, steps, book, certificate)? {
-        CertVerdict::Least(Class::Valid) => Ok(()),
-        CertVerdict::Not(Reason::ValueDiffers { cost, value }) => {
-            Err(Ended::not_least(cost, value))
-        }
-        CertVerdict::Not(Reason::Invalid) => unreachable!(),
+        CertVerdict::Least(class) => Ok(class),
+        CertVerdict::Not(reason) => Err(Ended::not_least(reason)),
     }
 }

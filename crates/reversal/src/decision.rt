@@ -10,7 +10,7 @@ ghost use Rattle.action_text.specs.Faults.{HasFirstFault};
 ghost use Rattle.reverse_runner.specs.KeepersSeen.{HaveRoom};
 ghost use Rattle.reversal.specs.Request.{Choice};
 ghost use Rattle.reversal.specs.Bounds.{numbers, IsWithin, question_bound};
-ghost use Rattle.reversal.specs.Decision.{accept, refuse, HasBookFault, IsStartOf, HasProgramFault, AreItemsOf, HasJournalFault, Keep, Over as OverJob, DecidesOver, DecidesOverBytes, DecidesCheck, DecidesBytes};
+ghost use Rattle.reversal.specs.Decision.{accept, refuse, HasBookFault, IsStartOf, HasProgramFault, AreItemsOf, HasJournalFault, Keep, Maker, DecidesOver, DecidesOverBytes, DecidesCheck, DecidesBytes};
 ghost use Rattle.reversal.specs.Ending.{no_memory, bad_program, bad_journal, bad_book, bad_text, invalid};
 ghost use Rattle.reversal.specs.Inputs.{inputs_of, run_inputs};
 ghost use Rattle.reversal.specs.InputReading.{AreWithinLimits};
@@ -157,11 +157,11 @@ fn decide_over(
     requires stack { (1 ≤ stack_pages options.now) × (stack_pages options.now ≤ 1024) }
     requires steps { steps ≤ 1000000 }
     requires inputs { (r : ARun) × AreWithinLimits (run_inputs r.journal r) (map (λ b. b.items) bytes.now) }
-    ensures accepted { IfOk result (λ o. (job : OverJob) → DecidesOverBytes job options.now steps (map (λ b. b.items) bytes.now) counts.now (accept (job o.start o.journal (slots_of o.book) o.list.items))) }
+    ensures accepted { IfOk result (λ o. (job : Maker) → DecidesOverBytes job options.now steps (map (λ b. b.items) bytes.now) counts.now (accept (job o.start o.journal (slots_of o.book) o.list.items))) }
     ensures over { IfOk result IsOver }
     ensures steps { IfOk result (λ o. o.steps ≡ steps) }
     ensures room { IfOk result (λ o. HaveRoom o.steps (slots_of o.book) counts.now) }
-    ensures refused { (job : OverJob) → IfErr result (λ e. (e ≡ no_memory) ⊎ DecidesOverBytes job options.now steps (map (λ b. b.items) bytes.now) counts.now (refuse e)) }
+    ensures refused { (job : Maker) → IfErr result (λ e. (e ≡ no_memory) ⊎ DecidesOverBytes job options.now steps (map (λ b. b.items) bytes.now) counts.now (refuse e)) }
 {
     match bytes {
         [program, book, schedule] => {
@@ -196,11 +196,11 @@ fn decide_texts(
     requires stack { (1 ≤ stack_pages options.now) × (stack_pages options.now ≤ 1024) }
     requires steps { steps ≤ 1000000 }
     requires short { length texts.schedule.now ≤ 536870912 }
-    ensures accepted { IfOk result (λ o. (job : OverJob) → DecidesOver job options.now steps texts.entry.program.now (option_copied texts.entry.journal) texts.entry.book.now texts.entry.schedule.now counts.now (accept (job o.start o.journal (slots_of o.book) o.list.items))) }
+    ensures accepted { IfOk result (λ o. (job : Maker) → DecidesOver job options.now steps texts.entry.program.now (option_copied texts.entry.journal) texts.entry.book.now texts.entry.schedule.now counts.now (accept (job o.start o.journal (slots_of o.book) o.list.items))) }
     ensures over { IfOk result IsOver }
     ensures steps { IfOk result (λ o. o.steps ≡ steps) }
     ensures room { IfOk result (λ o. HaveRoom o.steps (slots_of o.book) counts.now) }
-    ensures refused { (job : OverJob) → IfErr result (λ e. (e ≡ no_memory) ⊎ DecidesOver job options.now steps texts.entry.program.now (option_copied texts.entry.journal) texts.entry.book.now texts.entry.schedule.now counts.now (refuse e)) }
+    ensures refused { (job : Maker) → IfErr result (λ e. (e ≡ no_memory) ⊎ DecidesOver job options.now steps texts.entry.program.now (option_copied texts.entry.journal) texts.entry.book.now texts.entry.schedule.now counts.now (refuse e)) }
 {
     let book = book_in(alloc, texts.book)?;
     keep(steps, &book, counts)?;

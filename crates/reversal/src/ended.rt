@@ -1,15 +1,17 @@
 // How a call ended.
 ghost use Rattle.std.specs.Prelude.{◌≡◌, ◌+◌, ◌≤◌, ◌++◌, length, codes, decimal};
 ghost use Rattle.hex.specs.Hex.{encode_lower};
-ghost use Rattle.reversal.specs.Ending.{ended_with, ended_by, ended_at, done, no_request, unreadable, invalid, out_of_range, too_long, no_plan, keeper_failed, damaged, stopped, not_least, few_keepers, small_keeper, no_memory, text_of_ended, digests_text, status_name};
+ghost use Rattle.reversal.specs.Ending.{ended_with, ended_by, ended_at, done, no_request, unreadable, invalid, out_of_range, too_long, no_plan, keeper_failed, damaged, stopped, not_least, few_keepers, small_keeper, no_memory, text_of_ended, entry_text, digests_text, status_name, table_name};
 
 use action_text::TextFault;
-use bound_cert::CertFault;
+use bound_cert::Reason;
+use cert_text::CertFault;
 use elf_load::ElfFault;
 use input_journal::JournalFault;
 use level_book::BookFault;
 use plan_types::Line;
 use std::alloc::{AllocError, AllocFailed};
+use table_clauses::Entry;
 
 /// How a call ended. In the endings of the top call, numbers that a status doesn't name are 0, and so are the bytes of
 /// digests.
@@ -20,19 +22,30 @@ pub struct Ended {
     pub status: u8,
     /// The number of the input for 3; what the fault names for 4 and 6; the fault's place in bytes for 5; the line for 7 and 9;
     /// the action for 8 and 12 to 14; the number, or that of the input, for 10; the steps for 11; the number of levels for
-    /// rule 1 of status 16, and the level for rule 2; the forward steps of the list for 15.
+    /// rule 1 of status 16, and the level for rule 2; the forward steps or the cost of the list for rule 4 of status 15.
     pub place: u64,
     /// The second segment for rule 7 of status 4, the column for 7 and 9, the level for rule 4 of status 8, the passed bound for 10,
     /// the room of the book for 11, the level for 12 and 13, the number of keepers for rule 1 of status 16, and of the keeper's slots for rule 2; the number
-    /// that they differ from for 15.
+    /// that they differ from for rule 4 of status 15.
     pub more: u64,
     /// The rule for 4 to 11, 15 and 16.
     pub rule: u16,
+    /// The entry at which a certificate fails first, for rule 3 of status 15.
+    pub entry: Entry,
     /// The digest of the image that was put, for 13.
     pub put: [u8; 32],
     /// The digest of the bytes that were got in its place, for 13.
     pub got: [u8; 32],
 }
+
+// What stands for an entry that a status doesn't name.
+const NO_ENTRY: Entry = Entry {
+    table: 0,
+    level: 0,
+    free: 0,
+    steps: 0,
+    clause: 0,
+};
 
 // What stands for a digest that a status doesn't name.
 const NO_DIGEST: [u8; 32] = [0; 32];
@@ -47,6 +60,7 @@ impl Ended {
             place,
             more,
             rule,
+            entry: NO_ENTRY,
             put: NO_DIGEST,
             got: NO_DIGEST,
         }
@@ -127,11 +141,19 @@ impl Ended {
         }
     }
 
-    /// The forward steps of a valid list differ from a number of its certificate.
-    pub(crate) fn not_least(cost: u64, value: u64) -> Ended
-        ensures { result ≡ not_least cost value }
+    /// A valid list isn't the least by its certificate, for this reason.
+    pub(crate) fn not_least(reason: Reason) -> Ended
+        ensures { result ≡ not_least reason }
     {
-        Ended::by(15, cost, value, 4)
+        match reason {
+            Reason::Invalid => Ended::by(15, 0, 0, 1),
+            Reason::OutsideClass => Ended::by(15, 0, 0, 2),
+            Reason::Inequality(entry) => Ended {
+                entry,
+                ..Ended::by(15, 0, 0, 3)
+            },
+            Reason::ValueDiffers { cost, value } => Ended::by(15, cost, value, 4),
+        }
     }
 
     /// The book has more levels than there are keepers.
@@ -272,7 +294,8 @@ impl From<CertFault> for Ended {
 }
 
 /// Puts the text of an ending into a line, in place of what was there: nothing for status 0, and else `reversal: `, the
-/// status with its name, the place, the further number and the rule, and the two digests for status 13. It takes no memory.
+/// status with its name, the place, the further number and the rule, the entry for rule 3 of status 15, and the two digests for
+/// status 13. It takes no memory.
 pub fn ended_text(ended: &Ended, line: &mut Line)
     ensures { line.new ≡ text_of_ended ended.now }
 {
@@ -287,6 +310,7 @@ pub fn ended_text(ended: &Ended, line: &mut Line)
     push_number(line, ended.place);
     push_number(line, ended.more);
     push_number(line, ended.rule as u64);
+    push_entry(line, ended);
     push_digests(line, ended);
 }
 
@@ -298,6 +322,36 @@ fn push_number(line: &mut Line, n: u64)
 {
     line.push(b" ");
     line.push_decimal(n);
+}
+
+// Adds the entry of rule 3 of status 15.
+fn push_entry(line: &mut Line, ended: &Ended)
+    requires { length line.old ≤ 120 }
+    ensures text { line.new ≡ line.old ++ entry_text ended.now }
+    ensures room { length line.new ≤ length line.old + 120 }
+{
+    if ended.status == 15 && ended.rule == 3 {
+        line.push(b" entry ");
+        line.push(table_name(ended.entry.table));
+        push_number(line, ended.entry.level as u64);
+        push_number(line, ended.entry.free as u64);
+        push_number(line, ended.entry.steps as u64);
+        push_number(line, ended.entry.clause as u64);
+    }
+}
+
+// The name of a table of a certificate.
+fn table_name(table: u8) -> &'static [u8]
+    ensures name { result.now ≡ table_name table }
+    ensures short { length result.now ≤ 6 }
+{
+    match table {
+        0 => b"F",
+        1 => b"H",
+        2 => b"Fd",
+        3 => b"Hd",
+        _ => b"places",
+    }
 }
 
 // Adds the digests of status 13.

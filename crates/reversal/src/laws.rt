@@ -1,5 +1,5 @@
 // Laws of requests and decisions. Each function does nothing; its contract is the law.
-ghost use Rattle.std.specs.Prelude.{◌≡◌, ℕ, ◌≤◌, List, Option};
+ghost use Rattle.std.specs.Prelude.{◌≡◌, ℕ, ◌≤◌, ◌++◌, List, [], ◌∷◌, Option};
 ghost use Rattle.plan_types.specs.declared.action.Action.{Action};
 ghost use Rattle.level_book.specs.BookCosts.{BookCosts, slots_of, names_of};
 ghost use Rattle.level_book.specs.BookFaults.{IsBookText};
@@ -9,11 +9,14 @@ ghost use Rattle.level_book.specs.NestedClass.{Nested};
 ghost use Rattle.level_book.specs.Valid.{Valid};
 ghost use Rattle.action_text.specs.ScheduleText.{IsSchedule};
 ghost use Rattle.reversal.specs.Request.{Request, Says};
-ghost use Rattle.bound_cert.specs.Accepted.{IsAccepted};
-ghost use Rattle.bound_cert.specs.Meaning.{IsCertificateText};
+ghost use Rattle.cert_text.specs.declared.certificate.Certificate.{Certificate};
+ghost use Rattle.cert_text.specs.declared.certificate.Certificate.TheVariants.{Places};
+ghost use Rattle.cert_text.specs.Canonical.{pieces};
+ghost use Rattle.bound_cert.specs.Accepted.{class_of, IsAccepted, IsLeastOf};
+ghost use Rattle.cert_text.specs.Meaning.{IsCertificateText};
 ghost use Rattle.revolve_gen.specs.Multistage.{IsMultistage};
 ghost use Rattle.revolve_gen.specs.Written.{revolve_list};
-ghost use Rattle.reversal.specs.Decision.{Decision, accept, Decides, DecidesCertify, DecidesPlanRevolve, DecidesPlanMultistage, DecidesPlanDisk, DecidesPlanHrevolve};
+ghost use Rattle.reversal.specs.Decision.{Decision, accept, least_line, Decides, DecidesCertify, DecidesPlanRevolve, DecidesPlanMultistage, DecidesPlanDisk, DecidesPlanHrevolve};
 ghost use Rattle.reversal.specs.Plans.{list_pieces, plan_pieces, certificate_of};
 ghost use Rattle.reversal.specs.Deeds.{Job, write, Shown, deeds, bytes_written, steps_made, output, steps_taken};
 
@@ -33,12 +36,12 @@ pub fn deeds_make_the_output()
     ensures steps { (shown : Shown) (job : Job) → steps_made (deeds shown job) ≡ steps_taken shown job }
 {}
 
-/// A list that is certified is the least: where a request to certify one comes to its job, the schedule says a valid list,
-/// and no list that is valid for the book takes fewer forward steps.
+/// A list that is certified is the least: where a request to certify one comes to its job, the schedule says a valid list and
+/// the certificate's text a certificate; the class of that is written, and the list is the least of that class.
 pub fn certified_lists_are_least()
     ensures { (steps : ℕ) (book schedule certificate : List ℕ) (job : Job) → DecidesCertify steps book schedule certificate (accept job) →
         (b : BookCosts) × IsBookText book b × (list : List Action) × IsSchedule (names_of b) schedule list × Valid steps (slots_of b) list
-        × ((other : List Action) → Valid steps (slots_of b) other → forward list ≤ forward other) }
+        × (c : Certificate) × IsCertificateText steps b certificate c × (job ≡ write (least_line (class_of c) ∷ [])) × IsLeastOf (class_of c) steps b list }
 {}
 
 /// A plan of Revolve is the least: where a request for one comes to its job, the plan of the book is written; its list is
@@ -54,7 +57,7 @@ pub fn revolve_plans_are_least()
 pub fn plans_are_read_again()
     ensures { (steps : ℕ) (book : List ℕ) (job : Job) → steps ≤ 1000000 → DecidesPlanRevolve steps book (accept job) →
         (b : BookCosts) × IsBookText book b × ((shown : Shown) →
-        IsSchedule (names_of b) (output shown job) (revolve_list steps b) × IsCertificateText (output shown job) (certificate_of steps b)) }
+        IsSchedule (names_of b) (output shown job) (revolve_list steps b) × IsCertificateText steps b (output shown job) (certificate_of steps b)) }
 {}
 
 /// A plan of H-Revolve costs the least of its class: where a request for one comes to its job, the text of a list is written
@@ -74,9 +77,10 @@ pub fn disk_plans_are_least()
 {}
 
 /// A multistage plan costs the least of its class: where a request for one comes to its job, the text of a list is written that
-/// is in the multistage class, and no list of that class costs less by the book.
+/// is in the multistage class, with a certificate that is accepted for it, and no list of that class costs less by the book.
 pub fn multistage_plans_are_least()
     ensures { (steps : ℕ) (book : List ℕ) (job : Job) → DecidesPlanMultistage steps book (accept job) →
-        (b : BookCosts) × IsBookText book b × (list : List Action) × (job ≡ write (list_pieces (names_of b) list)) × IsMultistage steps b list
+        (b : BookCosts) × IsBookText book b × (list : List Action) × (threshold : ℕ) × (job ≡ write (list_pieces (names_of b) list ++ pieces (Places threshold)))
+        × IsMultistage steps b list × IsAccepted list steps b (Places threshold)
         × ((other : List Action) → IsMultistage steps b other → cost list b ≤ cost other b) }
 {}

@@ -12,14 +12,15 @@ use crate::actions::{Actions, Listed};
 use crate::decision::book_in;
 use crate::ended::Ended;
 use crate::job::Job;
-use crate::planning::list_text;
+use crate::planning::certified_text;
+use bound_cert::certify_places;
 use level_book::Book;
 use multistage_gen::multistage_list;
 use plan_types::Action;
 use revolve_gen::GenFault;
 use std::alloc::Global;
 
-/// What a multistage plan comes to by the bytes of its book: the text of its list.
+/// What a multistage plan comes to by the bytes of its book: the text of its list and of its certificate.
 pub fn multistage_text(alloc: Global, steps: u32, book: &[u8]) -> Result<Job, Ended>
     requires steps { steps ≤ 1000000 }
     ensures accepted { IfOk result (λ job. DecidesPlanMultistage steps book.now (accept (job_of job))) }
@@ -29,7 +30,8 @@ pub fn multistage_text(alloc: Global, steps: u32, book: &[u8]) -> Result<Job, En
 {
     let book = book_in(alloc, book)?;
     let list = list_for(alloc, steps, &book)?;
-    let job = list_text(alloc, Actions::Listed(Listed::new(list)), book)?;
+    let certificate = certify_places(alloc, &list, steps, &book)?;
+    let job = certified_text(alloc, Actions::Listed(Listed::new(list)), book, certificate)?;
     Ok(job)
 }
 
@@ -38,6 +40,7 @@ fn list_for(alloc: Global, steps: u32, book: &Book) -> Result<Vec<Action>, Ended
     requires { steps ≤ 1000000 }
     ensures list { IfOk result (λ list. IsMultistageList steps book.now list.items) }
     ensures class { IfOk result (λ list. IsMultistage steps book.now list.items) }
+    ensures few { IfOk result (λ list. length list.items ≤ 16777216) }
     ensures refused { IfErr result (λ e. (e ≡ no_memory)
         ⊎ ((length book.now.levels ≡ 2 → ⊥) × (e ≡ no_plan steps (total_room book.now steps) 2))
         ⊎ ((length book.now.levels ≡ 2) × (HasPlan steps (total_room book.now steps) → ⊥) × (e ≡ no_plan steps (total_room book.now steps) 1))) }

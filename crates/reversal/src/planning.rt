@@ -8,6 +8,7 @@ ghost use Rattle.keepers.specs.Told.{Images};
 ghost use Rattle.keepers.specs.Counts.{Rose};
 ghost use Rattle.level_book.specs.BookCosts.{names_of, total_room};
 ghost use Rattle.action_text.specs.Canonical.{HasSpelling};
+ghost use Rattle.cert_text.specs.Canonical.{pieces};
 ghost use Rattle.revolve_gen.specs.Plans.{HasPlan};
 ghost use Rattle.revolve_gen.specs.Written.{revolve_list};
 ghost use Rattle.reverse_runner.specs.KeepersSeen.{Calls};
@@ -30,7 +31,8 @@ use crate::job::{Job, Performance};
 use crate::options::Options;
 use crate::request::RunRevolve;
 use action_text::print_action;
-use bound_cert::{Certificate, certify_revolve, print_certificate};
+use bound_cert::certify_revolve;
+use cert_text::{Certificate, print_certificate};
 use keepers::Sink;
 use level_book::Book;
 use plan_types::Line;
@@ -127,13 +129,8 @@ pub fn revolve_text(alloc: Global, steps: u32, book: &[u8]) -> Result<Job, Ended
     let book = book_in(alloc, book)?;
     let revolve = revolve_for(alloc, steps, &book)?;
     let certificate = certify_revolve(steps, &book);
-    let piece = Vec::with_capacity(alloc, PIECE)?;
-    Ok(Job::Plan(Plan {
-        actions: Actions::Streamed(revolve),
-        book,
-        certificate: Some(certificate),
-        piece,
-    }))
+    let job = certified_text(alloc, Actions::Streamed(revolve), book, certificate)?;
+    Ok(job)
 }
 
 /// The text of some actions over the levels of a book, without a certificate.
@@ -148,6 +145,27 @@ pub fn list_text(alloc: Global, actions: Actions, book: Book) -> Result<Job, All
         actions,
         book,
         certificate: None,
+        piece,
+    }))
+}
+
+/// The same, and the text of their certificate.
+pub fn certified_text(
+    alloc: Global,
+    actions: Actions,
+    book: Book,
+    certificate: Certificate,
+) -> Result<Job, AllocError>
+    requires { AllByRecursion (HasSpelling (names_of book)) (left_of actions) }
+    ensures job { IfOk result (λ job. job_of job ≡ write (list_pieces (names_of book) (left_of actions) ++ pieces certificate)) }
+    ensures can_be_done { IfOk result CanBeDone }
+    ensures room { IfOk result (λ job. (counts : List ℕ) → KeepersHaveRoom job counts) }
+{
+    let piece = Vec::with_capacity(alloc, PIECE)?;
+    Ok(Job::Plan(Plan {
+        actions,
+        book,
+        certificate: Some(certificate),
         piece,
     }))
 }
@@ -176,7 +194,7 @@ pub struct Plan {
 }
 
 impl Plan {
-    /// Writes the text of the list, in pieces of sixty-four lines, and then the line of the certificate, if there is one.
+    /// Writes the text of the list, in pieces of sixty-four lines, and then that of the certificate, if there is one.
     pub fn write<O: Sink>(mut self, out: &mut O) -> Ended
         requires { IsWritable self }
         ensures works { (steps : ℕ) (calls : Calls) (images : ℕ → Option Images) → EndsBy (accept (write (pieces_of self))) result

@@ -235,7 +235,7 @@ pub fn joined(alloc: Global, lines: &[&[u8]], count: usize) -> Result<Vec<u8>, A
 }
 
 // A list for `last` + 1 steps that keeps the start alone, where `last` is 1 or more.
-fn start_kept_list(alloc: Global, last: u32) -> Result<String, AllocError>
+pub fn start_kept_list(alloc: Global, last: u32) -> Result<String, AllocError>
     requires { (1 ≤ last) × (last < 1000000) }
 {
     let mut text = String::new(alloc);

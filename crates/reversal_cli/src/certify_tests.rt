@@ -1,6 +1,7 @@
 // Calls that weigh a list by its certificate: what is written where none takes fewer steps, and each way to be refused. The
 // numbers were worked out by hand.
-use crate::calls::{FOUR_STEPS_TWO_SLOTS, Named, STALE_MOVE, TWO_SLOTS, call, ends};
+use crate::calls::{FOUR_STEPS_TWO_SLOTS, Named, STALE_MOVE, TWO_LEVELS, TWO_SLOTS, call, ends};
+use crate::level_plan_tests::FOUR_STEPS_TWO_LEVELS;
 use crate::storage_tests::{TEN_STEPS_THREE_SLOTS, THREE_SLOTS};
 use keepers::MemorySink;
 use std::test::Fail;
@@ -89,7 +90,7 @@ fn a_text_that_says_no_certificate_is_refused_at_its_first_fault(
     let table: [(&[u8], &[u8]); 8] = [
         (b"", b"9 Certificate 0 0 1"),
         (b"revolve 2 8\n", b"9 Certificate 0 0 1"),
-        (b"#! places 3\n", b"9 Certificate 1 4 2"),
+        (b"#! best 2\n", b"9 Certificate 1 4 2"),
         (b"#! revolve 2\n", b"9 Certificate 1 13 4"),
         (b"#! revolve 02 8\n", b"9 Certificate 1 12 3"),
         (b"\n#! revolve 1000001 8\n", b"9 Certificate 2 12 3"),
@@ -118,6 +119,73 @@ fn a_list_is_judged_before_its_certificate_is_read(rt: HostRuntime) -> Result<()
     ];
     for (line, text) in table {
         ends(&rt, rt.alloc(), line, &files(b"no certificate"), text)?;
+    }
+    Ok(())
+}
+
+// A multistage list over two levels, whose places save 3 on the disk and 4 in memory, and one of Revolve.
+fn multistage_files(certificate: &[u8]) -> [Named<'_>; 5] {
+    [
+        (b"levels", TWO_LEVELS),
+        (b"multistage", FOUR_STEPS_TWO_LEVELS),
+        (b"two", TWO_SLOTS),
+        (b"four-steps", FOUR_STEPS_TWO_SLOTS),
+        (b"c", certificate),
+    ]
+}
+
+#[test]
+fn a_threshold_between_the_savings_certifies_a_multistage_list(
+    rt: HostRuntime,
+) -> Result<(), Fail> {
+    for certificate in [b"#! places 3\n".as_slice(), b"#! places 4\n"] {
+        let mut out = MemorySink::new(rt.alloc(), 64)?;
+        let line = "certify levels multistage c 4";
+        let files = multistage_files(certificate);
+        assert_eq!(rt; call(&rt, rt.alloc(), line, &files, &mut out)?.status, 0);
+        assert_eq!(rt; out.bytes(), b"least multistage\n".as_slice());
+    }
+    Ok(())
+}
+
+#[test]
+fn a_threshold_that_does_not_fit_is_refused_at_its_first_place(
+    rt: HostRuntime,
+) -> Result<(), Fail> {
+    let table: [(&str, &[u8], &[u8]); 6] = [
+        (
+            "certify levels multistage c 4",
+            b"#! places 5",
+            b"15 NotLeast 0 0 3 entry places 0 1 0 21",
+        ),
+        (
+            "certify levels multistage c 4",
+            b"#! places 2",
+            b"15 NotLeast 0 0 3 entry places 1 0 0 22",
+        ),
+        (
+            "certify two four-steps c 4",
+            b"#! places 3",
+            b"15 NotLeast 0 0 2",
+        ),
+        (
+            "certify levels multistage c 4",
+            b"#! places",
+            b"9 Certificate 1 10 4",
+        ),
+        (
+            "certify levels multistage c 4",
+            b"#! places -",
+            b"9 Certificate 1 11 3",
+        ),
+        (
+            "certify levels multistage c 5",
+            b"#! places 3",
+            b"8 Invalid 3 0 8",
+        ),
+    ];
+    for (line, certificate, text) in table {
+        ends(&rt, rt.alloc(), line, &multistage_files(certificate), text)?;
     }
     Ok(())
 }

@@ -1,6 +1,7 @@
 // Calls that write plans over several levels, and each way to be refused. The lists were written down by the rules by hand, and
 // that of H-Revolve for six steps by another program.
 use crate::calls::{NO_SLOT, NO_STEPS, Named, ONE_STEP, TWO_LEVELS, TWO_SLOTS, call, ends};
+use crate::plan_tests::with_line;
 use keepers::MemorySink;
 use std::alloc::Global;
 use std::process::Abort;
@@ -45,7 +46,7 @@ fn writes(
 }
 
 // The list for four steps with a slot of memory and one of disk: the image that is read twice stands in memory.
-const FOUR_STEPS_TWO_LEVELS: &[u8] = b"Forward(0, 1, True, False, DISK)
+pub const FOUR_STEPS_TWO_LEVELS: &[u8] = b"Forward(0, 1, True, False, DISK)
 Forward(1, 3, True, False, RAM)
 Forward(3, 4, False, True, WORK)
 EndForward()
@@ -64,15 +65,16 @@ EndReverse()
 ";
 
 #[test]
-fn a_multistage_plan_is_its_list_alone(rt: HostRuntime) -> Result<(), Fail> {
+fn a_multistage_plan_is_its_list_and_its_threshold(rt: HostRuntime) -> Result<(), Fail> {
     let alloc = rt.alloc();
     writes(
         &rt,
         alloc,
         "plan multistage levels 4",
-        FOUR_STEPS_TWO_LEVELS,
+        &with_line(alloc, FOUR_STEPS_TWO_LEVELS, b"#! places 3\n")?,
     )?;
-    writes(&rt, alloc, "plan multistage levels 0", NO_STEPS)?;
+    let no_steps = with_line(alloc, NO_STEPS, b"#! places 0\n")?;
+    writes(&rt, alloc, "plan multistage levels 0", &no_steps)?;
     ends(
         &rt,
         alloc,
@@ -247,6 +249,65 @@ fn a_plan_of_disk_revolve_is_the_same_for_each_number_of_workers(
         0
     );
     assert!(rt; cost.bytes().ends_with(b"\ntotal 39\n"));
+    Ok(())
+}
+
+// A disk that costs nothing, one that costs as much as a book may say, and that one without memory.
+const FREE_DISK: &[u8] =
+    b"{\"forward\":1,\"reverse\":1,\"levels\":[{\"name\":\"RAM\",\"slots\":1,\"write\":0,\"read\":0},{\"name\":\"DISK\",\"slots\":null,\"write\":0,\"read\":0}]}";
+
+const DEAR_DISK: &[u8] =
+    b"{\"forward\":1,\"reverse\":1,\"levels\":[{\"name\":\"RAM\",\"slots\":1,\"write\":0,\"read\":0},{\"name\":\"DISK\",\"slots\":null,\"write\":1000000,\"read\":1000000}]}";
+
+const DEAR_DISK_ALONE: &[u8] =
+    b"{\"forward\":1,\"reverse\":1,\"levels\":[{\"name\":\"RAM\",\"slots\":0,\"write\":0,\"read\":0},{\"name\":\"DISK\",\"slots\":null,\"write\":1000000,\"read\":1000000}]}";
+
+// Where the disk is free each step is taken once on the way forward and once more to be taped, the last one once alone: 17
+// forward steps and 9 reversed. Where it is dear, a slot of memory alone holds state 0, and 45 forward steps are taken.
+// Without memory the disk has to hold it, and is read for each step but the last. `bench/nested_search.py` finds the same.
+#[test]
+fn a_plan_of_disk_revolve_goes_by_what_the_disk_costs(rt: HostRuntime) -> Result<(), Fail> {
+    let alloc = rt.alloc();
+    let table: [(&str, &str, &str, &[u8]); 3] = [
+        (
+            "plan disk free 9",
+            "check free plan 9",
+            "cost free plan 9",
+            b"\ntotal 26\n",
+        ),
+        (
+            "plan disk dear 9",
+            "check dear plan 9",
+            "cost dear plan 9",
+            b"\ntotal 54\n",
+        ),
+        (
+            "plan disk alone 9",
+            "check alone plan 9",
+            "cost alone plan 9",
+            b"\ntotal 9000054\n",
+        ),
+    ];
+    for (plan, check, cost, end) in table {
+        let books: [Named<'_>; 3] = [
+            (b"free", FREE_DISK),
+            (b"dear", DEAR_DISK),
+            (b"alone", DEAR_DISK_ALONE),
+        ];
+        let mut text = MemorySink::new(alloc, 4096)?;
+        assert_eq!(rt; call(&rt, alloc, plan, &books, &mut text)?.status, 0);
+        let files: [Named<'_>; 4] = [
+            (b"free", FREE_DISK),
+            (b"dear", DEAR_DISK),
+            (b"alone", DEAR_DISK_ALONE),
+            (b"plan", text.bytes()),
+        ];
+        let mut out = MemorySink::new(alloc, 4096)?;
+        assert_eq!(rt; call(&rt, alloc, check, &files, &mut out)?.status, 0);
+        assert!(rt; out.bytes().starts_with(b"valid "));
+        assert_eq!(rt; call(&rt, alloc, cost, &files, &mut out)?.status, 0);
+        assert!(rt; out.bytes().ends_with(end));
+    }
     Ok(())
 }
 

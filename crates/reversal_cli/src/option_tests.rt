@@ -4,6 +4,7 @@ use keepers::MemorySink;
 use plan_types::Line;
 use reversal::{Ended, KeepAt, ended_text, keeper_places};
 use std::test::Fail;
+use table_clauses::Entry;
 
 // The book and the schedule of a check of one step.
 const ONE_STEP: [(&[u8], &[u8]); 2] = [
@@ -102,6 +103,44 @@ const OF_NO_BYTES: [u8; 32] = [
     0x27, 0xae, 0x41, 0xe4, 0x64, 0x9b, 0x93, 0x4c, 0xa4, 0x95, 0x99, 0x1b, 0x78, 0x52, 0xb8, 0x55,
 ];
 
+const NO_ENTRY: Entry = Entry {
+    table: 0,
+    level: 0,
+    free: 0,
+    steps: 0,
+    clause: 0,
+};
+
+#[test]
+fn a_clause_that_fails_is_named_with_its_entry(rt: HostRuntime) {
+    for (table, text) in [
+        (0, b"reversal: 15 NotLeast 0 0 3 entry F 1 2 7 3".as_slice()),
+        (1, b"reversal: 15 NotLeast 0 0 3 entry H 1 2 7 3"),
+        (2, b"reversal: 15 NotLeast 0 0 3 entry Fd 1 2 7 3"),
+        (3, b"reversal: 15 NotLeast 0 0 3 entry Hd 1 2 7 3"),
+        (4, b"reversal: 15 NotLeast 0 0 3 entry places 1 2 7 3"),
+    ] {
+        let ended = Ended {
+            status: 15,
+            place: 0,
+            more: 0,
+            rule: 3,
+            entry: Entry {
+                table,
+                level: 1,
+                free: 2,
+                steps: 7,
+                clause: 3,
+            },
+            put: [0; 32],
+            got: [0; 32],
+        };
+        let mut line = Line::new();
+        ended_text(&ended, &mut line);
+        assert_eq!(rt; line.bytes(), text);
+    }
+}
+
 #[test]
 fn a_damaged_image_is_named_with_two_digests(rt: HostRuntime) {
     let ended = Ended {
@@ -109,6 +148,7 @@ fn a_damaged_image_is_named_with_two_digests(rt: HostRuntime) {
         place: 6,
         more: 0,
         rule: 0,
+        entry: NO_ENTRY,
         put: [0; 32],
         got: OF_NO_BYTES,
     };

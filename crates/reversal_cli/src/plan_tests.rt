@@ -41,7 +41,7 @@ fn writes(
 }
 
 // A text, and a line behind it.
-fn with_line(alloc: Global, text: &[u8], line: &[u8]) -> Result<Vec<u8>, AllocError> {
+pub fn with_line(alloc: Global, text: &[u8], line: &[u8]) -> Result<Vec<u8>, AllocError> {
     let mut all = Vec::from_slice(alloc, text)?;
     all.extend_from_slice(line)?;
     Ok(all)

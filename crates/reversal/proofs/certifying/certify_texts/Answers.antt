@@ -1,16 +1,15 @@
-use Rattle.std.proofs.Common.{◌≡◌, ◌≤◌, List, length, subst, sym, ◌∙◌, [], ◌∷◌}
+use Rattle.std.proofs.Common.{◌≡◌, ◌≤◌, List, length, subst, sym, ap, ◌∙◌, [], ◌∷◌}
 use Rattle.plan_types.specs.declared.action.Action.{Action}
 use Rattle.level_book.specs.BookCosts.{slots_of, names_of}
 use Rattle.level_book.specs.Valid.{Valid}
 use Rattle.action_text.specs.Faults.{HasFirstFault}
-use Rattle.bound_cert.specs.Faults.{HasFirstFault as CertificateFirst}
+use Rattle.cert_text.specs.Faults.{HasFirstFault as CertificateFirst}
 use Rattle.bound_cert.specs.Accepted.{IsAccepted}
 use Rattle.reversal.specs.declared.ended.Ended.{Ended}
 use Rattle.reversal.specs.Deeds.{write}
 use Rattle.reversal.specs.Ending.{bad_book, bad_text, bad_certificate}
-use Rattle.reversal.specs.Decision.{HasBookFault, DecidesCertify, accept}
-use Rattle.reversal.specs.JobReading.{IsRefusal}
-use Rattle.reversal.proofs.Weighing.{IsWeighed}
+use Rattle.reversal.specs.Decision.{HasBookFault, DecidesCertify, accept, least_line}
+use Rattle.reversal.specs.JobReading.{IsRefusal, IsUnweighed}
 use Rattle.reversal.proofs.Deciding.{on_error, IsBroken, certify_by_book, certify_by_text, certify_by_rules, certify_by_certificate, certify_by_weight, certify_accepted}
 use Rattle.reversal.proofs.certifying.certify_texts.Goals as goal
 
@@ -18,11 +17,6 @@ pub weigh-requires-clause-few : goal.weigh-requires-clause-few
 weigh-requires-clause-few c =
     let F : List Action → Type 0 = λ l. length l ≤ 16777216 in
     subst F (sym c.deref-2.ensures.value) c.in_ok-list.ensures.found.few
-
-pub weigh-requires-clause-valid : goal.weigh-requires-clause-valid
-weigh-requires-clause-valid c =
-    let L : List Action → Type 0 = λ l. Valid c.args.steps (slots_of c.in_ok-book.book) l in
-    subst L (c.deref.ensures.value ∙ sym c.deref-2.ensures.value) c.in_ok-judge.ensures.valid
 
 pub returns-in_err-book-clause-refused : goal.returns-in_err-book-clause-refused
 returns-in_err-book-clause-refused c =
@@ -52,23 +46,25 @@ returns-in_err-certificate-clause-refused c =
     on_error c.from_residual-in_err-certificate.result _ _ c.from_residual-in_err-certificate.ensures.1 (λ e gives.
     let same : c.in_err-certificate.field-0.0 ≡ e = cc in
     let L : List Action → Type 0 = λ l. Valid c.args.steps (slots_of c.in_ok-book.book) l in
-    let P : Ended → Type 0 = λ x. IsRefusal (CertificateFirst c.args.certificate.now) bad_certificate x in
+    let P : Ended → Type 0 = λ x. IsRefusal (CertificateFirst c.args.steps c.in_ok-book.book c.args.certificate.now) bad_certificate x in
     certify_by_certificate c.args.steps c.args.book.now c.args.schedule.now c.args.certificate.now e c.in_ok-book.book c.in_ok-list.list.items c.in_ok-book.ensures.found c.in_ok-list.ensures.found (subst L c.deref.ensures.value c.in_ok-judge.ensures.valid) (subst P same c.in_err-certificate.ensures.refused))
 
-pub returns-in_err-weigh-clause-refused : goal.returns-in_err-weigh-clause-refused
-returns-in_err-weigh-clause-refused c =
-    on_error c.from_residual-in_err-weigh.result _ _ c.from_residual-in_err-weigh.ensures.1 (λ e gives.
-    let same : c.in_err-weigh.field-0.0 ≡ e = cc in
+pub returns-in_err-class-clause-refused : goal.returns-in_err-class-clause-refused
+returns-in_err-class-clause-refused c =
+    on_error c.from_residual-in_err-class.result _ _ c.from_residual-in_err-class.ensures.1 (λ e gives.
+    let same : c.in_err-class.field-0.0 ≡ e = cc in
     let book = c.in_ok-book.book in
     let L : List Action → Type 0 = λ l. Valid c.args.steps (slots_of book) l in
-    let W : List Action → Type 0 = λ l. IsWeighed c.args.steps book l c.in_ok-certificate.certificate c.in_err-weigh.field-0.0 in
-    let P : Ended → Type 0 = λ x. IsWeighed c.args.steps book c.in_ok-list.list.items c.in_ok-certificate.certificate x in
-    certify_by_weight c.args.steps c.args.book.now c.args.schedule.now c.args.certificate.now e book c.in_ok-list.list.items c.in_ok-certificate.certificate c.in_ok-book.ensures.found c.in_ok-list.ensures.found (subst L c.deref.ensures.value c.in_ok-judge.ensures.valid) c.in_ok-certificate.ensures.found (subst P same (subst W c.deref-2.ensures.value c.in_err-weigh.ensures.refused)))
+    let W : List Action → Type 0 = λ l. IsUnweighed c.args.steps book l c.in_ok-certificate.certificate c.in_err-class.field-0.0 in
+    let P : Ended → Type 0 = λ x. IsUnweighed c.args.steps book c.in_ok-list.list.items c.in_ok-certificate.certificate x in
+    certify_by_weight c.args.steps c.args.book.now c.args.schedule.now c.args.certificate.now e book c.in_ok-list.list.items c.in_ok-certificate.certificate c.in_ok-book.ensures.found c.in_ok-list.ensures.found (subst L c.deref.ensures.value c.in_ok-judge.ensures.valid) c.in_ok-certificate.ensures.found (subst P same (subst W c.deref-2.ensures.value c.in_err-class.ensures.refused)))
 
 pub returns-clause-accepted : goal.returns-clause-accepted
 returns-clause-accepted c =
     let book = c.in_ok-book.book in
+    let k = c.in_ok-certificate.certificate in
     let L : List Action → Type 0 = λ l. Valid c.args.steps (slots_of book) l in
-    let A : List Action → Type 0 = λ l. IsAccepted l c.args.steps book c.in_ok-certificate.certificate in
+    let A : List Action → Type 0 = λ l. IsAccepted l c.args.steps book k in
     let P : List _ → Type 0 = λ text. DecidesCertify c.args.steps c.args.book.now c.args.schedule.now c.args.certificate.now (accept (write (text ∷ []))) in
-    subst P (sym c.least_line.ensures) (certify_accepted c.args.steps c.args.book.now c.args.schedule.now c.args.certificate.now book c.in_ok-list.list.items c.in_ok-certificate.certificate c.in_ok-book.ensures.found c.in_ok-list.ensures.found (subst L c.deref.ensures.value c.in_ok-judge.ensures.valid) c.in_ok-certificate.ensures.found (subst A c.deref-2.ensures.value c.in_ok-weigh.ensures.accepted))
+    subst P (sym (c.least_line.ensures ∙ ap least_line c.in_ok-class.ensures.accepted.0))
+    (certify_accepted c.args.steps c.args.book.now c.args.schedule.now c.args.certificate.now book c.in_ok-list.list.items k c.in_ok-book.ensures.found c.in_ok-list.ensures.found (subst L c.deref.ensures.value c.in_ok-judge.ensures.valid) c.in_ok-certificate.ensures.found (subst A c.deref-2.ensures.value c.in_ok-class.ensures.accepted.1))

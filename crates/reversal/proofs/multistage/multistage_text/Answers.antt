@@ -1,4 +1,4 @@
-use Rattle.std.proofs.Common.{◌≡◌, List, sym, ◌∙◌, ap, subst}
+use Rattle.std.proofs.Common.{◌≡◌, ◌++◌, ℕ, List, refl, sym, ◌∙◌, ap, subst}
 use Rattle.std.specs.List.{AllByRecursion}
 use Rattle.plan_types.specs.declared.action.Action.{Action}
 use Rattle.level_book.specs.BookCosts.{slots_of, names_of}
@@ -13,7 +13,17 @@ use Rattle.reversal.specs.JobReading.{IsRefusal}
 use Rattle.reversal.proofs.Spelled.{valid_spelled}
 use Rattle.reversal.proofs.Planned.{as_many}
 use Rattle.reversal.proofs.Deciding.{on_error, IsUnstaged, multistage_by_book, multistage_by_plan, multistage_accepted}
+use Rattle.cert_text.specs.declared.certificate.Certificate.{Certificate}
+use Rattle.cert_text.specs.declared.certificate.Certificate.TheVariants.{Revolve, Places}
+use Rattle.cert_text.specs.Canonical as certificate_text
+use Rattle.bound_cert.specs.Thresholds.{IsThresholdOf}
+use Rattle.bound_cert.specs.Accepted.{IsPlaces}
 use Rattle.reversal.proofs.multistage.multistage_text.Goals as goal
+
+-- the threshold that a certificate is
+threshold_in : (Holds : ℕ → Type 0) (certificate : Certificate) → IsPlaces Holds certificate → (threshold : ℕ) × (certificate ≡ Places threshold) × Holds threshold
+threshold_in Holds (Revolve k value) is = absurd is
+threshold_in Holds (Places threshold) is = (threshold, refl, is)
 
 pub returns-in_err-book-clause-refused : goal.returns-in_err-book-clause-refused
 returns-in_err-book-clause-refused c =
@@ -29,8 +39,8 @@ returns-in_err-list-clause-refused c =
     let P : Ended → Type 0 = λ x. IsUnstaged c.args.steps c.in_ok-book.book x in
     multistage_by_plan c.args.steps c.args.book.now e c.in_ok-book.book c.in_ok-book.ensures.found (subst P same c.in_err-list.ensures.refused))
 
-pub list_text-requires : goal.list_text-requires
-list_text-requires c =
+pub certified_text-requires : goal.certified_text-requires
+certified_text-requires c =
     let b = c.in_ok-book.book in
     let S : List Action → Type 0 = λ l. AllByRecursion (HasSpelling (names_of b)) l in
     subst S (sym c.new.ensures) (valid_spelled c.args.steps (slots_of b) (names_of b) c.in_ok-list.list.items c.requires.steps (as_many b) (multistage_valid c.args.steps b c.in_ok-list.list.items c.in_ok-list.ensures.class))
@@ -38,6 +48,9 @@ list_text-requires c =
 pub returns-clause-accepted : goal.returns-clause-accepted
 returns-clause-accepted c =
     let b = c.in_ok-book.book in
+    let list = c.in_ok-list.list.items in
     let D : Job → Type 0 = λ j. DecidesPlanMultistage c.args.steps c.args.book.now (accept j) in
-    subst D (sym (c.in_ok-job.ensures.job ∙ ap (λ l. write (list_pieces (names_of b) l)) c.new.ensures))
-    (multistage_accepted c.args.steps c.args.book.now b c.in_ok-list.list.items c.in_ok-book.ensures.found c.in_ok-list.ensures.list)
+    let T : List Action → Type 0 = λ l. IsPlaces (λ threshold. IsThresholdOf threshold c.args.steps b l) c.in_ok-certificate.certificate in
+    let of = threshold_in _ c.in_ok-certificate.certificate (subst T c.deref.ensures.value c.in_ok-certificate.ensures.threshold) in
+    subst D (sym (c.in_ok-job.ensures.job ∙ (λ i. write (list_pieces (names_of b) (c.new.ensures i) ++ certificate_text.pieces (of.1 i)))))
+    (multistage_accepted c.args.steps c.args.book.now b list of.0 c.in_ok-book.ensures.found c.in_ok-list.ensures.list of.2)

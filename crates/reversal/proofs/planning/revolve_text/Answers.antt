@@ -1,12 +1,11 @@
-use Rattle.std.proofs.Common.{◌≡◌, ◌++◌, List, [], ◌∷◌, sym, subst}
+use Rattle.std.proofs.Common.{◌≡◌, ◌++◌, List, sym, ◌∙◌, subst}
 use Rattle.std.specs.List.{AllByRecursion}
 use Rattle.plan_types.specs.declared.action.Action.{Action}
 use Rattle.level_book.specs.BookCosts.{names_of}
 use Rattle.action_text.specs.Canonical.{HasSpelling}
-use Rattle.bound_cert.specs.declared.certificate.Certificate.{Certificate}
-use Rattle.bound_cert.specs.Canonical as certificate
+use Rattle.cert_text.specs.Canonical as certificate
 use Rattle.reversal.specs.declared.ended.Ended.{Ended}
-use Rattle.reversal.specs.Deeds.{write}
+use Rattle.reversal.specs.Deeds.{Job, write}
 use Rattle.reversal.specs.Ending.{bad_book}
 use Rattle.reversal.specs.Plans.{list_pieces, certificate_of}
 use Rattle.reversal.specs.Decision.{HasBookFault, DecidesPlanRevolve, accept}
@@ -29,19 +28,16 @@ returns-in_err-revolve-clause-refused c =
     let P : Ended → Type 0 = λ x. IsUnplanned c.args.steps c.in_ok-book.book x in
     plan_by_plan c.args.steps c.args.book.now e c.in_ok-book.book c.in_ok-book.ensures.found (subst P same c.in_err-revolve.ensures.refused))
 
+pub certified_text-requires : goal.certified_text-requires
+certified_text-requires c =
+    let b = c.in_ok-book.book in
+    let S : List Action → Type 0 = λ l. AllByRecursion (HasSpelling (names_of b)) l in
+    subst S (sym c.in_ok-revolve.ensures.list) (plan_spelled c.args.steps b c.requires.steps c.in_ok-revolve.ensures.plan)
+
 pub returns-clause-accepted : goal.returns-clause-accepted
 returns-clause-accepted c =
     let b = c.in_ok-book.book in
-    let M : Certificate → Type 0 = λ k. DecidesPlanRevolve c.args.steps c.args.book.now (accept (write (list_pieces (names_of b) c.in_ok-revolve.revolve ++ certificate.canonical k ∷ []))) in
+    let D : Job → Type 0 = λ j. DecidesPlanRevolve c.args.steps c.args.book.now (accept j) in
     let is = certificate_is c.args.steps b c.certify_revolve-certificate.result c.certify_revolve-certificate.ensures.few c.certify_revolve-certificate.ensures.more in
-    subst M (sym is) (let N : List Action → Type 0 = λ l. DecidesPlanRevolve c.args.steps c.args.book.now (accept (write (list_pieces (names_of b) l ++ certificate.canonical (certificate_of c.args.steps b) ∷ []))) in
-    subst N (sym c.in_ok-revolve.ensures.list) (plan_accepted c.args.steps c.args.book.now b c.in_ok-book.ensures.found c.in_ok-revolve.ensures.plan))
-
-pub returns-clause-can_be_done : goal.returns-clause-can_be_done
-returns-clause-can_be_done c =
-    let b = c.in_ok-book.book in
-    let S : List Action → Type 0 = λ l. AllByRecursion (HasSpelling (names_of b)) l in
-    record {
-      spelled = subst S (sym c.in_ok-revolve.ensures.list) (plan_spelled c.args.steps b c.requires.steps c.in_ok-revolve.ensures.plan);
-      reserved = c.in_ok-piece.ensures.capacity;
-    }
+    subst D (sym (c.in_ok-job.ensures.job ∙ (λ i. write (list_pieces (names_of b) (c.in_ok-revolve.ensures.list i) ++ certificate.pieces (is i)))))
+    (plan_accepted c.args.steps c.args.book.now b c.in_ok-book.ensures.found c.in_ok-revolve.ensures.plan)

@@ -2,14 +2,14 @@ use Rattle.std.proofs.Common.{◌≡◌, ◌∙◌, ℕ, List, map, take, Some, 
 use Rattle.std.specs.List.{AllByRecursion}
 use Rattle.level_book.specs.BookCosts.{BookCosts, names_of}
 use Rattle.action_text.specs.Canonical.{HasSpelling}
-use Rattle.bound_cert.specs.Canonical as certificate
+use Rattle.cert_text.specs.Canonical as certificate
 use Rattle.keepers.specs.Told.{Tells, AddsPrefix}
 use Rattle.reversal.specs.Output.{Adds}
 use Rattle.reversal.specs.ActionsLeft.{left_of}
 use Rattle.reversal.specs.JobReading.{certificate_pieces}
 use Rattle.reversal.specs.Plans.{line_of_action}
 use Rattle.reversal.specs.Deeds.{bytes_of}
-use Rattle.reversal.proofs.Pieces.{written_none, written_more, written_stopped, written_whole, written_all, written_but_the_last, none_behind, fewer_left, spelled_behind}
+use Rattle.reversal.proofs.Pieces.{written_none, written_more, written_stopped, written_whole, written_all, written_but_some, none_behind, fewer_left, spelled_behind}
 use Rattle.reversal.proofs.planning.Plan.write.Goals as goal
 
 pub loop-out-init : goal.loop-out-init
@@ -69,7 +69,7 @@ returns-in-Ok-print_certificate-clause-works g c steps calls images =
     let f = line_of_action (names_of c.args.self.book) in
     let none = none_behind (left_of c.loop-out.self.actions) (λ some. c.loop-out-test.ensures.some.1 some) in
     let same : c.args.self.certificate ≡ Some c.in-Some.certificate = sym (c.next_piece.ensures.kept.1 ∙ inv.certificate) ∙ c.in-Some.is in
-    written_all f _ _ (left_of c.loop-out.self.actions) (certificate.canonical c.in-Some.certificate) _ (g.O.Sink.told c.args.out.now) (g.O.Sink.told c.loop-out.out) (g.O.Sink.told c.print_certificate.new.out) _ _ _ steps calls images inv.so_far none
+    written_all f _ _ (left_of c.loop-out.self.actions) (certificate.pieces c.in-Some.certificate) _ (g.O.Sink.told c.args.out.now) (g.O.Sink.told c.loop-out.out) (g.O.Sink.told c.print_certificate.new.out) _ _ _ steps calls images inv.so_far none
     (ap certificate_pieces same) c.done-in-Ok-print_certificate.ensures c.in-Ok-print_certificate.ensures.ok c.in-Ok-print_certificate.ensures.calls
 
 pub returns-clause-works : goal.returns-clause-works
@@ -78,5 +78,6 @@ returns-clause-works g c steps calls images =
     let f = line_of_action (names_of c.args.self.book) in
     let none = none_behind (left_of c.loop-out.self.actions) (λ some. c.loop-out-test.ensures.some.1 some) in
     let same : c.args.self.certificate ≡ Some c.in-Some.certificate = sym (c.next_piece.ensures.kept.1 ∙ inv.certificate) ∙ c.in-Some.is in
-    written_but_the_last f _ _ (left_of c.loop-out.self.actions) (certificate.canonical c.in-Some.certificate) _ (g.O.Sink.told c.args.out.now) (g.O.Sink.told c.loop-out.out) (g.O.Sink.told c.print_certificate.new.out) _ _ _ steps calls images inv.so_far none
-    (ap certificate_pieces same) c.stopped-in-Err-print_certificate.ensures c.in-Err-print_certificate.ensures.refused c.in-Err-print_certificate.ensures.calls
+    let stop = c.in-Err-print_certificate.ensures.stopped in
+    written_but_some f _ _ (left_of c.loop-out.self.actions) stop.before stop.line stop.after _ (g.O.Sink.told c.args.out.now) (g.O.Sink.told c.loop-out.out) (g.O.Sink.told c.print_certificate.new.out) _ _ _ steps calls images inv.so_far none
+    (ap certificate_pieces same ∙ stop.in_order) c.stopped-in-Err-print_certificate.ensures stop.told stop.calls
