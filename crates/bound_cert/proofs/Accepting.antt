@@ -1,28 +1,36 @@
 -- What is accepted, and for what reason another certificate isn't, are told apart.
-use Rattle.std.proofs.Common.{◌≡◌, ◌↔◌, ℕ, ◌≤◌, List, [], ◌∷◌, refl, sym, ◌∙◌, ap, subst, inl, inr, arith}
+use Rattle.std.proofs.Common.{◌≡◌, ◌↔◌, ℕ, ◌<◌, ◌≤◌, List, [], ◌∷◌, length, refl, sym, ◌∙◌, ap, subst, inl, inr, arith}
 use Rattle.plan_types.specs.declared.action.Action.{Action}
 use Rattle.level_book.specs.declared.book.Level.{Level}
 use Rattle.level_book.specs.BookCosts.{BookCosts, slots_of, total_room}
 use Rattle.level_book.specs.Valid.{Valid}
 use Rattle.level_book.specs.CostFold.{forward, cost}
+use Rattle.level_book.specs.NestedClass.{Nested as IsNested}
+use Rattle.level_book.specs.DiskClass.{Disk as IsDisk}
+use Rattle.cost_tables.specs.TableRows.{tables_in}
+use Rattle.disk_gen.specs.DiskRows.{disk_tables_in}
+use Rattle.class_bounds.proofs.NestedCosts.{nested_least}
+use Rattle.class_bounds.proofs.DiskCosts.{disk_least}
 use Rattle.pebble_bound.proofs.Bounding.{forward_bounded}
 use Rattle.revolve_gen.specs.Multistage.{IsMultistage}
 use Rattle.multistage_gen.proofs.Exchange.{multistage_least}
 use Rattle.cert_text.specs.declared.certificate.Certificate.{Certificate}
-use Rattle.cert_text.specs.declared.certificate.Certificate.TheVariants.{Revolve, Places}
+use Rattle.cert_text.specs.declared.certificate.Certificate.TheVariants.{Revolve, Places, Nested, Disk}
 use Rattle.bound_cert.specs.declared.verdict.Class.{Class}
 use Rattle.bound_cert.specs.declared.verdict.Class.TheVariants as class
 use Rattle.bound_cert.specs.declared.verdict.CertVerdict.{CertVerdict}
 use Rattle.bound_cert.specs.declared.verdict.CertVerdict.TheVariants.{Least, Not}
 use Rattle.bound_cert.specs.declared.verdict.Reason.{Reason}
-use Rattle.bound_cert.specs.declared.verdict.Reason.TheVariants.{Invalid, OutsideClass, Inequality, ValueDiffers}
+use Rattle.bound_cert.specs.declared.verdict.Reason.TheVariants.{Invalid, WrongShape, OutsideClass, Inequality, ValueDiffers}
 use Rattle.bound_cert.specs.Accepted.{bound, class_of, IsAccepted, IsFirstReason, IsLeastOf, Differs}
 use Rattle.bound_cert.specs.Verdicts.{IsVerdict, IsComparison}
+use Rattle.bound_cert.proofs.Tested.{nested_apart, one_nested_reason, disk_apart, one_disk_reason}
 use Rattle.bound_cert.proofs.Fitting.{one_misfit, fits_or_misfits, fits_in_class, misfits_in_class}
 
 -- what is accepted isn't refused
 pub apart : (list : List Action) (steps : ℕ) (book : BookCosts) (certificate : Certificate) (reason : Reason) → IsFirstReason list steps book certificate reason → IsAccepted list steps book certificate → ⊥
 apart list steps book (Revolve k value) Invalid is accepted = is accepted.0
+apart list steps book (Revolve k value) WrongShape is accepted = is
 apart list steps book (Revolve k value) OutsideClass is accepted = is
 apart list steps book (Revolve k value) (Inequality entry) is accepted = is
 apart list steps book (Revolve k value) (ValueDiffers cost other) is accepted = elim is.2 [
@@ -30,9 +38,12 @@ apart list steps book (Revolve k value) (ValueDiffers cost other) is accepted = 
   | inr number_differs ↦ number_differs.1 accepted.2
 ]
 apart list steps book (Places threshold) Invalid is accepted = is accepted.0
+apart list steps book (Places threshold) WrongShape is accepted = is
 apart list steps book (Places threshold) OutsideClass is accepted = is.1 (fits_in_class threshold steps book list accepted.1)
 apart list steps book (Places threshold) (Inequality entry) is accepted = fits_or_misfits threshold steps book list accepted.1 entry is.1
 apart list steps book (Places threshold) (ValueDiffers cost other) is accepted = is
+apart list steps book (Nested t) reason is accepted = nested_apart list steps book t reason is accepted
+apart list steps book (Disk t) reason is accepted = disk_apart list steps book t reason is accepted
 
 one_value : (cost value number a b : ℕ) → Differs cost value number a → Differs cost value number b → a ≡ b
 one_value cost value number a b (inl x) (inl y) = x.1 ∙ sym y.1
@@ -43,12 +54,15 @@ one_value cost value number a b (inr x) (inr y) = x.2 ∙ sym y.2
 -- there is one first reason at most
 pub one_reason : (list : List Action) (steps : ℕ) (book : BookCosts) (certificate : Certificate) (a b : Reason) → IsFirstReason list steps book certificate a → IsFirstReason list steps book certificate b → a ≡ b
 one_reason list steps book (Revolve k value) Invalid Invalid x y = refl
+one_reason list steps book (Revolve k value) Invalid WrongShape x y = absurd y
 one_reason list steps book (Revolve k value) Invalid OutsideClass x y = absurd y
 one_reason list steps book (Revolve k value) Invalid (Inequality b) x y = absurd y
 one_reason list steps book (Revolve k value) Invalid (ValueDiffers cost other) x y = absurd (x y.0)
+one_reason list steps book (Revolve k value) WrongShape b x y = absurd x
 one_reason list steps book (Revolve k value) OutsideClass b x y = absurd x
 one_reason list steps book (Revolve k value) (Inequality a) b x y = absurd x
 one_reason list steps book (Revolve k value) (ValueDiffers cost other) Invalid x y = absurd (y x.0)
+one_reason list steps book (Revolve k value) (ValueDiffers cost other) WrongShape x y = absurd y
 one_reason list steps book (Revolve k value) (ValueDiffers cost other) OutsideClass x y = absurd y
 one_reason list steps book (Revolve k value) (ValueDiffers cost other) (Inequality b) x y = absurd y
 one_reason list steps book (Revolve k value) (ValueDiffers cost other) (ValueDiffers cost' other') x y =
@@ -56,18 +70,24 @@ one_reason list steps book (Revolve k value) (ValueDiffers cost other) (ValueDif
     let same = one_value cost value _ other other' x.2 (subst (λ (c : ℕ). Differs c value (bound steps (total_room book steps) k) other') (sym costs) y.2) in
     ap (λ (c : ℕ). ValueDiffers c other) costs ∙ ap (ValueDiffers cost') same
 one_reason list steps book (Places threshold) Invalid Invalid x y = refl
+one_reason list steps book (Places threshold) Invalid WrongShape x y = absurd y
 one_reason list steps book (Places threshold) Invalid OutsideClass x y = absurd (x y.0)
 one_reason list steps book (Places threshold) Invalid (Inequality b) x y = absurd (x y.0)
 one_reason list steps book (Places threshold) Invalid (ValueDiffers cost other) x y = absurd y
+one_reason list steps book (Places threshold) WrongShape b x y = absurd x
 one_reason list steps book (Places threshold) OutsideClass Invalid x y = absurd (y x.0)
+one_reason list steps book (Places threshold) OutsideClass WrongShape x y = absurd y
 one_reason list steps book (Places threshold) OutsideClass OutsideClass x y = refl
 one_reason list steps book (Places threshold) OutsideClass (Inequality b) x y = absurd (x.1 (misfits_in_class threshold steps book list b y.1))
 one_reason list steps book (Places threshold) OutsideClass (ValueDiffers cost other) x y = absurd y
 one_reason list steps book (Places threshold) (Inequality a) Invalid x y = absurd (y x.0)
+one_reason list steps book (Places threshold) (Inequality a) WrongShape x y = absurd y
 one_reason list steps book (Places threshold) (Inequality a) OutsideClass x y = absurd (y.1 (misfits_in_class threshold steps book list a x.1))
 one_reason list steps book (Places threshold) (Inequality a) (Inequality b) x y = ap Inequality (one_misfit threshold steps book list a b x.1 y.1)
 one_reason list steps book (Places threshold) (Inequality a) (ValueDiffers cost other) x y = absurd y
 one_reason list steps book (Places threshold) (ValueDiffers cost other) b x y = absurd x
+one_reason list steps book (Nested t) a b x y = one_nested_reason list steps book t a b x y
+one_reason list steps book (Disk t) a b x y = one_disk_reason list steps book t a b x y
 
 -- a verdict is Least of a class exactly where the certificate is one of that class, and accepted
 pub least_exactly : (list : List Action) (steps : ℕ) (book : BookCosts) (certificate : Certificate) (v : CertVerdict) → IsVerdict list steps book certificate v →
@@ -91,7 +111,10 @@ pub compared : (list : List Action) (steps : ℕ) (book : BookCosts) (k value : 
     IsComparison (forward list) value (bound steps (total_room book steps) k) v → IsVerdict list steps book (Revolve k value) v
 compared list steps book k value (Least class.Valid) valid is = (refl, (valid, is.0, is.1))
 compared list steps book k value (Least class.Multistage) valid is = absurd is
+compared list steps book k value (Least class.Nested) valid is = absurd is
+compared list steps book k value (Least class.Disk) valid is = absurd is
 compared list steps book k value (Not Invalid) valid is = absurd is
+compared list steps book k value (Not WrongShape) valid is = absurd is
 compared list steps book k value (Not OutsideClass) valid is = absurd is
 compared list steps book k value (Not (Inequality entry)) valid is = absurd is
 compared list steps book k value (Not (ValueDiffers cost other)) valid is =
@@ -106,11 +129,15 @@ none_fewer list steps book (Revolve k value) of accepted other valid =
     let bounded = forward_bounded steps book (total_room book steps) other (record { valid = valid; room = omega arith }) k in
     omega (arith, accepted.1, accepted.2, bounded)
 none_fewer list steps book (Places threshold) of accepted other valid = absurd cc
+none_fewer list steps book (Nested t) of accepted other valid = absurd cc
+none_fewer list steps book (Disk t) of accepted other valid = absurd cc
 
 -- no list of the multistage class costs less
 pub none_cheaper : (list : List Action) (steps : ℕ) (book : BookCosts) (certificate : Certificate) → class.Multistage ≡ class_of certificate → IsAccepted list steps book certificate →
     (fast slow : Level) → book.levels ≡ fast ∷ slow ∷ [] → fast.write ≤ slow.write → fast.read ≤ slow.read → (other : List Action) → IsMultistage steps book other → cost list book ≤ cost other book
 none_cheaper list steps book (Revolve k value) of accepted fast slow two write read other member = absurd cc
+none_cheaper list steps book (Nested t) of accepted fast slow two write read other member = absurd cc
+none_cheaper list steps book (Disk t) of accepted fast slow two write read other member = absurd cc
 none_cheaper list steps book (Places threshold) of accepted fast slow two write read other member =
     let fits = accepted.1 in
     let e : fast ∷ slow ∷ [] ≡ fits.fast ∷ fits.slow ∷ [] = sym two ∙ fits.are_on.two in
@@ -120,11 +147,29 @@ none_cheaper list steps book (Places threshold) of accepted fast slow two write 
     let dearer_read : fits.fast.read ≤ fits.slow.read = let a = ap (λ (l : Level). l.read) f in let b = ap (λ (l : Level). l.read) s in omega arith in
     multistage_least steps book threshold fits.fast fits.slow _ list other fits.are_on.two dearer_write dearer_read fits.are_on.has.placed fits.meets member
 
--- over a book whose costs rise, the list is the least of its class
-pub accepted_least : (list : List Action) (steps : ℕ) (book : BookCosts) (certificate : Certificate) →
+-- no list of the nested class costs less
+pub none_nested : (list : List Action) (steps : ℕ) (book : BookCosts) (certificate : Certificate) → class.Nested ≡ class_of certificate → IsAccepted list steps book certificate →
+    0 < length book.levels → (other : List Action) → IsNested steps (slots_of book) other → cost list book ≤ cost other book
+none_nested list steps book (Revolve k value) of accepted some other member = absurd cc
+none_nested list steps book (Places threshold) of accepted some other member = absurd cc
+none_nested list steps book (Nested t) of accepted some other member = nested_least steps book (tables_in t) list other some accepted.3 accepted.4 member
+none_nested list steps book (Disk t) of accepted some other member = absurd cc
+
+-- no list of the disk class costs less
+pub none_disk : (list : List Action) (steps : ℕ) (book : BookCosts) (certificate : Certificate) → class.Disk ≡ class_of certificate → IsAccepted list steps book certificate →
+    (other : List Action) → IsDisk steps (slots_of book) other → cost list book ≤ cost other book
+none_disk list steps book (Revolve k value) of accepted other member = absurd cc
+none_disk list steps book (Places threshold) of accepted other member = absurd cc
+none_disk list steps book (Nested t) of accepted other member = absurd cc
+none_disk list steps book (Disk t) of accepted other member = disk_least steps book (disk_tables_in t) list other accepted.3 accepted.4 member
+
+-- over a book of some levels, whose costs rise, the list is the least of its class
+pub accepted_least : (list : List Action) (steps : ℕ) (book : BookCosts) (certificate : Certificate) → 0 < length book.levels →
     ((fast slow : Level) → book.levels ≡ fast ∷ slow ∷ [] → (fast.write ≤ slow.write) × (fast.read ≤ slow.read)) → IsAccepted list steps book certificate → IsLeastOf (class_of certificate) steps book list
-accepted_least list steps book (Revolve k value) rise accepted = none_fewer list steps book (Revolve k value) refl accepted
-accepted_least list steps book (Places threshold) rise accepted = λ other member.
+accepted_least list steps book (Revolve k value) some rise accepted = none_fewer list steps book (Revolve k value) refl accepted
+accepted_least list steps book (Nested t) some rise accepted = none_nested list steps book (Nested t) refl accepted some
+accepted_least list steps book (Disk t) some rise accepted = none_disk list steps book (Disk t) refl accepted
+accepted_least list steps book (Places threshold) some rise accepted = λ other member.
     let fits = accepted.1 in
     let rises = rise fits.fast fits.slow fits.are_on.two in
     none_cheaper list steps book (Places threshold) refl accepted fits.fast fits.slow fits.are_on.two rises.0 rises.1 other member
@@ -140,3 +185,15 @@ pub least_is_cheapest : (list : List Action) (steps : ℕ) (book : BookCosts) (c
 least_is_cheapest list steps book certificate v is e =
     let accepted = (least_exactly list steps book certificate v is class.Multistage).0 e in
     none_cheaper list steps book certificate accepted.0 accepted.1
+
+pub least_is_nested : (list : List Action) (steps : ℕ) (book : BookCosts) (certificate : Certificate) (v : CertVerdict) → IsVerdict list steps book certificate v → 0 < length book.levels → v ≡ Least class.Nested →
+    (other : List Action) → IsNested steps (slots_of book) other → cost list book ≤ cost other book
+least_is_nested list steps book certificate v is some e =
+    let accepted = (least_exactly list steps book certificate v is class.Nested).0 e in
+    none_nested list steps book certificate accepted.0 accepted.1 some
+
+pub least_is_disk : (list : List Action) (steps : ℕ) (book : BookCosts) (certificate : Certificate) (v : CertVerdict) → IsVerdict list steps book certificate v → v ≡ Least class.Disk →
+    (other : List Action) → IsDisk steps (slots_of book) other → cost list book ≤ cost other book
+least_is_disk list steps book certificate v is e =
+    let accepted = (least_exactly list steps book certificate v is class.Disk).0 e in
+    none_disk list steps book certificate accepted.0 accepted.1

@@ -1,11 +1,26 @@
--- The certificate of a Revolve list is accepted.
-use Rattle.std.proofs.Common.{◌≡◌, ℕ, ◌+◌, ◌≤◌, ◌<◌, sym, ap, ◌∙◌, arith}
-use Rattle.level_book.specs.BookCosts.{BookCosts, total_room}
+-- The certificates of lists that are planned are accepted.
+use Rattle.std.proofs.Common.{◌≡◌, ℕ, ◌+◌, ◌≤◌, ◌<◌, List, length, sym, ap, ◌∙◌, arith}
+use Rattle.plan_types.specs.declared.action.Action.{Action}
+use Rattle.level_book.specs.BookCosts.{BookCosts, IsWithinLimits, total_room}
+use Rattle.level_book.specs.UnderTable.{number, IsGreatest, top_entry}
+use Rattle.level_book.specs.DiskUnderTable.{IsGreatestDisk}
+use Rattle.cost_tables.specs.TableRows.{TableRows, AreFor, Fits, FitsFastest, tables_in}
+use Rattle.cost_tables.proofs.Least.{exact_within}
+use Rattle.hrevolve_gen.specs.Plans as nested
+use Rattle.hrevolve_gen.specs.Written.{IsWritten}
+use Rattle.hrevolve_gen.proofs.NoPlans.{top_none}
+use Rattle.hrevolve_gen.proofs.PartReads.{few_steps, some_of}
+use Rattle.hrevolve_gen.proofs.Whole.{written_costs, written_nested}
+use Rattle.disk_gen.specs.DiskRows.{DiskRows, AreDiskFor, disk_tables_in}
+use Rattle.disk_gen.specs.DiskWritten.{IsDiskWritten}
+use Rattle.disk_gen.proofs.DiskExact.{disk_exact}
+use Rattle.disk_gen.proofs.DiskCosts.{top_some, written_disk_costs}
+use Rattle.disk_gen.proofs.DiskWhole.{written_in_class}
 use Rattle.binomials.specs.Advances.{repeats, least_advances}
 use Rattle.revolve_gen.specs.Plans.{HasPlan}
 use Rattle.revolve_gen.specs.Written.{revolve_list}
 use Rattle.revolve_gen.proofs.Books.{book_right}
-use Rattle.cert_text.specs.declared.certificate.Certificate.TheVariants.{Revolve}
+use Rattle.cert_text.specs.declared.certificate.Certificate.TheVariants.{Revolve, Nested, Disk}
 use Rattle.bound_cert.specs.Accepted.{bound, IsAccepted}
 use Rattle.bound_cert.proofs.Numbers.{at_repeats}
 
@@ -23,3 +38,19 @@ many_accepted steps book slots k value plan more slots_are k_is value_is =
     let k_at : k ≡ repeats steps c = k_is ∙ ap (repeats steps) slots_are in
     let number : value ≡ bound steps c k = value_at ∙ at_repeats steps c (omega arith) (plan more) ∙ sym (ap (bound steps c) k_at) in
     (right.0, right.1.forward_steps (omega arith) ∙ sym value_at, number)
+
+pub nested_accepted : (list : List Action) (steps : ℕ) (book : BookCosts) (t : TableRows) → 0 < length book.levels → IsWithinLimits book → Fits steps book → AreFor steps book t → IsGreatest steps book (tables_in t) →
+    nested.HasPlan steps book → IsWritten steps book (tables_in t) list → IsAccepted list steps book (Nested t)
+nested_accepted list steps book t some limits fits sized greatest plan written =
+    let exact = exact_within steps book (tables_in t) (few_steps steps fits.few) limits greatest in
+    let member = written_nested steps book (tables_in t) list some written in
+    let top = some_of (top_entry steps book (tables_in t)) (λ never. plan (top_none steps book (tables_in t) exact some never)) in
+    (member.0, (fits, sized), member, greatest.under, top.1 ∙ ap (λ (n : ℕ). number n) (sym (written_costs steps book (tables_in t) list top.0 written top.1)))
+
+pub disk_accepted : (list : List Action) (steps : ℕ) (book : BookCosts) (t : DiskRows) → IsWithinLimits book → FitsFastest steps book → AreDiskFor steps book t → IsGreatestDisk steps book (disk_tables_in t) →
+    IsDiskWritten steps book (disk_tables_in t) list → IsAccepted list steps book (Disk t)
+disk_accepted list steps book t limits fits for greatest written =
+    let exact = disk_exact steps book (disk_tables_in t) for.plan greatest fits.few limits in
+    let top = top_some steps book (disk_tables_in t) exact in
+    let member = written_in_class steps book (disk_tables_in t) list for.plan written in
+    (member.nested.0, (fits, for.sized), member, greatest.under, top.1 ∙ ap (λ (n : ℕ). number n) (sym (written_disk_costs steps book (disk_tables_in t) list top.0 written top.1)))

@@ -4,15 +4,18 @@ use Rattle.plan_types.specs.declared.action.Action.{Action}
 use Rattle.level_book.specs.BookCosts.{BookCosts, slots_of, total_room}
 use Rattle.level_book.specs.Valid.{Valid}
 use Rattle.level_book.specs.CostFold.{forward, cost}
+use Rattle.level_book.specs.NestedClass.{Nested as IsNested}
+use Rattle.level_book.specs.DiskClass.{Disk as IsDisk}
 use Rattle.binomials.specs.Binomials.{beta_before}
 use Rattle.revolve_gen.specs.Multistage.{IsMultistage}
 use Rattle.cert_text.specs.declared.certificate.Certificate.{Certificate}
-use Rattle.cert_text.specs.declared.certificate.Certificate.TheVariants.{Revolve, Places}
+use Rattle.cert_text.specs.declared.certificate.Certificate.TheVariants.{Revolve, Places, Nested, Disk}
 use Rattle.bound_cert.specs.declared.verdict.Class.{Class}
 use Rattle.bound_cert.specs.declared.verdict.Class.TheVariants as class
 use Rattle.bound_cert.specs.declared.verdict.Reason.{Reason}
-use Rattle.bound_cert.specs.declared.verdict.Reason.TheVariants.{Invalid, OutsideClass, Inequality, ValueDiffers}
+use Rattle.bound_cert.specs.declared.verdict.Reason.TheVariants.{Invalid, WrongShape, OutsideClass, Inequality, ValueDiffers}
 use Rattle.bound_cert.specs.Thresholds.{FitsThreshold, IsFirstMisfit}
+use Rattle.bound_cert.specs.TableTests.{PassesNested, FailsNested, PassesDisk, FailsDisk}
 
 -- the number of k: N + k · N - β(c + 1, k - 1), and 0 where that is negative; for every k it is no more than the forward
 -- steps of a valid list for N steps and c slots
@@ -23,13 +26,18 @@ bound steps c k = steps + k * steps - beta_before (c + 1) k
 abbrev pub class_of : Certificate → Class
 class_of (Revolve k value) = class.Valid
 class_of (Places threshold) = class.Multistage
+class_of (Nested t) = class.Nested
+class_of (Disk t) = class.Disk
 
 -- The list is valid. A certificate of Revolve says how many forward steps it takes, which are the number of its k; a threshold
--- fits the places of a list of the multistage class.
+-- fits the places of a list of the multistage class. Tables are those of so many steps and the book, they are an under-table, and
+-- their top entry is what the list costs, which is in the nested or in the disk class.
 abbrev pub IsAccepted : List Action → ℕ → BookCosts → Certificate → Type 0
 IsAccepted list steps book (Revolve k value) =
     Valid steps (slots_of book) list × (forward list ≡ value) × (value ≡ bound steps (total_room book steps) k)
 IsAccepted list steps book (Places threshold) = Valid steps (slots_of book) list × FitsThreshold threshold steps book list
+IsAccepted list steps book (Nested t) = PassesNested list steps book t
+IsAccepted list steps book (Disk t) = PassesDisk list steps book t
 
 -- what the forward steps of a list, the cost, differ from: the value of its certificate, or, where they are that, the number
 -- of its k
@@ -39,21 +47,29 @@ Differs cost value number other = ((cost ≢ value) × (other ≡ value)) ⊎ ((
 -- why the certificate isn't accepted, by the first test that fails
 abbrev pub IsFirstReason : List Action → ℕ → BookCosts → Certificate → Reason → Type 0
 IsFirstReason list steps book (Revolve k value) Invalid = Valid steps (slots_of book) list → ⊥
+IsFirstReason list steps book (Revolve k value) WrongShape = ⊥
 IsFirstReason list steps book (Revolve k value) OutsideClass = ⊥
 IsFirstReason list steps book (Revolve k value) (Inequality entry) = ⊥
 IsFirstReason list steps book (Revolve k value) (ValueDiffers cost other) =
     Valid steps (slots_of book) list × (cost ≡ forward list) × Differs cost value (bound steps (total_room book steps) k) other
 IsFirstReason list steps book (Places threshold) Invalid = Valid steps (slots_of book) list → ⊥
+IsFirstReason list steps book (Places threshold) WrongShape = ⊥
 IsFirstReason list steps book (Places threshold) OutsideClass = Valid steps (slots_of book) list × (IsMultistage steps book list → ⊥)
 IsFirstReason list steps book (Places threshold) (Inequality entry) = Valid steps (slots_of book) list × IsFirstMisfit threshold steps book list entry
 IsFirstReason list steps book (Places threshold) (ValueDiffers cost other) = ⊥
+IsFirstReason list steps book (Nested t) reason = FailsNested list steps book t reason
+IsFirstReason list steps book (Disk t) reason = FailsDisk list steps book t reason
 
 -- a certificate is a threshold of which this holds
 abbrev pub IsPlaces : (ℕ → Type 0) → Certificate → Type 0
 IsPlaces Holds (Revolve k value) = ⊥
 IsPlaces Holds (Places threshold) = Holds threshold
+IsPlaces Holds (Nested t) = ⊥
+IsPlaces Holds (Disk t) = ⊥
 
 -- the list is the least of a class: no valid list takes fewer forward steps, or no list of the class costs less
 abbrev pub IsLeastOf : Class → ℕ → BookCosts → List Action → Type 0
 IsLeastOf class.Valid steps book list = (other : List Action) → Valid steps (slots_of book) other → forward list ≤ forward other
+IsLeastOf class.Nested steps book list = (other : List Action) → IsNested steps (slots_of book) other → cost list book ≤ cost other book
+IsLeastOf class.Disk steps book list = (other : List Action) → IsDisk steps (slots_of book) other → cost list book ≤ cost other book
 IsLeastOf class.Multistage steps book list = (other : List Action) → IsMultistage steps book other → cost list book ≤ cost other book

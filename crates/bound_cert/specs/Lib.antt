@@ -1,3 +1,4 @@
 pub mod Thresholds
+pub mod TableTests
 pub mod Accepted
 pub mod Verdicts

@@ -8,8 +8,11 @@ use Rattle.bound_cert.specs.declared.verdict.CertVerdict.{CertVerdict}
 use Rattle.bound_cert.specs.declared.verdict.CertVerdict.TheVariants.{Least, Not}
 use Rattle.table_clauses.specs.declared.entry.Entry.{Entry}
 use Rattle.bound_cert.specs.Thresholds.{Misfits, StandsBefore}
+use Rattle.bound_cert.specs.declared.verdict.Class.{Class}
 use Rattle.bound_cert.specs.declared.verdict.Class.TheVariants as class
-use Rattle.bound_cert.specs.declared.verdict.Reason.TheVariants.{Invalid, OutsideClass, Inequality, ValueDiffers}
+use Rattle.level_book.specs.UnderTable.{Entry as TableEntry, number}
+use Rattle.bound_cert.specs.TableTests.{entry_value}
+use Rattle.bound_cert.specs.declared.verdict.Reason.TheVariants.{Invalid, WrongShape, OutsideClass, Inequality, ValueDiffers}
 use Rattle.bound_cert.specs.Accepted.{class_of, IsAccepted, IsFirstReason, Differs}
 
 -- the certificate is accepted, or isn't, for this reason first
@@ -36,9 +39,21 @@ FindsMisfit threshold steps book list fast slow levels found =
 
 -- what three numbers come to: the forward steps of a list, the value of its certificate, and the number of its k
 abbrev pub IsComparison : ℕ → ℕ → ℕ → CertVerdict → Type 0
-IsComparison cost value number (Least class.Valid) = (cost ≡ value) × (value ≡ number)
-IsComparison cost value number (Least class.Multistage) = ⊥
-IsComparison cost value number (Not Invalid) = ⊥
-IsComparison cost value number (Not OutsideClass) = ⊥
-IsComparison cost value number (Not (Inequality entry)) = ⊥
-IsComparison cost value number (Not (ValueDiffers c other)) = (c ≡ cost) × Differs cost value number other
+IsComparison list_cost value of_k (Least class.Valid) = (list_cost ≡ value) × (value ≡ of_k)
+IsComparison list_cost value of_k (Least class.Multistage) = ⊥
+IsComparison list_cost value of_k (Least class.Nested) = ⊥
+IsComparison list_cost value of_k (Least class.Disk) = ⊥
+IsComparison list_cost value of_k (Not Invalid) = ⊥
+IsComparison list_cost value of_k (Not WrongShape) = ⊥
+IsComparison list_cost value of_k (Not OutsideClass) = ⊥
+IsComparison list_cost value of_k (Not (Inequality entry)) = ⊥
+IsComparison list_cost value of_k (Not (ValueDiffers c other)) = (c ≡ list_cost) × Differs list_cost value of_k other
+
+-- what the cost of a list and a top entry come to
+abbrev pub IsTopVerdict : Class → ℕ → TableEntry → CertVerdict → Type 0
+IsTopVerdict class list_cost top (Least c) = (c ≡ class) × (top ≡ number list_cost)
+IsTopVerdict class list_cost top (Not Invalid) = ⊥
+IsTopVerdict class list_cost top (Not WrongShape) = ⊥
+IsTopVerdict class list_cost top (Not OutsideClass) = ⊥
+IsTopVerdict class list_cost top (Not (Inequality place)) = ⊥
+IsTopVerdict class list_cost top (Not (ValueDiffers cost_is value_is)) = (top ≢ number list_cost) × (cost_is ≡ list_cost) × (value_is ≡ entry_value top)

@@ -1,14 +1,23 @@
-// The certificates of Revolve lists and of multistage lists.
-ghost use Rattle.std.specs.Prelude.{◌≡◌, ◌≤◌, ◌+◌, List, length, IfOk};
+// The certificates of lists that are planned.
+ghost use Rattle.std.specs.Prelude.{◌≡◌, ◌<◌, ◌≤◌, ◌+◌, ℕ, List, length, IfOk};
 ghost use Rattle.plan_types.specs.declared.action.Action.{Action};
-ghost use Rattle.level_book.specs.BookCosts.{slots_of, total_room};
+ghost use Rattle.level_book.specs.BookCosts.{BookCosts, IsWithinLimits, slots_of, total_room};
 ghost use Rattle.level_book.specs.Valid.{Valid};
 ghost use Rattle.level_book.specs.CostFold.{forward};
+ghost use Rattle.level_book.specs.UnderTable.{IsGreatest};
+ghost use Rattle.level_book.specs.DiskUnderTable.{IsGreatestDisk};
 ghost use Rattle.binomials.specs.Advances.{repeats, least_advances};
 ghost use Rattle.revolve_gen.specs.Plans.{HasPlan};
 ghost use Rattle.revolve_gen.specs.Written.{revolve_list};
 ghost use Rattle.revolve_gen.specs.Multistage.{IsMultistage};
 ghost use Rattle.multistage_gen.specs.Planned.{IsMultistageList};
+ghost use Rattle.cost_tables.specs.TableRows.{AreFor, Fits, FitsFastest, tables_in};
+ghost use Rattle.hrevolve_gen.specs.Plans as nested;
+ghost use Rattle.hrevolve_gen.specs.Written.{IsWritten};
+ghost use Rattle.disk_gen.specs.DiskPlans.{HasDiskPlan};
+ghost use Rattle.disk_gen.specs.DiskRows.{AreDiskFor, disk_tables_in};
+ghost use Rattle.disk_gen.specs.DiskWritten.{IsDiskWritten};
+ghost use Rattle.cert_text.specs.Meaning.{HasText};
 ghost use Rattle.bound_cert.specs.Accepted.{IsAccepted, IsPlaces};
 ghost use Rattle.bound_cert.specs.Thresholds.{IsThresholdOf};
 
@@ -16,6 +25,8 @@ use crate::places::greatest_slow;
 use binomials::{least_advances, repeats};
 use cert_text::Certificate;
 use class_rules::place_levels;
+use cost_tables::Tables;
+use disk_gen::DiskTables;
 use level_book::Book;
 use multistage_gen::place_savings;
 use plan_types::Action;
@@ -58,6 +69,7 @@ pub fn certify_places(
     requires few { length list.now ≤ 16777216 }
     requires class { IsMultistage steps book.now list.now }
     ensures threshold { IfOk result (IsPlaces (λ threshold. IsThresholdOf threshold steps book.now list.now)) }
+    ensures text { IfOk result (HasText steps book.now) }
 
     // It is accepted for the list that is planned.
     ensures accepted { IfOk result (λ certificate. IsMultistageList steps book.now list.now → IsAccepted list.now steps book.now certificate) }
@@ -69,4 +81,31 @@ pub fn certify_places(
     Ok(Certificate::Places {
         threshold: greatest_slow(&levels, &savings),
     })
+}
+
+/// The certificate of a list of the nested class, which is the tables that it is read from. It takes no memory.
+pub fn certify_nested(tables: Tables) -> Certificate
+    ensures value { result ≡ Certificate.Nested tables }
+
+    // Of the greatest tables it has a text, and it is accepted for the list that is read from them.
+    ensures text { (steps : ℕ) (book : BookCosts) → IsWithinLimits book → Fits steps book → AreFor steps book tables → IsGreatest steps book (tables_in tables) →
+        HasText steps book result }
+    ensures accepted { (list : List Action) (steps : ℕ) (book : BookCosts) → IsWithinLimits book → Fits steps book → AreFor steps book tables →
+        IsGreatest steps book (tables_in tables) → nested.HasPlan steps book → IsWritten steps book (tables_in tables) list → IsAccepted list steps book result }
+{
+    tables.is_shaped();
+    let _levels = tables.levels();
+    Certificate::Nested { tables }
+}
+
+/// The same of the disk class and its tables.
+pub fn certify_disk(tables: DiskTables) -> Certificate
+    ensures value { result ≡ Certificate.Disk tables }
+    ensures text { (steps : ℕ) (book : BookCosts) → IsWithinLimits book → FitsFastest steps book → AreDiskFor steps book tables →
+        IsGreatestDisk steps book (disk_tables_in tables) → HasText steps book result }
+    ensures accepted { (list : List Action) (steps : ℕ) (book : BookCosts) → IsWithinLimits book → FitsFastest steps book → AreDiskFor steps book tables →
+        IsGreatestDisk steps book (disk_tables_in tables) → IsDiskWritten steps book (disk_tables_in tables) list → IsAccepted list steps book result }
+{
+    tables.is_shaped();
+    Certificate::Disk { tables }
 }

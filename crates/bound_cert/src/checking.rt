@@ -5,6 +5,8 @@ ghost use Rattle.level_book.specs.declared.book.Level.{Level};
 ghost use Rattle.level_book.specs.BookCosts.{slots_of};
 ghost use Rattle.level_book.specs.Valid.{Valid};
 ghost use Rattle.level_book.specs.CostFold.{forward, cost};
+ghost use Rattle.level_book.specs.NestedClass.{Nested};
+ghost use Rattle.level_book.specs.DiskClass.{Disk};
 ghost use Rattle.revolve_gen.specs.Multistage.{IsMultistage};
 ghost use Rattle.cert_text.specs.declared.certificate.Certificate.{Certificate};
 ghost use Rattle.bound_cert.specs.declared.verdict.Class.{Class};
@@ -14,6 +16,7 @@ ghost use Rattle.bound_cert.specs.Verdicts.{IsVerdict, IsComparison};
 
 use crate::bound::bound;
 use crate::places::weigh_places;
+use crate::tables::{weigh_disk, weigh_nested};
 use crate::verdict::{CertVerdict, Class, Reason};
 use cert_text::Certificate;
 use cost_fold::tally;
@@ -22,8 +25,8 @@ use plan_types::Action;
 use schedule_rules::{Verdict, check};
 use std::alloc::{AllocError, Global};
 
-/// Checks a certificate for a list, a number of steps and a book. The memory that it takes is the validator's, and for a
-/// threshold that of the list's places.
+/// Checks a certificate for a list, a number of steps and a book. The memory that it takes is the validator's; for a threshold
+/// also that of the list's places, and for tables that of their columns.
 pub fn check_certificate(
     alloc: Global,
     list: &[Action],
@@ -43,7 +46,12 @@ pub fn check_certificate(
     ensures least_multistage { IfOk result (λ v. v ≡ CertVerdict.Least Class.Multistage →
         (fast slow : Level) → book.now.levels ≡ fast ∷ slow ∷ [] → fast.write ≤ slow.write → fast.read ≤ slow.read →
         (other : List Action) → IsMultistage steps book.now other → cost list.now book.now ≤ cost other book.now) }
+    ensures least_nested { IfOk result (λ v. v ≡ CertVerdict.Least Class.Nested →
+        (other : List Action) → Nested steps (slots_of book.now) other → cost list.now book.now ≤ cost other book.now) }
+    ensures least_disk { IfOk result (λ v. v ≡ CertVerdict.Least Class.Disk →
+        (other : List Action) → Disk steps (slots_of book.now) other → cost list.now book.now ≤ cost other book.now) }
 {
+    let _levels = book.levels();
     match check(alloc, list, steps, book)? {
         Verdict::Valid => weigh(alloc, list, steps, book, certificate),
         Verdict::Broken { .. } => Ok(CertVerdict::Not(Reason::Invalid)),
@@ -69,6 +77,8 @@ fn weigh(
             Ok(compare(forward_steps(list, steps, book), *value, number))
         }
         Certificate::Places { threshold } => weigh_places(alloc, list, steps, book, *threshold),
+        Certificate::Nested { tables } => weigh_nested(alloc, list, steps, book, tables),
+        Certificate::Disk { tables } => weigh_disk(alloc, list, steps, book, tables),
     }
 }
 

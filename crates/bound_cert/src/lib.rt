@@ -12,9 +12,12 @@ mod checking;
 mod place_tests;
 mod places;
 #[cfg(test)]
+mod table_tests;
+mod tables;
+#[cfg(test)]
 mod tests;
 mod verdict;
 
-pub use crate::certifying::{certify_places, certify_revolve};
+pub use crate::certifying::{certify_disk, certify_nested, certify_places, certify_revolve};
 pub use crate::checking::check_certificate;
 pub use crate::verdict::{CertVerdict, Class, Reason};

@@ -1,6 +1,7 @@
 // Thresholds of multistage lists by hand: for four steps the images at places 0 and 1 save 3 and 4 on the faster level.
 ghost use Rattle.std.specs.Prelude.{◌≤◌, length};
 
+use crate::tests::numbers;
 use crate::{CertVerdict, Class, Reason, certify_places, check_certificate};
 use cert_text::Certificate;
 use class_rules::in_multistage;
@@ -15,7 +16,7 @@ use table_clauses::Entry;
 const LEAST: CertVerdict = CertVerdict::Least(Class::Multistage);
 
 // A memory that is free, and a disk whose images cost 2 to write and 1 to read.
-fn two_levels(alloc: Global, fast: u32, slow: u32) -> Result<Book, Fail> {
+pub(crate) fn two_levels(alloc: Global, fast: u32, slow: u32) -> Result<Book, Fail> {
     let text = format!(in alloc;
         "{{\"forward\":1,\"reverse\":1,\"levels\":[{{\"name\":\"RAM\",\"slots\":{fast},\"write\":0,\"read\":0}},{{\"name\":\"DISK\",\"slots\":{slow},\"write\":2,\"read\":1}}]}}"
     )?;
@@ -109,16 +110,16 @@ fn the_certificate_of_the_planned_list_is_its_slow_saving(rt: HostRuntime) -> Re
     let list = multistage_list(rt.alloc(), 4, &book)?;
     assert!(rt; list.len() < 100);
     assert_eq!(rt;
-        certify_places(rt.alloc(), &list, 4, &book)?,
-        Certificate::Places { threshold: 3 }
+        numbers(&certify_places(rt.alloc(), &list, 4, &book)?),
+        (0, 3)
     );
     // Where all places are on the faster level, none would save anything.
     let wide = two_levels(rt.alloc(), 4, 1)?;
     let list = multistage_list(rt.alloc(), 4, &wide)?;
     assert!(rt; list.len() < 100);
     assert_eq!(rt;
-        certify_places(rt.alloc(), &list, 4, &wide)?,
-        Certificate::Places { threshold: 0 }
+        numbers(&certify_places(rt.alloc(), &list, 4, &wide)?),
+        (0, 0)
     );
     Ok(())
 }

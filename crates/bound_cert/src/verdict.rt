@@ -9,6 +9,10 @@ pub enum Class {
     Valid,
     /// The multistage class, by its costs.
     Multistage,
+    /// The nested class, by its costs.
+    Nested,
+    /// The disk class, by its costs.
+    Disk,
 }
 
 /// Why a certificate isn't accepted.
@@ -16,12 +20,15 @@ pub enum Class {
 pub enum Reason {
     /// The list isn't valid.
     Invalid,
+    /// The tables aren't for these steps and this book, or are for more than can be built.
+    WrongShape,
     /// The list isn't in the class that the certificate is for.
     OutsideClass,
     /// A clause fails here. For a threshold the table is 4, the number of free slots is that of the place, and the steps are 0.
     Inequality(Entry),
-    /// The list is valid and takes `cost` forward steps, which differ from `value`: the certificate's, or, where they are
-    /// that, the number that goes with its `k`.
+    /// For a certificate of Revolve, the list takes `cost` forward steps, which differ from `value`: the certificate's, or, where
+    /// they are that, the number that goes with its `k`. For tables, the list costs `cost`, and the top entry is `value`;
+    /// 18,446,744,073,709,551,615 stands for Never.
     ValueDiffers { cost: u64, value: u64 },
 }
 

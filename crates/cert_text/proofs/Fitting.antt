@@ -1,5 +1,6 @@
 -- Words and lines fit what is wanted, or have one first fault.
-use Rattle.std.proofs.Common.{◌≡◌, ◌⊎◌, ℕ, ◌+◌, ◌^◌, ◌<◌, true, List, [], ◌∷◌, Option, Some, None, refl, sym, ◌∙◌, inl, inr}
+use Rattle.std.proofs.Common.{◌≡◌, ◌⊎◌, ℕ, ◌+◌, ◌-◌, ◌^◌, ◌<◌, true, List, [], ◌∷◌, Option, Some, None, refl, sym, ◌∙◌, inl, inr, arith}
+use Rattle.std.specs.Prelude.{codes}
 use Rattle.std.specs.List.{AllByRecursion}
 use Rattle.std.specs.Str.{bytes_eq}
 use Rattle.std.proofs.lemmas.Slice.Eq.{bytes_eq-Decides}
@@ -7,7 +8,7 @@ use Rattle.action_text.specs.Tokens.{Token}
 use Rattle.action_text.specs.Reading.{number_at, whole}
 use Rattle.cert_text.specs.MarkedLines.{CertificateLine}
 use Rattle.cert_text.specs.Words.{words_of, end_of}
-use Rattle.cert_text.specs.Wanted.{Want, this_word, number_to, Fits}
+use Rattle.cert_text.specs.Wanted.{Want, this_word, number_to, an_entry, Fits}
 use Rattle.cert_text.specs.Faults.{wrong_rule, FitAll, IsWordFault, first_column, IsLineFault}
 use Rattle.cert_text.proofs.WordLemmas.{which}
 use Rattle.cert_text.proofs.Numerals.{number_is, no_number}
@@ -16,6 +17,7 @@ use Rattle.cert_text.proofs.Numerals.{number_is, no_number}
 abbrev pub IsNarrow : Want → Type 0
 IsNarrow (this_word word) = Unit {0}
 IsNarrow (number_to most) = most < 2 ^ 64
+IsNarrow an_entry = Unit {0}
 
 abbrev pub AreNarrow : List (List Want) → Type 0
 AreNarrow more = AllByRecursion (λ wants. AllByRecursion IsNarrow wants) more
@@ -34,6 +36,18 @@ decided (number_to most) text narrow = found (whole (number_at most text)) refl
     found : (answer : Option ℕ) → whole (number_at most text) ≡ answer → Fits (number_to most) text ⊎ (Fits (number_to most) text → ⊥)
     found (Some n) e = let is = number_is most text n narrow e in inl (n, is.0, is.1)
     found None e = inr (λ f. no_number most text narrow e f.0 f.1 f.2)
+decided an_entry text narrow = elim (same_or_other text (codes "-")) [
+  | inl none ↦ inl (inl none)
+  | inr other ↦ found other (whole (number_at (2 ^ 64 - 1) text)) refl
+]
+  where
+    neither : (text ≡ codes "-" → ⊥) → whole (number_at (2 ^ 64 - 1) text) ≡ None → Fits an_entry text → ⊥
+    neither other e (inl none) = other none
+    neither other e (inr some) = no_number (2 ^ 64 - 1) text (omega arith) e some.0 (omega (arith, some.1)) some.2
+
+    found : (text ≡ codes "-" → ⊥) → (answer : Option ℕ) → whole (number_at (2 ^ 64 - 1) text) ≡ answer → Fits an_entry text ⊎ (Fits an_entry text → ⊥)
+    found other (Some n) e = let is = number_is (2 ^ 64 - 1) text n (omega arith) e in inl (inr (n, omega (arith, is.0), is.1))
+    found other None e = inr (λ f. neither other e f)
 
 -- ---- in a line
 

@@ -9,10 +9,10 @@ use Rattle.cert_text.specs.declared.fault.CertFault.{CertFault}
 use Rattle.cert_text.specs.declared.fault.CertFault.TheVariants.{At, Memory}
 use Rattle.cert_text.specs.declared.kind.Kind.{Kind}
 use Rattle.cert_text.specs.MarkedLines.{CertificateLine, certificate_lines, line_count}
-use Rattle.cert_text.specs.Words.{words, texts_of}
-use Rattle.cert_text.specs.Wanted.{Want, this_word, Fits, kind_word, first_wants, later_wants, wants_of}
-use Rattle.cert_text.specs.Faults.{FitAll, IsWordFault, first_column, IsLineFault, Names, IsFault}
-use Rattle.cert_text.specs.Left.{Left, left, Takes, texts, Unread, unread, IsAt, IsRestFault, SaysRest}
+use Rattle.cert_text.specs.Words.{words, texts_of, words_of, end_of}
+use Rattle.cert_text.specs.Wanted.{Want, this_word, Fits, kind_word, first_wants, later_wants, wants_of, IsTooLarge}
+use Rattle.cert_text.specs.Faults.{FitAll, IsWordFault, first_column, IsLineFault, Names, IsFault, IsKindFault}
+use Rattle.cert_text.specs.Left.{Left, left, Takes, texts, Unread, unread, IsAt, IsRestFault, SaysRest, IsSizedFault}
 use Rattle.cert_text.proofs.TextLaws.{Answers}
 
 -- ---- behind a word that fits
@@ -93,10 +93,17 @@ rest_fault kind steps book number count r l c text later all behind is taken cou
     let N : ℕ → Type 0 = λ n. IsLineFault (later_wants kind steps book) later.lines n r l c in
     inr (subst F (sym (words_are text all is)) fits, subst N counted fault.1)
 
+kind_fault : (kind : Kind) (steps : ℕ) (book : BookCosts) (number count r l c : ℕ) (text : List ℕ) (later : Unread) (all behind : Left) → all ≡ left 3 text → Takes (kind_word kind) all behind → later.count ≡ count →
+    IsSizedFault kind steps book number (first_column (words_of (line_at number text)) (end_of (line_at number text))) behind later r l c → IsKindFault kind steps book (line_at number text) later.lines count r l c
+kind_fault kind steps book number count r l c text later all behind is taken counted (inl fault) = inl fault
+kind_fault kind steps book number count r l c text later all behind is taken counted (inr fault) =
+    inr (fault.0, rest_fault kind steps book number count r l c text later all behind is taken counted fault.1)
+
 -- what is answered behind the word of the kind is what the whole text says
 pub answered : (steps : ℕ) (book : BookCosts) (bytes text : List ℕ) (kind : Kind) (number : ℕ) (start later : Unread) (all behind : Left) (answer : Result Certificate CertFault) →
     start ≡ unread 0 bytes → start.lines ≡ record { number = number; text = text } ∷ later.lines → later.count ≡ start.count → all ≡ left 3 text → Takes (kind_word kind) all behind →
-    MatchResult answer (λ certificate. SaysRest kind steps book behind later certificate) (λ fault. (fault ≡ Memory) ⊎ IsAt (IsRestFault kind steps book number behind later) fault) →
+    MatchResult answer (λ certificate. SaysRest kind steps book behind later certificate)
+    (λ fault. (fault ≡ Memory) ⊎ IsAt (IsSizedFault kind steps book number (first_column (words_of (line_at number text)) (end_of (line_at number text))) behind later) fault) →
     Answers steps book bytes answer
 answered steps book bytes text kind number start later all behind (Ok certificate) is first counted words_is taken rest = record {
   has_text = rest.has_text;
@@ -110,9 +117,18 @@ answered steps book bytes text kind number start later all behind (Err Memory) i
 answered steps book bytes text kind number start later all behind (Err (At r l c)) is first counted words_is taken (inr rest) =
     let N : List Token → Type 0 = λ ws. Names kind ws in
     let here : IsFault steps book (line_at number text ∷ later.lines) start.count r l c =
-    inr (kind, subst N (sym (words_are text all words_is)) (named_kind kind all behind taken), rest_fault kind steps book number start.count r l c text later all behind words_is taken counted rest) in
+    inr (kind, subst N (sym (words_are text all words_is)) (named_kind kind all behind taken), kind_fault kind steps book number start.count r l c text later all behind words_is taken counted rest) in
     let P : List CertificateLine → Type 0 = λ ls. IsFault steps book ls start.count r l c in
     inr (fault_of steps book bytes start r l c is (subst P (sym first) here))
+
+-- of a kind that is never too large
+pub sized : (kind : Kind) (steps : ℕ) (book : BookCosts) (number named : ℕ) (behind : Left) (later : Unread) (answer : Result Certificate CertFault) → (IsTooLarge kind steps book → ⊥) →
+    MatchResult answer (λ certificate. SaysRest kind steps book behind later certificate) (λ fault. (fault ≡ Memory) ⊎ IsAt (IsRestFault kind steps book number behind later) fault) →
+    MatchResult answer (λ certificate. SaysRest kind steps book behind later certificate) (λ fault. (fault ≡ Memory) ⊎ IsAt (IsSizedFault kind steps book number named behind later) fault)
+sized kind steps book number named behind later (Ok certificate) small rest = rest
+sized kind steps book number named behind later (Err fault) small (inl none) = inl none
+sized kind steps book number named behind later (Err Memory) small (inr rest) = absurd rest
+sized kind steps book number named behind later (Err (At r l c)) small (inr rest) = inr (inr (small, rest))
 
 -- a line too many
 pub line_too_many : (ls others : List CertificateLine) (count number column : ℕ) (text : List ℕ) (all : Left) → ls ≡ record { number = number; text = text } ∷ others → all ≡ left 3 text → column ≡ first_column all.words all.end →

@@ -1,24 +1,28 @@
 -- The canonical text of a certificate says it.
-use Rattle.std.proofs.Common.{◌≡◌, ◌≢◌, ℕ, zero, suc, ◌+◌, ◌%◌, ◌^◌, ◌<◌, ◌≤◌, false, List, [], ◌∷◌, ◌++◌, length, take, drop, refl, sym, ap, ◌∙◌, append-nil, append_assoc, arith}
-use Rattle.std.specs.Prelude.{codes, decimal, map}
-use Rattle.std.specs.List.{AllByRecursion, flat_map, concat}
+use Rattle.std.proofs.Common.{◌≡◌, ◌≢◌, ℕ, zero, suc, ◌+◌, ◌/◌, ◌%◌, ◌<◌, ◌≤◌, false, eqb, ltb, List, [], ◌∷◌, ◌++◌, length, take, drop, refl, sym, ap, ◌∙◌, inl, inr, append-nil, append_assoc, arith}
+use Rattle.std.specs.Prelude.{codes, decimal, map, slice_index_or}
+use Rattle.std.specs.List.{AllByRecursion, range_with_len, flat_map, concat}
+use Rattle.std.specs.Fmt.{digits, digits_onto, digit_glyph}
 use Rattle.std.proofs.lemmas.Bool.{ne_eqb}
 use Rattle.std.proofs.lemmas.Bool.Decides.{nat_tests}
-use Rattle.std.proofs.lemmas.Fmt.{decimal_by_steps, decimal_nonempty}
 use Rattle.std.proofs.lemmas.List.Folds.{concat-append}
 use Rattle.level_book.specs.BookCosts.{BookCosts}
+use Rattle.level_book.specs.UnderTable.{Entry, number, never}
+use Rattle.cost_tables.specs.TableRows.{TableRows, tables_in}
+use Rattle.disk_gen.specs.DiskRows.{disk_tables_in}
 use Rattle.action_text.specs.Tokens.{is_blank}
 use Rattle.action_text.specs.ScheduleText.{lines}
 use Rattle.cert_text.specs.declared.certificate.Certificate.{Certificate}
-use Rattle.cert_text.specs.declared.certificate.Certificate.TheVariants.{Revolve, Places}
+use Rattle.cert_text.specs.declared.certificate.Certificate.TheVariants.{Revolve, Places, Nested, Disk}
 use Rattle.cert_text.specs.MarkedLines.{marked, certificate_lines}
 use Rattle.cert_text.specs.Words.{starts_word, words, texts_of}
-use Rattle.cert_text.specs.WordLines.{word_lines}
+use Rattle.cert_text.specs.WordLines.{entry_word, row_line, row_lines, level_lines, column_lines, word_lines}
 use Rattle.cert_text.specs.Meaning.{HasText}
 use Rattle.cert_text.specs.Canonical.{pieces_from}
 use Rattle.cert_text.specs.Laws.{IsOtherLine, CanonicalIsRead}
 use Rattle.cert_text.specs.Left.{texts}
-use Rattle.cert_text.proofs.WordLemmas.{of_word, word_at}
+use Rattle.cert_text.proofs.WordLemmas.{which, of_word, word_at}
+use Rattle.cert_text.proofs.Ranges.{all_mapped, all_appended, all_flat}
 use Rattle.cert_text.proofs.LineLemmas.{marked_here, marked_later, none_in_empty}
 
 -- ---- lines
@@ -69,19 +73,36 @@ high_plain (b ∷ w) high = (plain b high.0, high_plain w high.1)
 pub high_word : (b : ℕ) (w : List ℕ) → AreHigh (b ∷ w) → IsPlainWord (b ∷ w)
 high_word b w high = record { some = omega arith; plain = high_plain (b ∷ w) high }
 
-plain_more : (ds : List ℕ) (b : ℕ) → AllByRecursion IsPlain ds → IsPlain b → AllByRecursion IsPlain (ds ++ b ∷ [])
-plain_more [] b all one = (one, tt)
-plain_more (d ∷ ds) b all one = (all.0, plain_more ds b all.1 one)
+-- the digits of a number, however great it is
+glyph_plain : (d : ℕ) → IsPlain (digit_glyph false d)
+glyph_plain d = elim (which (ltb d 10)) [
+  | inl low ↦ rw low (plain (48 + d) (omega arith))
+  | inr high ↦ rw high (plain (87 + d) (omega arith))
+]
 
-digits_plain : (n : ℕ) → n < 2 ^ 64 → AllByRecursion IsPlain (decimal n)
-digits_plain n small =
-    decimal_by_steps (λ n ds. AllByRecursion IsPlain ds)
-    (λ n low. (plain (48 + n) (omega arith), tt))
-    (λ n ds high front. plain_more ds (48 + n % 10) front (plain (48 + n % 10) (omega arith)))
-    n small
+onto_plain : (k n : ℕ) (acc : List ℕ) → AllByRecursion IsPlain acc → AllByRecursion IsPlain (digits_onto k 10 false n acc)
+onto_plain zero n acc all = all
+onto_plain (suc k) n acc all = elim (which (eqb (n / 10) 0)) [
+  | inl last ↦ rw last (glyph_plain (n % 10), all)
+  | inr more ↦ rw more (onto_plain k (n / 10) (digit_glyph false (n % 10) ∷ acc) (glyph_plain (n % 10), all))
+]
 
-pub number_word : (n : ℕ) → n < 2 ^ 64 → IsPlainWord (decimal n)
-number_word n small = record { some = decimal_nonempty n small; plain = digits_plain n small }
+onto_some : (k n : ℕ) (acc : List ℕ) → 0 < length acc → 0 < length (digits_onto k 10 false n acc)
+onto_some zero n acc some = some
+onto_some (suc k) n acc some = elim (which (eqb (n / 10) 0)) [
+  | inl last ↦ rw last (omega arith)
+  | inr more ↦ rw more (onto_some k (n / 10) (digit_glyph false (n % 10) ∷ acc) (omega arith))
+]
+
+onto_one : (k n : ℕ) → 0 < length (digits_onto (suc k) 10 false n [])
+onto_one k n = elim (which (eqb (n / 10) 0)) [
+  | inl last ↦ rw last (omega arith)
+  | inr more ↦ rw more (onto_some k (n / 10) (digit_glyph false (n % 10) ∷ []) (omega arith))
+]
+
+pub number_word : (n : ℕ) → IsPlainWord (decimal n)
+unfolding digits
+number_word n = record { some = onto_one 63 n; plain = onto_plain 64 n [] tt }
 
 of_plain : (w rest : List ℕ) → AllByRecursion IsPlain w → starts_word rest ≡ false → of_word (w ++ rest) ≡ length w
 of_plain [] [] all ends = refl
@@ -175,14 +196,51 @@ lines_said n (ws ∷ more) all =
     ∙ ap (map texts_of) (marked_here n (35 ∷ 33 ∷ spelled ws) (lines (all_spelled more)) refl)
     ∙ (λ i. spelled_texts 3 ws all.0 i ∷ lines_said (n + 1) more all.1 i)
 
+plain_entry : (e : Entry) → IsPlainWord (entry_word e)
+plain_entry (number n) = number_word n
+plain_entry never = let high : AreHigh (codes "-") = (omega arith, tt) in high_word 45 [] high
+
+plain_rows : (letter : List ℕ) (k steps n : ℕ) (e : ℕ → ℕ → Entry) → IsPlainWord letter → ArePlain (row_lines letter k steps n e)
+unfolding row_lines
+plain_rows letter k steps n e is =
+    all_mapped (λ ws. AllByRecursion IsPlainWord ws) (λ m. row_line (letter ∷ decimal k ∷ decimal m ∷ []) steps (e m)) 0 n
+    (λ m low high. (is, (number_word k, (number_word m, all_mapped IsPlainWord (λ l. entry_word (e m l)) 1 steps (λ l least most. plain_entry (e m l))))))
+
+plain_level : (t : TableRows) (k : ℕ) → ArePlain (level_lines t k)
+unfolding level_lines
+plain_level t k =
+    let f : AreHigh (codes "F") = (omega arith, tt) in
+    let h : AreHigh (codes "H") = (omega arith, tt) in
+    all_appended (λ ws. AllByRecursion IsPlainWord ws) (row_lines (codes "F") k t.steps (slice_index_or t.rooms k 0 + 1) (λ m l. (tables_in t).fresh k l m)) (row_lines (codes "H") k t.steps (slice_index_or t.rooms k 0) (λ m l. (tables_in t).held k l m))
+    (plain_rows (codes "F") k t.steps (slice_index_or t.rooms k 0 + 1) (λ m l. (tables_in t).fresh k l m) (high_word 70 [] f))
+    (plain_rows (codes "H") k t.steps (slice_index_or t.rooms k 0) (λ m l. (tables_in t).held k l m) (high_word 72 [] h))
+
 pub plain_lines : (steps : ℕ) (book : BookCosts) (certificate : Certificate) → HasText steps book certificate → ArePlain (word_lines certificate)
 plain_lines steps book (Revolve k v) has =
     let high : AreHigh (codes "revolve") = (omega arith, (omega arith, (omega arith, (omega arith, (omega arith, (omega arith, (omega arith, tt))))))) in
-    let small : k < 2 ^ 64 = omega (arith, has.0) in
-    ((high_word 114 (codes "evolve") high, (number_word k small, (number_word v has.1, tt))), tt)
+    ((high_word 114 (codes "evolve") high, (number_word k, (number_word v, tt))), tt)
 plain_lines steps book (Places n) has =
     let high : AreHigh (codes "places") = (omega arith, (omega arith, (omega arith, (omega arith, (omega arith, (omega arith, tt)))))) in
-    ((high_word 112 (codes "laces") high, (number_word n has, tt)), tt)
+    ((high_word 112 (codes "laces") high, (number_word n, tt)), tt)
+plain_lines steps book (Nested t) has =
+    let nested : AreHigh (codes "nested") = (omega arith, (omega arith, (omega arith, (omega arith, (omega arith, (omega arith, tt)))))) in
+    let end : AreHigh (codes "end") = (omega arith, (omega arith, (omega arith, tt))) in
+    let flat = all_flat (λ ws. AllByRecursion IsPlainWord ws) (level_lines t) 0 (length t.rooms) (λ k low high. plain_level t k) in (
+      (high_word 110 (codes "ested") nested, tt),
+      all_appended (λ ws. AllByRecursion IsPlainWord ws) (flat_map (level_lines t) (range_with_len 0 (length t.rooms))) ((codes "end" ∷ []) ∷ []) flat ((high_word 101 (codes "nd") end, tt), tt),
+    )
+plain_lines steps book (Disk t) has =
+    let disk : AreHigh (codes "disk") = (omega arith, (omega arith, (omega arith, (omega arith, tt)))) in
+    let fd : AreHigh (codes "Fd") = (omega arith, (omega arith, tt)) in
+    let hd : AreHigh (codes "Hd") = (omega arith, (omega arith, tt)) in
+    let end : AreHigh (codes "end") = (omega arith, (omega arith, (omega arith, tt))) in
+    let flat = all_flat (λ ws. AllByRecursion IsPlainWord ws) (level_lines t.fast) 0 (length t.fast.rooms) (λ k low high. plain_level t.fast k) in
+    let fresh = all_mapped IsPlainWord (λ l. entry_word ((disk_tables_in t).disk_fresh l)) 1 t.fast.steps (λ l least most. plain_entry ((disk_tables_in t).disk_fresh l)) in
+    let held = all_mapped IsPlainWord (λ l. entry_word ((disk_tables_in t).disk_held l)) 1 t.fast.steps (λ l least most. plain_entry ((disk_tables_in t).disk_held l)) in (
+      (high_word 100 (codes "isk") disk, tt),
+      all_appended (λ ws. AllByRecursion IsPlainWord ws) (flat_map (level_lines t.fast) (range_with_len 0 (length t.fast.rooms))) (column_lines t) flat
+          ((high_word 70 (codes "d") fd, fresh), ((high_word 72 (codes "d") hd, held), ((high_word 101 (codes "nd") end, tt), tt))),
+    )
 
 pub canonical_read : CanonicalIsRead
 canonical_read steps book certificate has others all =

@@ -13,11 +13,13 @@ use Rattle.cert_text.specs.MarkedLines.{CertificateLine, certificate_lines, line
 use Rattle.cert_text.specs.Words.{words_of, texts_of, end_of}
 use Rattle.cert_text.specs.WordLines.{word_lines}
 use Rattle.cert_text.specs.Meaning.{HasText, IsCertificateText}
-use Rattle.cert_text.specs.Wanted.{kind_word, wants_of}
-use Rattle.cert_text.specs.Faults.{first_column, IsLineFault, Names, IsFault, HasFirstFault}
+use Rattle.cert_text.specs.Wanted.{kind_word, IsTooLarge, wants_of}
+use Rattle.cert_text.specs.Faults.{first_column, Names, IsKindFault, IsFault, HasFirstFault}
 use Rattle.cert_text.specs.Laws.{OneCertificate, OneFault, CertificatesHaveNoFault, CertificateOrFault}
 use Rattle.cert_text.proofs.Fitting.{same_or_other, no_line_fault, one_line_fault, line_outcome}
-use Rattle.cert_text.proofs.OfKind.{kind_of, one_name, narrow, fits_say, says_fit, says_kind, says_some, one_said}
+use Rattle.cert_text.proofs.Nesting.{fits_or_not}
+use Rattle.cert_text.proofs.DiskText.{disk_fits_or_not}
+use Rattle.cert_text.proofs.OfKind.{kind_of, one_name, narrow, fits_say, says_fit, says_small, says_kind, says_some, one_said}
 
 pub one_certificate : OneCertificate
 one_certificate steps book bytes a b x y = one_said steps book a b x.has_text y.has_text (sym x.says ∙ y.says)
@@ -28,9 +30,11 @@ no_fault_in steps book [] count certificate r l c has says fault = says_some cer
 no_fault_in steps book (first ∷ others) count certificate r l c has says (inl fault) = fault.0 (kind_of certificate) (says_kind certificate first others says)
 no_fault_in steps book (first ∷ others) count certificate r l c has says (inr fault) =
     let same : fault.0 ≡ kind_of certificate = one_name (words_of first) fault.0 (kind_of certificate) fault.1 (says_kind certificate first others says) in
-    let there : IsLineFault (wants_of (kind_of certificate) steps book) (first ∷ others) count r l c =
-    subst (λ (kind : Kind). IsLineFault (wants_of kind steps book) (first ∷ others) count r l c) same fault.2 in
-    no_line_fault (wants_of (kind_of certificate) steps book) (first ∷ others) count r l c (says_fit steps book certificate (first ∷ others) has says) there
+    no_kind_fault (subst (λ (kind : Kind). IsKindFault kind steps book first others count r l c) same fault.2)
+  where
+    no_kind_fault : IsKindFault (kind_of certificate) steps book first others count r l c → ⊥
+    no_kind_fault (inl large) = says_small steps book certificate has large.0
+    no_kind_fault (inr fault) = no_line_fault (wants_of (kind_of certificate) steps book) (first ∷ others) count r l c (says_fit steps book certificate (first ∷ others) has says) fault.1
 
 pub no_fault : CertificatesHaveNoFault
 no_fault steps book bytes certificate (At r l c) is fault = no_fault_in steps book (certificate_lines bytes) (line_count (lines bytes)) certificate r l c is.has_text is.says fault
@@ -44,9 +48,13 @@ one_fault_in steps book (first ∷ others) count r l c r' l' c' (inl x) (inr y) 
 one_fault_in steps book (first ∷ others) count r l c r' l' c' (inr x) (inl y) = absurd (y.0 x.0 x.1)
 one_fault_in steps book (first ∷ others) count r l c r' l' c' (inr x) (inr y) =
     let same : y.0 ≡ x.0 = one_name (words_of first) y.0 x.0 y.1 x.1 in
-    let there : IsLineFault (wants_of x.0 steps book) (first ∷ others) count r' l' c' =
-    subst (λ (kind : Kind). IsLineFault (wants_of kind steps book) (first ∷ others) count r' l' c') same y.2 in
-    one_line_fault (wants_of x.0 steps book) (first ∷ others) count r l c r' l' c' x.2 there
+    one_kind_fault x.0 x.2 (subst (λ (kind : Kind). IsKindFault kind steps book first others count r' l' c') same y.2)
+  where
+    one_kind_fault : (kind : Kind) → IsKindFault kind steps book first others count r l c → IsKindFault kind steps book first others count r' l' c' → (r ≡ r') × (l ≡ l') × (c ≡ c')
+    one_kind_fault kind (inl x) (inl y) = (x.1 ∙ sym y.1, x.2 ∙ sym y.2, x.3 ∙ sym y.3)
+    one_kind_fault kind (inl x) (inr y) = absurd (y.0 x.0)
+    one_kind_fault kind (inr x) (inl y) = absurd (x.0 y.0)
+    one_kind_fault kind (inr x) (inr y) = one_line_fault (wants_of kind steps book) (first ∷ others) count r l c r' l' c' x.1 y.1
 
 -- a text has one first fault at most
 pub one_fault : OneFault
@@ -81,13 +89,27 @@ kind_or_none (w ∷ ws) = elim (same_or_other w.text (kind_word kind.Revolve)) [
   | inl revolve ↦ inl (kind.Revolve, revolve)
   | inr other ↦ elim (same_or_other w.text (kind_word kind.Places)) [
     | inl places ↦ inl (kind.Places, places)
-    | inr another ↦ inr (no_kind w.text other another)
+    | inr another ↦ elim (same_or_other w.text (kind_word kind.Nested)) [
+      | inl nested ↦ inl (kind.Nested, nested)
+      | inr third ↦ elim (same_or_other w.text (kind_word kind.Disk)) [
+        | inl disk ↦ inl (kind.Disk, disk)
+        | inr fourth ↦ inr (no_kind w.text other another third fourth)
+      ]
+    ]
   ]
 ]
   where
-    no_kind : (text : List ℕ) → (text ≡ kind_word kind.Revolve → ⊥) → (text ≡ kind_word kind.Places → ⊥) → (kind : Kind) → text ≡ kind_word kind → ⊥
-    no_kind text revolve places kind.Revolve e = revolve e
-    no_kind text revolve places kind.Places e = places e
+    no_kind : (text : List ℕ) → (text ≡ kind_word kind.Revolve → ⊥) → (text ≡ kind_word kind.Places → ⊥) → (text ≡ kind_word kind.Nested → ⊥) → (text ≡ kind_word kind.Disk → ⊥) → (kind : Kind) → text ≡ kind_word kind → ⊥
+    no_kind text revolve places nested disk kind.Revolve e = revolve e
+    no_kind text revolve places nested disk kind.Places e = places e
+    no_kind text revolve places nested disk kind.Nested e = nested e
+    no_kind text revolve places nested disk kind.Disk e = disk e
+
+large_or_not : (kind : Kind) (steps : ℕ) (book : BookCosts) → IsTooLarge kind steps book ⊎ (IsTooLarge kind steps book → ⊥)
+large_or_not kind.Revolve steps book = inr (λ large. large)
+large_or_not kind.Places steps book = inr (λ large. large)
+large_or_not kind.Nested steps book = elim (fits_or_not steps book) [ inl fit ↦ inr (λ large. large fit) | inr not ↦ inl not ]
+large_or_not kind.Disk steps book = elim (disk_fits_or_not steps book) [ inl fit ↦ inr (λ large. large fit) | inr not ↦ inl not ]
 
 abbrev Either : ℕ → BookCosts → List CertificateLine → ℕ → Type 0
 Either steps book ls count =
@@ -97,9 +119,12 @@ either_of : (steps : ℕ) (book : BookCosts) (ls : List CertificateLine) (count 
 either_of steps book [] count = inr (1, 0, 0, (refl, refl, refl))
 either_of steps book (first ∷ others) count = elim (kind_or_none (words_of first)) [
   | inr none ↦ inr (2, first.number, first_column (words_of first) (end_of first), inl (none, refl, refl, refl))
-  | inl some ↦ elim (line_outcome (wants_of some.0 steps book) (first ∷ others) count (narrow some.0 steps book)) [
-    | inl fits ↦ inl (fits_say some.0 steps book (first ∷ others) fits)
-    | inr fault ↦ inr (fault.0, fault.1, fault.2, inr (some.0, some.1, fault.3))
+  | inl some ↦ elim (large_or_not some.0 steps book) [
+    | inl large ↦ inr (5, first.number, first_column (words_of first) (end_of first), inr (some.0, some.1, inl (large, refl, refl, refl)))
+    | inr small ↦ elim (line_outcome (wants_of some.0 steps book) (first ∷ others) count (narrow some.0 steps book)) [
+      | inl fits ↦ inl (fits_say some.0 steps book (first ∷ others) small fits)
+      | inr fault ↦ inr (fault.0, fault.1, fault.2, inr (some.0, some.1, inr (small, fault.3)))
+    ]
   ]
 ]
 

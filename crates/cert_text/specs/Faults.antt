@@ -1,4 +1,4 @@
--- The first fault of a text that says no certificate. The rules are 1 Missing, 2 Kind, 3 Number, 4 Shape.
+-- The first fault of a text that says no certificate. The rules are 1 Missing, 2 Kind, 3 Number, 4 Shape, 5 TooLarge.
 use Rattle.std.specs.Prelude.{◌≡◌, ◌⊎◌, ℕ, ◌+◌, List, [], ◌∷◌}
 use Rattle.level_book.specs.BookCosts.{BookCosts}
 use Rattle.action_text.specs.Tokens.{Token}
@@ -8,7 +8,7 @@ use Rattle.cert_text.specs.declared.fault.CertFault.{CertFault}
 use Rattle.cert_text.specs.declared.fault.CertFault.TheVariants.{At, Memory}
 use Rattle.cert_text.specs.MarkedLines.{CertificateLine, certificate_lines, line_count}
 use Rattle.cert_text.specs.Words.{words_of, end_of}
-use Rattle.cert_text.specs.Wanted.{Want, this_word, number_to, Fits, kind_word, wants_of}
+use Rattle.cert_text.specs.Wanted.{Want, this_word, number_to, an_entry, Fits, kind_word, IsTooLarge, wants_of}
 
 -- ---- in one line
 
@@ -16,6 +16,7 @@ use Rattle.cert_text.specs.Wanted.{Want, this_word, number_to, Fits, kind_word, 
 abbrev pub wrong_rule : Want → ℕ
 wrong_rule (this_word word) = 4
 wrong_rule (number_to most) = 3
+wrong_rule an_entry = 3
 
 -- each word fits its place
 abbrev pub FitAll : List Want → List Token → Type 0
@@ -57,12 +58,19 @@ abbrev pub Names : Kind → List Token → Type 0
 Names kind [] = ⊥
 Names kind (w ∷ ws) = w.text ≡ kind_word kind
 
--- The first fault of certificate lines: there is none, or the first names no kind, or a line isn't what that kind wants.
+-- The first fault behind the word of a kind, which is the first word of the first line: it is too large, or a line isn't what
+-- that kind wants.
+abbrev pub IsKindFault : Kind → ℕ → BookCosts → CertificateLine → List CertificateLine → ℕ → ℕ → ℕ → ℕ → Type 0
+IsKindFault kind steps book first others count rule line column =
+    (IsTooLarge kind steps book × (rule ≡ 5) × (line ≡ first.number) × (column ≡ first_column (words_of first) (end_of first)))
+    ⊎ ((IsTooLarge kind steps book → ⊥) × IsLineFault (wants_of kind steps book) (first ∷ others) count rule line column)
+
+-- The first fault of certificate lines: there is none, or the first names no kind, or it is one behind the word of a kind.
 abbrev pub IsFault : ℕ → BookCosts → List CertificateLine → ℕ → ℕ → ℕ → ℕ → Type 0
 IsFault steps book [] count rule line column = (rule ≡ 1) × (line ≡ 0) × (column ≡ 0)
 IsFault steps book (first ∷ others) count rule line column =
     (((kind : Kind) → Names kind (words_of first) → ⊥) × (rule ≡ 2) × (line ≡ first.number) × (column ≡ first_column (words_of first) (end_of first)))
-    ⊎ ((kind : Kind) × Names kind (words_of first) × IsLineFault (wants_of kind steps book) (first ∷ others) count rule line column)
+    ⊎ ((kind : Kind) × Names kind (words_of first) × IsKindFault kind steps book first others count rule line column)
 
 -- the first fault of a text; want of memory is none
 abbrev pub HasFirstFault : ℕ → BookCosts → List ℕ → CertFault → Type 0

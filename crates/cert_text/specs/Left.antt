@@ -1,5 +1,5 @@
 -- No public clause cites this file. What is left of a line's words and of a text's lines, and how those before were taken.
-use Rattle.std.specs.Prelude.{◌≡◌, ◌⊎◌, ℕ, ◌+◌, List, ◌∷◌, length, map}
+use Rattle.std.specs.Prelude.{◌≡◌, ◌⊎◌, ℕ, ◌+◌, List, ◌∷◌, ◌++◌, length, map}
 use Rattle.level_book.specs.BookCosts.{BookCosts}
 use Rattle.action_text.specs.Tokens.{Token}
 use Rattle.action_text.specs.ScheduleText.{lines}
@@ -13,7 +13,7 @@ use Rattle.cert_text.specs.MarkedLines.{CertificateLine, marked, line_count}
 use Rattle.cert_text.specs.Words.{words, texts_of}
 use Rattle.cert_text.specs.WordLines.{word_lines}
 use Rattle.cert_text.specs.Meaning.{HasText}
-use Rattle.cert_text.specs.Wanted.{kind_word, first_wants, later_wants}
+use Rattle.cert_text.specs.Wanted.{Want, kind_word, first_wants, IsTooLarge, later_wants}
 use Rattle.cert_text.specs.Faults.{FitAll, IsWordFault, IsLineFault}
 
 -- the words that are left, and the column one past the line's bytes
@@ -58,6 +58,27 @@ abbrev pub IsRestFault : Kind → ℕ → BookCosts → ℕ → Left → Unread 
 IsRestFault kind steps book number behind later rule line column =
     (IsWordFault (first_wants kind) behind.words behind.end rule column × (line ≡ number))
     ⊎ (FitAll (first_wants kind) behind.words × IsLineFault (later_wants kind steps book) later.lines later.count rule line column)
+
+-- Words were gone past that fit what was wanted: what is at fault behind them is at fault behind these wants, and so it is with
+-- what fits.
+pub record Goes (wants : List Want) (old new : Left) : Type 0 where
+  pub fault : (more : List Want) (rule column : ℕ) → IsWordFault more new.words new.end rule column → IsWordFault (wants ++ more) old.words old.end rule column
+  pub fits : (more : List Want) → FitAll more new.words → FitAll (wants ++ more) old.words
+
+-- the same of lines
+pub record Passes (wants : List (List Want)) (old new : Unread) : Type 0 where
+  pub count : new.count ≡ old.count
+  pub fault : (more : List (List Want)) (rule line column : ℕ) → IsLineFault more new.lines new.count rule line column → IsLineFault (wants ++ more) old.lines old.count rule line column
+
+-- a fault in lines where these are wanted, whatever more is wanted behind them
+abbrev pub IsAmong : List (List Want) → Unread → CertFault → Type 0
+IsAmong wants old fault = (more : List (List Want)) → IsAt (IsLineFault (wants ++ more) old.lines old.count) fault
+
+-- the same, but that tables that are too large are at fault in this column, at the kind's word
+abbrev pub IsSizedFault : Kind → ℕ → BookCosts → ℕ → ℕ → Left → Unread → ℕ → ℕ → ℕ → Type 0
+IsSizedFault kind steps book number named behind later rule line column =
+    (IsTooLarge kind steps book × (rule ≡ 5) × (line ≡ number) × (column ≡ named))
+    ⊎ ((IsTooLarge kind steps book → ⊥) × IsRestFault kind steps book number behind later rule line column)
 
 -- with the kind's word before them, they say this certificate
 pub record SaysRest (kind : Kind) (steps : ℕ) (book : BookCosts) (behind : Left) (later : Unread) (certificate : Certificate) : Type 0 where

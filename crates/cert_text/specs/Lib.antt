@@ -7,4 +7,5 @@ pub mod Faults
 pub mod Canonical
 pub mod Laws
 pub mod Left
+pub mod Rows
 pub mod Printing

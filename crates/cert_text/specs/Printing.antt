@@ -1,5 +1,6 @@
 -- No public clause cites this file. Words of a line that are put into its writes, some at a time.
-use Rattle.std.specs.Prelude.{◌≡◌, ℕ, List, ◌++◌}
+use Rattle.std.specs.Prelude.{◌≡◌, ℕ, List, ◌++◌, codes}
+use Rattle.std.specs.List.{flat_map}
 use Rattle.keepers.specs.Writing.{Seen, AddsLines, StopsIn}
 use Rattle.cert_text.specs.Canonical.{pieces_from}
 
@@ -13,3 +14,7 @@ pub record Puts (words : List (List ℕ)) (room : ℕ) (text : List ℕ) (left :
 -- a write that the words filled failed, whatever words were to stand behind them
 pub record StopsAt (words : List (List ℕ)) (room : ℕ) (text : List ℕ) (old new : Seen) : Type 0 where
   pub stops : (later : List (List ℕ)) → StopsIn (pieces_from room text (words ++ later)) old new
+
+-- the writes of lines
+abbrev pub writes : List (List (List ℕ)) → List (List ℕ)
+writes lines = flat_map (pieces_from 16 (codes "#!")) lines

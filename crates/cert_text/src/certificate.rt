@@ -1,7 +1,10 @@
 // What a certificate is.
 
+use cost_tables::Tables;
+use disk_gen::DiskTables;
+
 /// What is to show that a list is least among some lists, for a number of steps and a book.
-#[derive(Clone, Copy, Debug, PartialEq, Eq)]
+#[derive(Drop)]
 pub enum Certificate {
     /// A number `k` of repeats, and the number that goes with it for N steps and c slots: N + k · N − β(c + 1, k − 1). For
     /// every `k` no valid list takes fewer forward steps.
@@ -9,4 +12,8 @@ pub enum Certificate {
     /// The threshold of a multistage list: the places of its stack on the faster level save at least so much there, and
     /// those on the slower level would save at most so much.
     Places { threshold: u64 },
+    /// Tables of least costs over the levels of a book: no list whose images stand on a stack undercuts an under-table.
+    Nested { tables: Tables },
+    /// Tables of least costs over memory and an unlimited disk: no list of the disk class undercuts a disk under-table.
+    Disk { tables: DiskTables },
 }

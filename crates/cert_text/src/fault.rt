@@ -7,7 +7,7 @@ use thiserror::Error;
 /// The first fault of a text that says no certificate.
 #[derive(Clone, Copy, Debug, PartialEq, Eq, Error)]
 pub enum CertFault {
-    /// The rule that is broken (1 Missing, 2 Kind, 3 Number, 4 Shape), and where: lines and columns are counted from 1,
+    /// The rule that is broken (1 Missing, 2 Kind, 3 Number, 4 Shape, 5 TooLarge), and where: lines and columns are counted from 1,
     /// columns by bytes. Where there is no certificate line, both are 0.
     #[error("line {line}, column {column}: rule {rule}")]
     At { rule: u8, line: u32, column: u32 },

@@ -5,4 +5,6 @@
 pub(crate) enum Kind {
     Revolve,
     Places,
+    Nested,
+    Disk,
 }

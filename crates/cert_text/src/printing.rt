@@ -7,6 +7,8 @@ ghost use Rattle.cert_text.specs.Canonical.{pieces, canonical};
 
 use crate::certificate::Certificate;
 use crate::piece::Piece;
+use crate::printing_disk::print_disk;
+use crate::printing_rows::print_nested;
 use keepers::{Sink, SinkFault};
 
 /// Writes the canonical text of a certificate, each line in writes of at most sixteen words. It takes no memory.
@@ -30,9 +32,11 @@ fn print<O: Sink>(certificate: &Certificate, out: &mut O) -> Result<(), SinkFaul
     ensures ok { OnOk result (AddsLines (pieces certificate.now) (seen O.told O.call_count O.fault_count out.old) (seen O.told O.call_count O.fault_count out.new)) }
     ensures stopped { OnErr result (StopsIn (pieces certificate.now) (seen O.told O.call_count O.fault_count out.old) (seen O.told O.call_count O.fault_count out.new)) }
 {
-    match *certificate {
-        Certificate::Revolve { k, value } => print_revolve(k, value, out),
-        Certificate::Places { threshold } => print_places(threshold, out),
+    match certificate {
+        Certificate::Revolve { k, value } => print_revolve(*k, *value, out),
+        Certificate::Places { threshold } => print_places(*threshold, out),
+        Certificate::Nested { tables } => print_nested(tables, out),
+        Certificate::Disk { tables } => print_disk(tables, out),
     }
 }
 

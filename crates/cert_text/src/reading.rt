@@ -1,18 +1,24 @@
 // Texts that are read as certificates.
-ghost use Rattle.std.specs.Prelude.{◌≡◌, ◌⊎◌, ◌<◌, ◌≤◌, ◌^◌, ℕ, [], ◌∷◌, length, decimal, MatchResult, IfOk, IfErr, Ok, Err};
+ghost use Rattle.std.specs.Prelude.{◌≡◌, ◌⊎◌, ◌<◌, ◌≤◌, ◌+◌, ◌^◌, ℕ, [], ◌∷◌, length, decimal, MatchResult, IfOk, IfErr, Ok, Err};
 ghost use Rattle.level_book.specs.BookCosts.{BookCosts};
 ghost use Rattle.cert_text.specs.declared.certificate.Certificate.{Certificate};
 ghost use Rattle.cert_text.specs.declared.fault.CertFault.{CertFault};
 ghost use Rattle.cert_text.specs.Wanted.{first_wants};
 ghost use Rattle.cert_text.specs.Meaning.{IsCertificateText};
-ghost use Rattle.cert_text.specs.Faults.{IsWordFault, HasFirstFault};
-ghost use Rattle.cert_text.specs.Left.{IsAt, IsRestFault, SaysRest, number_of_rule, texts};
+ghost use Rattle.cert_text.specs.Words.{words_of, end_of};
+ghost use Rattle.cert_text.specs.Faults.{IsWordFault, HasFirstFault, first_column};
+ghost use Rattle.cert_text.specs.Left.{IsAt, IsSizedFault, IsRestFault, SaysRest, number_of_rule, texts};
 
 use crate::certificate::Certificate;
+use crate::disk::read_disk;
 use crate::fault::{CertFault, LineFault};
 use crate::kind::Kind;
+use crate::lines::MarkedLine;
+use crate::nested::read_nested;
 use crate::reader::Reader;
 use crate::words::Words;
+use cost_tables::Tables;
+use disk_gen::DiskTables;
 use level_book::Book;
 use std::alloc::Global;
 
@@ -20,9 +26,9 @@ use std::alloc::Global;
 const MOST_REPEATS: u64 = 1_000_000;
 
 /// Reads the certificate that a text says for so many steps and a book, in one pass; lines that don't begin with `#!` are
-/// passed over.
+/// passed over. Memory is taken for tables alone, and where they fit.
 pub fn read_certificate(
-    _alloc: Global,
+    alloc: Global,
     bytes: &[u8],
     steps: u32,
     book: &Book,
@@ -37,13 +43,13 @@ pub fn read_certificate(
     ensures refused { IfErr result (λ fault. (fault ≡ CertFault.Memory) ⊎ HasFirstFault steps book.now bytes.now fault) }
     ensures first { (fault : CertFault) → HasFirstFault steps book.now bytes.now fault → (result ≡ Err fault) ⊎ (result ≡ Err CertFault.Memory) }
 {
-    read(bytes, steps, book)
+    read(alloc, bytes, steps, book)
 }
 
 // The same, by one clause for each outcome.
-fn read(bytes: &[u8], _steps: u32, _book: &Book) -> Result<Certificate, CertFault>
+fn read(alloc: Global, bytes: &[u8], steps: u32, book: &Book) -> Result<Certificate, CertFault>
     requires { length bytes.now < 2 ^ 31 }
-    ensures { MatchResult result (λ certificate. IsCertificateText _steps _book.now bytes.now certificate) (λ fault. (fault ≡ CertFault.Memory) ⊎ HasFirstFault _steps _book.now bytes.now fault) }
+    ensures { MatchResult result (λ certificate. IsCertificateText steps book.now bytes.now certificate) (λ fault. (fault ≡ CertFault.Memory) ⊎ HasFirstFault steps book.now bytes.now fault) }
 {
     let mut reader = Reader::new(bytes);
     match reader.line() {
@@ -57,6 +63,8 @@ fn read(bytes: &[u8], _steps: u32, _book: &Book) -> Result<Certificate, CertFaul
             match words.kind() {
                 Ok(Kind::Revolve) => revolve(first.number, &mut words, &mut reader),
                 Ok(Kind::Places) => places(first.number, &mut words, &mut reader),
+                Ok(Kind::Nested) => nested(alloc, &first, &mut words, &mut reader, steps, book),
+                Ok(Kind::Disk) => disk(alloc, &first, &mut words, &mut reader, steps, book),
                 Err(column) => Err(CertFault::At {
                     rule: 2,
                     line: first.number,
@@ -126,4 +134,66 @@ fn threshold(words: &mut Words<'_>) -> Result<u64, LineFault>
     let threshold = words.number(u64::MAX)?;
     words.finish()?;
     Ok(threshold)
+}
+
+// The fault of tables that are too large, at the word that names them.
+fn too_large(first: &MarkedLine<'_>) -> CertFault
+    requires { length first.now.text.now < 2 ^ 31 }
+    ensures { result ≡ CertFault.At 5 first.now.number (first_column (words_of record { number = first.now.number; text = first.now.text.now }) (end_of record { number = first.now.number; text = first.now.text.now })) }
+{
+    CertFault::At {
+        rule: 5,
+        line: first.number,
+        column: Words::new(first.text, 3).first_column(),
+    }
+}
+
+// What is read behind the word of tables, which stands in this line. They are too large where they can't be built.
+fn nested(
+    alloc: Global,
+    first: &MarkedLine<'_>,
+    words: &mut Words<'_>,
+    reader: &mut Reader<'_>,
+    steps: u32,
+    book: &Book,
+) -> Result<Certificate, CertFault>
+    requires { length first.now.text.now < 2 ^ 31 }
+    ensures { MatchResult result
+        (λ certificate. SaysRest Kind.Nested steps book.now words.old reader.old certificate)
+        (λ fault. (fault ≡ CertFault.Memory) ⊎ IsAt (IsSizedFault Kind.Nested steps book.now first.now.number (first_column (words_of record { number = first.now.number; text = first.now.text.now }) (end_of record { number = first.now.number; text = first.now.text.now })) words.old reader.old) fault) }
+{
+    if !Tables::fits(steps, book) {
+        return Err(too_large(first));
+    }
+    match words.finish() {
+        Ok(()) => Ok(Certificate::Nested {
+            tables: read_nested(alloc, reader, steps, book)?,
+        }),
+        Err(fault) => Err(fault.at(first.number)),
+    }
+}
+
+// The same of disk tables.
+fn disk(
+    alloc: Global,
+    first: &MarkedLine<'_>,
+    words: &mut Words<'_>,
+    reader: &mut Reader<'_>,
+    steps: u32,
+    book: &Book,
+) -> Result<Certificate, CertFault>
+    requires { length first.now.text.now < 2 ^ 31 }
+    ensures { MatchResult result
+        (λ certificate. SaysRest Kind.Disk steps book.now words.old reader.old certificate)
+        (λ fault. (fault ≡ CertFault.Memory) ⊎ IsAt (IsSizedFault Kind.Disk steps book.now first.now.number (first_column (words_of record { number = first.now.number; text = first.now.text.now }) (end_of record { number = first.now.number; text = first.now.text.now })) words.old reader.old) fault) }
+{
+    if !DiskTables::fits(steps, book) {
+        return Err(too_large(first));
+    }
+    match words.finish() {
+        Ok(()) => Ok(Certificate::Disk {
+            tables: read_disk(alloc, reader, steps, book)?,
+        }),
+        Err(fault) => Err(fault.at(first.number)),
+    }
 }

@@ -3,13 +3,18 @@ ghost use Rattle.std.specs.Prelude.{◌≡◌, ◌<◌, ◌≤◌, ◌+◌, ◌^
 ghost use Rattle.std.specs.List.{prefix_len};
 ghost use Rattle.action_text.specs.Tokens.{is_blank};
 ghost use Rattle.cert_text.specs.declared.kind.Kind.{Kind};
-ghost use Rattle.cert_text.specs.Wanted.{Want, number_to, kind_word};
+ghost use Rattle.cert_text.specs.Wanted.{Want, this_word, number_to, an_entry, Fits, kind_word};
+ghost use Rattle.cost_tables.specs.TableRows.{value_of};
+ghost use Rattle.cert_text.specs.WordLines.{entry_word};
+ghost use Rattle.cert_text.specs.Meaning.{HasWord};
 ghost use Rattle.cert_text.specs.Faults.{IsWordFault, Names, first_column};
 ghost use Rattle.cert_text.specs.Left.{left, Takes, number_of_rule};
 
 use crate::fault::{LineFault, Rule};
 use crate::kind::Kind;
 use crate::number::number;
+use cost_tables::Cost;
+use plan_types::Line;
 use std::marker::Model;
 
 // The bytes that are left of a line, and the column in which they begin.
@@ -96,6 +101,12 @@ impl<'a> Words<'a> {
         if word.text == b"places".as_slice() {
             return Ok(Kind::Places);
         }
+        if word.text == b"nested".as_slice() {
+            return Ok(Kind::Nested);
+        }
+        if word.text == b"disk".as_slice() {
+            return Ok(Kind::Disk);
+        }
         Err(word.column)
     }
 
@@ -120,6 +131,59 @@ impl<'a> Words<'a> {
         }
     }
 
+    // Goes past the next word, which is to be this one.
+    pub(crate) fn this_word(&mut self, text: &[u8]) -> Result<(), LineFault>
+        ensures { MatchResult result
+            (λ _. Takes text.now self.old self.new)
+            (λ fault. (more : List Want) → IsWordFault (this_word text.now ∷ more) self.old.words self.old.end (number_of_rule fault.rule) fault.column) }
+    {
+        let Some(word) = self.next() else {
+            return Err(LineFault {
+                rule: Rule::Shape,
+                column: self.end(),
+            });
+        };
+        if word.text == text {
+            return Ok(());
+        }
+        Err(LineFault {
+            rule: Rule::Shape,
+            column: word.column,
+        })
+    }
+
+    // Goes past the next word, which is to be this number.
+    pub(crate) fn this_number(&mut self, n: u64) -> Result<(), LineFault>
+        ensures { MatchResult result
+            (λ _. Takes (decimal n) self.old self.new)
+            (λ fault. (more : List Want) → IsWordFault (this_word (decimal n) ∷ more) self.old.words self.old.end (number_of_rule fault.rule) fault.column) }
+    {
+        let mut digits = Line::new();
+        digits.push_decimal(n);
+        self.this_word(digits.bytes())
+    }
+
+    // Goes past the next word, which is to be an entry of a table.
+    pub(crate) fn entry(&mut self) -> Result<Cost, LineFault>
+        ensures { MatchResult result
+            (λ cost. HasWord (value_of cost) × Takes (entry_word (value_of cost)) self.old self.new)
+            (λ fault. (more : List Want) → IsWordFault (an_entry ∷ more) self.old.words self.old.end (number_of_rule fault.rule) fault.column) }
+    {
+        let Some(word) = self.next() else {
+            return Err(LineFault {
+                rule: Rule::Shape,
+                column: self.end(),
+            });
+        };
+        match entry(word.text) {
+            Some(cost) => Ok(cost),
+            None => Err(LineFault {
+                rule: Rule::Number,
+                column: word.column,
+            }),
+        }
+    }
+
     // Sees that no word is left.
     pub(crate) fn finish(&mut self) -> Result<(), LineFault>
         ensures { MatchResult result
@@ -133,6 +197,19 @@ impl<'a> Words<'a> {
                 column: word.column,
             }),
         }
+    }
+}
+
+// The entry that a text is: a number, or Never, whose word is `-`.
+fn entry(text: &[u8]) -> Option<Cost>
+    ensures { MatchOption result (Fits an_entry text.now → ⊥) (λ cost. HasWord (value_of cost) × (text.now ≡ entry_word (value_of cost))) }
+{
+    if text == b"-".as_slice() {
+        return Some(Cost::Never);
+    }
+    match number(text, u64::MAX) {
+        Some(n) => Some(Cost::Number(n)),
+        None => None,
     }
 }
 

@@ -1,14 +1,15 @@
 -- The greatest under-table is the one that can be worked out, so each of its entries is attained.
-use Rattle.std.proofs.Common.{◌≡◌, ℕ, zero, suc, ◌+◌, ◌-◌, ◌*◌, ◌<◌, ◌≤◌, min, cond, nat_lt, List, [], ◌∷◌, map, length, get_or, slice_index_or, refl, sym, ap, ◌∙◌, subst, arith, inl, inr}
+use Rattle.std.proofs.Common.{◌≡◌, ℕ, zero, suc, ◌+◌, ◌-◌, ◌*◌, ◌<◌, ◌≤◌, ◌^◌, min, cond, nat_lt, List, [], ◌∷◌, map, length, get_or, slice_index_or, refl, sym, ap, ◌∙◌, subst, arith, inl, inr}
 use Rattle.std.specs.List.{AllByRecursion}
 use Rattle.std.proofs.lemmas.Bool.{cases_lt, lt-ltb, le-ltb}
 use Rattle.level_book.specs.declared.book.Slots.TheVariants.{Count}
 use Rattle.level_book.specs.declared.book.Level.{Level}
 use Rattle.level_book.specs.BookCosts.{BookCosts, slots_of, room, IsLevelWithinLimits, IsWithinLimits}
 use Rattle.level_book.specs.UnderTable.{Entry, number, never, Tables, IsAtMost, IsGreatest, sum_of, write_cost, read_cost}
-use Rattle.cost_tables.specs.Entries.{entry, least_split}
+use Rattle.cost_tables.specs.Entries.{entry, least_split, never_in_memory}
 use Rattle.cost_tables.specs.Levels.{IsLevel, AreLevels, base_of, IsModest, tables_of}
 use Rattle.cost_tables.specs.Exact.{IsExact}
+use Rattle.cost_tables.proofs.Splits.{entry_number, entry_never}
 use Rattle.cost_tables.proofs.Pushing.{split_same}
 use Rattle.cost_tables.proofs.AllLevels.{greatest, room_le}
 use Rattle.cost_tables.proofs.Exact.{exact}
@@ -148,7 +149,7 @@ cost_within f [] k are le = omega arith
 cost_within f (x ∷ xs) zero are le = le x are.0
 cost_within f (x ∷ xs) (suc k) are le = cost_within f xs k are.1 le
 
-modest_within : (steps : ℕ) (book : BookCosts) → steps ≤ 8192 → IsWithinLimits book → IsModest steps book
+pub modest_within : (steps : ℕ) (book : BookCosts) → steps ≤ 8192 → IsWithinLimits book → IsModest steps book
 modest_within steps book few limits = record {
   few = few;
   cheap_forward = let le = limits.forward in omega arith;
@@ -164,3 +165,23 @@ exact_within steps book t few limits is = greatest_exact steps book (modest_with
 pub in_memory : (steps : ℕ) (book : BookCosts) (t : Tables) → steps ≤ 8192 → IsWithinLimits book → IsGreatest steps book t →
     (fresh : ℕ → ℕ → ℕ → ℕ) × ((k l m : ℕ) → k < length book.levels → 1 ≤ l → l ≤ steps → m ≤ room book k steps → t.fresh k l m ≡ entry (fresh k (l - 1) m))
 in_memory steps book t few limits is = (fresh_at steps book, λ k l m known one le some. same_fresh steps book (modest_within steps book few limits) t is k l m known one le some)
+
+-- ---- the numbers among them are low
+
+pub low_entry : (n v : ℕ) → entry n ≡ number v → v < 2 ^ 61
+low_entry n v e = elim (cases_lt n never_in_memory) [
+  | inl lt ↦ let same : number n ≡ number v = sym (entry_number n lt) ∙ e in let is : n ≡ v = cc in omega arith
+  | inr ge ↦ let same : never ≡ number v = sym (entry_never n ge) ∙ e in cc
+]
+
+pub record AreLow (steps : ℕ) (book : BookCosts) (t : Tables) : Type 0 where
+  pub fresh : (k l m v : ℕ) → k < length book.levels → 1 ≤ l → l ≤ steps → m ≤ room book k steps → t.fresh k l m ≡ number v → v < 2 ^ 61
+  pub held : (k l m v : ℕ) → k < length book.levels → 1 ≤ l → l ≤ steps → m < room book k steps → t.held k l m ≡ number v → v < 2 ^ 61
+
+pub greatest_low : (steps : ℕ) (book : BookCosts) (t : Tables) → steps ≤ 8192 → IsWithinLimits book → IsGreatest steps book t → AreLow steps book t
+greatest_low steps book t few limits is =
+    let modest = modest_within steps book few limits in
+    record {
+      fresh = λ k l m v known one le some e. low_entry (fresh_at steps book k (l - 1) m) v (sym (same_fresh steps book modest t is k l m known one le some) ∙ e);
+      held = λ k l m v known one le some e. low_entry (held_at steps book k (l - 1) m) v (sym (same_held steps book modest t is k l m known one le some) ∙ e);
+    }

@@ -9,6 +9,7 @@ pub mod InColumns
 pub mod Exact
 pub mod Keeping
 pub mod Setting
+pub mod Shaped
 pub mod Views
 pub mod Least
 pub mod Fastest

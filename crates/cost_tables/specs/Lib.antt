@@ -1,4 +1,5 @@
 pub mod TableRows
+pub mod Shapes
 pub mod Filling
 pub mod Exact
 pub mod Laws

@@ -2,6 +2,7 @@
 ghost use Rattle.std.specs.Prelude.{◌≡◌, ◌↔◌, ℕ, ◌+◌, ◌^◌, ◌<◌, ◌≤◌, true, length, All, IfOk, slice_index};
 ghost use Rattle.level_book.specs.UnderTable.{IsGreatest};
 ghost use Rattle.cost_tables.specs.TableRows.{AreFor, Fits, FitsFastest, fastest, tables_in, value_of};
+ghost use Rattle.cost_tables.specs.Shapes.{AreShaped};
 ghost use Rattle.cost_tables.specs.Filling.{AreAllNever, IsOther};
 ghost use Rattle.cost_tables.specs.Entries.{fresh_in};
 ghost use Rattle.cost_tables.specs.Rows.{IsRow};
@@ -288,6 +289,13 @@ impl Tables {
         ensures fresh { self.new.fresh ≡ self.old.fresh }
     {
         self.levels[k as usize][l as usize - 1].held[m as usize] = cost;
+    }
+
+    /// Does nothing. Its contract is a law: there is an entry for each number of steps and free slots, and none else.
+    pub fn is_shaped(&self)
+        ensures { AreShaped self.now }
+    {
+        let _steps = self.steps;
     }
 
     /// For how many steps the tables are.

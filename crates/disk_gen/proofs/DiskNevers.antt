@@ -1,28 +1,18 @@
 -- Disk tables of which each entry is Never, and entries of level 0 that are low.
-use Rattle.std.proofs.Common.{◌≡◌, ℕ, ◌-◌, ◌<◌, ◌≤◌, ◌^◌, List, [], ◌∷◌, map, length, get_or, sym, ap, ◌∙◌, arith, inl, inr, All}
-use Rattle.std.proofs.lemmas.Bool.{cases_lt}
+use Rattle.std.proofs.Common.{◌≡◌, ℕ, ◌-◌, ◌<◌, ◌≤◌, ◌^◌, List, [], ◌∷◌, map, length, get_or, sym, ap, ◌∙◌, arith, All}
 use Rattle.std.proofs.lemmas.List.{get_or-map}
 use Rattle.level_book.specs.declared.book.Level.{Level}
 use Rattle.level_book.specs.BookCosts.{BookCosts, room, IsWithinLimits}
 use Rattle.level_book.specs.UnderTable.{number, never, Tables, IsGreatest}
 use Rattle.cost_tables.specs.declared.cost.Cost.{Cost}
 use Rattle.cost_tables.specs.declared.cost.Cost.TheVariants.{Never}
-use Rattle.cost_tables.specs.Entries.{never_in_memory, entry}
 use Rattle.cost_tables.specs.TableRows.{fastest, tables_in, value_of}
 use Rattle.cost_tables.specs.Filling.{AreAllNever}
-use Rattle.cost_tables.proofs.Splits.{entry_number, entry_never}
 use Rattle.cost_tables.proofs.Fastest.{same_room}
-use Rattle.cost_tables.proofs.Least.{in_memory}
+use Rattle.cost_tables.proofs.Least.{in_memory, low_entry}
 use Rattle.disk_gen.specs.declared.disk_tables.DiskTables.TheInside.{Inside}
 use Rattle.disk_gen.specs.DiskRows.{AreAllNeverDisk, disk_tables_in}
 use Rattle.disk_gen.specs.DiskBuilt.{view_of}
-
--- an entry of a number in memory is a low number, if it is one
-low_entry : (n v : ℕ) → entry n ≡ number v → v < 2 ^ 61
-low_entry n v e = elim (cases_lt n never_in_memory) [
-  | inl lt ↦ let same : number n ≡ number v = sym (entry_number n lt) ∙ e in let is : n ≡ v = cc in omega arith
-  | inr ge ↦ let same : never ≡ number v = sym (entry_never n ge) ∙ e in cc
-]
 
 module _ (steps f r : ℕ) (t : Tables) where
   abbrev of : List Level → BookCosts

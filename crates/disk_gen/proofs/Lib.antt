@@ -14,3 +14,4 @@ pub mod DiskWhole
 pub mod DiskUnique
 pub mod DiskNevers
 pub mod DiskSetting
+pub mod DiskLow

@@ -4,6 +4,7 @@ pub mod Laws
 pub mod Owed
 pub mod DiskPlans
 pub mod DiskRows
+pub mod DiskShapes
 pub mod DiskBuilt
 pub mod DiskWritten
 pub mod DiskReading

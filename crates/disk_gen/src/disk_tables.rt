@@ -7,6 +7,7 @@ ghost use Rattle.cost_tables.specs.TableRows.{FitsFastest, tables_in, value_of};
 ghost use Rattle.cost_tables.specs.Filling.{IsOther};
 ghost use Rattle.disk_gen.specs.DiskPlans.{HasDiskPlan, IsDiskFault};
 ghost use Rattle.disk_gen.specs.DiskRows.{AreDiskSized, AreDiskFor, AreAllNeverDisk, disk_tables_in};
+ghost use Rattle.disk_gen.specs.DiskShapes.{AreDiskShaped};
 ghost use Rattle.disk_gen.specs.DiskBuilt.{IsHeldColumn, IsFreshColumn};
 
 use cost_tables::{Cost, Tables};
@@ -92,6 +93,27 @@ impl DiskTables {
             disk_fresh,
             disk_held,
         })
+    }
+
+    /// Tables of these parts: those of one level alone, and the entries over both levels, from one step on. It takes no memory.
+    pub fn from_parts(fast: Tables, disk_fresh: Vec<Cost>, disk_held: Vec<Cost>) -> DiskTables
+        requires one { length fast.rooms ≡ 1 }
+        requires fresh { length disk_fresh.items ≡ fast.steps }
+        requires held { length disk_held.items ≡ fast.steps }
+        ensures { result ≡ record { fast = fast; disk_fresh = map value_of disk_fresh.items; disk_held = map value_of disk_held.items } }
+    {
+        DiskTables {
+            fast,
+            disk_fresh,
+            disk_held,
+        }
+    }
+
+    /// Does nothing. Its contract is a law: there is an entry for each number of steps and free slots, and none else.
+    pub fn is_shaped(&self)
+        ensures { AreDiskShaped self.now }
+    {
+        self.fast.is_shaped();
     }
 
     /// Whether the tables are for so many steps and level 0 of a book. It takes no memory.

@@ -1,23 +1,21 @@
 -- What was done of a question: the actions of a list, up to one that was refused, or all of them, and then its answer.
-use Rattle.std.proofs.Common.{◌≡◌, ◌≢◌, ◌⊎◌, inl, inr, ℕ, zero, suc, ◌+◌, ◌-◌, ◌^◌, ◌<◌, ◌≤◌, ◌++◌, ◌==◌, Bool, true, false, cond, List, [], ◌∷◌, length, map, take, append-nil, Option, None, Some, refl, sym, ◌∙◌, ap, subst, arith, slice_get, sum_by}
-use Rattle.std.proofs.lemmas.Bool.{eq-eqb, eqb-true, ne_eqb, false≢true}
-use Rattle.std.proofs.lemmas.List.{take-map, take_all, take_at, length-map}
+use Rattle.std.proofs.Common.{◌≡◌, ◌≢◌, ◌⊎◌, inl, inr, ℕ, zero, suc, ◌+◌, ◌^◌, ◌<◌, ◌≤◌, ◌++◌, ◌==◌, Bool, true, false, cond, List, [], ◌∷◌, length, map, take, append-nil, Option, None, Some, refl, sym, ◌∙◌, ap, subst, arith, slice_get, sum_by}
+use Rattle.std.proofs.lemmas.Bool.{eqb-true, false≢true}
+use Rattle.std.proofs.lemmas.List.{take-map, take_all, take_at}
 use Rattle.std.proofs.lemmas.List.Sums.{sum_by-cons, sum_by-append}
-use Rattle.std.proofs.lemmas.Option.{none-some}
 use Rattle.std.proofs.Math.Nat.{min-eq_left}
-use Rattle.sha2.specs.Sha256.{sha256}
 use Rattle.plan_types.specs.declared.action.Action.{Action}
 use Rattle.plan_types.specs.declared.action.Action.TheVariants.{Forward, Reverse, Copy, Move, EndForward, EndReverse}
 use Rattle.level_book.specs.declared.book.Slots.{Slots}
 use Rattle.level_book.specs.Valid.{Valid}
-use Rattle.level_book.specs.CostFold.{steps_of, forward, is_write, is_read, writes, reads}
+use Rattle.level_book.specs.CostFold.{steps_of, forward, writes, reads}
 use Rattle.keepers.specs.Counts.{raised}
 use Rattle.keepers.specs.Told.{Tells, AddsPrefix}
 use Rattle.rv_machine.specs.MachineState.{MachineState}
 use Rattle.rv_machine.specs.States.{state_number}
 use Rattle.reverse_runner.specs.declared.fault.RunFault.{RunFault}
 use Rattle.reverse_runner.specs.declared.fault.RunFault.TheVariants.{Keeper, Damaged, Visitor, Memory, Ended}
-use Rattle.reverse_runner.specs.KeepersSeen.{Calls, Called, CalledAtMost, CalledBetween, calls_of, is_release}
+use Rattle.reverse_runner.specs.KeepersSeen.{Calls, Called, CalledBetween, calls_of}
 use Rattle.reverse_runner.specs.Acts.{Holdings}
 use Rattle.reverse_runner.specs.SessionState.{SessionState, holdings_of}
 use Rattle.reverse_runner.specs.Standing.{begun}
@@ -27,13 +25,12 @@ use Rattle.reverse_queries.specs.OnTheWay.{IsFoundOn}
 use Rattle.reverse_queries.specs.Performing.{calls_of_all, done_after, Fits, RefusedIn, IsDamaged}
 use Rattle.reversal.specs.declared.ended.Ended.{Ended as Ending}
 use Rattle.reversal.specs.declared.question.Question.{Question}
-use Rattle.reversal.specs.declared.question.Question.TheVariants.{State, LastWrite, LastChange}
+use Rattle.reversal.specs.declared.question.Question.TheVariants.{State}
 use Rattle.reversal.specs.Output.{line_of, Adds}
-use Rattle.reversal.specs.Ending.{done, stopped, keeper_failed, damaged, no_memory}
-use Rattle.reversal.specs.Deeds.{Job, Deed, States, Shown, ask, deed_for, unseen_deed, writing, answer_text, deeds, no_calls, bytes_of, bytes_written, writes_made, steps_made, calls_made, Moment, Did, DidUntil, BreaksOff, IsShown, IsFound, IsAnswered, AllTell, output, steps_taken, shown_place}
-use Rattle.reversal.specs.Decision.{accept, EndsBy}
+use Rattle.reversal.specs.Ending.{done, stopped}
+use Rattle.reversal.specs.Deeds.{Job, Deed, States, Shown, ask, deed_for, unseen_deed, writing, answer_text, deeds, bytes_of, bytes_written, writes_made, steps_made, calls_made, Moment, Did, DidUntil, BreaksOff, IsShown, IsFound, IsAnswered, AllTell, output, steps_taken, shown_place}
 use Rattle.reversal.specs.JobReading.{Works, fault_ending}
-use Rattle.reversal.proofs.Doing.{tells_nothing, tells_then, raised_none, did_then, did_one, did_until, failed_at, damaged_at, halted_at}
+use Rattle.reversal.proofs.Doing.{tells_nothing, raised_none, did_then, did_one, did_until, failed_at, damaged_at, halted_at}
 use Rattle.reversal.proofs.Lists.{get_map}
 use Rattle.reversal.proofs.Silent.{get_front, take_front, uncalled}
 use Rattle.reversal.proofs.Demonstrating.{behind}

@@ -1,24 +1,29 @@
 -- What is written of a plan of H-Revolve, of DiskRevolve, and of a multistage plan, costs the least of its class.
-use Rattle.std.proofs.Common.{◌≡◌, ℕ, zero, suc, ◌+◌, ◌-◌, ◌*◌, ◌≤◌, ◌++◌, Bool, true, false, List, refl, sym, ◌∙◌, ap}
+use Rattle.std.proofs.Common.{◌≡◌, ℕ, zero, suc, ◌+◌, ◌-◌, ◌*◌, ◌≤◌, ◌++◌, Bool, true, false, List, length, refl, sym, ◌∙◌, ap, subst, arith}
 use Rattle.plan_types.specs.declared.action.Action.{Action}
-use Rattle.level_book.specs.BookCosts.{BookCosts, slots_of, names_of, room}
+use Rattle.level_book.specs.BookCosts.{BookCosts, slots_of, names_of, room, total_room}
 use Rattle.level_book.specs.BookFaults.{IsBookText}
 use Rattle.level_book.specs.CostFold.{cost}
-use Rattle.level_book.specs.NestedClass.{Nested}
+use Rattle.level_book.specs.Valid.{Valid}
+use Rattle.level_book.specs.NestedClass.{Nested as IsNested}
 use Rattle.level_book.specs.UnderTable.{Entry, number, Tables, sum_of, write_cost, read_cost, top_entry}
 use Rattle.hrevolve_gen.specs.Written.{Part, one, faster, split, Reads, IsWritten}
 use Rattle.hrevolve_gen.proofs.Whole.{written_costs, written_nested}
 use Rattle.revolve_gen.specs.Multistage.{IsMultistage}
-use Rattle.multistage_gen.proofs.Classed.{planned_in_class}
+use Rattle.multistage_gen.proofs.Classed.{planned_in_class, revolve_short}
 use Rattle.multistage_gen.proofs.Least.{planned_least}
 use Rattle.revolve_gen.proofs.Extending.{multistage_valid}
-use Rattle.cert_text.specs.declared.certificate.Certificate.TheVariants.{Places}
+use Rattle.cert_text.specs.declared.certificate.Certificate.{Certificate}
+use Rattle.cert_text.specs.declared.certificate.Certificate.TheVariants.{Places, Nested, Disk}
+use Rattle.cert_text.specs.Meaning.{HasText}
+use Rattle.cost_tables.specs.TableRows.{TableRows, tables_in}
+use Rattle.disk_gen.specs.DiskRows.{DiskRows, disk_tables_in}
 use Rattle.cert_text.specs.Canonical as certificate_text
 use Rattle.bound_cert.specs.Accepted.{IsAccepted}
 use Rattle.bound_cert.proofs.Fitting.{planned_fits}
 use Rattle.class_bounds.proofs.NestedCosts.{nested_least}
 use Rattle.class_bounds.proofs.DiskCosts.{disk_least as disk_list_least}
-use Rattle.level_book.specs.DiskClass.{Disk}
+use Rattle.level_book.specs.DiskClass.{Disk as IsDisk}
 use Rattle.level_book.specs.DiskUnderTable.{DiskTables, disk_top_entry}
 use Rattle.disk_gen.specs.DiskPlans.{HasDiskPlan}
 use Rattle.disk_gen.specs.DiskWritten.{HeldPart, finally, again, DiskPart, alone, parted, fast_tables, ReadsHeld, ReadsDisk, IsDiskWritten}
@@ -28,6 +33,9 @@ use Rattle.reversal.specs.Deeds.{Job, write}
 use Rattle.reversal.specs.Decision.{accept, DecidesPlanDisk, DecidesPlanHrevolve, DecidesPlanMultistage}
 use Rattle.reversal.specs.Ending.{bad_book}
 use Rattle.reversal.specs.Plans.{list_pieces}
+use Rattle.reversal.specs.WrittenPlans.{SaysAgain}
+use Rattle.reversal.proofs.Lengths.{written_few, disk_written_few}
+use Rattle.reversal.proofs.ReadAgain.{read_again}
 use Rattle.reversal.proofs.BookTexts.{some_level, costs_rise}
 use Rattle.reversal.proofs.Deciding.{read_said, need_met, tabulate_met, job_or}
 
@@ -63,19 +71,41 @@ top_number : (steps : ℕ) (book : BookCosts) (t : Tables) (list : List Action) 
 top_number zero book t list is = (0, refl)
 top_number (suc n) book t list is = read_number (suc n) book t is.0 false _ (suc n) _ is.1
 
--- a plan of H-Revolve is nested, and no nested list costs less
+-- what is written of a list and of a certificate with a text says them again
+said_again : (steps : ℕ) (book : List ℕ) (b : BookCosts) (list : List Action) (c : Certificate) (job : Job) → job ≡ write (list_pieces (names_of b) list ++ certificate_text.pieces c) → steps ≤ 1000000 → IsBookText book b → length list ≤ 16777216 →
+    Valid steps (slots_of b) list → HasText steps b c → SaysAgain steps b job list c
+said_again steps book b list c job is short is_book few valid has =
+    subst (λ (j : Job). SaysAgain steps b j list c) (sym is) (λ shown. read_again steps book b list c short is_book few valid has)
+
+-- a plan of H-Revolve is nested, its certificate is accepted for it, no nested list costs less, and it is read again
 pub hrevolve_least : (steps : ℕ) (book : List ℕ) (job : Job) → DecidesPlanHrevolve steps book (accept job) →
-    (b : BookCosts) × IsBookText book b × (list : List Action) × (job ≡ write (list_pieces (names_of b) list)) × Nested steps (slots_of b) list × ((other : List Action) → Nested steps (slots_of b) other → cost list b ≤ cost other b)
+    (b : BookCosts) × IsBookText book b × (list : List Action) × (t : TableRows) × (job ≡ write (list_pieces (names_of b) list ++ certificate_text.pieces (Nested t))) × IsNested steps (slots_of b) list
+    × IsAccepted list steps b (Nested t) × ((other : List Action) → IsNested steps (slots_of b) other → cost list b ≤ cost other b) × SaysAgain steps b job list (Nested t)
 hrevolve_least steps book job h =
     let b = read_said (IsBookText book) _ bad_book job _ h in
     let plan = need_met _ _ job _ (tabulate_met steps b.0 job _ b.1.1) in
-    let tables = plan.1.0 in
-    let list = plan.1.1.1.0 in
-    let is = plan.1.1.1.1.0 in
+    let t = plan.1.0 in
+    let has = plan.1.1.0 in
+    let greatest = plan.1.1.1.0 in
+    let list = plan.1.1.1.1.0 in
+    let is = plan.1.1.1.1.1.0 in
+    let done : job ≡ write (list_pieces (names_of b.0) list ++ certificate_text.pieces (Nested t)) = ap (job_or job) plan.1.1.1.1.1.1 in
     let some = some_level book b.0 b.1.0 in
-    let top = top_number steps b.0 tables list is in
-    let costs = top.1 ∙ ap (λ n. number n) (sym (written_costs steps b.0 tables list top.0 is top.1)) in
-    (b.0, b.1.0, list, ap (job_or job) plan.1.1.1.1.1, written_nested steps b.0 tables list some is, λ other nested. nested_least steps b.0 tables list other some plan.1.1.0.under costs nested)
+    let top = top_number steps b.0 (tables_in t) list is in
+    let costs = top.1 ∙ ap (λ n. number n) (sym (written_costs steps b.0 (tables_in t) list top.0 is top.1)) in
+    let member = written_nested steps b.0 (tables_in t) list some is in
+    let few = written_few steps b.0 (tables_in t) list is in
+    let short = has.fit.few in (
+      b.0,
+      b.1.0,
+      list,
+      t,
+      done,
+      member,
+      (member.0, (has.fit, has.tables.sized), member, greatest.under, costs),
+      (λ other nested. nested_least steps b.0 (tables_in t) list other some greatest.under costs nested),
+      said_again steps book b.0 list (Nested t) job done (omega (arith, short)) b.1.0 (omega (arith, few, short)) member.0 has,
+    )
 
 -- ---- disk tables
 
@@ -104,26 +134,42 @@ disk_top_number : (steps : ℕ) (book : BookCosts) (t : DiskTables) (list : List
 disk_top_number zero book t list is = (0, refl)
 disk_top_number (suc n) book t list is = disk_number (suc n) book t (suc n) is.0 is.1
 
--- a plan of DiskRevolve is in the disk class, and no list of the class costs less
+-- a plan of DiskRevolve is in the disk class, its certificate is accepted for it, no list of the class costs less, and it is read again
 pub disk_least : (steps : ℕ) (book : List ℕ) (job : Job) → DecidesPlanDisk steps book (accept job) →
-    (b : BookCosts) × IsBookText book b × (list : List Action) × (job ≡ write (list_pieces (names_of b) list)) × Disk steps (slots_of b) list × ((other : List Action) → Disk steps (slots_of b) other → cost list b ≤ cost other b)
+    (b : BookCosts) × IsBookText book b × (list : List Action) × (t : DiskRows) × (job ≡ write (list_pieces (names_of b) list ++ certificate_text.pieces (Disk t))) × IsDisk steps (slots_of b) list
+    × IsAccepted list steps b (Disk t) × ((other : List Action) → IsDisk steps (slots_of b) other → cost list b ≤ cost other b) × SaysAgain steps b job list (Disk t)
 disk_least steps book job h =
     let b = read_said (IsBookText book) _ bad_book job _ h in
     let few = need_met _ _ job _ b.1.1 in
     let two = need_met _ _ job _ few.1 in
     let unlimited = need_met _ _ job _ two.1 in
-    let tables = unlimited.1.0 in
-    let list = unlimited.1.1.1.0 in
-    let is = unlimited.1.1.1.1.0 in
+    let t = unlimited.1.0 in
+    let has = unlimited.1.1.0 in
+    let greatest = unlimited.1.1.1.0 in
+    let list = unlimited.1.1.1.1.0 in
+    let is = unlimited.1.1.1.1.1.0 in
+    let done : job ≡ write (list_pieces (names_of b.0) list ++ certificate_text.pieces (Disk t)) = ap (job_or job) unlimited.1.1.1.1.1.1 in
     let plan : HasDiskPlan b.0 = record { two = two.0; unlimited = unlimited.0 } in
-    let top = disk_top_number steps b.0 tables list is in
-    let costs = top.1 ∙ ap (λ n. number n) (sym (written_disk_costs steps b.0 tables list top.0 is top.1)) in
-    (b.0, b.1.0, list, ap (job_or job) unlimited.1.1.1.1.1, written_in_class steps b.0 tables list plan is, λ other member. disk_list_least steps b.0 tables list other unlimited.1.1.0.under costs member)
+    let top = disk_top_number steps b.0 (disk_tables_in t) list is in
+    let costs = top.1 ∙ ap (λ n. number n) (sym (written_disk_costs steps b.0 (disk_tables_in t) list top.0 is top.1)) in
+    let member = written_in_class steps b.0 (disk_tables_in t) list plan is in
+    let long = disk_written_few steps b.0 (disk_tables_in t) list is in
+    let short = has.fit.few in (
+      b.0,
+      b.1.0,
+      list,
+      t,
+      done,
+      member,
+      (member.nested.0, (has.fit, has.fast.sized), member, greatest.under, costs),
+      (λ other class. disk_list_least steps b.0 (disk_tables_in t) list other greatest.under costs class),
+      said_again steps book b.0 list (Disk t) job done (omega (arith, short)) b.1.0 (omega (arith, long, short)) member.nested.0 has,
+    )
 
--- a multistage plan is in its class, its certificate is accepted for it, and no list of the class costs less
+-- a multistage plan is in its class, its certificate is accepted for it, no list of the class costs less, and it is read again
 pub multistage_least : (steps : ℕ) (book : List ℕ) (job : Job) → DecidesPlanMultistage steps book (accept job) →
     (b : BookCosts) × IsBookText book b × (list : List Action) × (threshold : ℕ) × (job ≡ write (list_pieces (names_of b) list ++ certificate_text.pieces (Places threshold))) × IsMultistage steps b list
-    × IsAccepted list steps b (Places threshold) × ((other : List Action) → IsMultistage steps b other → cost list b ≤ cost other b)
+    × IsAccepted list steps b (Places threshold) × ((other : List Action) → IsMultistage steps b other → cost list b ≤ cost other b) × (steps ≤ 1000000 → SaysAgain steps b job list (Places threshold))
 multistage_least steps book job h =
     let b = read_said (IsBookText book) _ bad_book job _ h in
     let two = need_met _ _ job _ b.1.1 in
@@ -132,14 +178,19 @@ multistage_least steps book job h =
     let is = plan.1.1.0 in
     let threshold = plan.1.1.1.0 in
     let of = plan.1.1.1.1.0 in
+    let has = plan.1.1.1.1.1.0 in
+    let done : job ≡ write (list_pieces (names_of b.0) list ++ certificate_text.pieces (Places threshold)) = ap (job_or job) plan.1.1.1.1.1.1 in
     let member = planned_in_class steps b.0 list is in
+    let valid = multistage_valid steps b.0 list member in
+    let few : steps ≤ 1000000 → length list ≤ 16777216 = λ short. subst (λ (l : List Action). length l ≤ 16777216) (sym is.planned.is) (revolve_short is.level steps (total_room b.0 steps) is.plan short) in
     let rise = costs_rise book b.0 is.fast is.slow b.1.0 is.two in (
       b.0,
       b.1.0,
       list,
       threshold,
-      ap (job_or job) plan.1.1.1.1.1,
+      done,
       member,
-      (multistage_valid steps b.0 list member, planned_fits threshold steps b.0 list of is),
-      λ other other_member. planned_least steps b.0 list other is rise.0 rise.1 other_member,
+      (valid, planned_fits threshold steps b.0 list of is),
+      (λ other other_member. planned_least steps b.0 list other is rise.0 rise.1 other_member),
+      (λ short. said_again steps book b.0 list (Places threshold) job done short b.1.0 (few short) valid has),
     )

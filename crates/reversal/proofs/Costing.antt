@@ -1,12 +1,12 @@
 -- What a report of a list's counts says of the list.
-use Rattle.std.proofs.Common.{◌≡◌, ℕ, ◌+◌, ◌*◌, ◌<◌, ◌≤◌, ◌++◌, List, [], ◌∷◌, length, map, refl, sym, ◌∙◌, ap, arith, sum_by, slice_index}
+use Rattle.std.proofs.Common.{◌≡◌, ℕ, ◌+◌, ◌*◌, ◌<◌, ◌≤◌, ◌++◌, List, [], ◌∷◌, length, map, refl, sym, ◌∙◌, arith, sum_by, slice_index}
 use Rattle.std.specs.Prelude.{codes, decimal}
 use Rattle.std.specs.List.{enumerate_from}
 use Rattle.std.proofs.lemmas.List.Sums.{sum_by-cons}
 use Rattle.plan_types.specs.declared.action.Action.{Action}
 use Rattle.level_book.specs.declared.book.Level.{Level}
 use Rattle.level_book.specs.BookCosts.{BookCosts}
-use Rattle.level_book.specs.CostFold.{forward, reversed, writes, reads, cost}
+use Rattle.level_book.specs.CostFold.{writes, reads, cost}
 use Rattle.cost_fold.specs.declared.counts.Counts.{Counts}
 use Rattle.cost_fold.specs.CountsOf.{AreCountsOf, price}
 use Rattle.cost_report.specs.Report.{count_line, level_line, report_lines}

@@ -26,9 +26,11 @@ use Rattle.multistage_gen.specs.Planned.{IsMultistageList}
 use Rattle.multistage_gen.proofs.Unique.{plans_unique}
 use Rattle.bound_cert.specs.Thresholds.{IsThresholdOf}
 use Rattle.bound_cert.proofs.Fitting.{one_threshold}
-use Rattle.cert_text.specs.declared.certificate.Certificate.TheVariants.{Places}
+use Rattle.cert_text.specs.declared.certificate.Certificate.TheVariants as certified
 use Rattle.cert_text.specs.Canonical as certificate_text
-use Rattle.level_book.specs.UnderTable.{Tables, IsGreatest}
+use Rattle.level_book.specs.UnderTable.{IsGreatest}
+use Rattle.cost_tables.specs.TableRows.{TableRows, tables_in}
+use Rattle.disk_gen.specs.DiskRows.{DiskRows, disk_tables_in}
 use Rattle.hrevolve_gen.specs.Plans as nested
 use Rattle.hrevolve_gen.specs.Written.{IsWritten}
 use Rattle.hrevolve_gen.proofs.Greatest.{plan_unique}
@@ -45,7 +47,7 @@ use Rattle.reversal.specs.declared.question.Question.{Question}
 use Rattle.reversal.specs.Bounds.{IsWithin, question_bound}
 use Rattle.reversal.specs.Pricing.{list_report}
 use Rattle.level_book.specs.declared.book.Slots.TheVariants.{Unlimited}
-use Rattle.level_book.specs.DiskUnderTable.{DiskTables, IsGreatestDisk}
+use Rattle.level_book.specs.DiskUnderTable.{IsGreatestDisk}
 use Rattle.disk_gen.specs.DiskWritten.{IsDiskWritten}
 use Rattle.disk_gen.proofs.DiskUnique.{disk_plan_unique}
 use Rattle.reversal.specs.Deeds.{Job, perform, ask as ask_job, write, demonstrate, Shown, deeds, silent_deed, writing, Deed, bytes_of, bytes_written, steps_made, output, steps_taken}
@@ -53,13 +55,14 @@ use Rattle.reversal.specs.Decision.{Decision, refuse, accept, Need, Read, Judge,
 use Rattle.reversal.specs.JobReading.{IsRefusal, IsUnweighed}
 use Rattle.reversal.proofs.Refused.{IsOne, Excludes, book_one, book_fault_one, book_excludes, start_one, program_fault_one, start_excludes, items_one, journal_fault_one, items_exclude, list_one, text_fault_one, list_excludes, IsRefusing, refusing_at, program_refuses, journal_refuses, book_refuses, text_refuses, program_fault_is_other, journal_fault_is_other, text_fault_is_other, certificate_one, certificate_fault_one, certificate_excludes, certificate_refuses, certificate_fault_is_other}
 use Rattle.cert_text.specs.declared.certificate.Certificate.{Certificate}
-use Rattle.cert_text.specs.Meaning.{IsCertificateText}
+use Rattle.cert_text.specs.Meaning.{HasText, IsCertificateText}
 use Rattle.cert_text.specs.Faults.{HasFirstFault as CertificateFirst}
 use Rattle.bound_cert.specs.Accepted.{class_of, IsAccepted, IsLeastOf}
 use Rattle.level_book.specs.CostFold.{forward}
 use Rattle.bound_cert.proofs.Accepting.{accepted_least}
 use Rattle.level_book.specs.declared.book.Level.{Level}
-use Rattle.reversal.proofs.BookTexts.{costs_rise}
+use Rattle.reversal.proofs.BookTexts.{some_level, costs_rise}
+use Rattle.reversal.proofs.LeastTables.{nested_same, disk_same}
 use Rattle.reversal.proofs.Weighing.{weigh_one, weigh_met, weigh_refusing, weigh_refuses}
 use Rattle.reversal.proofs.Keeping.{keep_one, keep_met, keep_refusing, keep_refuses, keep_accepts, keep_passes}
 use Rattle.action_text.specs.Faults.{HasFirstFault}
@@ -155,7 +158,7 @@ multistage_one steps book c d =
     need_one (HasPlan steps (total_room b steps)) (no_plan steps (total_room b steps) 1) c d _ _ (λ x y.
     let list = plans_unique steps b x.0 y.0 x.1.0 y.1.0 in
     let threshold = one_threshold steps b y.0 x.1.1.0 y.1.1.0 (subst (λ (l : List Action). IsThresholdOf x.1.1.0 steps b l) list x.1.1.1.0) y.1.1.1.0 in
-    x.1.1.1.1 ∙ (λ i. accept (write (list_pieces (names_of b) (list i) ++ certificate_text.pieces (Places (threshold i))))) ∙ sym y.1.1.1.1)))
+    x.1.1.1.1.1 ∙ (λ i. accept (write (list_pieces (names_of b) (list i) ++ certificate_text.pieces (certified.Places (threshold i))))) ∙ sym y.1.1.1.1.1)))
 
 -- two levels that are the first of their kind are one
 one_wide : (steps : ℕ) (book : BookCosts) (k l : ℕ) → IsFirstWide steps book k → IsFirstWide steps book l → k ≡ l
@@ -184,9 +187,11 @@ hrevolve_one steps book c d =
     read_one (IsBookText book) (HasBookFault book) bad_book c d _ _ (book_one book) (book_fault_one book) (book_excludes book) (λ b is_book.
     tabulate_one steps b c d _ _ (
     need_one (nested.HasPlan steps b) (no_plan steps (total_room b steps) 1) c d _ _ (λ x y.
-    let s = x.1.1 in
-    let t = y.1.1 in
-    s.1.1 ∙ ap (λ l. accept (write (list_pieces (names_of b) l))) (plan_unique steps b x.0 y.0 s.0 t.0 x.1.0 y.1.0 s.1.0 t.1.0) ∙ sym t.1.1)))
+    let s = x.1.1.1 in
+    let t = y.1.1.1 in
+    let list = plan_unique steps b (tables_in x.0) (tables_in y.0) s.0 t.0 x.1.1.0 y.1.1.0 s.1.0 t.1.0 in
+    let tables = nested_same steps b x.0 y.0 x.1.0 x.1.1.0 y.1.0 y.1.1.0 in
+    s.1.1 ∙ (λ i. accept (write (list_pieces (names_of b) (list i) ++ certificate_text.pieces (certified.Nested (tables i))))) ∙ sym t.1.1)))
 
 disk_one : (steps : ℕ) (book : List ℕ) (c d : Decision) → DecidesPlanDisk steps book c → DecidesPlanDisk steps book d → c ≡ d
 disk_one steps book c d =
@@ -194,9 +199,11 @@ disk_one steps book c d =
     need_one (room b 0 steps ≤ 64) (out_of_range (room b 0 steps) 64 9) c d _ _ (
     need_one (length b.levels ≡ 2) (no_plan steps (total_room b steps) 2) c d _ _ (
     need_one (slice_get (slots_of b) 1 ≡ Some Unlimited) (no_plan steps (total_room b steps) 3) c d _ _ (λ x y.
-    let s = x.1.1 in
-    let t = y.1.1 in
-    s.1.1 ∙ ap (λ l. accept (write (list_pieces (names_of b) l))) (disk_plan_unique steps b x.0 y.0 s.0 t.0 x.1.0 y.1.0 s.1.0 t.1.0) ∙ sym t.1.1))))
+    let s = x.1.1.1 in
+    let t = y.1.1.1 in
+    let list = disk_plan_unique steps b (disk_tables_in x.0) (disk_tables_in y.0) s.0 t.0 x.1.1.0 y.1.1.0 s.1.0 t.1.0 in
+    let tables = disk_same steps b x.0 y.0 x.1.0 x.1.1.0 y.1.0 y.1.1.0 in
+    s.1.1 ∙ (λ i. accept (write (list_pieces (names_of b) (list i) ++ certificate_text.pieces (certified.Disk (tables i))))) ∙ sym t.1.1))))
 
 kind_one : (kind : PlanKind) (steps : ℕ) (book : List ℕ) (c d : Decision) → DecidesPlan kind steps book c → DecidesPlan kind steps book d → c ≡ d
 kind_one Revolve steps book c d = plan_one steps book c d
@@ -332,7 +339,7 @@ multistage_met steps book job h =
     let b = read_met _ _ bad_book job _ h in
     let two = need_met _ _ job _ b.1 in
     let plan = need_met _ _ job _ two.1 in
-    writes _ (ap (job_or job) plan.1.1.1.1.1)
+    writes _ (ap (job_or job) plan.1.1.1.1.1.1)
 
 pub tabulate_met : (steps : ℕ) (b : BookCosts) (job : Job) (Below : Type 0) → Tabulate steps b (accept job) Below → Below
 tabulate_met steps b job Below h = elim h [ inl n ↦ absurd (accept_refuse job _ n.1.1) | inr y ↦ y.1 ]
@@ -341,7 +348,7 @@ hrevolve_met : (steps : ℕ) (book : List ℕ) (job : Job) → DecidesPlanHrevol
 hrevolve_met steps book job h =
     let b = read_met _ _ bad_book job _ h in
     let plan = need_met _ _ job _ (tabulate_met steps b.0 job _ b.1) in
-    let read = plan.1.1.1 in
+    let read = plan.1.1.1.1 in
     writes _ (ap (job_or job) read.1.1)
 
 disk_met : (steps : ℕ) (book : List ℕ) (job : Job) → DecidesPlanDisk steps book (accept job) → IsMet job
@@ -350,7 +357,7 @@ disk_met steps book job h =
     let few = need_met _ _ job _ b.1 in
     let two = need_met _ _ job _ few.1 in
     let unlimited = need_met _ _ job _ two.1 in
-    let read = unlimited.1.1.1 in
+    let read = unlimited.1.1.1.1 in
     writes _ (ap (job_or job) read.1.1)
 
 kind_met : (kind : PlanKind) (steps : ℕ) (book : List ℕ) (job : Job) → DecidesPlan kind steps book (accept job) → IsMet job
@@ -397,7 +404,7 @@ certified_least steps book schedule certificate job h =
     let k = read_said (IsCertificateText steps b.0 certificate) _ bad_certificate job _ valid.1 in
     let weighed = weigh_met steps b.0 list.0 k.0 job _ k.1.1 in
     let rise : (fast slow : Level) → b.0.levels ≡ fast ∷ slow ∷ [] → (fast.write ≤ slow.write) × (fast.read ≤ slow.read) = λ fast slow two. costs_rise book b.0 fast slow b.1.0 two in
-    (b.0, b.1.0, list.0, list.1.0, valid.0, k.0, k.1.0, ap (job_or job) weighed.1, accepted_least list.0 steps b.0 k.0 rise weighed.0)
+    (b.0, b.1.0, list.0, list.1.0, valid.0, k.0, k.1.0, ap (job_or job) weighed.1, accepted_least list.0 steps b.0 k.0 (some_level book b.0 b.1.0) rise weighed.0)
 
 -- a plan is the least, and its certificate is accepted
 pub planned_least : (steps : ℕ) (book : List ℕ) (job : Job) → DecidesPlanRevolve steps book (accept job) →
@@ -666,7 +673,7 @@ multistage_refusing : (steps : ℕ) (book : List ℕ) (e : Ended) → DecidesPla
 multistage_refusing steps book e =
     read_refusing _ _ bad_book e _ (λ f h. book_refuses f h.1) (λ b.
     no_plan_refusing _ _ _ _ e _ (
-    plan_line_refusing steps b e _ (λ is. absurd (refuse_accept e _ is.1.1.1.1))))
+    plan_line_refusing steps b e _ (λ is. absurd (refuse_accept e _ is.1.1.1.1.1))))
 
 tabulate_refusing : (steps : ℕ) (b : BookCosts) (e : Ended) (Below : Type 0) → (Below → IsRefusing e) → Tabulate steps b (refuse e) Below → IsRefusing e
 tabulate_refusing steps b e Below below h = elim h [
@@ -678,7 +685,7 @@ hrevolve_refusing : (steps : ℕ) (book : List ℕ) (e : Ended) → DecidesPlanH
 hrevolve_refusing steps book e =
     read_refusing _ _ bad_book e _ (λ f h. book_refuses f h.1) (λ b.
     tabulate_refusing steps b e _ (
-    no_plan_refusing _ _ _ _ e _ (λ read. let list = read.1.1 in absurd (refuse_accept e _ list.1.1))))
+    no_plan_refusing _ _ _ _ e _ (λ read. let list = read.1.1.1 in absurd (refuse_accept e _ list.1.1))))
 
 limit_refusing : (Holds : Type 0) (number bound rule : ℕ) (e : Ended) (Below : Type 0) → (Below → IsRefusing e) → Need Holds (out_of_range number bound rule) (refuse e) Below → IsRefusing e
 limit_refusing Holds number bound rule e Below below h = elim h [
@@ -691,7 +698,7 @@ disk_refusing steps book e =
     read_refusing _ _ bad_book e _ (λ f h. book_refuses f h.1) (λ b.
     limit_refusing _ _ _ _ e _ (
     no_plan_refusing _ _ _ _ e _ (
-    no_plan_refusing _ _ _ _ e _ (λ read. let list = read.1.1 in absurd (refuse_accept e _ list.1.1)))))
+    no_plan_refusing _ _ _ _ e _ (λ read. let list = read.1.1.1 in absurd (refuse_accept e _ list.1.1)))))
 
 kind_refusing : (kind : PlanKind) (steps : ℕ) (book : List ℕ) (e : Ended) → DecidesPlan kind steps book (refuse e) → IsRefusing e
 kind_refusing Revolve steps book e = plan_refusing steps book e
@@ -861,9 +868,9 @@ multistage_by_plan steps book e b is_book h = elim h [
   ]
 ]
 
-pub multistage_accepted : (steps : ℕ) (book : List ℕ) (b : BookCosts) (list : List Action) (threshold : ℕ) → IsBookText book b → IsMultistageList steps b list → IsThresholdOf threshold steps b list →
-    DecidesPlanMultistage steps book (accept (write (list_pieces (names_of b) list ++ certificate_text.pieces (Places threshold))))
-multistage_accepted steps book b list threshold is_book is of = inr (b, is_book, inr (ap length is.two, inr (is.plan, (list, (is, (threshold, (of, refl)))))))
+pub multistage_accepted : (steps : ℕ) (book : List ℕ) (b : BookCosts) (list : List Action) (threshold : ℕ) → IsBookText book b → IsMultistageList steps b list → IsThresholdOf threshold steps b list → HasText steps b (certified.Places threshold) →
+    DecidesPlanMultistage steps book (accept (write (list_pieces (names_of b) list ++ certificate_text.pieces (certified.Places threshold))))
+multistage_accepted steps book b list threshold is_book is of has = inr (b, is_book, inr (ap length is.two, inr (is.plan, (list, (is, (threshold, (of, (has, refl))))))))
 
 -- ---- the lines of a plan of H-Revolve
 
@@ -880,9 +887,9 @@ hrevolve_by_plan steps book e b is_book narrow h = elim h [
   | inr none ↦ inr (inr (b, is_book, inr (narrow, inl (none.0, refuse_by e _ none.1))))
 ]
 
-pub hrevolve_accepted : (steps : ℕ) (book : List ℕ) (b : BookCosts) (tables : Tables) (list : List Action) → IsBookText book b → ((k : ℕ) → k < length b.levels → room b k steps ≤ 64) → nested.HasPlan steps b → IsGreatest steps b tables →
-    IsWritten steps b tables list → DecidesPlanHrevolve steps book (accept (write (list_pieces (names_of b) list)))
-hrevolve_accepted steps book b tables list is_book narrow has greatest is = inr (b, is_book, inr (narrow, inr (has, (tables, (greatest, (list, (is, refl)))))))
+pub hrevolve_accepted : (steps : ℕ) (book : List ℕ) (b : BookCosts) (t : TableRows) (list : List Action) → IsBookText book b → ((k : ℕ) → k < length b.levels → room b k steps ≤ 64) → nested.HasPlan steps b →
+    HasText steps b (certified.Nested t) → IsGreatest steps b (tables_in t) → IsWritten steps b (tables_in t) list → DecidesPlanHrevolve steps book (accept (write (list_pieces (names_of b) list ++ certificate_text.pieces (certified.Nested t))))
+hrevolve_accepted steps book b t list is_book narrow planned has greatest is = inr (b, is_book, inr (narrow, inr (planned, (t, (has, (greatest, (list, (is, refl))))))))
 
 -- ---- the lines of a plan of DiskRevolve
 
@@ -901,9 +908,10 @@ disk_by_plan steps book e b is_book few h = elim h [
   ]
 ]
 
-pub disk_accepted : (steps : ℕ) (book : List ℕ) (b : BookCosts) (tables : DiskTables) (list : List Action) → IsBookText book b → room b 0 steps ≤ 64 → length b.levels ≡ 2 → slice_get (slots_of b) 1 ≡ Some Unlimited →
-    IsGreatestDisk steps b tables → IsDiskWritten steps b tables list → DecidesPlanDisk steps book (accept (write (list_pieces (names_of b) list)))
-disk_accepted steps book b tables list is_book few two unlimited greatest is = inr (b, is_book, inr (few, inr (two, inr (unlimited, (tables, (greatest, (list, (is, refl))))))))
+pub disk_accepted : (steps : ℕ) (book : List ℕ) (b : BookCosts) (t : DiskRows) (list : List Action) → IsBookText book b → room b 0 steps ≤ 64 → length b.levels ≡ 2 → slice_get (slots_of b) 1 ≡ Some Unlimited →
+    HasText steps b (certified.Disk t) → IsGreatestDisk steps b (disk_tables_in t) → IsDiskWritten steps b (disk_tables_in t) list →
+    DecidesPlanDisk steps book (accept (write (list_pieces (names_of b) list ++ certificate_text.pieces (certified.Disk t))))
+disk_accepted steps book b t list is_book few two unlimited has greatest is = inr (b, is_book, inr (few, inr (two, inr (unlimited, (t, (has, (greatest, (list, (is, refl)))))))))
 
 -- ---- the lines of a periodic plan
 

@@ -20,6 +20,7 @@ pub mod Spelled
 pub mod Planned
 pub mod Pieces
 pub mod ReadAgain
+pub mod LeastTables
 pub mod Deciding
 pub mod Answering
 pub mod Drawing
@@ -27,5 +28,6 @@ pub mod Demonstrating
 pub mod Silent
 pub mod Asked
 pub mod BookTexts
+pub mod Lengths
 pub mod ClassPlans
 pub mod Costing

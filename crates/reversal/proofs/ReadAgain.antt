@@ -1,7 +1,6 @@
 -- What is written of a plan is read again, as a schedule and as a certificate.
-use Rattle.std.proofs.Common.{◌≡◌, ◌≢◌, ℕ, zero, suc, ◌+◌, ◌*◌, ◌<◌, ◌≤◌, ◌++◌, Bool, true, false, cond, nat_le, List, [], ◌∷◌, length, map, append_assoc, append-nil, refl, sym, ◌∙◌, ap, subst, arith}
-use Rattle.std.specs.Prelude.{codes, decimal}
-use Rattle.std.specs.List.{AllByRecursion, flat_map}
+use Rattle.std.proofs.Common.{◌≡◌, ◌≢◌, ℕ, zero, suc, ◌+◌, ◌*◌, ◌<◌, ◌≤◌, ◌++◌, Bool, true, false, cond, nat_le, List, [], ◌∷◌, length, map, refl, sym, ◌∙◌, subst, arith}
+use Rattle.std.specs.List.{AllByRecursion}
 use Rattle.std.proofs.lemmas.Bool.{leb-false, eq-eqb, false≢true}
 use Rattle.std.proofs.lemmas.Grind.{flat_map-append}
 use Rattle.std.proofs.lemmas.List.{length-map}
@@ -9,12 +8,12 @@ use Rattle.std.proofs.lemmas.List.Folds.{flat_map-map}
 use Rattle.std.proofs.Math.Nat.{mul-le-mul}
 use Rattle.plan_types.specs.declared.action.Action.{Action}
 use Rattle.plan_types.specs.declared.action.Action.TheVariants.{Forward, Reverse, Copy, Move, EndForward, EndReverse}
-use Rattle.level_book.specs.BookCosts.{BookCosts, names_of, total_room}
+use Rattle.level_book.specs.BookCosts.{BookCosts, slots_of, names_of, total_room}
+use Rattle.level_book.specs.Valid.{Valid}
 use Rattle.level_book.specs.BookFaults.{IsBookText}
 use Rattle.level_book.specs.Names.{AreNames}
 use Rattle.level_book.proofs.OneBook.{text_names}
 use Rattle.action_text.specs.Canonical.{canonical, HasSpelling, text_of}
-use Rattle.action_text.specs.Laws.{certificate_line}
 use Rattle.action_text.specs.ScheduleText.{IsSchedule}
 use Rattle.action_text.proofs.Spelled.{HasNoEnd, endless, canonical_read}
 use Rattle.binomials.specs.Binomials.{beta}
@@ -37,15 +36,14 @@ use Rattle.revolve_gen.specs.Written.{revolve_list}
 use Rattle.reversal.specs.Plans.{certificate_of, line_of_action, list_pieces, plan_pieces}
 use Rattle.reversal.specs.Deeds.{bytes_of}
 use Rattle.reversal.proofs.Pieces.{pieces_bytes}
-use Rattle.reversal.proofs.Planned.{plan_few, plan_spelled}
+use Rattle.reversal.proofs.Planned.{plan_few, plan_valid, as_many}
+use Rattle.reversal.proofs.Spelled.{valid_spelled}
 
--- ---- the text of a plan
+-- ---- the text of a list and of a certificate
 
-plan_text_is : (steps : ℕ) (b : BookCosts) → bytes_of (plan_pieces steps b) ≡ text_of (names_of b) (revolve_list steps b) ++ certificate.canonical (certificate_of steps b)
-plan_text_is steps b =
-    let names = names_of b in
-    let list = revolve_list steps b in
-    let pieces = certificate.pieces (certificate_of steps b) in
+plan_text_is : (names : List (List ℕ)) (list : List Action) (c : Certificate) → bytes_of (list_pieces names list ++ certificate.pieces c) ≡ text_of names list ++ certificate.canonical c
+plan_text_is names list c =
+    let pieces = certificate.pieces c in
     let many = length-map list (line_of_action names) in
     flat_map-append (λ l. l) (list_pieces names list) pieces
     ∙ (λ i. (pieces_bytes (length list) (map (line_of_action names) list) (omega (arith, many)) ∙ flat_map-map (λ l. l) (line_of_action names) list) i ++ sym (concat_is pieces) i)
@@ -110,16 +108,19 @@ read_as_certificate names list steps b c are spelled has =
 
 -- ---- both
 
+pub read_again : (steps : ℕ) (book : List ℕ) (b : BookCosts) (list : List Action) (c : Certificate) → steps ≤ 1000000 → IsBookText book b → length list ≤ 16777216 → Valid steps (slots_of b) list → meaning.HasText steps b c →
+    IsSchedule (names_of b) (bytes_of (list_pieces (names_of b) list ++ certificate.pieces c)) list × IsCertificateText steps b (bytes_of (list_pieces (names_of b) list ++ certificate.pieces c)) c
+read_again steps book b list c short is few valid has =
+    let names = names_of b in
+    let are = text_names book b is in
+    let spelled = valid_spelled steps (slots_of b) names list short (as_many b) valid in
+    let S : List ℕ → Type 0 = λ l. IsSchedule names l list in
+    let C : List ℕ → Type 0 = λ l. IsCertificateText steps b l c in (
+      subst S (sym (plan_text_is names list c)) (read_as_schedule names list steps b c are few spelled has),
+      subst C (sym (plan_text_is names list c)) (read_as_certificate names list steps b c are spelled has),
+    )
+
 pub plan_read_again : (steps : ℕ) (book : List ℕ) (b : BookCosts) → steps ≤ 1000000 → IsBookText book b → HasPlan steps (total_room b steps) →
     IsSchedule (names_of b) (bytes_of (plan_pieces steps b)) (revolve_list steps b) × IsCertificateText steps b (bytes_of (plan_pieces steps b)) (certificate_of steps b)
 plan_read_again steps book b short is plan =
-    let names = names_of b in
-    let list = revolve_list steps b in
-    let are = text_names book b is in
-    let spelled = plan_spelled steps b short plan in
-    let has = has_text steps b short plan in
-    let S : List ℕ → Type 0 = λ l. IsSchedule names l list in
-    let C : List ℕ → Type 0 = λ l. IsCertificateText steps b l (certificate_of steps b) in (
-      subst S (sym (plan_text_is steps b)) (read_as_schedule names list steps b (certificate_of steps b) are (plan_few steps b short plan) spelled has),
-      subst C (sym (plan_text_is steps b)) (read_as_certificate names list steps b (certificate_of steps b) are spelled has),
-    )
+    read_again steps book b (revolve_list steps b) (certificate_of steps b) short is (plan_few steps b short plan) (plan_valid steps b plan) (has_text steps b short plan)

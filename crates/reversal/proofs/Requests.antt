@@ -13,7 +13,7 @@ use Rattle.reversal.specs.declared.kind.PlanKind.TheVariants.{Revolve, Multistag
 use Rattle.reversal.specs.declared.question.Question.{Question}
 use Rattle.reversal.specs.declared.question.Question.TheVariants.{State, LastWrite, LastChange}
 use Rattle.reversal.specs.Reading.{Gives, ◌>>=◌, with_or, after_of, number_at}
-use Rattle.reversal.specs.Request.{Choice, raw, stack, workers, files, files_front, option_word, is_raw, is_stack, is_workers, is_files, FitsWord, AreOptions, Run, RunRevolve, PlanFor, PlanPeriodic, Check, Certify, Price, Ask, Demo, Command, run, run_revolve, plan, plan_periodic, check, certify, price, ask, demo, kind_word, question_word, question_number, address_word, IsRun, IsQuestion, command_words, word_or_dash, IsName, IsScheduleName, MayBeNamed, CanBeSpelled, Request, Says}
+use Rattle.reversal.specs.Request.{Choice, raw, stack, workers, files, files_front, option_word, is_raw, is_stack, is_workers, is_files, FitsWord, AreOptions, Run, RunRevolve, PlanFor, PlanPeriodic, Check, Certify, Price, Ask, Demo, Command, run, run_revolve, plan, plan_periodic, check, certify, price, ask, demo, kind_word, question_word, question_number, IsRun, IsQuestion, command_words, word_or_dash, IsName, IsScheduleName, MayBeNamed, CanBeSpelled, Request, Says}
 use Rattle.reversal.specs.ChoiceReading.{number_of, stack_of, workers_of, files_of, choice_of, first_choice, options_at, behind_options, is_like, are_single}
 use Rattle.reversal.specs.RequestReading.{is_name, is_schedule_name, name_or_none, run_of, run_revolve_of, kind_of, plan_for_of, plan_periodic_of, check_of, certify_of, price_of, address_of, question_of, ask_of, demo_of, any_run_of, of_three_of, of_four_of, command_of, request_read, request_of}
 use Rattle.reversal.proofs.Addresses.{address_again, address_read}

@@ -4,7 +4,7 @@ use Rattle.plan_types.specs.declared.action.Action.{Action}
 use Rattle.level_book.specs.BookCosts.{BookCosts}
 use Rattle.cert_text.specs.declared.certificate.Certificate.{Certificate}
 use Rattle.bound_cert.specs.declared.verdict.Reason.{Reason}
-use Rattle.bound_cert.specs.declared.verdict.Reason.TheVariants.{Invalid, OutsideClass, Inequality, ValueDiffers}
+use Rattle.bound_cert.specs.declared.verdict.Reason.TheVariants.{Invalid, WrongShape, OutsideClass, Inequality, ValueDiffers}
 use Rattle.bound_cert.specs.Accepted.{IsAccepted}
 use Rattle.bound_cert.proofs.Accepting.{apart, one_reason}
 use Rattle.reversal.specs.declared.ended.Ended.{Ended}
@@ -32,6 +32,7 @@ weigh_met steps book list k job Below h = elim h [
 -- a refusal by this line has a status of its own
 its_status : (reason : Reason) → (not_least reason).status ≡ 15
 its_status Invalid = refl
+its_status WrongShape = refl
 its_status OutsideClass = refl
 its_status (Inequality entry) = refl
 its_status (ValueDiffers cost value) = refl

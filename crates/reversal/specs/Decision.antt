@@ -7,8 +7,10 @@ use Rattle.level_book.specs.declared.book.Slots.TheVariants.{Count, Unlimited}
 use Rattle.reverse_runner.specs.KeepersSeen.{HaveRoom}
 use Rattle.level_book.specs.declared.fault.BookFault.{BookFault}
 use Rattle.level_book.specs.BookCosts.{BookCosts, slots_of, names_of, least, room, total_room, plain}
-use Rattle.level_book.specs.UnderTable.{Tables, IsGreatest}
-use Rattle.level_book.specs.DiskUnderTable.{DiskTables, IsGreatestDisk}
+use Rattle.level_book.specs.UnderTable.{IsGreatest}
+use Rattle.level_book.specs.DiskUnderTable.{IsGreatestDisk}
+use Rattle.cost_tables.specs.TableRows.{TableRows, tables_in}
+use Rattle.disk_gen.specs.DiskRows.{DiskRows, disk_tables_in}
 use Rattle.disk_gen.specs.DiskWritten.{IsDiskWritten}
 use Rattle.reversal.specs.declared.question.Question.{Question}
 use Rattle.level_book.specs.BookFaults.{IsBookText, IsRefused}
@@ -26,13 +28,13 @@ use Rattle.elf_load.specs.Elf.{IsProgram}
 use Rattle.elf_load.specs.Raw.{IsRawProgram}
 use Rattle.elf_load.specs.Faults.{FirstFault as ProgramFirst, FirstRawFault}
 use Rattle.cert_text.specs.declared.certificate.Certificate.{Certificate}
-use Rattle.cert_text.specs.declared.certificate.Certificate.TheVariants.{Places}
+use Rattle.cert_text.specs.declared.certificate.Certificate.TheVariants as certified
 use Rattle.cert_text.specs.Canonical as certificate_text
 use Rattle.bound_cert.specs.declared.verdict.Reason.{Reason}
 use Rattle.bound_cert.specs.declared.verdict.Class.{Class}
 use Rattle.bound_cert.specs.declared.verdict.Class.TheVariants as class
 use Rattle.bound_cert.specs.Thresholds.{IsThresholdOf}
-use Rattle.cert_text.specs.Meaning.{IsCertificateText}
+use Rattle.cert_text.specs.Meaning.{HasText, IsCertificateText}
 use Rattle.cert_text.specs.Faults.{HasFirstFault as CertificateFirst}
 use Rattle.bound_cert.specs.Accepted.{class_of, IsAccepted, IsFirstReason}
 use Rattle.revolve_gen.specs.Plans.{HasPlan}
@@ -47,7 +49,7 @@ use Rattle.disk_gen.specs.Periodic.{images, periodic_list}
 use Rattle.disk_gen.specs.Plans.{slots_at, HasSlots}
 use Rattle.reversal.specs.declared.kind.PlanKind.{PlanKind}
 use Rattle.reversal.specs.declared.kind.PlanKind.TheVariants.{Revolve, Multistage, Disk, Hrevolve}
-use Rattle.reversal.specs.Request.{run_revolve, plan, plan_periodic, certify, price, ask, demo, says_raw, stack_pages, Command, Run, run, check, Request}
+use Rattle.reversal.specs.Request.{run_revolve, plan, plan_periodic, certify, price, ask, demo, says_raw, stack_pages, Command, run, check, Request}
 use Rattle.reversal.specs.Bounds.{IsWithin, question_bound}
 use Rattle.reversal.specs.Inputs.{Input, inputs_of, names, contents, asked_count}
 use Rattle.reversal.specs.Plans.{list_pieces, plan_pieces}
@@ -102,6 +104,8 @@ Weigh steps book list certificate d below =
 abbrev pub least_line : Class → List ℕ
 least_line class.Valid = codes "least valid\n"
 least_line class.Multistage = codes "least multistage\n"
+least_line class.Nested = codes "least nested\n"
+least_line class.Disk = codes "least disk\n"
 
 -- the keeper of this level is the first that has fewer slots than a run of so many steps can use there
 pub record IsFirstSmall (steps : ℕ) (slots : List Slots) (counts : List ℕ) (level : ℕ) : Type 0 where
@@ -196,25 +200,28 @@ DecidesPlanMultistage steps book d =
     Read (IsBookText book) (HasBookFault book) bad_book d (λ (b : BookCosts).
     Need (length b.levels ≡ 2) (no_plan steps (total_room b steps) 2) d (
     Plan steps b d
-    ((list : List Action) × (IsMultistageList steps b list × ((threshold : ℕ) × (IsThresholdOf threshold steps b list
-    × (d ≡ accept (write (list_pieces (names_of b) list ++ certificate_text.pieces (Places threshold))))))))))
+    ((list : List Action) × (IsMultistageList steps b list × ((threshold : ℕ) × (IsThresholdOf threshold steps b list × (HasText steps b (certified.Places threshold)
+    × (d ≡ accept (write (list_pieces (names_of b) list ++ certificate_text.pieces (certified.Places threshold)))))))))))
 
--- the text of the list of DiskRevolve for memory and an unlimited disk, which is read from the greatest disk tables
+-- the text of the list of DiskRevolve for memory and an unlimited disk, which is read from the greatest disk tables, and of these
+-- tables
 abbrev pub DecidesPlanDisk : ℕ → List ℕ → Decision → Type 0
 DecidesPlanDisk steps book d =
     Read (IsBookText book) (HasBookFault book) bad_book d (λ (b : BookCosts).
     Need (room b 0 steps ≤ 64) (out_of_range (room b 0 steps) 64 9) d (
     Need (length b.levels ≡ 2) (no_plan steps (total_room b steps) 2) d (
     Need (slice_get (slots_of b) 1 ≡ Some Unlimited) (no_plan steps (total_room b steps) 3) d
-    ((tables : DiskTables) × (IsGreatestDisk steps b tables × ((list : List Action) × (IsDiskWritten steps b tables list × (d ≡ accept (write (list_pieces (names_of b) list))))))))))
+    ((t : DiskRows) × (HasText steps b (certified.Disk t) × (IsGreatestDisk steps b (disk_tables_in t) × ((list : List Action) × (IsDiskWritten steps b (disk_tables_in t) list
+    × (d ≡ accept (write (list_pieces (names_of b) list ++ certificate_text.pieces (certified.Disk t))))))))))))
 
--- the text of the list of H-Revolve, which is read from the greatest tables
+-- the text of the list of H-Revolve, which is read from the greatest tables, and of these tables
 abbrev pub DecidesPlanHrevolve : ℕ → List ℕ → Decision → Type 0
 DecidesPlanHrevolve steps book d =
     Read (IsBookText book) (HasBookFault book) bad_book d (λ (b : BookCosts).
     Tabulate steps b d (
     Need (nested.HasPlan steps b) (no_plan steps (total_room b steps) 1) d
-    ((tables : Tables) × (IsGreatest steps b tables × ((list : List Action) × (IsWritten steps b tables list × (d ≡ accept (write (list_pieces (names_of b) list)))))))))
+    ((t : TableRows) × (HasText steps b (certified.Nested t) × (IsGreatest steps b (tables_in t) × ((list : List Action) × (IsWritten steps b (tables_in t) list
+    × (d ≡ accept (write (list_pieces (names_of b) list ++ certificate_text.pieces (certified.Nested t)))))))))))
 
 -- the text of the list of a kind
 abbrev pub DecidesPlan : PlanKind → ℕ → List ℕ → Decision → Type 0

@@ -132,6 +132,7 @@ not_least reason.Invalid = ended_by 15 0 0 1
 not_least reason.OutsideClass = ended_by 15 0 0 2
 not_least (reason.Inequality entry) = ended_with 15 0 0 3 entry no_digest no_digest
 not_least (reason.ValueDiffers cost value) = ended_by 15 cost value 4
+not_least reason.WrongShape = ended_by 15 0 0 5
 
 -- the book has more levels than there are keepers: rule 1
 abbrev pub few_keepers : ℕ → ℕ → Ended

@@ -20,7 +20,6 @@ use Rattle.reversal.specs.declared.demo.Demonstration as demo_in_memory
 use Rattle.reversal.specs.declared.job.Performance.{Performance}
 use Rattle.reversal.specs.declared.asking.Asking.{Asking}
 use Rattle.reversal.specs.declared.asking.Over.{Over}
-use Rattle.reversal.specs.declared.pricing.Pricing.{Pricing}
 use Rattle.cost_fold.specs.CountsOf.{all_of}
 use Rattle.cost_report.specs.Report.{report_lines}
 use Rattle.reversal.specs.ActionsLeft.{left_of}

@@ -17,3 +17,4 @@ pub mod JobReading
 pub mod ActionsLeft
 pub mod DemoReading
 pub mod NoPlans
+pub mod WrittenPlans

@@ -1,4 +1,4 @@
--- What is written of the list of Revolve for a book: its text and its certificate, which say it again.
+-- What is written of a list for a book: its text and its certificate, which say it again.
 use Rattle.std.specs.Prelude.{ℕ, suc, zero, List, [], ◌∷◌, ◌++◌, length, map, take, drop, cond, nat_le, ◌+◌}
 use Rattle.std.specs.List.{flat_map}
 use Rattle.plan_types.specs.declared.action.Action.{Action}

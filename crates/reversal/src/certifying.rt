@@ -70,6 +70,8 @@ fn least_line(class: Class) -> Line
     line.push(match class {
         Class::Valid => b"least valid\n",
         Class::Multistage => b"least multistage\n",
+        Class::Nested => b"least nested\n",
+        Class::Disk => b"least disk\n",
     });
     line
 }

@@ -1,4 +1,4 @@
-// The list of DiskRevolve for memory and an unlimited disk, as text.
+// The list of DiskRevolve for memory and an unlimited disk, and the tables that it is read from, as text.
 ghost use Rattle.std.specs.Prelude.{◌≡◌, ◌⊎◌, ℕ, ◌≤◌, List, length, IfOk, IfErr, OnOk};
 ghost use Rattle.level_book.specs.DiskUnderTable.{IsGreatestDisk};
 ghost use Rattle.cost_tables.specs.TableRows.{FitsFastest};
@@ -13,7 +13,8 @@ use crate::actions::{Actions, Listed};
 use crate::decision::book_in;
 use crate::ended::Ended;
 use crate::job::Job;
-use crate::planning::list_text;
+use crate::planning::certified_text;
+use bound_cert::certify_disk;
 use disk_gen::{DiskTables, disk_list};
 use level_book::Book;
 use revolve_gen::GenFault;
@@ -23,7 +24,8 @@ use std::thread::Threads;
 // How many images in memory tables count at most.
 const MOST_IMAGES: u32 = 64;
 
-/// What a plan of DiskRevolve comes to by the bytes of its book: the text of its list, whatever the number of workers.
+/// What a plan of DiskRevolve comes to by the bytes of its book: the text of its list and of its certificate, whatever the
+/// number of workers.
 pub fn disk_text<R: Threads + Sync>(
     rt: &R,
     alloc: Global,
@@ -46,7 +48,9 @@ pub fn disk_text<R: Threads + Sync>(
     }
     let tables = tables_for(rt, alloc, workers, steps, &book)?;
     let list = disk_list(alloc, &tables, steps, &book)?;
-    let job = list_text(alloc, Actions::Listed(Listed::new(list)), book)?;
+    book.is_within_limits();
+    let certificate = certify_disk(tables);
+    let job = certified_text(alloc, Actions::Listed(Listed::new(list)), book, certificate)?;
     Ok(job)
 }
 

@@ -153,6 +153,7 @@ impl Ended {
                 ..Ended::by(15, 0, 0, 3)
             },
             Reason::ValueDiffers { cost, value } => Ended::by(15, cost, value, 4),
+            Reason::WrongShape => Ended::by(15, 0, 0, 5),
         }
     }
 

@@ -1,4 +1,4 @@
-// The list of H-Revolve for the levels of a book, as text.
+// The list of H-Revolve for the levels of a book, and the tables that it is read from, as text.
 ghost use Rattle.std.specs.Prelude.{◌≡◌, ◌⊎◌, ℕ, ◌<◌, ◌≤◌, List, length, IfOk, IfErr, IfNone, OnOk, MatchOption};
 ghost use Rattle.level_book.specs.BookCosts.{room, slots_of};
 ghost use Rattle.level_book.specs.NestedClass.{Nested};
@@ -15,7 +15,8 @@ use crate::actions::{Actions, Listed};
 use crate::decision::book_in;
 use crate::ended::Ended;
 use crate::job::Job;
-use crate::planning::list_text;
+use crate::planning::certified_text;
+use bound_cert::certify_nested;
 use cost_tables::Tables;
 use hrevolve_gen::hrevolve_list;
 use level_book::Book;
@@ -27,7 +28,8 @@ use std::thread::Threads;
 // How many images of a level tables count at most.
 const MOST_IMAGES: u32 = 64;
 
-/// What a plan of H-Revolve comes to by the bytes of its book: the text of its list, whatever the number of workers.
+/// What a plan of H-Revolve comes to by the bytes of its book: the text of its list and of its certificate, whatever the number
+/// of workers.
 pub fn hrevolve_text<R: Threads + Sync>(
     rt: &R,
     alloc: Global,
@@ -48,7 +50,9 @@ pub fn hrevolve_text<R: Threads + Sync>(
     }
     let tables = Tables::build(rt, alloc, steps, &book, workers)?;
     let list = list_for(alloc, &tables, steps, &book)?;
-    let job = list_text(alloc, Actions::Listed(Listed::new(list)), book)?;
+    book.is_within_limits();
+    let certificate = certify_nested(tables);
+    let job = certified_text(alloc, Actions::Listed(Listed::new(list)), book, certificate)?;
     Ok(job)
 }
 

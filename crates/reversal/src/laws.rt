@@ -10,7 +10,9 @@ ghost use Rattle.level_book.specs.Valid.{Valid};
 ghost use Rattle.action_text.specs.ScheduleText.{IsSchedule};
 ghost use Rattle.reversal.specs.Request.{Request, Says};
 ghost use Rattle.cert_text.specs.declared.certificate.Certificate.{Certificate};
-ghost use Rattle.cert_text.specs.declared.certificate.Certificate.TheVariants.{Places};
+ghost use Rattle.cert_text.specs.declared.certificate.Certificate.TheVariants as certified;
+ghost use Rattle.cost_tables.specs.TableRows.{TableRows};
+ghost use Rattle.disk_gen.specs.DiskRows.{DiskRows};
 ghost use Rattle.cert_text.specs.Canonical.{pieces};
 ghost use Rattle.bound_cert.specs.Accepted.{class_of, IsAccepted, IsLeastOf};
 ghost use Rattle.cert_text.specs.Meaning.{IsCertificateText};
@@ -18,6 +20,7 @@ ghost use Rattle.revolve_gen.specs.Multistage.{IsMultistage};
 ghost use Rattle.revolve_gen.specs.Written.{revolve_list};
 ghost use Rattle.reversal.specs.Decision.{Decision, accept, least_line, Decides, DecidesCertify, DecidesPlanRevolve, DecidesPlanMultistage, DecidesPlanDisk, DecidesPlanHrevolve};
 ghost use Rattle.reversal.specs.Plans.{list_pieces, plan_pieces, certificate_of};
+ghost use Rattle.reversal.specs.WrittenPlans.{SaysAgain};
 ghost use Rattle.reversal.specs.Deeds.{Job, write, Shown, deeds, bytes_written, steps_made, output, steps_taken};
 
 /// Words say one request at most.
@@ -53,7 +56,7 @@ pub fn revolve_plans_are_least()
         × ((other : List Action) → Valid steps (slots_of b) other → forward (revolve_list steps b) ≤ forward other) }
 {}
 
-/// What is written of a plan is read again: as a schedule that says its list, and as a text that says its certificate.
+/// What is written of a plan of Revolve is read again: as a schedule that says its list, and as a text that says its certificate.
 pub fn plans_are_read_again()
     ensures { (steps : ℕ) (book : List ℕ) (job : Job) → steps ≤ 1000000 → DecidesPlanRevolve steps book (accept job) →
         (b : BookCosts) × IsBookText book b × ((shown : Shown) →
@@ -61,26 +64,31 @@ pub fn plans_are_read_again()
 {}
 
 /// A plan of H-Revolve costs the least of its class: where a request for one comes to its job, the text of a list is written
-/// that is in the nested class, and no list of that class costs less by the book.
+/// that is in the nested class, with a certificate that is accepted for it, and no list of that class costs less by the book.
+/// What is written is read again as that list and that certificate.
 pub fn hrevolve_plans_are_least()
     ensures { (steps : ℕ) (book : List ℕ) (job : Job) → DecidesPlanHrevolve steps book (accept job) →
-        (b : BookCosts) × IsBookText book b × (list : List Action) × (job ≡ write (list_pieces (names_of b) list)) × Nested steps (slots_of b) list
-        × ((other : List Action) → Nested steps (slots_of b) other → cost list b ≤ cost other b) }
+        (b : BookCosts) × IsBookText book b × (list : List Action) × (t : TableRows) × (job ≡ write (list_pieces (names_of b) list ++ pieces (certified.Nested t)))
+        × Nested steps (slots_of b) list × IsAccepted list steps b (certified.Nested t)
+        × ((other : List Action) → Nested steps (slots_of b) other → cost list b ≤ cost other b) × SaysAgain steps b job list (certified.Nested t) }
 {}
 
 /// A plan of DiskRevolve costs the least of its class: where a request for one comes to its job, the text of a list is written
-/// that is in the disk class, and no list of that class costs less by the book.
+/// that is in the disk class, with a certificate that is accepted for it, and no list of that class costs less by the book. What
+/// is written is read again as that list and that certificate.
 pub fn disk_plans_are_least()
     ensures { (steps : ℕ) (book : List ℕ) (job : Job) → DecidesPlanDisk steps book (accept job) →
-        (b : BookCosts) × IsBookText book b × (list : List Action) × (job ≡ write (list_pieces (names_of b) list)) × Disk steps (slots_of b) list
-        × ((other : List Action) → Disk steps (slots_of b) other → cost list b ≤ cost other b) }
+        (b : BookCosts) × IsBookText book b × (list : List Action) × (t : DiskRows) × (job ≡ write (list_pieces (names_of b) list ++ pieces (certified.Disk t)))
+        × Disk steps (slots_of b) list × IsAccepted list steps b (certified.Disk t)
+        × ((other : List Action) → Disk steps (slots_of b) other → cost list b ≤ cost other b) × SaysAgain steps b job list (certified.Disk t) }
 {}
 
 /// A multistage plan costs the least of its class: where a request for one comes to its job, the text of a list is written that
-/// is in the multistage class, with a certificate that is accepted for it, and no list of that class costs less by the book.
+/// is in the multistage class, with a certificate that is accepted for it, and no list of that class costs less by the book. What
+/// is written is read again as that list and that certificate.
 pub fn multistage_plans_are_least()
     ensures { (steps : ℕ) (book : List ℕ) (job : Job) → DecidesPlanMultistage steps book (accept job) →
-        (b : BookCosts) × IsBookText book b × (list : List Action) × (threshold : ℕ) × (job ≡ write (list_pieces (names_of b) list ++ pieces (Places threshold)))
-        × IsMultistage steps b list × IsAccepted list steps b (Places threshold)
-        × ((other : List Action) → IsMultistage steps b other → cost list b ≤ cost other b) }
+        (b : BookCosts) × IsBookText book b × (list : List Action) × (threshold : ℕ) × (job ≡ write (list_pieces (names_of b) list ++ pieces (certified.Places threshold)))
+        × IsMultistage steps b list × IsAccepted list steps b (certified.Places threshold)
+        × ((other : List Action) → IsMultistage steps b other → cost list b ≤ cost other b) × (steps ≤ 1000000 → SaysAgain steps b job list (certified.Places threshold)) }
 {}

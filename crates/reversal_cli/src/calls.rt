@@ -53,7 +53,7 @@ Reverse(1, 0, True)
 EndReverse()
 ";
 
-const SIX_STEPS_ONE_SLOT: &[u8] = b"Forward(0, 5, True, False, RAM)
+pub const SIX_STEPS_ONE_SLOT: &[u8] = b"Forward(0, 5, True, False, RAM)
 Forward(5, 6, False, True, WORK)
 EndForward()
 Reverse(6, 5, True)

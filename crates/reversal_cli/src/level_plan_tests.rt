@@ -9,7 +9,7 @@ use std::test::Fail;
 use std::thread::Threads;
 
 // A slot of memory and any number of disk; one of disk; and too many of memory for tables.
-const ANY_DISK: &[u8] =
+pub const ANY_DISK: &[u8] =
     b"{\"forward\":1,\"reverse\":1,\"levels\":[{\"name\":\"RAM\",\"slots\":1,\"write\":0,\"read\":0},{\"name\":\"DISK\",\"slots\":null,\"write\":2,\"read\":1}]}";
 
 const WIDE: &[u8] =
@@ -163,7 +163,7 @@ fn a_periodic_plan_is_its_list(rt: HostRuntime) -> Result<(), Fail> {
 }
 
 // The list of H-Revolve for six steps with a slot of memory and one of disk.
-const SIX_STEPS: &[u8] = b"Forward(0, 2, True, False, DISK)
+pub const SIX_STEPS: &[u8] = b"Forward(0, 2, True, False, DISK)
 Forward(2, 5, True, False, RAM)
 Forward(5, 6, False, True, WORK)
 EndForward()
@@ -189,13 +189,50 @@ Reverse(1, 0, True)
 EndReverse()
 ";
 
+// The tables that it is read from: what a stretch of one to six steps costs at least, on memory and on disk, with so many free
+// slots there, where its first state is in work and where it is held.
+pub const SIX_STEPS_TABLES: &[u8] = b"#! nested
+#! F 0 0 2 - - - - -
+#! F 0 1 2 5 9 14 20 27
+#! H 0 0 2 5 9 14 20 27
+#! F 1 0 2 5 9 14 20 27
+#! F 1 1 2 5 9 14 19 24
+#! H 1 0 3 6 10 14 18 23
+#! end
+";
+
 #[test]
 fn a_plan_of_h_revolve_is_the_same_for_each_number_of_workers(rt: HostRuntime) -> Result<(), Fail> {
     let alloc = rt.alloc();
-    writes(&rt, alloc, "plan hrevolve levels 6", SIX_STEPS)?;
-    writes(&rt, alloc, "--workers=4 plan hrevolve levels 6", SIX_STEPS)?;
-    writes(&rt, alloc, "--workers=64 plan hrevolve levels 6", SIX_STEPS)?;
-    writes(&rt, alloc, "plan hrevolve none 0", NO_STEPS)
+    let six = with_line(alloc, SIX_STEPS, SIX_STEPS_TABLES)?;
+    writes(&rt, alloc, "plan hrevolve levels 6", &six)?;
+    writes(&rt, alloc, "--workers=4 plan hrevolve levels 6", &six)?;
+    writes(&rt, alloc, "--workers=64 plan hrevolve levels 6", &six)?;
+    let no_steps = with_line(alloc, NO_STEPS, b"#! nested\n#! F 0 0\n#! end\n")?;
+    writes(&rt, alloc, "plan hrevolve none 0", &no_steps)
+}
+
+#[test]
+fn a_plan_of_h_revolve_for_three_steps_keeps_nothing_on_the_disk(
+    rt: HostRuntime,
+) -> Result<(), Fail> {
+    let alloc = rt.alloc();
+    let mut plan = MemorySink::new(alloc, 4096)?;
+    assert_eq!(rt;
+        call(&rt, alloc, "plan hrevolve levels 3", &FILES, &mut plan)?.status,
+        0
+    );
+    let files: [Named<'_>; 2] = [(b"levels", TWO_LEVELS), (b"plan", plan.bytes())];
+    let table: [(&str, &[u8]); 2] = [
+        ("cost levels plan 3", b"DISK writes 0 reads 0\ntotal 9\n"),
+        ("certify levels plan plan 3", b"least nested\n"),
+    ];
+    for (line, end) in table {
+        let mut out = MemorySink::new(alloc, 4096)?;
+        assert_eq!(rt; call(&rt, alloc, line, &files, &mut out)?.status, 0);
+        assert!(rt; out.bytes().ends_with(end));
+    }
+    Ok(())
 }
 
 #[test]
@@ -225,6 +262,14 @@ Forward(2, 4, True, False, DISK)
 Forward(4, 6, True, False, DISK)
 ";
 
+// The end of its certificate: what stretches of one to nine steps cost at least, where their first state is in work and where it is
+// held on the disk.
+const NINE_STEPS_END: &[u8] = b"
+#! Fd 2 5 9 14 19 24 29 34 39
+#! Hd 3 6 10 14 18 23 28 33 38
+#! end
+";
+
 #[test]
 fn a_plan_of_disk_revolve_is_the_same_for_each_number_of_workers(
     rt: HostRuntime,
@@ -236,6 +281,7 @@ fn a_plan_of_disk_revolve_is_the_same_for_each_number_of_workers(
         0
     );
     assert!(rt; one.bytes().starts_with(NINE_STEPS_FRONT));
+    assert!(rt; one.bytes().ends_with(NINE_STEPS_END));
     for line in [
         "--workers=4 plan disk disk 9",
         "--workers=64 plan disk disk 9",
@@ -249,6 +295,32 @@ fn a_plan_of_disk_revolve_is_the_same_for_each_number_of_workers(
         0
     );
     assert!(rt; cost.bytes().ends_with(b"\ntotal 39\n"));
+    let mut least = MemorySink::new(alloc, 64)?;
+    assert_eq!(rt;
+        call(&rt, alloc, "certify disk plan plan 9", &files, &mut least)?.status,
+        0
+    );
+    assert_eq!(rt; least.bytes(), b"least disk\n".as_slice());
+    Ok(())
+}
+
+#[test]
+fn a_plan_of_disk_revolve_for_many_steps_is_the_same_for_each_number_of_workers(
+    rt: HostRuntime,
+) -> Result<(), Fail> {
+    let alloc = rt.alloc();
+    let mut one = MemorySink::new(alloc, 1_048_576)?;
+    let line = "--workers=1 plan disk disk 500";
+    assert_eq!(rt; call(&rt, alloc, line, &FILES, &mut one)?.status, 0);
+    assert!(rt; one.bytes().ends_with(b"\n#! end\n"));
+    for line in [
+        "--workers=4 plan disk disk 500",
+        "--workers=64 plan disk disk 500",
+    ] {
+        let mut other = MemorySink::new(alloc, 1_048_576)?;
+        assert_eq!(rt; call(&rt, alloc, line, &FILES, &mut other)?.status, 0);
+        assert!(rt; other.bytes() == one.bytes(), "of {line}");
+    }
     Ok(())
 }
 
@@ -314,8 +386,18 @@ fn a_plan_of_disk_revolve_goes_by_what_the_disk_costs(rt: HostRuntime) -> Result
 #[test]
 fn a_plan_of_disk_revolve_wants_an_unlimited_disk(rt: HostRuntime) -> Result<(), Fail> {
     let alloc = rt.alloc();
-    writes(&rt, alloc, "plan disk disk 0", NO_STEPS)?;
-    writes(&rt, alloc, "plan disk memoryless 1", ONE_STEP)?;
+    let no_steps = with_line(
+        alloc,
+        NO_STEPS,
+        b"#! disk\n#! F 0 0\n#! Fd\n#! Hd\n#! end\n",
+    )?;
+    writes(&rt, alloc, "plan disk disk 0", &no_steps)?;
+    let one_step = with_line(
+        alloc,
+        ONE_STEP,
+        b"#! disk\n#! F 0 0 2\n#! Fd 2\n#! Hd 3\n#! end\n",
+    )?;
+    writes(&rt, alloc, "plan disk memoryless 1", &one_step)?;
     let table: [(&str, &[u8]); 5] = [
         ("plan disk levels 4", b"11 NoPlan 4 2 3"),
         ("plan disk two 4", b"11 NoPlan 4 2 2"),

@@ -11,13 +11,10 @@ use Rattle.table_clauses.specs.declared.disk.DiskColumns.{DiskColumns}
 use Rattle.table_clauses.specs.Broken.{Breaks, DiskBreaks, FreshFails, HeldFails, DiskFreshFails, DiskHeldFails, IsFirst, fast_of}
 use Rattle.table_clauses.specs.Splits.{at_step}
 use Rattle.table_clauses.specs.Columns.{AreCosts, Finds, InLevel}
-use Rattle.table_clauses.specs.DiskColumns.{AreDiskColumns, AreLongDisk, DiskFreshColumnFails, DiskHeldColumnFails, InDiskFreshColumn, InDiskHeldColumn, InDiskColumns}
+use Rattle.table_clauses.specs.DiskColumns.{AreDiskColumns, DiskFreshColumnFails, DiskHeldColumnFails, InDiskFreshColumn, InDiskHeldColumn, InDiskColumns}
 use Rattle.table_clauses.proofs.Meanings.{above_same}
 use Rattle.table_clauses.proofs.Places.{widen, before_table}
 use Rattle.table_clauses.proofs.DiskUnbroken.{disk_none_under}
-
-pub are_long_disk : (t : DiskRows) (columns : DiskColumns) → AreDiskColumns t columns → AreLongDisk t.fast.steps columns
-are_long_disk t columns are = record { fast = omega (arith, are.fast.count); fresh = omega (arith, are.fresh.count); held = omega (arith, are.held.count) }
 
 -- ---- the first place of tables Fd and Hd
 
@@ -131,43 +128,43 @@ module _ (rows : DiskRows) (book : BookCosts) where
     module _ (rooms : slice_index rows.fast.rooms 0 ≡ room book 0 steps) (costs : LevelCosts) (are : AreCosts book 1 costs) (columns : DiskColumns) (is : AreDiskColumns rows columns) where
       disk_fresh_to : (l c : ℕ) → 1 ≤ l → l ≤ steps → DiskFreshColumnFails costs columns l c → DiskFreshFails steps book t l c
       disk_fresh_to l c one le (inl w) =
-          inl (w.0, above_same (at_step columns.fresh.exact.items l) (t.disk_fresh l) (at_step columns.fast.exact.items l) (t.fresh l (room book 0 steps)) (is.fresh.value l one le) (is.fast.value l one le ∙ ap (λ m. t.fresh l m) rooms) w.1)
+          inl (w.0, above_same (at_step columns.fresh.items l) (t.disk_fresh l) (at_step columns.fast.items l) (t.fresh l (room book 0 steps)) (is.fresh.value l one le) (is.fast.value l one le ∙ ap (λ m. t.fresh l m) rooms) w.1)
       disk_fresh_to l c one le (inr (inl w)) =
           let v = w.1 in let j = v.0 in let i = v.1 in
           let fresh = is.fresh.value i v.3 (omega (arith, v.4)) in let held = is.held.value j v.2 (omega (arith, v.4)) in
-          inr (inl (w.0, (j, i, v.2, v.3, v.4, above_same (at_step columns.fresh.exact.items l) (t.disk_fresh l) _ _ (is.fresh.value l one le) (λ x. sum_of (are.write x + j * are.forward x) (fresh x) (held x)) v.5)))
+          inr (inl (w.0, (j, i, v.2, v.3, v.4, above_same (at_step columns.fresh.items l) (t.disk_fresh l) _ _ (is.fresh.value l one le) (λ x. sum_of (are.write x + j * are.forward x) (fresh x) (held x)) v.5)))
       disk_fresh_to l c one le (inr (inr w)) =
           let held = is.held.value l one le in
-          inr (inr (w.0, above_same (at_step columns.fresh.exact.items l) (t.disk_fresh l) _ _ (is.fresh.value l one le) (λ x. sum_of (are.write x) (number 0) (held x)) w.1))
+          inr (inr (w.0, above_same (at_step columns.fresh.items l) (t.disk_fresh l) _ _ (is.fresh.value l one le) (λ x. sum_of (are.write x) (number 0) (held x)) w.1))
 
       disk_fresh_from : (l c : ℕ) → 1 ≤ l → l ≤ steps → DiskFreshFails steps book t l c → DiskFreshColumnFails costs columns l c
       disk_fresh_from l c one le (inl w) =
-          inl (w.0, above_same (t.disk_fresh l) (at_step columns.fresh.exact.items l) (t.fresh l (room book 0 steps)) (at_step columns.fast.exact.items l) (sym (is.fresh.value l one le)) (sym (is.fast.value l one le ∙ ap (λ m. t.fresh l m) rooms)) w.1)
+          inl (w.0, above_same (t.disk_fresh l) (at_step columns.fresh.items l) (t.fresh l (room book 0 steps)) (at_step columns.fast.items l) (sym (is.fresh.value l one le)) (sym (is.fast.value l one le ∙ ap (λ m. t.fresh l m) rooms)) w.1)
       disk_fresh_from l c one le (inr (inl w)) =
           let v = w.1 in let j = v.0 in let i = v.1 in
           let fresh = is.fresh.value i v.3 (omega (arith, v.4)) in let held = is.held.value j v.2 (omega (arith, v.4)) in
-          inr (inl (w.0, (j, i, v.2, v.3, v.4, above_same (t.disk_fresh l) (at_step columns.fresh.exact.items l) _ _ (sym (is.fresh.value l one le)) (sym (λ x. sum_of (are.write x + j * are.forward x) (fresh x) (held x))) v.5)))
+          inr (inl (w.0, (j, i, v.2, v.3, v.4, above_same (t.disk_fresh l) (at_step columns.fresh.items l) _ _ (sym (is.fresh.value l one le)) (sym (λ x. sum_of (are.write x + j * are.forward x) (fresh x) (held x))) v.5)))
       disk_fresh_from l c one le (inr (inr w)) =
           let held = is.held.value l one le in
-          inr (inr (w.0, above_same (t.disk_fresh l) (at_step columns.fresh.exact.items l) _ _ (sym (is.fresh.value l one le)) (sym (λ x. sum_of (are.write x) (number 0) (held x))) w.1))
+          inr (inr (w.0, above_same (t.disk_fresh l) (at_step columns.fresh.items l) _ _ (sym (is.fresh.value l one le)) (sym (λ x. sum_of (are.write x) (number 0) (held x))) w.1))
 
       disk_held_to : (l c : ℕ) → 1 ≤ l → l ≤ steps → DiskHeldColumnFails costs columns l c → DiskHeldFails steps book t l c
       disk_held_to l c one le (inl w) =
           let fresh = is.fast.value l one le ∙ ap (λ m. t.fresh l m) rooms in
-          inl (w.0, above_same (at_step columns.held.exact.items l) (t.disk_held l) _ _ (is.held.value l one le) (λ x. sum_of (are.read x) (number 0) (fresh x)) w.1)
+          inl (w.0, above_same (at_step columns.held.items l) (t.disk_held l) _ _ (is.held.value l one le) (λ x. sum_of (are.read x) (number 0) (fresh x)) w.1)
       disk_held_to l c one le (inr w) =
           let v = w.1 in let j = v.0 in let i = v.1 in
           let fresh = is.fast.value i v.3 (omega (arith, v.4)) ∙ ap (λ m. t.fresh i m) rooms in let held = is.held.value j v.2 (omega (arith, v.4)) in
-          inr (w.0, (j, i, v.2, v.3, v.4, above_same (at_step columns.held.exact.items l) (t.disk_held l) _ _ (is.held.value l one le) (λ x. sum_of (are.read x + j * are.forward x) (fresh x) (held x)) v.5))
+          inr (w.0, (j, i, v.2, v.3, v.4, above_same (at_step columns.held.items l) (t.disk_held l) _ _ (is.held.value l one le) (λ x. sum_of (are.read x + j * are.forward x) (fresh x) (held x)) v.5))
 
       disk_held_from : (l c : ℕ) → 1 ≤ l → l ≤ steps → DiskHeldFails steps book t l c → DiskHeldColumnFails costs columns l c
       disk_held_from l c one le (inl w) =
           let fresh = is.fast.value l one le ∙ ap (λ m. t.fresh l m) rooms in
-          inl (w.0, above_same (t.disk_held l) (at_step columns.held.exact.items l) _ _ (sym (is.held.value l one le)) (sym (λ x. sum_of (are.read x) (number 0) (fresh x))) w.1)
+          inl (w.0, above_same (t.disk_held l) (at_step columns.held.items l) _ _ (sym (is.held.value l one le)) (sym (λ x. sum_of (are.read x) (number 0) (fresh x))) w.1)
       disk_held_from l c one le (inr w) =
           let v = w.1 in let j = v.0 in let i = v.1 in
           let fresh = is.fast.value i v.3 (omega (arith, v.4)) ∙ ap (λ m. t.fresh i m) rooms in let held = is.held.value j v.2 (omega (arith, v.4)) in
-          inr (w.0, (j, i, v.2, v.3, v.4, above_same (t.disk_held l) (at_step columns.held.exact.items l) _ _ (sym (is.held.value l one le)) (sym (λ x. sum_of (are.read x + j * are.forward x) (fresh x) (held x))) v.5))
+          inr (w.0, (j, i, v.2, v.3, v.4, above_same (t.disk_held l) (at_step columns.held.items l) _ _ (sym (is.held.value l one le)) (sym (λ x. sum_of (are.read x + j * are.forward x) (fresh x) (held x))) v.5))
 
       both_out : (p : Place) → InDiskColumns costs columns steps p → Broken p
       both_out p (inl d) = (d.some, d.within, inr (inr (inl (d.table_is, d.level_is, d.free_is, disk_fresh_to p.steps p.clause d.some d.within d.fails))))

@@ -1,5 +1,6 @@
 pub mod Places
 pub mod Pushing
+pub mod BelowSplits
 pub mod Unbroken
 pub mod Meanings
 pub mod DiskUnbroken

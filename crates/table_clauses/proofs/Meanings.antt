@@ -26,7 +26,7 @@ pub long_faster : (t : TableRows) (k : ℕ) (o : Option (Vec Cost Global)) → I
 long_faster t k None is = search rules
 long_faster t k (Some column) is = omega (arith, is.1.count)
 
-pub long_before : (t : TableRows) (k m : ℕ) (o : Option Pair) → IsPairBefore t k m o → IfSome o (λ pair. (t.steps ≤ length pair.fresh.exact.items) × (t.steps ≤ length pair.held.exact.items))
+pub long_before : (t : TableRows) (k m : ℕ) (o : Option Pair) → IsPairBefore t k m o → IfSome o (λ pair. (t.steps ≤ length pair.fresh.items) × (t.steps ≤ length pair.held.items))
 long_before t k m None is = search rules
 long_before t k m (Some pair) is = (omega (arith, is.1.fresh.count), omega (arith, is.1.held.count))
 
@@ -176,10 +176,10 @@ module _ (rows : TableRows) (book : BookCosts) (k : ℕ) (costs : LevelCosts) (a
     held_to : (l c : ℕ) → 1 ≤ l → l ≤ rows.steps → HeldColumnFails costs columns l c → HeldFails rows.steps book t k m l c
     held_to l c one le (inl w) =
         let l_is = w.1.0 in
-        inl (w.0, l_is, above_same (at_step columns.here.held.exact.items l) (t.held k 1 m) _ _ (is.here.held.value l one le ∙ ap (λ l. t.held k l m) l_is) (λ x. number (are.read x + are.forward x + are.reverse x)) w.1.1)
+        inl (w.0, l_is, above_same (at_step columns.here.held.items l) (t.held k 1 m) _ _ (is.here.held.value l one le ∙ ap (λ l. t.held k l m) l_is) (λ x. number (are.read x + are.forward x + are.reverse x)) w.1.1)
     held_to l c one le (inr (inl w)) =
         let own = is.here.held.value l one le in
-        let P : Entry → Type 0 = λ x. IsAbove (at_step columns.here.held.exact.items l) (sum_of costs.read (number 0) x) in
+        let P : Entry → Type 0 = λ x. IsAbove (at_step columns.here.held.items l) (sum_of costs.read (number 0) x) in
         let by = faster_to P columns.faster is.faster l one le w.1 in
         let x = t.fresh by.0 l (room book by.0 rows.steps) in
         inr (inl (w.0, (by.0, by.1, above_same _ _ _ _ own (λ i. sum_of (are.read i) (number 0) x) by.2)))
@@ -194,7 +194,7 @@ module _ (rows : TableRows) (book : BookCosts) (k : ℕ) (costs : LevelCosts) (a
             v.2,
             v.3,
             v.4,
-            above_same (at_step columns.here.held.exact.items l) (t.held k l m) _ _ (is.here.held.value l one le) (λ x. sum_of (are.read x + j * are.forward x) (fresh x) (held x)) v.5,
+            above_same (at_step columns.here.held.items l) (t.held k l m) _ _ (is.here.held.value l one le) (λ x. sum_of (are.read x + j * are.forward x) (fresh x) (held x)) v.5,
           ),
         ))
 
@@ -204,18 +204,18 @@ module _ (rows : TableRows) (book : BookCosts) (k : ℕ) (costs : LevelCosts) (a
           w.0,
           (
             w.1,
-            above_same (t.held k 1 m) (at_step columns.here.held.exact.items l) _ _ (sym (is.here.held.value l one le ∙ ap (λ l. t.held k l m) w.1)) (sym (λ x. number (are.read x + are.forward x + are.reverse x))) w.2,
+            above_same (t.held k 1 m) (at_step columns.here.held.items l) _ _ (sym (is.here.held.value l one le ∙ ap (λ l. t.held k l m) w.1)) (sym (λ x. number (are.read x + are.forward x + are.reverse x))) w.2,
           ),
         )
     held_from l c one le (inr (inl w)) =
         let own = is.here.held.value l one le in
-        let P : Entry → Type 0 = λ x. IsAbove (at_step columns.here.held.exact.items l) (sum_of costs.read (number 0) x) in
+        let P : Entry → Type 0 = λ x. IsAbove (at_step columns.here.held.items l) (sum_of costs.read (number 0) x) in
         let v = w.1 in
         let x = t.fresh v.0 l (room book v.0 rows.steps) in
         inr (inl (
           w.0,
           faster_from P columns.faster is.faster l one le v.0 v.1
-              (above_same (t.held k l m) (at_step columns.here.held.exact.items l) _ _ (sym own) (sym (λ i. sum_of (are.read i) (number 0) x)) v.2),
+              (above_same (t.held k l m) (at_step columns.here.held.items l) _ _ (sym own) (sym (λ i. sum_of (are.read i) (number 0) x)) v.2),
         ))
     held_from l c one le (inr (inr w)) =
         let v = w.1 in let j = v.0 in let i = v.1 in
@@ -228,7 +228,7 @@ module _ (rows : TableRows) (book : BookCosts) (k : ℕ) (costs : LevelCosts) (a
             v.2,
             v.3,
             v.4,
-            above_same (t.held k l m) (at_step columns.here.held.exact.items l) _ _ (sym (is.here.held.value l one le)) (sym (λ x. sum_of (are.read x + j * are.forward x) (fresh x) (held x))) v.5,
+            above_same (t.held k l m) (at_step columns.here.held.items l) _ _ (sym (is.here.held.value l one le)) (sym (λ x. sum_of (are.read x + j * are.forward x) (fresh x) (held x))) v.5,
           ),
         ))
 

@@ -1,5 +1,5 @@
 -- No public clause cites this file. Columns of a table, which clauses fail at their entries, and which place is the first.
-use Rattle.std.specs.Prelude.{◌≡◌, ◌⊎◌, ℕ, ◌+◌, ◌-◌, ◌^◌, ◌<◌, ◌≤◌, length, Option, MatchOption, IfSome, Vec, slice_index}
+use Rattle.std.specs.Prelude.{◌≡◌, ◌⊎◌, ℕ, ◌+◌, ◌-◌, ◌^◌, ◌<◌, ◌≤◌, List, length, Option, MatchOption, IfSome, Vec, slice_index, slice_index_or}
 use Rattle.std.specs.declared.alloc.Global.{Global}
 use Rattle.level_book.specs.BookCosts.{BookCosts}
 use Rattle.level_book.specs.UnderTable.{Entry, number, sum_of, write_cost, read_cost}
@@ -11,7 +11,7 @@ use Rattle.table_clauses.specs.declared.search.Pair.{Pair}
 use Rattle.table_clauses.specs.declared.search.FreshColumns.{FreshColumns}
 use Rattle.table_clauses.specs.declared.search.HeldColumns.{HeldColumns}
 use Rattle.table_clauses.specs.Broken.{IsAbove, IsFirst}
-use Rattle.table_clauses.specs.Splits.{at_step, IsColumn, SplitFails}
+use Rattle.table_clauses.specs.Splits.{at_step, AreBelowSplits, IsColumn, SplitFails}
 
 -- ---- which clause fails, over columns
 
@@ -23,10 +23,10 @@ MovedFails own read faster l = MatchOption faster ⊥ (λ column. IsAbove own (s
 
 abbrev pub BeforeSplitFails : Entry → LevelCosts → Option Pair → ℕ → Type 0
 BeforeSplitFails own costs before l =
-    MatchOption before ⊥ (λ pair. SplitFails own costs.write costs.forward pair.fresh.exact.items pair.held.exact.items l)
+    MatchOption before ⊥ (λ pair. SplitFails own costs.write costs.forward pair.fresh.items pair.held.items l)
 
 abbrev pub StoredFails : Entry → ℕ → Option Pair → ℕ → Type 0
-StoredFails own write before l = MatchOption before ⊥ (λ pair. IsAbove own (sum_of write (number 0) (at_step pair.held.exact.items l)))
+StoredFails own write before l = MatchOption before ⊥ (λ pair. IsAbove own (sum_of write (number 0) (at_step pair.held.items l)))
 
 -- the clause fails at the entry of table F, or of table H, for l steps
 abbrev pub FreshColumnFails : LevelCosts → FreshColumns → ℕ → ℕ → Type 0
@@ -38,9 +38,9 @@ FreshColumnFails costs columns l clause =
 
 abbrev pub HeldColumnFails : LevelCosts → HeldColumns → ℕ → ℕ → Type 0
 HeldColumnFails costs columns l clause =
-    ((clause ≡ 5) × ((l ≡ 1) × IsAbove (at_step columns.here.held.exact.items l) (number (costs.read + costs.forward + costs.reverse))))
-    ⊎ ((clause ≡ 6) × MovedFails (at_step columns.here.held.exact.items l) costs.read columns.faster l)
-    ⊎ ((clause ≡ 7) × SplitFails (at_step columns.here.held.exact.items l) costs.read costs.forward columns.here.fresh.exact.items columns.here.held.exact.items l)
+    ((clause ≡ 5) × ((l ≡ 1) × IsAbove (at_step columns.here.held.items l) (number (costs.read + costs.forward + costs.reverse))))
+    ⊎ ((clause ≡ 6) × MovedFails (at_step columns.here.held.items l) costs.read columns.faster l)
+    ⊎ ((clause ≡ 7) × SplitFails (at_step columns.here.held.items l) costs.read costs.forward columns.here.fresh.items columns.here.held.items l)
 
 -- sums of such costs don't wrap
 pub record AreCheap (costs : LevelCosts) : Type 0 where
@@ -53,12 +53,12 @@ pub record AreCheap (costs : LevelCosts) : Type 0 where
 pub record AreLong (steps : ℕ) (columns : FreshColumns) : Type 0 where
   pub own : steps ≤ length columns.own.items
   pub faster : IfSome columns.faster (λ column. steps ≤ length column.items)
-  pub before : IfSome columns.before (λ pair. (steps ≤ length pair.fresh.exact.items) × (steps ≤ length pair.held.exact.items))
+  pub before : IfSome columns.before (λ pair. (steps ≤ length pair.fresh.items) × (steps ≤ length pair.held.items))
 
 pub record AreLongHeld (steps : ℕ) (columns : HeldColumns) : Type 0 where
   pub faster : IfSome columns.faster (λ column. steps ≤ length column.items)
-  pub fresh : steps ≤ length columns.here.fresh.exact.items
-  pub held : steps ≤ length columns.here.held.exact.items
+  pub fresh : steps ≤ length columns.here.fresh.items
+  pub held : steps ≤ length columns.here.held.items
 
 -- ---- which place is the first
 
@@ -104,8 +104,8 @@ pub record AreCosts (book : BookCosts) (k : ℕ) (costs : LevelCosts) : Type 0 w
 
 -- the columns of level k at m free slots
 pub record IsPair (t : TableRows) (k m : ℕ) (pair : Pair) : Type 0 where
-  pub fresh : IsColumn t.steps (λ l. (tables_in t).fresh k l m) pair.fresh.exact.items
-  pub held : IsColumn t.steps (λ l. (tables_in t).held k l m) pair.held.exact.items
+  pub fresh : IsColumn t.steps (λ l. (tables_in t).fresh k l m) pair.fresh.items
+  pub held : IsColumn t.steps (λ l. (tables_in t).held k l m) pair.held.items
 
 -- those for a free slot less
 abbrev pub IsPairBefore : TableRows → ℕ → ℕ → Option Pair → Type 0
@@ -123,3 +123,19 @@ pub record AreFreshColumns (t : TableRows) (k m : ℕ) (columns : FreshColumns) 
 pub record AreHeldColumns (t : TableRows) (k m : ℕ) (columns : HeldColumns) : Type 0 where
   pub faster : IsFaster t k columns.faster
   pub here : IsPair t k m columns.here
+
+-- ---- splits of tables
+
+-- for level k at m free slots, numbers that are at most what the splits of each stretch cost
+pub record AreSplitsAt (t : TableRows) (forward k m : ℕ) (least : List ℕ) : Type 0 where
+  pub count : length least ≡ t.steps
+  pub below : AreBelowSplits forward (λ l. (tables_in t).fresh k l m) (λ l. (tables_in t).held k l m) least
+
+-- the same for a level, at each number of free slots from 0 on
+pub record AreSplitsOf (t : TableRows) (forward k : ℕ) (splits : List (Vec ℕ Global)) : Type 0 where
+  pub count : length splits ≡ slice_index t.rooms k
+  pub each : (m : ℕ) (d : Vec ℕ Global) → m < length splits → AreSplitsAt t forward k m (slice_index_or splits m d).items
+
+-- the same for each of the first levels
+abbrev pub AreSplits : TableRows → ℕ → List (Vec (Vec ℕ Global) Global) → Type 0
+AreSplits t forward levels = (k : ℕ) (d : Vec (Vec ℕ Global) Global) → k < length levels → AreSplitsOf t forward k (slice_index_or levels k d).items

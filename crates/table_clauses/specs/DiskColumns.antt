@@ -7,32 +7,39 @@ use Rattle.table_clauses.specs.declared.entry.Entry.{Entry as Place}
 use Rattle.table_clauses.specs.declared.search.LevelCosts.{LevelCosts}
 use Rattle.table_clauses.specs.declared.disk.DiskColumns.{DiskColumns}
 use Rattle.table_clauses.specs.Broken.{IsAbove}
-use Rattle.table_clauses.specs.Splits.{at_step, IsColumn, SplitFails}
+use Rattle.table_clauses.specs.Splits.{at_step, AreBelowSplits, IsColumn, SplitFails}
 use Rattle.table_clauses.specs.Columns.{InColumn}
 
 -- the columns are those of the tables
 pub record AreDiskColumns (t : DiskRows) (columns : DiskColumns) : Type 0 where
-  pub fast : IsColumn t.fast.steps (λ l. (tables_in t.fast).fresh 0 l (slice_index t.fast.rooms 0)) columns.fast.exact.items
-  pub fresh : IsColumn t.fast.steps (disk_tables_in t).disk_fresh columns.fresh.exact.items
-  pub held : IsColumn t.fast.steps (disk_tables_in t).disk_held columns.held.exact.items
+  pub fast : IsColumn t.fast.steps (λ l. (tables_in t.fast).fresh 0 l (slice_index t.fast.rooms 0)) columns.fast.items
+  pub fresh : IsColumn t.fast.steps (disk_tables_in t).disk_fresh columns.fresh.items
+  pub held : IsColumn t.fast.steps (disk_tables_in t).disk_held columns.held.items
 
 -- columns have entries for so many steps
 pub record AreLongDisk (steps : ℕ) (columns : DiskColumns) : Type 0 where
-  pub fast : steps ≤ length columns.fast.exact.items
-  pub fresh : steps ≤ length columns.fresh.exact.items
-  pub held : steps ≤ length columns.held.exact.items
+  pub fast : steps ≤ length columns.fast.items
+  pub fresh : steps ≤ length columns.fresh.items
+  pub held : steps ≤ length columns.held.items
+  pub fresh_splits : steps ≤ length columns.fresh_splits.items
+  pub held_splits : steps ≤ length columns.held_splits.items
+
+-- the numbers beside the columns are at most what splits cost
+pub record AreDiskSplits (forward : ℕ) (columns : DiskColumns) : Type 0 where
+  pub fresh : AreBelowSplits forward (at_step columns.fresh.items) (at_step columns.held.items) columns.fresh_splits.items
+  pub held : AreBelowSplits forward (at_step columns.fast.items) (at_step columns.held.items) columns.held_splits.items
 
 -- the clause fails at the entry of table Fd, or of table Hd, for l steps
 abbrev pub DiskFreshColumnFails : LevelCosts → DiskColumns → ℕ → ℕ → Type 0
 DiskFreshColumnFails costs columns l clause =
-    ((clause ≡ 11) × IsAbove (at_step columns.fresh.exact.items l) (at_step columns.fast.exact.items l))
-    ⊎ ((clause ≡ 12) × SplitFails (at_step columns.fresh.exact.items l) costs.write costs.forward columns.fresh.exact.items columns.held.exact.items l)
-    ⊎ ((clause ≡ 13) × IsAbove (at_step columns.fresh.exact.items l) (sum_of costs.write (number 0) (at_step columns.held.exact.items l)))
+    ((clause ≡ 11) × IsAbove (at_step columns.fresh.items l) (at_step columns.fast.items l))
+    ⊎ ((clause ≡ 12) × SplitFails (at_step columns.fresh.items l) costs.write costs.forward columns.fresh.items columns.held.items l)
+    ⊎ ((clause ≡ 13) × IsAbove (at_step columns.fresh.items l) (sum_of costs.write (number 0) (at_step columns.held.items l)))
 
 abbrev pub DiskHeldColumnFails : LevelCosts → DiskColumns → ℕ → ℕ → Type 0
 DiskHeldColumnFails costs columns l clause =
-    ((clause ≡ 14) × IsAbove (at_step columns.held.exact.items l) (sum_of costs.read (number 0) (at_step columns.fast.exact.items l)))
-    ⊎ ((clause ≡ 15) × SplitFails (at_step columns.held.exact.items l) costs.read costs.forward columns.fast.exact.items columns.held.exact.items l)
+    ((clause ≡ 14) × IsAbove (at_step columns.held.items l) (sum_of costs.read (number 0) (at_step columns.fast.items l)))
+    ⊎ ((clause ≡ 15) × SplitFails (at_step columns.held.items l) costs.read costs.forward columns.fast.items columns.held.items l)
 
 -- what is broken in table Fd, in table Hd, and in both
 abbrev pub InDiskFreshColumn : LevelCosts → DiskColumns → ℕ → Place → Type 0

@@ -1,6 +1,6 @@
 -- No public clause cites this file. Columns of a table, and what the splits of a stretch cost by them.
 use Rattle.std.specs.Prelude.{◌≡◌, ℕ, ◌+◌, ◌-◌, ◌*◌, ◌^◌, ◌<◌, ◌≤◌, All, List, length, slice_index, slice_index_or}
-use Rattle.level_book.specs.UnderTable.{Entry, sum_of}
+use Rattle.level_book.specs.UnderTable.{Entry, number, IsAtMost, sum_of}
 use Rattle.cost_tables.specs.declared.cost.Cost.{Cost}
 use Rattle.cost_tables.specs.declared.cost.Cost.TheVariants.{Number}
 use Rattle.cost_tables.specs.TableRows.{value_of}
@@ -15,11 +15,26 @@ pub record IsColumn (steps : ℕ) (entries : ℕ → Entry) (column : List Cost)
   pub count : length column ≡ steps
   pub value : (l : ℕ) → 1 ≤ l → l ≤ steps → at_step column l ≡ entries l
 
--- small numbers that are at most the entries of a column
-pub record IsLow (column : List Cost) (low : List ℕ) : Type 0 where
+-- small numbers that are at most the entries of a column, from the last one back
+pub record IsBackward (column : List Cost) (low : List ℕ) : Type 0 where
+  pub count : length low ≡ length column
+  pub small : All (λ n. n ≤ 2 ^ 61) low
+  pub below : (i v : ℕ) → i < length column → slice_index_or column (length column - (i + 1)) (Number 0) ≡ Number v → slice_index low i ≤ v
+
+-- numbers that are at most the entries of a column and what the steps to there cost
+pub record IsAhead (forward : ℕ) (column : List Cost) (low : List ℕ) : Type 0 where
   pub count : length low ≡ length column
   pub small : All (λ n. n ≤ 2 ^ 62) low
-  pub below : (r v : ℕ) → r < length column → slice_index_or column r (Number 0) ≡ Number v → slice_index low r ≤ v
+  pub below : (i v : ℕ) → i < length column → slice_index_or column i (Number 0) ≡ Number v → slice_index low i ≤ (i + 1) * forward + v
+
+-- a number is at most what each split of a stretch of l steps costs, besides what its first image costs
+abbrev pub IsBelowSplits : ℕ → (ℕ → Entry) → (ℕ → Entry) → ℕ → ℕ → Type 0
+IsBelowSplits forward fresh held l n = (j i : ℕ) → 1 ≤ j → 1 ≤ i → j + i ≡ l → IsAtMost (number n) (sum_of (j * forward) (fresh i) (held j))
+
+-- numbers of which each is so for its stretch, of 1 step and more
+pub record AreBelowSplits (forward : ℕ) (fresh held : ℕ → Entry) (least : List ℕ) : Type 0 where
+  pub small : All (λ n. n ≤ 2 ^ 63) least
+  pub below : (l : ℕ) → 1 ≤ l → l ≤ length least → IsBelowSplits forward fresh held l (slice_index least (l - 1))
 
 -- an entry for l steps is above what some split costs
 abbrev pub SplitFails : Entry → ℕ → ℕ → List Cost → List Cost → ℕ → Type 0

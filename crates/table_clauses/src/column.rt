@@ -1,34 +1,16 @@
-// A column of a table.
-ghost use Rattle.std.specs.Prelude.{◌≡◌, ℕ, ◌^◌, ◌≤◌, IfOk};
-ghost use Rattle.table_clauses.specs.Splits.{IsLow};
+// The entries of a column as numbers that are at most these, in the order in which splits go through them.
+ghost use Rattle.std.specs.Prelude.{◌≡◌, ℕ, ◌+◌, ◌*◌, ◌^◌, ◌<◌, ◌≤◌, IfOk, length};
+ghost use Rattle.table_clauses.specs.Splits.{IsBackward, IsAhead};
 
 use cost_tables::Cost;
 use std::alloc::{AllocError, Global};
 
-// The most that an entry counts for where sums must not wrap.
-const MOST: u64 = 4611686018427387904;
-
-// Entries for each number of steps from 1 on, and numbers that are at most these.
-#[derive(Drop)]
-pub(crate) struct Column {
-    pub(crate) exact: Vec<Cost>,
-    pub(crate) low: Vec<u64>,
-    ghost low_is: { IsLow exact.items low.items },
-}
-
-impl Column {
-    // The column of these entries.
-    pub(crate) fn new(alloc: Global, exact: Vec<Cost>) -> Result<Column, AllocError>
-        ensures { IfOk result (λ column. column.exact.items ≡ exact.items) }
-    {
-        let low = clipped_all(alloc, &exact)?;
-        Ok(Column { exact, low })
-    }
-}
+// The most that an entry counts for, so that sums don't wrap.
+const MOST: u64 = 2305843009213693952;
 
 // A number that is at most an entry.
 fn clipped(cost: Cost) -> u64
-    ensures small { result ≤ 2 ^ 62 }
+    ensures small { result ≤ 2 ^ 61 }
     ensures below { (v : ℕ) → cost ≡ Cost.Number v → result ≤ v }
 {
     match cost {
@@ -37,12 +19,36 @@ fn clipped(cost: Cost) -> u64
     }
 }
 
-fn clipped_all(alloc: Global, exact: &[Cost]) -> Result<Vec<u64>, AllocError>
-    ensures { IfOk result (λ low. IsLow exact.now low.items) }
+// The entries from the last one back.
+pub(crate) fn backward(alloc: Global, column: &[Cost]) -> Result<Vec<u64>, AllocError>
+    ensures { IfOk result (λ low. IsBackward column.now low.items) }
 {
-    let mut low = Vec::with_capacity(alloc, exact.len())?;
-    for cost in exact {
-        low.push(clipped(*cost))?;
+    let mut low = Vec::with_capacity(alloc, column.len())?;
+    for i in 0..column.len() {
+        low.push(clipped(column[column.len() - (i + 1)]))?;
+    }
+    Ok(low)
+}
+
+// A number that is at most what an entry and the i + 1 steps to there cost.
+fn clipped_ahead(cost: Cost, i: usize, forward: u64) -> u64
+    requires i { i < 8192 }
+    requires forward { forward < 2 ^ 32 }
+    ensures small { result ≤ 2 ^ 62 }
+    ensures below { (v : ℕ) → cost ≡ Cost.Number v → result ≤ (i + 1) * forward + v }
+{
+    (i as u64 + 1) * forward + clipped(cost)
+}
+
+// The entries, and the steps that are taken to there.
+pub(crate) fn ahead(alloc: Global, column: &[Cost], forward: u64) -> Result<Vec<u64>, AllocError>
+    requires forward { forward < 2 ^ 32 }
+    requires few { length column.now ≤ 8192 }
+    ensures { IfOk result (λ low. IsAhead forward column.now low.items) }
+{
+    let mut low = Vec::with_capacity(alloc, column.len())?;
+    for i in 0..column.len() {
+        low.push(clipped_ahead(column[i], i, forward))?;
     }
     Ok(low)
 }

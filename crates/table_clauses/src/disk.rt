@@ -1,29 +1,31 @@
 // Tables over memory and an unlimited disk.
-ghost use Rattle.std.specs.Prelude.{◌≡◌, ℕ, ◌<◌, ◌≤◌, IfOk, MatchOption};
+ghost use Rattle.std.specs.Prelude.{◌≡◌, ℕ, ◌^◌, ◌<◌, ◌≤◌, IfOk, MatchOption};
 ghost use Rattle.level_book.specs.DiskUnderTable.{IsDiskUnderTable};
 ghost use Rattle.disk_gen.specs.DiskRows.{AreDiskSized, disk_tables_in};
 ghost use Rattle.table_clauses.specs.Broken.{DiskBreaks, IsFirst};
 ghost use Rattle.table_clauses.specs.Columns.{AreCheap, AreCosts, IsFirstClause, Finds};
 ghost use Rattle.table_clauses.specs.Splits.{IsColumn};
-ghost use Rattle.table_clauses.specs.DiskColumns.{AreDiskColumns, AreLongDisk, DiskFreshColumnFails, DiskHeldColumnFails, InDiskFreshColumn, InDiskHeldColumn, InDiskColumns};
+ghost use Rattle.table_clauses.specs.DiskColumns.{AreDiskColumns, AreDiskSplits, AreLongDisk, DiskFreshColumnFails, DiskHeldColumnFails, InDiskFreshColumn, InDiskHeldColumn, InDiskColumns};
 
-use crate::column::Column;
 use crate::compare::{is_at_most, is_within};
 use crate::entry::Entry;
-use crate::nested::{costs_of, fresh_costs, fresh_level, held_level};
+use crate::nested::{costs_of, fresh_costs, fresh_level, held_level, level_splits};
 use crate::search::LevelCosts;
-use crate::splits::breaks_split;
+use crate::splits::{breaks_split, least_splits};
 use cost_tables::Cost;
 use disk_gen::DiskTables;
 use level_book::Book;
 use std::alloc::{AllocError, Global};
 
-// The column of level 0 with all its slots, and those over both levels.
+// The column of level 0 with all its slots, those over both levels, and numbers that are at most what the splits of the
+// stretches of tables Fd and Hd cost.
 #[derive(Drop)]
 pub(crate) struct DiskColumns {
-    pub(crate) fast: Column,
-    pub(crate) fresh: Column,
-    pub(crate) held: Column,
+    pub(crate) fast: Vec<Cost>,
+    pub(crate) fresh: Vec<Cost>,
+    pub(crate) held: Vec<Cost>,
+    pub(crate) fresh_splits: Vec<u64>,
+    pub(crate) held_splits: Vec<u64>,
 }
 
 /// The first place at which the tables aren't a disk under-table, or None where they are one. The book may have one level; an
@@ -39,14 +41,15 @@ pub fn first_broken_disk(
 {
     let _levels = book.levels();
     let fast = tables.fast();
-    if let Some(entry) = fresh_level(alloc, fast, book, 0)? {
+    let splits = level_splits(alloc, fast, book.forward() as u64, 0)?;
+    if let Some(entry) = fresh_level(alloc, fast, book, 0, &splits)? {
         return Ok(Some(entry));
     }
-    if let Some(entry) = held_level(alloc, fast, book, 0)? {
+    if let Some(entry) = held_level(alloc, fast, book, 0, &splits)? {
         return Ok(Some(entry));
     }
     let costs = disk_costs(book);
-    let columns = disk_columns(alloc, tables)?;
+    let columns = disk_columns(alloc, tables, costs.forward)?;
     Ok(first_over_both(&columns, costs, tables.steps()))
 }
 
@@ -65,16 +68,24 @@ fn disk_costs(book: &Book) -> LevelCosts
 }
 
 // The columns that the entries over both levels are compared with.
-fn disk_columns(alloc: Global, tables: &DiskTables) -> Result<DiskColumns, AllocError>
-    ensures { IfOk result (AreDiskColumns tables.now) }
+fn disk_columns(alloc: Global, tables: &DiskTables, forward: u64) -> Result<DiskColumns, AllocError>
+    requires forward { forward < 2 ^ 32 }
+    requires few { tables.now.fast.steps ≤ 8192 }
+    ensures are { IfOk result (AreDiskColumns tables.now) }
+    ensures long { IfOk result (AreLongDisk tables.now.fast.steps) }
+    ensures splits { IfOk result (AreDiskSplits forward) }
 {
     let fast = fresh_costs(alloc, tables.fast(), 0, tables.room())?;
     let fresh = disk_fresh_costs(alloc, tables)?;
     let held = disk_held_costs(alloc, tables)?;
+    let fresh_splits = least_splits(alloc, &fresh, &held, forward)?;
+    let held_splits = least_splits(alloc, &fast, &held, forward)?;
     Ok(DiskColumns {
-        fast: Column::new(alloc, fast)?,
-        fresh: Column::new(alloc, fresh)?,
-        held: Column::new(alloc, held)?,
+        fast,
+        fresh,
+        held,
+        fresh_splits,
+        held_splits,
     })
 }
 
@@ -105,6 +116,7 @@ fn first_over_both(columns: &DiskColumns, costs: LevelCosts, steps: u32) -> Opti
     requires few { steps ≤ 8192 }
     requires cheap { AreCheap costs }
     requires long { AreLongDisk steps columns.now }
+    requires splits { AreDiskSplits costs.forward columns.now }
     ensures { Finds (InDiskColumns costs columns.now steps) result }
 {
     if let Some(entry) = disk_fresh_column(columns, costs, steps) {
@@ -118,6 +130,7 @@ fn disk_fresh_column(columns: &DiskColumns, costs: LevelCosts, steps: u32) -> Op
     requires few { steps ≤ 8192 }
     requires cheap { AreCheap costs }
     requires long { AreLongDisk steps columns.now }
+    requires splits { AreDiskSplits costs.forward columns.now }
     ensures { Finds (InDiskFreshColumn costs columns.now steps) result }
 {
     for r in 0..steps {
@@ -139,6 +152,7 @@ fn disk_held_column(columns: &DiskColumns, costs: LevelCosts, steps: u32) -> Opt
     requires few { steps ≤ 8192 }
     requires cheap { AreCheap costs }
     requires long { AreLongDisk steps columns.now }
+    requires splits { AreDiskSplits costs.forward columns.now }
     ensures { Finds (InDiskHeldColumn costs columns.now steps) result }
 {
     for r in 0..steps {
@@ -160,11 +174,12 @@ fn disk_fresh_clause(columns: &DiskColumns, costs: LevelCosts, l: u32) -> Option
     requires l { (1 ≤ l) × (l ≤ 8192) }
     requires cheap { AreCheap costs }
     requires long { AreLongDisk l columns.now }
+    requires splits { AreDiskSplits costs.forward columns.now }
     ensures { IsFirstClause (DiskFreshColumnFails costs columns.now l) result }
 {
-    let own = columns.fresh.exact[l as usize - 1];
-    let fast = columns.fast.exact[l as usize - 1];
-    let held = columns.held.exact[l as usize - 1];
+    let own = columns.fresh[l as usize - 1];
+    let fast = columns.fast[l as usize - 1];
+    let held = columns.held[l as usize - 1];
     if !is_within(own, fast) {
         return Some(11);
     }
@@ -174,6 +189,7 @@ fn disk_fresh_clause(columns: &DiskColumns, costs: LevelCosts, l: u32) -> Option
         costs.forward,
         &columns.fresh,
         &columns.held,
+        columns.fresh_splits[l as usize - 1],
         l,
     ) {
         return Some(12);
@@ -189,10 +205,11 @@ fn disk_held_clause(columns: &DiskColumns, costs: LevelCosts, l: u32) -> Option<
     requires l { (1 ≤ l) × (l ≤ 8192) }
     requires cheap { AreCheap costs }
     requires long { AreLongDisk l columns.now }
+    requires splits { AreDiskSplits costs.forward columns.now }
     ensures { IsFirstClause (DiskHeldColumnFails costs columns.now l) result }
 {
-    let own = columns.held.exact[l as usize - 1];
-    let fast = columns.fast.exact[l as usize - 1];
+    let own = columns.held[l as usize - 1];
+    let fast = columns.fast[l as usize - 1];
     if !is_at_most(own, costs.read, Cost::Number(0), fast) {
         return Some(14);
     }
@@ -202,6 +219,7 @@ fn disk_held_clause(columns: &DiskColumns, costs: LevelCosts, l: u32) -> Option<
         costs.forward,
         &columns.fast,
         &columns.held,
+        columns.held_splits[l as usize - 1],
         l,
     ) {
         return Some(15);

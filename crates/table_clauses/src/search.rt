@@ -3,9 +3,9 @@ ghost use Rattle.std.specs.Prelude.{◌≡◌, ◌↔◌, ℕ, ◌+◌, ◌*◌,
 ghost use Rattle.level_book.specs.UnderTable.{number, IsAtMost, sum_of};
 ghost use Rattle.cost_tables.specs.TableRows.{value_of};
 ghost use Rattle.table_clauses.specs.Broken.{IsAbove};
+ghost use Rattle.table_clauses.specs.Splits.{at_step, AreBelowSplits};
 ghost use Rattle.table_clauses.specs.Columns.{AreCheap, AreLong, AreLongHeld, FasterFails, MovedFails, BeforeSplitFails, StoredFails, FreshColumnFails, HeldColumnFails, IsFirstClause, Finds, InFreshColumn, InHeldColumn};
 
-use crate::column::Column;
 use crate::compare::{is_at_most, is_within};
 use crate::entry::Entry;
 use crate::splits::breaks_split;
@@ -23,8 +23,8 @@ pub(crate) struct LevelCosts {
 // The columns of tables F and H for a level and a number of free slots.
 #[derive(Drop)]
 pub(crate) struct Pair {
-    pub(crate) fresh: Column,
-    pub(crate) held: Column,
+    pub(crate) fresh: Vec<Cost>,
+    pub(crate) held: Vec<Cost>,
 }
 
 // What the clauses of an entry of table F speak of: its own column, that of the faster level with all its slots, and those
@@ -79,14 +79,24 @@ fn breaks_moved(own: Cost, read: u64, faster: &Option<Vec<Cost>>, l: u32) -> boo
 }
 
 // Whether an entry is above what it costs to store the first state and split the stretch.
-fn breaks_before(own: Cost, costs: LevelCosts, before: &Option<Pair>, l: u32) -> bool
+fn breaks_before(own: Cost, costs: LevelCosts, before: &Option<Pair>, least: &[u64], l: u32) -> bool
     requires l { (1 ≤ l) × (l ≤ 8192) }
     requires cheap { AreCheap costs }
-    requires long { IfSome before.now (λ pair. (l ≤ length pair.fresh.exact.items) × (l ≤ length pair.held.exact.items)) }
+    requires long { IfSome before.now (λ pair. (l ≤ length pair.fresh.items) × (l ≤ length pair.held.items)) }
+    requires enough { IfSome before.now (λ _. l ≤ length least.now) }
+    requires below { IfSome before.now (λ pair. AreBelowSplits costs.forward (at_step pair.fresh.items) (at_step pair.held.items) least.now) }
     ensures { result ≡ true ↔ BeforeSplitFails (value_of own) costs before.now l }
 {
     match before {
-        Some(pair) => breaks_split(own, costs.write, costs.forward, &pair.fresh, &pair.held, l),
+        Some(pair) => breaks_split(
+            own,
+            costs.write,
+            costs.forward,
+            &pair.fresh,
+            &pair.held,
+            least[l as usize - 1],
+            l,
+        ),
         None => false,
     }
 }
@@ -94,12 +104,12 @@ fn breaks_before(own: Cost, costs: LevelCosts, before: &Option<Pair>, l: u32) ->
 // Whether an entry is above what it costs to store the first state, where the stretch isn't split.
 fn breaks_stored(own: Cost, write: u64, before: &Option<Pair>, l: u32) -> bool
     requires l { 1 ≤ l }
-    requires long { IfSome before.now (λ pair. l ≤ length pair.held.exact.items) }
+    requires long { IfSome before.now (λ pair. l ≤ length pair.held.items) }
     ensures { result ≡ true ↔ StoredFails (value_of own) write before.now l }
 {
     match before {
         Some(pair) => {
-            let held = pair.held.exact[l as usize - 1];
+            let held = pair.held[l as usize - 1];
             !is_at_most(own, write, Cost::Number(0), held)
         }
         None => false,
@@ -107,10 +117,12 @@ fn breaks_stored(own: Cost, write: u64, before: &Option<Pair>, l: u32) -> bool
 }
 
 // The first clause that fails at an entry of table F.
-fn fresh_clause(columns: &FreshColumns, costs: LevelCosts, l: u32) -> Option<u8>
+fn fresh_clause(columns: &FreshColumns, costs: LevelCosts, least: &[u64], l: u32) -> Option<u8>
     requires l { (1 ≤ l) × (l ≤ 8192) }
     requires cheap { AreCheap costs }
     requires long { AreLong l columns.now }
+    requires enough { IfSome columns.now.before (λ _. l ≤ length least.now) }
+    requires below { IfSome columns.now.before (λ pair. AreBelowSplits costs.forward (at_step pair.fresh.items) (at_step pair.held.items) least.now) }
     ensures { IsFirstClause (FreshColumnFails costs columns.now l) result }
 {
     let own = columns.own[l as usize - 1];
@@ -120,7 +132,7 @@ fn fresh_clause(columns: &FreshColumns, costs: LevelCosts, l: u32) -> Option<u8>
     if breaks_faster(own, &columns.faster, l) {
         return Some(2);
     }
-    if breaks_before(own, costs, &columns.before, l) {
+    if breaks_before(own, costs, &columns.before, least, l) {
         return Some(3);
     }
     if breaks_stored(own, costs.write, &columns.before, l) {
@@ -130,21 +142,31 @@ fn fresh_clause(columns: &FreshColumns, costs: LevelCosts, l: u32) -> Option<u8>
 }
 
 // The first clause that fails at an entry of table H.
-fn held_clause(columns: &HeldColumns, costs: LevelCosts, l: u32) -> Option<u8>
+fn held_clause(columns: &HeldColumns, costs: LevelCosts, least: &[u64], l: u32) -> Option<u8>
     requires l { (1 ≤ l) × (l ≤ 8192) }
     requires cheap { AreCheap costs }
     requires long { AreLongHeld l columns.now }
+    requires enough { l ≤ length least.now }
+    requires below { AreBelowSplits costs.forward (at_step columns.now.here.fresh.items) (at_step columns.now.here.held.items) least.now }
     ensures { IsFirstClause (HeldColumnFails costs columns.now l) result }
 {
     let here = &columns.here;
-    let own = here.held.exact[l as usize - 1];
+    let own = here.held[l as usize - 1];
     if breaks_one(own, l, costs.read + costs.forward + costs.reverse) {
         return Some(5);
     }
     if breaks_moved(own, costs.read, &columns.faster, l) {
         return Some(6);
     }
-    if breaks_split(own, costs.read, costs.forward, &here.fresh, &here.held, l) {
+    if breaks_split(
+        own,
+        costs.read,
+        costs.forward,
+        &here.fresh,
+        &here.held,
+        least[l as usize - 1],
+        l,
+    ) {
         return Some(7);
     }
     None
@@ -154,6 +176,7 @@ fn held_clause(columns: &HeldColumns, costs: LevelCosts, l: u32) -> Option<u8>
 pub(crate) fn fresh_column(
     columns: &FreshColumns,
     costs: LevelCosts,
+    least: &[u64],
     level: u8,
     free: u32,
     steps: u32,
@@ -161,10 +184,12 @@ pub(crate) fn fresh_column(
     requires few { steps ≤ 8192 }
     requires cheap { AreCheap costs }
     requires long { AreLong steps columns.now }
+    requires enough { IfSome columns.now.before (λ _. steps ≤ length least.now) }
+    requires below { IfSome columns.now.before (λ pair. AreBelowSplits costs.forward (at_step pair.fresh.items) (at_step pair.held.items) least.now) }
     ensures { Finds (InFreshColumn costs columns.now level free steps) result }
 {
     for r in 0..steps {
-        if let Some(clause) = fresh_clause(columns, costs, r + 1) {
+        if let Some(clause) = fresh_clause(columns, costs, least, r + 1) {
             return Some(Entry {
                 table: 0,
                 level,
@@ -181,6 +206,7 @@ pub(crate) fn fresh_column(
 pub(crate) fn held_column(
     columns: &HeldColumns,
     costs: LevelCosts,
+    least: &[u64],
     level: u8,
     free: u32,
     steps: u32,
@@ -188,10 +214,12 @@ pub(crate) fn held_column(
     requires few { steps ≤ 8192 }
     requires cheap { AreCheap costs }
     requires long { AreLongHeld steps columns.now }
+    requires enough { steps ≤ length least.now }
+    requires below { AreBelowSplits costs.forward (at_step columns.now.here.fresh.items) (at_step columns.now.here.held.items) least.now }
     ensures { Finds (InHeldColumn costs columns.now level free steps) result }
 {
     for r in 0..steps {
-        if let Some(clause) = held_clause(columns, costs, r + 1) {
+        if let Some(clause) = held_clause(columns, costs, least, r + 1) {
             return Some(Entry {
                 table: 1,
                 level,

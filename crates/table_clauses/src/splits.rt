@@ -1,33 +1,66 @@
 // What the splits of a stretch cost.
-ghost use Rattle.std.specs.Prelude.{◌≡◌, ◌↔◌, ℕ, ◌+◌, ◌-◌, ◌*◌, ◌^◌, ◌<◌, ◌≤◌, true, All, length, slice_index};
+ghost use Rattle.std.specs.Prelude.{◌≡◌, ◌↔◌, ℕ, ◌+◌, ◌-◌, ◌*◌, ◌^◌, ◌<◌, ◌≤◌, true, All, IfOk, length, slice_index};
 ghost use Rattle.cost_tables.specs.TableRows.{value_of};
-ghost use Rattle.table_clauses.specs.Splits.{SplitFails};
+ghost use Rattle.table_clauses.specs.Splits.{at_step, AreBelowSplits, IsBelowSplits, SplitFails};
 
-use crate::column::Column;
+use crate::column::{ahead, backward};
 use crate::compare::{is_at_most, is_within};
 use cost_tables::Cost;
+use std::alloc::{AllocError, Global};
 
-// Above all sums of two clipped entries with what steps cost.
+// Above all sums of two numbers that splits go through.
 const ABOVE: u64 = 9223372036854775808;
 
-// A number that is at most what each split of row r's stretch costs, besides what its first image costs.
-fn least_split(fresh: &[u64], held: &[u64], r: usize, forward: u64) -> u64
-    requires forward { forward < 2 ^ 32 }
-    requires few { r < 8192 }
-    requires rows { (r ≤ length fresh.now) × (r ≤ length held.now) }
-    requires fresh { All (λ n. n ≤ 2 ^ 62) fresh.now }
-    requires held { All (λ n. n ≤ 2 ^ 62) held.now }
+// The least sum of two numbers that stand at the same place.
+fn least_sum(xs: &[u64], ys: &[u64]) -> u64
+    requires long { length xs.now ≡ length ys.now }
+    requires xs { All (λ n. n ≤ 2 ^ 61) xs.now }
+    requires ys { All (λ n. n ≤ 2 ^ 62) ys.now }
     ensures small { result ≤ 2 ^ 63 }
-    ensures least { (i : ℕ) → i < r → result ≤ (i + 1) * forward + slice_index fresh.now (r - (i + 1)) + slice_index held.now i }
+    ensures least { (i : ℕ) → i < length xs.now → result ≤ slice_index xs.now i + slice_index ys.now i }
 {
     let mut least = ABOVE;
-    for i in 0..r {
-        let cost = (i as u64 + 1) * forward + fresh[r - (i + 1)] + held[i];
+    for i in 0..xs.len() {
+        let cost = xs[i] + ys[i];
         if cost < least {
             least = cost;
         }
     }
     least
+}
+
+// The least that the splits of row r's stretch cost, besides what its first image costs.
+fn least_split(back: &[u64], ahead: &[u64], r: usize) -> u64
+    requires rows { (r ≤ length back.now) × (r ≤ length ahead.now) }
+    requires back { All (λ n. n ≤ 2 ^ 61) back.now }
+    requires ahead { All (λ n. n ≤ 2 ^ 62) ahead.now }
+    ensures small { result ≤ 2 ^ 63 }
+    ensures least { (i : ℕ) → i < r → result ≤ slice_index back.now (length back.now - r + i) + slice_index ahead.now i }
+{
+    least_sum(&back[back.len() - r..], &ahead[..r])
+}
+
+// Numbers that are at most what each split of a stretch costs, besides what its first image costs: one for each number of
+// steps from 1 on.
+pub(crate) fn least_splits(
+    alloc: Global,
+    fresh: &[Cost],
+    held: &[Cost],
+    forward: u64,
+) -> Result<Vec<u64>, AllocError>
+    requires forward { forward < 2 ^ 32 }
+    requires few { length fresh.now ≤ 8192 }
+    requires long { length held.now ≡ length fresh.now }
+    ensures count { IfOk result (λ least. length least.items ≡ length fresh.now) }
+    ensures below { IfOk result (λ least. AreBelowSplits forward (at_step fresh.now) (at_step held.now) least.items) }
+{
+    let back = backward(alloc, fresh)?;
+    let ahead = ahead(alloc, held, forward)?;
+    let mut least = Vec::with_capacity(alloc, fresh.len())?;
+    for r in 0..fresh.len() {
+        least.push(least_split(&back, &ahead, r))?;
+    }
+    Ok(least)
 }
 
 // Whether an entry for l steps is above what some split costs, decided split by split.
@@ -60,19 +93,21 @@ pub(crate) fn breaks_split(
     own: Cost,
     first: u64,
     forward: u64,
-    fresh: &Column,
-    held: &Column,
+    fresh: &[Cost],
+    held: &[Cost],
+    least: u64,
     l: u32,
 ) -> bool
     requires first { first < 2 ^ 32 }
     requires forward { forward < 2 ^ 32 }
-    requires few { (1 ≤ l) × (l ≤ 8192) }
-    requires long { (l ≤ length fresh.now.exact.items) × (l ≤ length held.now.exact.items) }
-    ensures { result ≡ true ↔ SplitFails (value_of own) first forward fresh.now.exact.items held.now.exact.items l }
+    requires few { l ≤ 8192 }
+    requires long { (l ≤ length fresh.now) × (l ≤ length held.now) }
+    requires small { least ≤ 2 ^ 63 }
+    requires below { IsBelowSplits forward (at_step fresh.now) (at_step held.now) l least }
+    ensures { result ≡ true ↔ SplitFails (value_of own) first forward fresh.now held.now l }
 {
-    let least = least_split(&fresh.low, &held.low, l as usize - 1, forward);
     if is_within(own, Cost::Number(first + least)) {
         return false;
     }
-    breaks_some_split(own, first, forward, &fresh.exact, &held.exact, l)
+    breaks_some_split(own, first, forward, fresh, held, l)
 }

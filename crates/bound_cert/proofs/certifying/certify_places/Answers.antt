@@ -1,8 +1,7 @@
-use Rattle.std.proofs.Common.{◌≡◌, ◌∷◌, [], List, ℕ, length, subst, sym, ap, ◌∙◌, refl, arith}
+use Rattle.std.proofs.Common.{length, subst, sym, ap, ◌∙◌}
 use Rattle.class_rules.specs.PlaceLevels.{HasPlaceLevels}
 use Rattle.class_rules.proofs.Classing.{at_some}
 use Rattle.multistage_gen.specs.Threshold.{AreSavings}
-use Rattle.multistage_gen.proofs.Classed.{planned_in_class}
 use Rattle.revolve_gen.proofs.Extending.{multistage_valid}
 use Rattle.bound_cert.specs.Thresholds.{IsThresholdOf}
 use Rattle.bound_cert.proofs.Fitting.{two_levels, planned_fits}

@@ -1,4 +1,4 @@
-use Rattle.std.proofs.Common.{◌≡◌, ℕ, ◌≤◌, get_or}
+use Rattle.std.proofs.Common.{◌≡◌, ◌≤◌, get_or}
 use Rattle.revolve_gen.specs.Places.{places_on}
 use Rattle.bound_cert.proofs.places.count_fast.Given as goal
 

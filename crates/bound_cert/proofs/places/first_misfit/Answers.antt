@@ -1,5 +1,4 @@
-use Rattle.std.proofs.Common.{◌≡◌, ◌⊎◌, inl, inr, sym, ◌∙◌}
-use Rattle.bound_cert.proofs.Fitting.{below_first, above_first, short_first, none_misfit}
+use Rattle.bound_cert.proofs.Fitting.{below_first, above_first}
 use Rattle.bound_cert.proofs.places.first_misfit.Goals as goal
 
 pub returns-in-Some : goal.returns-in-Some

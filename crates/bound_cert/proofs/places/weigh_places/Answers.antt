@@ -1,7 +1,6 @@
-use Rattle.std.proofs.Common.{◌≡◌, ◌∷◌, [], ◌≤◌, List, ℕ, length, subst, sym, ap, ◌∙◌, refl, arith}
-use Rattle.plan_types.specs.declared.action.Action.{Action}
+use Rattle.std.proofs.Common.{length, subst, sym, ap, ◌∙◌, refl, arith}
 use Rattle.class_rules.specs.PlaceLevels.{HasPlaceLevels}
-use Rattle.class_rules.proofs.Classing.{at_some, at_none}
+use Rattle.class_rules.proofs.Classing.{at_some}
 use Rattle.multistage_gen.specs.Threshold.{AreSavings}
 use Rattle.bound_cert.specs.Thresholds.{AreOn}
 use Rattle.bound_cert.proofs.Fitting.{two_levels, few_places, fitting}

@@ -1,8 +1,8 @@
-use Rattle.std.proofs.Common.{◌≡◌, ◌≢◌, ◌⊎◌, inl, inr, ◌∙◌, ◌+◌, ◌++◌, [], ◌∷◌, ℕ, length, Err, arith, sym, ap, subst}
+use Rattle.std.proofs.Common.{◌≡◌, ◌≢◌, inl, inr, ◌∙◌, ◌+◌, ◌++◌, [], ◌∷◌, Err, arith, sym, ap, subst}
 use Rattle.keepers.specs.Counts.{raised}
 use Rattle.keepers.specs.Told.{Tells, AddsPrefix}
 use Rattle.state_image.specs.Line.{line}
-use Rattle.reverse_runner.specs.declared.fault.RunFault.TheVariants.{Damaged, Visitor}
+use Rattle.reverse_runner.specs.declared.fault.RunFault.TheVariants.{Visitor}
 use Rattle.reverse_runner.specs.KeepersSeen.{told_by}
 use Rattle.reverse_runner.specs.SessionState.{SessionState}
 use Rattle.reverse_queries.specs.Performing.{done_after}

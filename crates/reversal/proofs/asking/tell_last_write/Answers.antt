@@ -1,4 +1,4 @@
-use Rattle.std.proofs.Common.{◌≡◌, ◌∙◌, ◌+◌, ℕ, refl, inl, inr, length, Err, arith, sym, ap}
+use Rattle.std.proofs.Common.{◌∙◌, ℕ, refl, inl, inr, length, Err, arith, sym, ap}
 use Rattle.std.proofs.lemmas.List.{length-map}
 use Rattle.rv_machine.specs.MachineState.{MachineState}
 use Rattle.reverse_runner.specs.KeepersSeen.{told_by}

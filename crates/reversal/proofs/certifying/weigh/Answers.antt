@@ -1,4 +1,4 @@
-use Rattle.std.proofs.Common.{◌∙◌, inr, sym, ap, refl}
+use Rattle.std.proofs.Common.{inr}
 use Rattle.reversal.proofs.certifying.weigh.Goals as goal
 
 pub returns-in-Least-clause-accepted : goal.returns-in-Least-clause-accepted

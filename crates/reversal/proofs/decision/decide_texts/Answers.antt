@@ -1,4 +1,4 @@
-use Rattle.std.proofs.Common.{◌≡◌, List, sym, subst}
+use Rattle.std.proofs.Common.{◌≡◌, List, subst}
 use Rattle.std.specs.Option.{option_copied}
 use Rattle.plan_types.specs.declared.action.Action.{Action}
 use Rattle.level_book.specs.BookCosts.{slots_of, names_of}

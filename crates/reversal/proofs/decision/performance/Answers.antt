@@ -1,4 +1,4 @@
-use Rattle.std.proofs.Common.{◌≡◌, ◌≤◌, List, length, sym, ap, subst}
+use Rattle.std.proofs.Common.{◌≤◌, List, length, sym, ap, subst}
 use Rattle.plan_types.specs.declared.action.Action.{Action}
 use Rattle.level_book.specs.BookCosts.{slots_of}
 use Rattle.level_book.specs.Valid.{Valid}

@@ -1,9 +1,12 @@
-use Rattle.std.proofs.Common.{◌≡◌, ◌⊎◌, inr, List, sym, ◌∙◌, ap, subst, arith}
+use Rattle.std.proofs.Common.{◌≡◌, ◌⊎◌, ◌++◌, inr, List, sym, ◌∙◌, ap, subst, arith}
 use Rattle.std.specs.List.{AllByRecursion}
 use Rattle.plan_types.specs.declared.action.Action.{Action}
 use Rattle.level_book.specs.BookCosts.{slots_of, names_of}
 use Rattle.action_text.specs.Canonical.{HasSpelling}
-use Rattle.cost_tables.specs.TableRows.{tables_in}
+use Rattle.cost_tables.specs.TableRows.{Fits}
+use Rattle.cert_text.specs.declared.certificate.Certificate.TheVariants.{Nested}
+use Rattle.cert_text.specs.Canonical as certificate_text
+use Rattle.cert_text.specs.Meaning.{HasText}
 use Rattle.reversal.specs.declared.ended.Ended.{Ended}
 use Rattle.reversal.specs.Deeds.{Job, write}
 use Rattle.reversal.specs.Ending.{bad_book, no_memory, out_of_range}
@@ -39,8 +42,8 @@ returns-in_err-list-clause-refused g c =
     let P : Ended → Type 0 = λ x. (x ≡ no_memory) ⊎ IsUnnested c.args.steps c.in_ok-book.book x in
     hrevolve_by_plan c.args.steps c.args.book.now e c.in_ok-book.book c.in_ok-book.ensures.found c.in_default.ensures (subst P same c.in_err-list.ensures.refused))
 
-pub list_text-requires : goal.list_text-requires
-list_text-requires g c =
+pub certified_text-requires : goal.certified_text-requires
+certified_text-requires g c =
     let b = c.in_ok-book.book in
     let S : List Action → Type 0 = λ l. AllByRecursion (HasSpelling (names_of b)) l in
     subst S (sym c.new.ensures) (valid_spelled c.args.steps (slots_of b) (names_of b) c.in_ok-list.list.items (omega (arith, c.requires.steps)) (as_many b) c.in_ok-list.ensures.nested.0)
@@ -48,6 +51,11 @@ list_text-requires g c =
 pub returns-clause-accepted : goal.returns-clause-accepted
 returns-clause-accepted g c =
     let b = c.in_ok-book.book in
+    let t = c.in_ok-tables.tables in
+    let fits : Fits c.args.steps b = record { few = c.requires.steps; narrow = c.in_default.ensures } in
     let D : Job → Type 0 = λ j. DecidesPlanHrevolve c.args.steps c.args.book.now (accept j) in
-    subst D (sym (c.in_ok-job.ensures.job ∙ ap (λ l. write (list_pieces (names_of b) l)) c.new.ensures))
-    (hrevolve_accepted c.args.steps c.args.book.now b (tables_in c.in_ok-tables.tables) c.in_ok-list.list.items c.in_ok-book.ensures.found c.in_default.ensures c.in_ok-list.ensures.plan c.in_ok-tables.ensures.greatest c.in_ok-list.ensures.list)
+    let is : c.certify_nested-certificate.result ≡ Nested t = c.certify_nested-certificate.ensures.value in
+    let has : HasText c.args.steps b (Nested t) =
+    subst (HasText c.args.steps b) is (c.certify_nested-certificate.ensures.text c.args.steps b c.is_within_limits.ensures fits c.in_ok-tables.ensures.sizes c.in_ok-tables.ensures.greatest) in
+    subst D (sym (c.in_ok-job.ensures.job ∙ (λ i. write (list_pieces (names_of b) (c.new.ensures i) ++ certificate_text.pieces (is i)))))
+    (hrevolve_accepted c.args.steps c.args.book.now b t c.in_ok-list.list.items c.in_ok-book.ensures.found c.in_default.ensures c.in_ok-list.ensures.plan has c.in_ok-tables.ensures.greatest c.in_ok-list.ensures.list)

@@ -1,4 +1,4 @@
-use Rattle.std.proofs.Common.{◌≡◌, ◌++◌, ℕ, List, refl, sym, ◌∙◌, ap, subst}
+use Rattle.std.proofs.Common.{◌≡◌, ◌++◌, ℕ, List, refl, sym, ◌∙◌, subst}
 use Rattle.std.specs.List.{AllByRecursion}
 use Rattle.plan_types.specs.declared.action.Action.{Action}
 use Rattle.level_book.specs.BookCosts.{slots_of, names_of}
@@ -14,8 +14,9 @@ use Rattle.reversal.proofs.Spelled.{valid_spelled}
 use Rattle.reversal.proofs.Planned.{as_many}
 use Rattle.reversal.proofs.Deciding.{on_error, IsUnstaged, multistage_by_book, multistage_by_plan, multistage_accepted}
 use Rattle.cert_text.specs.declared.certificate.Certificate.{Certificate}
-use Rattle.cert_text.specs.declared.certificate.Certificate.TheVariants.{Revolve, Places}
+use Rattle.cert_text.specs.declared.certificate.Certificate.TheVariants.{Revolve, Places, Nested, Disk}
 use Rattle.cert_text.specs.Canonical as certificate_text
+use Rattle.cert_text.specs.Meaning.{HasText}
 use Rattle.bound_cert.specs.Thresholds.{IsThresholdOf}
 use Rattle.bound_cert.specs.Accepted.{IsPlaces}
 use Rattle.reversal.proofs.multistage.multistage_text.Goals as goal
@@ -24,6 +25,8 @@ use Rattle.reversal.proofs.multistage.multistage_text.Goals as goal
 threshold_in : (Holds : ℕ → Type 0) (certificate : Certificate) → IsPlaces Holds certificate → (threshold : ℕ) × (certificate ≡ Places threshold) × Holds threshold
 threshold_in Holds (Revolve k value) is = absurd is
 threshold_in Holds (Places threshold) is = (threshold, refl, is)
+threshold_in Holds (Nested t) is = absurd is
+threshold_in Holds (Disk t) is = absurd is
 
 pub returns-in_err-book-clause-refused : goal.returns-in_err-book-clause-refused
 returns-in_err-book-clause-refused c =
@@ -53,4 +56,4 @@ returns-clause-accepted c =
     let T : List Action → Type 0 = λ l. IsPlaces (λ threshold. IsThresholdOf threshold c.args.steps b l) c.in_ok-certificate.certificate in
     let of = threshold_in _ c.in_ok-certificate.certificate (subst T c.deref.ensures.value c.in_ok-certificate.ensures.threshold) in
     subst D (sym (c.in_ok-job.ensures.job ∙ (λ i. write (list_pieces (names_of b) (c.new.ensures i) ++ certificate_text.pieces (of.1 i)))))
-    (multistage_accepted c.args.steps c.args.book.now b list of.0 c.in_ok-book.ensures.found c.in_ok-list.ensures.list of.2)
+    (multistage_accepted c.args.steps c.args.book.now b list of.0 c.in_ok-book.ensures.found c.in_ok-list.ensures.list of.2 (subst (HasText c.args.steps b) of.1 c.in_ok-certificate.ensures.text))

@@ -7,7 +7,7 @@ use Rattle.cert_text.specs.Canonical as certificate
 use Rattle.reversal.specs.declared.ended.Ended.{Ended}
 use Rattle.reversal.specs.Deeds.{Job, write}
 use Rattle.reversal.specs.Ending.{bad_book}
-use Rattle.reversal.specs.Plans.{list_pieces, certificate_of}
+use Rattle.reversal.specs.Plans.{list_pieces}
 use Rattle.reversal.specs.Decision.{HasBookFault, DecidesPlanRevolve, accept}
 use Rattle.reversal.specs.JobReading.{IsRefusal}
 use Rattle.reversal.proofs.Planned.{plan_spelled, certificate_is}

@@ -1,15 +1,11 @@
-use Rattle.std.proofs.Common.{◌≡◌, ◌≤◌, List, length, subst, ◌∙◌, sym, ap}
+use Rattle.std.proofs.Common.{◌≡◌, List, subst, ◌∙◌, ap}
 use Rattle.plan_types.specs.declared.action.Action.{Action}
-use Rattle.level_book.specs.BookCosts.{slots_of, names_of}
+use Rattle.level_book.specs.BookCosts.{slots_of}
 use Rattle.level_book.specs.Valid.{Valid}
-use Rattle.action_text.specs.Faults.{HasFirstFault}
 use Rattle.cost_report.specs.Report.{report_lines}
 use Rattle.reversal.specs.declared.ended.Ended.{Ended}
-use Rattle.reversal.specs.Ending.{bad_book, bad_text}
-use Rattle.reversal.specs.Decision.{HasBookFault}
-use Rattle.reversal.specs.JobReading.{IsRefusal}
 use Rattle.reversal.specs.Pricing.{list_report}
-use Rattle.reversal.proofs.Deciding.{on_error, IsBroken, price_by_book, price_by_text, price_by_rules, price_accepted}
+use Rattle.reversal.proofs.Deciding.{on_error, IsBroken, price_by_rules, price_accepted}
 use Rattle.reversal.proofs.pricing.price_texts.Goals as goal
 
 pub returns-in_err-judge-clause-refused : goal.returns-in_err-judge-clause-refused

@@ -40,4 +40,4 @@ returns c =
     let known : 0 < length (fastest book).levels = omega (arith, length-take 1 book.levels) in
     let rooms : slice_index rows.fast.rooms 0 ≡ room book 0 rows.fast.steps = c.requires.sizes.rooms_are 0 known ∙ same_room book rows.fast.steps in
     let S : ℕ → Type 0 = λ steps. Finds (InDiskColumns costs columns steps) c.first_over_both.result in
-    all_found rows book some rooms costs c.disk_costs-costs.ensures columns c.in_ok-columns.ensures no_fresh no_held c.first_over_both.result (subst S c.steps.ensures c.first_over_both.ensures)
+    all_found rows book some rooms costs c.disk_costs-costs.ensures columns c.in_ok-columns.ensures.are no_fresh no_held c.first_over_both.result (subst S c.steps.ensures c.first_over_both.ensures)

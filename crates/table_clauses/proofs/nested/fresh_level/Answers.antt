@@ -1,11 +1,27 @@
-use Rattle.std.proofs.Common.{◌≡◌, ℕ, suc, ◌≤◌, slice_index, arith, subst}
+use Rattle.std.proofs.Common.{◌≡◌, ℕ, suc, ◌≤◌, IfSome, length, slice_index, arith, sym, subst}
 use Rattle.level_book.specs.BookCosts.{room}
 use Rattle.table_clauses.specs.declared.entry.Entry.{Entry as Place}
 use Rattle.table_clauses.specs.Broken.{IsFirst}
 use Rattle.table_clauses.specs.Columns.{InFreshColumn}
 use Rattle.cost_tables.specs.TableRows.{tables_in}
 use Rattle.table_clauses.proofs.Meanings.{fresh_found, fresh_more, fresh_within}
+use Rattle.table_clauses.specs.Splits.{at_step, AreBelowSplits}
+use Rattle.table_clauses.proofs.BelowSplits.{enough_before, below_before}
 use Rattle.table_clauses.proofs.nested.fresh_level.Goals as goal
+
+pub fresh_column-requires-clause-enough : goal.fresh_column-requires-clause-enough
+fresh_column-requires-clause-enough c =
+    let rows = c.args.tables.now in let k = c.args.k in let m = c.loop-m.m in let least = c.splits_before-least.result.now in let before = c.in_ok-columns.columns.before in
+    let P : ℕ → Type 0 = λ steps. IfSome before (λ _. steps ≤ length least) in
+    subst P (sym c.steps.ensures)
+    (enough_before rows c.args.book.now.forward k m c.args.splits.now least c.requires.splits (omega (arith, c.requires.splits.count)) c.splits_before-least.ensures before c.in_ok-columns.ensures.before)
+
+pub fresh_column-requires-clause-below : goal.fresh_column-requires-clause-below
+fresh_column-requires-clause-below c =
+    let rows = c.args.tables.now in let k = c.args.k in let m = c.loop-m.m in let least = c.splits_before-least.result.now in let before = c.in_ok-columns.columns.before in
+    let P : ℕ → Type 0 = λ forward. IfSome before (λ pair. AreBelowSplits forward (at_step pair.fresh.items) (at_step pair.held.items) least) in
+    subst P (sym c.costs_of-costs.ensures.forward)
+    (below_before rows c.args.book.now.forward k m c.args.splits.now least c.requires.splits (omega (arith, c.requires.splits.count)) c.splits_before-least.ensures before c.in_ok-columns.ensures.before)
 
 pub returns-in-Some : goal.returns-in-Some
 returns-in-Some c =

@@ -1,4 +1,4 @@
-use Rattle.std.proofs.Common.{◌≡◌, ◌++◌, List, ℕ, subst}
+use Rattle.std.proofs.Common.{◌++◌, List, ℕ, subst}
 use Rattle.std.proofs.lemmas.List.Concat.{concat_is}
 use Rattle.keepers.specs.Told.{Tells, AddsPrefix}
 use Rattle.cost_report.specs.Report.{report_lines}

@@ -1,0 +1,11 @@
+use Rattle.cost_tables.specs.TableRows.{tables_in}
+use Rattle.keepers.specs.Writing.{seen}
+use Rattle.cert_text.specs.Printing.{Puts}
+use Rattle.cert_text.proofs.PuttingRows.{entry_words}
+use Rattle.cert_text.proofs.printing_rows.print_held_row.Given as goal
+
+-- the entries so far were put behind the words before them
+abbrev pub invariant-loop-l : goal.invariant-loop-l
+invariant-loop-l g l =
+    Puts (entry_words (λ n. (tables_in l.tables).held l.k n l.m) l.l) l.initial.piece.room l.initial.piece.text l.piece.room l.piece.text
+    (seen g.O.Sink.told g.O.Sink.call_count g.O.Sink.fault_count l.initial.out) (seen g.O.Sink.told g.O.Sink.call_count g.O.Sink.fault_count l.out)

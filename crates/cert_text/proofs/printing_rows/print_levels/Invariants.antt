@@ -1,0 +1,11 @@
+use Rattle.std.specs.List.{range_with_len, flat_map}
+use Rattle.keepers.specs.Writing.{seen, AddsLines}
+use Rattle.cert_text.specs.WordLines.{level_lines}
+use Rattle.cert_text.specs.Printing.{writes}
+use Rattle.cert_text.proofs.printing_rows.print_levels.Given as goal
+
+-- the lines of the levels so far were written
+abbrev pub invariant-loop-k : goal.invariant-loop-k
+invariant-loop-k g l =
+    AddsLines (writes (flat_map (level_lines l.tables) (range_with_len 0 l.k)))
+    (seen g.O.Sink.told g.O.Sink.call_count g.O.Sink.fault_count l.initial.out) (seen g.O.Sink.told g.O.Sink.call_count g.O.Sink.fault_count l.out)

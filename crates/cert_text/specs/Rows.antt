@@ -1,0 +1,41 @@
+-- No public clause cites this file. Tables that are read line by line.
+use Rattle.std.specs.Prelude.{◌≡◌, ℕ, ◌+◌, ◌≤◌, List, ◌++◌, map, slice_index_or, codes}
+use Rattle.cost_tables.specs.declared.cost.Cost.{Cost}
+use Rattle.cost_tables.specs.TableRows.{TableRows, tables_in, value_of}
+use Rattle.cert_text.specs.Words.{texts_of}
+use Rattle.cert_text.specs.WordLines.{entry_word}
+use Rattle.cert_text.specs.Wanted.{Want, rows_wants}
+use Rattle.cert_text.specs.Left.{Unread, Passes}
+
+-- the word of a cost
+abbrev pub cost_word : Cost → List ℕ
+cost_word cost = entry_word (value_of cost)
+
+-- lines were gone past that fit what was wanted, and said this
+pub record Reads (wants : List (List Want)) (said : List (List (List ℕ))) (old new : Unread) : Type 0 where
+  pub passes : Passes wants old new
+  pub says : map texts_of old.lines ≡ said ++ map texts_of new.lines
+
+-- what is wanted of level k of these tables
+unfoldable pub wants_for : TableRows → ℕ → List (List Want)
+wants_for t k = rows_wants (codes "F") k t.steps (slice_index_or t.rooms k 0 + 1) ++ rows_wants (codes "H") k t.steps (slice_index_or t.rooms k 0)
+
+-- The steps, the rooms, and all entries but some of those whose first state is in work are kept: at these levels and free slots.
+pub record KeepsFresh (here : ℕ → ℕ → Type 0) (old new : TableRows) : Type 0 where
+  pub steps : new.steps ≡ old.steps
+  pub rooms : new.rooms ≡ old.rooms
+  pub held : new.held ≡ old.held
+  pub others : (i j n : ℕ) → 1 ≤ j → (here i n → ⊥) → (tables_in new).fresh i j n ≡ (tables_in old).fresh i j n
+
+pub record KeepsHeld (here : ℕ → ℕ → Type 0) (old new : TableRows) : Type 0 where
+  pub steps : new.steps ≡ old.steps
+  pub rooms : new.rooms ≡ old.rooms
+  pub fresh : new.fresh ≡ old.fresh
+  pub others : (i j n : ℕ) → 1 ≤ j → (here i n → ⊥) → (tables_in new).held i j n ≡ (tables_in old).held i j n
+
+-- the entries of all levels but k are kept
+pub record KeepsLevels (k : ℕ) (old new : TableRows) : Type 0 where
+  pub steps : new.steps ≡ old.steps
+  pub rooms : new.rooms ≡ old.rooms
+  pub fresh : (i j n : ℕ) → 1 ≤ j → (i ≡ k → ⊥) → (tables_in new).fresh i j n ≡ (tables_in old).fresh i j n
+  pub held : (i j n : ℕ) → 1 ≤ j → (i ≡ k → ⊥) → (tables_in new).held i j n ≡ (tables_in old).held i j n

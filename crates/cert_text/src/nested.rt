@@ -1,0 +1,168 @@
+// Texts of tables over the levels of a book.
+ghost use Rattle.std.specs.Prelude.{◌≡◌, ◌⊎◌, ◌<◌, ◌≤◌, ◌+◌, ℕ, [], ◌∷◌, ◌++◌, All, length, map, codes, slice_index_or, MatchResult, IfOk};
+ghost use Rattle.std.specs.List.{range_with_len, flat_map};
+ghost use Rattle.cost_tables.specs.TableRows.{Fits, tables_in};
+ghost use Rattle.cert_text.specs.declared.fault.CertFault.{CertFault};
+ghost use Rattle.cert_text.specs.declared.kind.Kind.TheVariants as kind;
+ghost use Rattle.cert_text.specs.Words.{texts_of};
+ghost use Rattle.cert_text.specs.WordLines.{row_lines, level_lines};
+ghost use Rattle.cert_text.specs.Meaning.{HasWord, HaveWords, HaveText};
+ghost use Rattle.cert_text.specs.Wanted.{this_word, rows_wants, later_wants};
+ghost use Rattle.cert_text.specs.Faults.{IsWordFault, IsLineFault};
+ghost use Rattle.cert_text.specs.Left.{IsAt, IsAmong, number_of_rule, texts};
+ghost use Rattle.cert_text.specs.Rows.{Reads, KeepsFresh, KeepsHeld, KeepsLevels, wants_for};
+
+use crate::fault::{CertFault, LineFault};
+use crate::reader::Reader;
+use crate::rows::{put_fresh, put_held, read_row};
+use crate::words::Words;
+use cost_tables::{Cost, Tables};
+use level_book::Book;
+use std::alloc::{AllocError, Global};
+
+// Reads the lines of tables behind the line that names them.
+pub(crate) fn read_nested(
+    alloc: Global,
+    reader: &mut Reader<'_>,
+    steps: u32,
+    book: &Book,
+) -> Result<Tables, CertFault>
+    requires { Fits steps book.now }
+    ensures { MatchResult result
+        (λ t. HaveText steps book.now t
+        × (map texts_of reader.old.lines ≡ flat_map (level_lines t) (range_with_len 0 (length t.rooms)) ++ (codes "end" ∷ []) ∷ []))
+        (λ fault. (fault ≡ CertFault.Memory) ⊎ IsAt (IsLineFault (later_wants kind.Nested steps book.now) reader.old.lines reader.old.count) fault) }
+{
+    let Ok(mut tables) = Tables::never(alloc, steps, book) else {
+        return Err(CertFault::Memory);
+    };
+    let Ok(mut row) = empty_row(alloc, steps) else {
+        return Err(CertFault::Memory);
+    };
+    read_levels(reader, &mut row, &mut tables)?;
+    read_end(reader)?;
+    tables.is_shaped();
+    Ok(tables)
+}
+
+// Room for a line's entries.
+pub(crate) fn empty_row(alloc: Global, steps: u32) -> Result<Vec<Cost>, AllocError>
+    ensures { IfOk result (λ row. length row.items ≡ steps) }
+{
+    let mut row = Vec::with_capacity(alloc, steps as usize)?;
+    for _ in 0..steps {
+        row.push(Cost::Never)?;
+    }
+    Ok(row)
+}
+
+// The line that ends tables, and no line behind it.
+pub(crate) fn read_end(reader: &mut Reader<'_>) -> Result<(), CertFault>
+    ensures { MatchResult result
+        (λ _. map texts_of reader.old.lines ≡ (codes "end" ∷ []) ∷ [])
+        (λ fault. IsAt (IsLineFault ((this_word (codes "end") ∷ []) ∷ []) reader.old.lines reader.old.count) fault) }
+{
+    let line = reader.line()?;
+    let mut words = Words::new(line.text, 3);
+    match end_word(&mut words) {
+        Ok(()) => reader.finish(),
+        Err(fault) => Err(fault.at(line.number)),
+    }
+}
+
+// The word of that line.
+fn end_word(words: &mut Words<'_>) -> Result<(), LineFault>
+    ensures { MatchResult result
+        (λ _. texts words.old.words ≡ codes "end" ∷ [])
+        (λ fault. IsWordFault (this_word (codes "end") ∷ []) words.old.words words.old.end (number_of_rule fault.rule) fault.column) }
+{
+    words.this_word(b"end")?;
+    words.finish()
+}
+
+// Reads the lines of all levels.
+pub(crate) fn read_levels(
+    reader: &mut Reader<'_>,
+    row: &mut [Cost],
+    tables: &mut Tables,
+) -> Result<(), CertFault>
+    requires row { length row.old ≡ tables.old.steps }
+    requires narrow { (k : ℕ) → k < length tables.old.rooms → slice_index_or tables.old.rooms k 0 ≤ 64 }
+    ensures { MatchResult result
+        (λ _. Reads (flat_map (wants_for tables.old) (range_with_len 0 (length tables.old.rooms))) (flat_map (level_lines tables.new) (range_with_len 0 (length tables.old.rooms))) reader.old reader.new
+        × ((k : ℕ) → k < length tables.old.rooms → HaveWords tables.new k) × (tables.new.steps ≡ tables.old.steps) × (tables.new.rooms ≡ tables.old.rooms))
+        (λ fault. IsAmong (flat_map (wants_for tables.old) (range_with_len 0 (length tables.old.rooms))) reader.old fault) }
+{
+    let levels = tables.levels();
+    for k in 0..levels {
+        read_level(k, reader, row, tables)?;
+    }
+    Ok(())
+}
+
+// Reads the lines of level k.
+fn read_level(
+    k: u8,
+    reader: &mut Reader<'_>,
+    row: &mut [Cost],
+    tables: &mut Tables,
+) -> Result<(), CertFault>
+    requires k { k < length tables.old.rooms }
+    requires row { length row.old ≡ tables.old.steps }
+    requires narrow { slice_index_or tables.old.rooms k 0 ≤ 64 }
+    ensures { MatchResult result
+        (λ _. Reads (wants_for tables.old k) (level_lines tables.new k) reader.old reader.new × HaveWords tables.new k × KeepsLevels k tables.old tables.new)
+        (λ fault. IsAmong (wants_for tables.old k) reader.old fault) }
+{
+    read_fresh(k, reader, row, tables)?;
+    read_held(k, reader, row, tables)
+}
+
+// Reads those of stretches whose first state is in work.
+fn read_fresh(
+    k: u8,
+    reader: &mut Reader<'_>,
+    row: &mut [Cost],
+    tables: &mut Tables,
+) -> Result<(), CertFault>
+    requires k { k < length tables.old.rooms }
+    requires row { length row.old ≡ tables.old.steps }
+    requires narrow { slice_index_or tables.old.rooms k 0 ≤ 64 }
+    ensures { MatchResult result
+        (λ _. Reads (rows_wants (codes "F") k tables.old.steps (slice_index_or tables.old.rooms k 0 + 1))
+        (row_lines (codes "F") k tables.old.steps (slice_index_or tables.old.rooms k 0 + 1) (λ m l. (tables_in tables.new).fresh k l m)) reader.old reader.new
+        × ((m l : ℕ) → m ≤ slice_index_or tables.old.rooms k 0 → 1 ≤ l → l ≤ tables.old.steps → HasWord ((tables_in tables.new).fresh k l m))
+        × KeepsFresh (λ i n. i ≡ k) tables.old tables.new)
+        (λ fault. IsAmong (rows_wants (codes "F") k tables.old.steps (slice_index_or tables.old.rooms k 0 + 1)) reader.old fault) }
+{
+    let count = tables.room(k) + 1;
+    for m in 0..count {
+        read_row(b"F", k, m, reader, row)?;
+        put_fresh(k, m, row, tables);
+    }
+    Ok(())
+}
+
+// Reads those of stretches whose first state is held on the level.
+fn read_held(
+    k: u8,
+    reader: &mut Reader<'_>,
+    row: &mut [Cost],
+    tables: &mut Tables,
+) -> Result<(), CertFault>
+    requires k { k < length tables.old.rooms }
+    requires row { length row.old ≡ tables.old.steps }
+    ensures { MatchResult result
+        (λ _. Reads (rows_wants (codes "H") k tables.old.steps (slice_index_or tables.old.rooms k 0))
+        (row_lines (codes "H") k tables.old.steps (slice_index_or tables.old.rooms k 0) (λ m l. (tables_in tables.new).held k l m)) reader.old reader.new
+        × ((m l : ℕ) → m < slice_index_or tables.old.rooms k 0 → 1 ≤ l → l ≤ tables.old.steps → HasWord ((tables_in tables.new).held k l m))
+        × KeepsHeld (λ i n. i ≡ k) tables.old tables.new)
+        (λ fault. IsAmong (rows_wants (codes "H") k tables.old.steps (slice_index_or tables.old.rooms k 0)) reader.old fault) }
+{
+    let count = tables.room(k);
+    for m in 0..count {
+        read_row(b"H", k, m, reader, row)?;
+        put_held(k, m, row, tables);
+    }
+    Ok(())
+}

@@ -1,0 +1,13 @@
+-- What is written of a plan says its list and its certificate again.
+use Rattle.std.specs.Prelude.{ℕ, List}
+use Rattle.plan_types.specs.declared.action.Action.{Action}
+use Rattle.level_book.specs.BookCosts.{BookCosts, names_of}
+use Rattle.action_text.specs.ScheduleText.{IsSchedule}
+use Rattle.cert_text.specs.declared.certificate.Certificate.{Certificate}
+use Rattle.cert_text.specs.Meaning.{IsCertificateText}
+use Rattle.reversal.specs.Deeds.{Job, Shown, output}
+
+-- read as a schedule it says this list, and read as a certificate this one
+abbrev pub SaysAgain : ℕ → BookCosts → Job → List Action → Certificate → Type 0
+SaysAgain steps book job list certificate =
+    (shown : Shown) → IsSchedule (names_of book) (output shown job) list × IsCertificateText steps book (output shown job) certificate
