@@ -26,7 +26,7 @@ use schedule_rules::{Verdict, check};
 use std::alloc::{AllocError, Global};
 
 /// Checks a certificate for a list, a number of steps and a book. The memory that it takes is the validator's; for a threshold
-/// also that of the list's places, and for tables that of their columns.
+/// also that of the list's places, and for tables that of their columns, and 8 bytes for each step of each number of free slots.
 pub fn check_certificate(
     alloc: Global,
     list: &[Action],
