@@ -141,10 +141,6 @@ at_contained names text c = (c.0, there names c.0 c.1 c.2)
     there (name ∷ names) zero within is = ap Some is
     there (name ∷ names) (suc k) within is = there names k (omega arith) is
 
--- a level of a book has a name
-pub is_level : (book : BookCosts) (k : ℕ) → k < length book.levels → k < length (names_of book)
-is_level book k within = rw length-map within
-
 -- ---- the levels of a book, one after the other
 
 pub name_of_level : (book : BookCosts) (k : ℕ) (level : Level) → slice_get book.levels k ≡ Some level → slice_get (names_of book) k ≡ Some level.name

@@ -48,7 +48,8 @@ GivesSome view None read = read ≡ None
 
 -- ---- numbers
 
--- the number that n and the digits at the front of the bytes make, unless it is over the limit, and the bytes behind it
+-- The number that n and the digits at the front of the bytes make, unless it is over the limit, and the bytes behind it. A
+-- digit's byte is 48 or more.
 unfoldable pub digits_at : ℕ → ℕ → List ℕ → Option (ℕ × List ℕ)
 digits_at limit n [] = Some (n, [])
 digits_at limit n (c ∷ cs) =

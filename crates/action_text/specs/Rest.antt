@@ -26,6 +26,6 @@ seen_from column bytes = record {
   later = later_lines bytes;
 }
 
--- what is seen of bytes, where so many were left at the beginning of their line
+-- what is seen of bytes, where so many were left at the beginning of their line; no more are left of them now
 unfoldable pub seen : ℕ → List ℕ → Rest
 seen start bytes = seen_from (start - length bytes + 1) bytes

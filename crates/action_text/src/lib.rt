@@ -14,8 +14,6 @@ mod line;
 mod number;
 mod printing;
 mod reading;
-#[cfg(test)]
-mod tests;
 mod words;
 
 pub use crate::fault::TextFault;

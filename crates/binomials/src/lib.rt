@@ -8,8 +8,6 @@ mod advances;
 mod binomial;
 mod climb;
 pub mod laws;
-#[cfg(test)]
-mod tests;
 
 pub use crate::advances::{least_advances, repeats, split};
 pub use crate::binomial::beta;

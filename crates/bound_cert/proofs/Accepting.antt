@@ -1,8 +1,9 @@
 -- What is accepted, and for what reason another certificate isn't, are told apart.
 use Rattle.std.proofs.Common.{◌≡◌, ◌↔◌, ℕ, ◌<◌, ◌≤◌, List, [], ◌∷◌, length, refl, sym, ◌∙◌, ap, subst, inl, inr, arith}
+use Rattle.std.specs.List.{slice_get}
 use Rattle.plan_types.specs.declared.action.Action.{Action}
 use Rattle.level_book.specs.declared.book.Level.{Level}
-use Rattle.level_book.specs.BookCosts.{BookCosts, slots_of, total_room}
+use Rattle.level_book.specs.BookCosts.{BookCosts, slots_of, total_room, CostsRise}
 use Rattle.level_book.specs.Valid.{Valid}
 use Rattle.level_book.specs.CostFold.{forward, cost}
 use Rattle.level_book.specs.NestedClass.{Nested as IsNested}
@@ -22,7 +23,7 @@ use Rattle.bound_cert.specs.declared.verdict.CertVerdict.{CertVerdict}
 use Rattle.bound_cert.specs.declared.verdict.CertVerdict.TheVariants.{Least, Not}
 use Rattle.bound_cert.specs.declared.verdict.Reason.{Reason}
 use Rattle.bound_cert.specs.declared.verdict.Reason.TheVariants.{Invalid, WrongShape, OutsideClass, Inequality, ValueDiffers}
-use Rattle.bound_cert.specs.Accepted.{bound, class_of, IsAccepted, IsFirstReason, IsLeastOf, Differs}
+use Rattle.bound_cert.specs.Accepted.{IsNumberOf, IsNegative, IsTold, class_of, IsAccepted, IsFirstReason, IsLeastOf, Differs}
 use Rattle.bound_cert.specs.Verdicts.{IsVerdict, IsComparison}
 use Rattle.bound_cert.proofs.Tested.{nested_apart, one_nested_reason, disk_apart, one_disk_reason}
 use Rattle.bound_cert.proofs.Fitting.{one_misfit, fits_or_misfits, fits_in_class, misfits_in_class}
@@ -45,11 +46,18 @@ apart list steps book (Places threshold) (ValueDiffers cost other) is accepted =
 apart list steps book (Nested t) reason is accepted = nested_apart list steps book t reason is accepted
 apart list steps book (Disk t) reason is accepted = disk_apart list steps book t reason is accepted
 
-one_value : (cost value number a b : ℕ) → Differs cost value number a → Differs cost value number b → a ≡ b
-one_value cost value number a b (inl x) (inl y) = x.1 ∙ sym y.1
-one_value cost value number a b (inl x) (inr y) = absurd (x.0 y.0)
-one_value cost value number a b (inr x) (inl y) = absurd (y.0 x.0)
-one_value cost value number a b (inr x) (inr y) = x.2 ∙ sym y.2
+-- of the number of a k one thing is told
+one_told : (steps c k a b : ℕ) → IsTold steps c k a → IsTold steps c k b → a ≡ b
+one_told steps c k a b (inl x) (inl y) = omega (arith, x, y)
+one_told steps c k a b (inl x) (inr y) = absurd (omega (arith, x, y.0))
+one_told steps c k a b (inr x) (inl y) = absurd (omega (arith, x.0, y))
+one_told steps c k a b (inr x) (inr y) = x.1 ∙ sym y.1
+
+one_value : (steps c k cost value a b : ℕ) → Differs steps c k cost value a → Differs steps c k cost value b → a ≡ b
+one_value steps c k cost value a b (inl x) (inl y) = x.1 ∙ sym y.1
+one_value steps c k cost value a b (inl x) (inr y) = absurd (x.0 y.0)
+one_value steps c k cost value a b (inr x) (inl y) = absurd (y.0 x.0)
+one_value steps c k cost value a b (inr x) (inr y) = one_told steps c k a b x.2 y.2
 
 -- there is one first reason at most
 pub one_reason : (list : List Action) (steps : ℕ) (book : BookCosts) (certificate : Certificate) (a b : Reason) → IsFirstReason list steps book certificate a → IsFirstReason list steps book certificate b → a ≡ b
@@ -67,7 +75,7 @@ one_reason list steps book (Revolve k value) (ValueDiffers cost other) OutsideCl
 one_reason list steps book (Revolve k value) (ValueDiffers cost other) (Inequality b) x y = absurd y
 one_reason list steps book (Revolve k value) (ValueDiffers cost other) (ValueDiffers cost' other') x y =
     let costs : cost ≡ cost' = x.1 ∙ sym y.1 in
-    let same = one_value cost value _ other other' x.2 (subst (λ (c : ℕ). Differs c value (bound steps (total_room book steps) k) other') (sym costs) y.2) in
+    let same = one_value steps (total_room book steps) k cost value other other' x.2 (subst (λ (c : ℕ). Differs steps (total_room book steps) k c value other') (sym costs) y.2) in
     ap (λ (c : ℕ). ValueDiffers c other) costs ∙ ap (ValueDiffers cost') same
 one_reason list steps book (Places threshold) Invalid Invalid x y = refl
 one_reason list steps book (Places threshold) Invalid WrongShape x y = absurd y
@@ -106,9 +114,23 @@ not_exactly list steps book certificate (Not other) is reason = (
   λ first. ap Not (one_reason list steps book certificate other reason is first),
 )
 
--- what three numbers come to is the verdict on the certificate of Revolve
+-- what the forward steps and the value come to, by the number of the k or that it is negative
+module _ (steps slots k cost value : ℕ) where
+  pub other_value : (cost ≡ value → ⊥) → IsComparison steps slots k cost value (Not (ValueDiffers cost value))
+  other_value differs = (refl, inl (differs, refl))
+
+  pub no_number : cost ≡ value → IsNegative steps slots k → IsComparison steps slots k cost value (Not (ValueDiffers cost 0))
+  no_number same negative = (refl, inr (same, (λ is. absurd (omega (arith, is, negative))), inr (negative, refl)))
+
+  pub other_number : (n : ℕ) → cost ≡ value → (value ≡ n → ⊥) → IsNumberOf steps slots k n → IsComparison steps slots k cost value (Not (ValueDiffers cost n))
+  other_number n same differs number = (refl, inr (same, (λ is. differs (omega (arith, is, number))), inl number))
+
+  pub its_number : (n : ℕ) → cost ≡ value → value ≡ n → IsNumberOf steps slots k n → IsComparison steps slots k cost value (Least class.Valid)
+  its_number n same is number = (same, subst (λ (v : ℕ). IsNumberOf steps slots k v) (sym is) number)
+
+-- what they come to is the verdict on the certificate of Revolve
 pub compared : (list : List Action) (steps : ℕ) (book : BookCosts) (k value : ℕ) (v : CertVerdict) → Valid steps (slots_of book) list →
-    IsComparison (forward list) value (bound steps (total_room book steps) k) v → IsVerdict list steps book (Revolve k value) v
+    IsComparison steps (total_room book steps) k (forward list) value v → IsVerdict list steps book (Revolve k value) v
 compared list steps book k value (Least class.Valid) valid is = (refl, (valid, is.0, is.1))
 compared list steps book k value (Least class.Multistage) valid is = absurd is
 compared list steps book k value (Least class.Nested) valid is = absurd is
@@ -118,7 +140,7 @@ compared list steps book k value (Not WrongShape) valid is = absurd is
 compared list steps book k value (Not OutsideClass) valid is = absurd is
 compared list steps book k value (Not (Inequality entry)) valid is = absurd is
 compared list steps book k value (Not (ValueDiffers cost other)) valid is =
-    (valid, is.0, subst (λ (c : ℕ). Differs c value (bound steps (total_room book steps) k) other) (sym is.0) is.1)
+    (valid, is.0, subst (λ (c : ℕ). Differs steps (total_room book steps) k c value other) (sym is.0) is.1)
 
 -- ---- what an accepted certificate shows
 
@@ -180,11 +202,17 @@ least_is_least list steps book certificate v is e =
     let accepted = (least_exactly list steps book certificate v is class.Valid).0 e in
     none_fewer list steps book certificate accepted.0 accepted.1
 
-pub least_is_cheapest : (list : List Action) (steps : ℕ) (book : BookCosts) (certificate : Certificate) (v : CertVerdict) → IsVerdict list steps book certificate v → v ≡ Least class.Multistage →
-    (fast slow : Level) → book.levels ≡ fast ∷ slow ∷ [] → fast.write ≤ slow.write → fast.read ≤ slow.read → (other : List Action) → IsMultistage steps book other → cost list book ≤ cost other book
-least_is_cheapest list steps book certificate v is e =
+-- the two levels of a book
+rising : (book : BookCosts) → CostsRise book → (fast slow : Level) → book.levels ≡ fast ∷ slow ∷ [] → (fast.write ≤ slow.write) × (fast.read ≤ slow.read)
+rising book rise fast slow two =
+    let no_less = rise 0 fast slow (ap (λ (ls : List Level). slice_get ls 0) two) (ap (λ (ls : List Level). slice_get ls 1) two) in
+    (no_less.write, no_less.read)
+
+pub least_is_cheapest : (list : List Action) (steps : ℕ) (book : BookCosts) (certificate : Certificate) (v : CertVerdict) → IsVerdict list steps book certificate v → 0 < length book.levels → CostsRise book → v ≡ Least class.Multistage →
+    (other : List Action) → IsMultistage steps book other → cost list book ≤ cost other book
+least_is_cheapest list steps book certificate v is some rise e =
     let accepted = (least_exactly list steps book certificate v is class.Multistage).0 e in
-    none_cheaper list steps book certificate accepted.0 accepted.1
+    subst (λ (c : Class). IsLeastOf c steps book list) (sym accepted.0) (accepted_least list steps book certificate some (rising book rise) accepted.1)
 
 pub least_is_nested : (list : List Action) (steps : ℕ) (book : BookCosts) (certificate : Certificate) (v : CertVerdict) → IsVerdict list steps book certificate v → 0 < length book.levels → v ≡ Least class.Nested →
     (other : List Action) → IsNested steps (slots_of book) other → cost list book ≤ cost other book

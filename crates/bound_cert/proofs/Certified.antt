@@ -1,5 +1,5 @@
 -- The certificates of lists that are planned are accepted.
-use Rattle.std.proofs.Common.{◌≡◌, ℕ, ◌+◌, ◌≤◌, ◌<◌, List, length, sym, ap, ◌∙◌, arith}
+use Rattle.std.proofs.Common.{◌≡◌, ℕ, ◌+◌, ◌≤◌, ◌<◌, List, length, sym, subst, ap, ◌∙◌, arith}
 use Rattle.plan_types.specs.declared.action.Action.{Action}
 use Rattle.level_book.specs.BookCosts.{BookCosts, IsWithinLimits, total_room}
 use Rattle.level_book.specs.UnderTable.{number, IsGreatest, top_entry}
@@ -21,7 +21,7 @@ use Rattle.revolve_gen.specs.Plans.{HasPlan}
 use Rattle.revolve_gen.specs.Written.{revolve_list}
 use Rattle.revolve_gen.proofs.Books.{book_right}
 use Rattle.cert_text.specs.declared.certificate.Certificate.TheVariants.{Revolve, Nested, Disk}
-use Rattle.bound_cert.specs.Accepted.{bound, IsAccepted}
+use Rattle.bound_cert.specs.Accepted.{IsNumberOf, IsAccepted}
 use Rattle.bound_cert.proofs.Numbers.{at_repeats}
 
 pub few_accepted : (steps : ℕ) (book : BookCosts) (value : ℕ) → HasPlan steps (total_room book steps) → steps ≤ 1 → value ≡ steps → IsAccepted (revolve_list steps book) steps book (Revolve 0 value)
@@ -36,7 +36,8 @@ many_accepted steps book slots k value plan more slots_are k_is value_is =
     let right = book_right steps book plan in
     let value_at : value ≡ steps + least_advances steps c = value_is ∙ ap (λ (s : ℕ). steps + least_advances steps s) slots_are in
     let k_at : k ≡ repeats steps c = k_is ∙ ap (repeats steps) slots_are in
-    let number : value ≡ bound steps c k = value_at ∙ at_repeats steps c (omega arith) (plan more) ∙ sym (ap (bound steps c) k_at) in
+    let number : IsNumberOf steps c k value =
+    subst (λ (v : ℕ). IsNumberOf steps c k v) (sym value_at) (subst (λ (r : ℕ). IsNumberOf steps c r (steps + least_advances steps c)) (sym k_at) (at_repeats steps c (omega arith) (plan more))) in
     (right.0, right.1.forward_steps (omega arith) ∙ sym value_at, number)
 
 pub nested_accepted : (list : List Action) (steps : ℕ) (book : BookCosts) (t : TableRows) → 0 < length book.levels → IsWithinLimits book → Fits steps book → AreFor steps book t → IsGreatest steps book (tables_in t) →

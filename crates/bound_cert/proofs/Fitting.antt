@@ -1,5 +1,5 @@
 -- The threshold of a list of the multistage class, and the first place that it doesn't fit.
-use Rattle.std.proofs.Common.{◌≡◌, ◌⊎◌, ℕ, ◌<◌, ◌≤◌, List, [], ◌∷◌, length, fold, get_or, refl, sym, ap, subst, ◌∙◌, inl, inr, arith}
+use Rattle.std.proofs.Common.{◌≡◌, ◌⊎◌, ℕ, zero, suc, ◌*◌, ◌/◌, ◌<◌, ◌≤◌, List, [], ◌∷◌, length, fold, get_or, refl, sym, ap, subst, ◌∙◌, inl, inr, arith}
 use Rattle.std.proofs.lemmas.Bool.{cases_eq, cases_lt}
 use Rattle.std.proofs.lemmas.Grind.{same_number_lists}
 use Rattle.plan_types.specs.declared.action.Action.{Action}
@@ -14,10 +14,14 @@ use Rattle.multistage_gen.specs.Threshold.{MeetsThreshold, AreSavings}
 use Rattle.class_rules.specs.PlaceLevels.{HasPlaceLevels}
 use Rattle.class_rules.proofs.Classing.{levelled_in_class, places_same}
 use Rattle.multistage_gen.specs.Planned.{IsPlan, IsMultistageList}
-use Rattle.multistage_gen.proofs.Classed.{planned_levels}
+use Rattle.multistage_gen.proofs.Classed.{planned_levels, revolve_short}
+use Rattle.multistage_gen.proofs.Exchange.{first_fits}
 use Rattle.multistage_gen.proofs.Least.{not_all}
 use Rattle.table_clauses.specs.declared.entry.Entry.{Entry}
 use Rattle.revolve_gen.proofs.Stacked.{uses_its_slots}
+use Rattle.revolve_gen.proofs.Written.{revolve_counted}
+use Rattle.cert_text.specs.declared.certificate.Certificate.{Certificate}
+use Rattle.bound_cert.specs.Accepted.{IsAccepted, IsPlaces}
 use Rattle.bound_cert.specs.Verdicts.{IsFirstOn}
 use Rattle.bound_cert.specs.Thresholds.{AreOn, FitsThreshold, Misfits, StandsBefore, IsFirstMisfit, IsGreatestSlow, IsThresholdOf}
 
@@ -54,7 +58,7 @@ module _ (threshold steps : ℕ) (book : BookCosts) (list : List Action) where
         | inr (inl above) ↦ (let h = above.2 in let most = meets.below e.free (omega arith) above.3 in omega (arith, most, above.4))
         | inr (inr short) ↦ elim meets.full [
           | inl none ↦ short.3 none
-          | inr all ↦ short.4 (ap (places_on (λ p. get_or levels p 0) 0) count ∙ all)
+          | inr all ↦ omega (arith, short.4, ap (places_on (λ p. get_or levels p 0) 0) count ∙ all)
         ]
       ]
 
@@ -76,10 +80,12 @@ module _ (threshold steps : ℕ) (book : BookCosts) (list : List Action) where
           | inr more ↦ more
         ];
         full = elim (cases_eq threshold 0) [
-          | inl zero ↦ inl zero
-          | inr some ↦ elim (cases_eq (places_on (λ p. get_or levels p 0) 0 (length levels)) (room book 0 steps)) [
-            | inl all ↦ inr (ap (places_on (λ p. get_or levels p 0) 0) (sym count) ∙ all)
-            | inr short ↦ absurd (none (misfit_at 23 0 0) (refl, refl, inr (inr (refl, refl, refl, some, short))))
+          | inl none_saved ↦ inl none_saved
+          | inr some ↦ elim (cases_lt (places_on (λ p. get_or levels p 0) 0 (length levels)) (room book 0 steps)) [
+            | inl short ↦ absurd (none (misfit_at 23 0 0) (refl, refl, inr (inr (refl, refl, refl, some, short))))
+            | inr all ↦
+                let most = first_fits steps book (λ p. get_or levels p 0) list on.has.plan on.has.placed in
+                inr (omega (arith, all, most, ap (places_on (λ p. get_or levels p 0) 0) count))
           ]
         ];
       }
@@ -187,7 +193,7 @@ module _ (threshold steps : ℕ) (book : BookCosts) (list : List Action) (fast s
       none other (inr tie) (t, z, inr (inl x)) = first.none_before other.free tie.1 x.3 (let s = saves other.free x.2 in let h = x.4 in omega arith)
       none other (inr tie) (t, z, inr (inr x)) = omega (arith, tie.0, x.0)
 
-  pub short_first : (e : Entry) → e ≡ misfit_at threshold steps book list 23 0 0 → NoneOn 0 Below → NoneOn 1 Above → (threshold ≡ 0 → ⊥) → (places_on (λ p. get_or levels p 0) 0 (length levels) ≡ room book 0 steps → ⊥) →
+  pub short_first : (e : Entry) → e ≡ misfit_at threshold steps book list 23 0 0 → NoneOn 0 Below → NoneOn 1 Above → (threshold ≡ 0 → ⊥) → places_on (λ p. get_or levels p 0) 0 (length levels) < room book 0 steps →
       Misfit e × ((other : Entry) → StandsBefore other e → Misfit other → ⊥)
   short_first e is below above some few = subst (λ (e : Entry). Misfit e × ((other : Entry) → StandsBefore other e → Misfit other → ⊥)) (sym is) ((refl, refl, inr (inr (refl, refl, refl, some, few))), none)
     where
@@ -197,11 +203,11 @@ module _ (threshold steps : ℕ) (book : BookCosts) (list : List Action) (fast s
       none other (inl less) (t, z, inr (inr x)) = omega (arith, less, x.0)
       none other (inr tie) (t, z, inr (inr x)) = omega (arith, tie.1)
 
-  pub none_misfit : NoneOn 0 Below → NoneOn 1 Above → (threshold ≡ 0) ⊎ (places_on (λ p. get_or levels p 0) 0 (length levels) ≡ room book 0 steps) → (e : Entry) → Misfit e → ⊥
+  pub none_misfit : NoneOn 0 Below → NoneOn 1 Above → (threshold ≡ 0) ⊎ (room book 0 steps ≤ places_on (λ p. get_or levels p 0) 0 (length levels)) → (e : Entry) → Misfit e → ⊥
   none_misfit below above full e (t, z, inl x) = below e.free x.2 x.3 (let s = saves e.free x.2 in let h = x.4 in omega arith)
   none_misfit below above full e (t, z, inr (inl x)) = above e.free x.2 x.3 (let s = saves e.free x.2 in let h = x.4 in omega arith)
   none_misfit below above (inl none) e (t, z, inr (inr x)) = x.3 none
-  none_misfit below above (inr all) e (t, z, inr (inr x)) = x.4 all
+  none_misfit below above (inr all) e (t, z, inr (inr x)) = omega (arith, x.4, all)
 
 -- the two levels of a book
 pub two_levels : (levels : List Level) → length levels ≡ 2 → (fast : Level) × (slow : Level) × (levels ≡ fast ∷ slow ∷ [])
@@ -282,3 +288,34 @@ one_threshold steps book list threshold other x y =
     let up = at_most threshold other list y.fast y.slow y.levels moved_x y.greatest in
     let down = at_most other threshold list y.fast y.slow y.levels y.greatest moved_x in
     omega arith
+
+-- ---- a list's steps are a fourth of its actions
+
+steps_are : (steps : ℕ) (book : BookCosts) (list : List Action) → IsMultistage steps book list → length list / 4 ≡ steps
+steps_are zero book list is = let two : length list ≡ 2 = ap length is.levels.is in omega arith
+steps_are (suc n) book list is =
+    let four = (revolve_counted is.level (suc n) (total_room book (suc n)) is.plan).actions (omega arith) in
+    let all : length list ≡ 4 * suc n = ap length is.levels.is ∙ four in
+    omega arith
+
+-- for another number of steps the list isn't in the class
+pub at_length : (n steps : ℕ) (book : BookCosts) (list : List Action) → n ≡ length list / 4 → IsMultistage steps book list → n ≡ steps
+at_length n steps book list quarter is = quarter ∙ steps_are steps book list is
+
+pub few_actions : (steps : ℕ) (book : BookCosts) (list : List Action) → steps ≤ 1000000 → IsMultistage steps book list → length list ≤ 16777216
+few_actions steps book list short is = omega (arith, ap length is.levels.is, revolve_short is.level steps (total_room book steps) is.plan short)
+
+-- the planned list is in the class
+pub planned_member : (steps : ℕ) (book : BookCosts) (list : List Action) → IsMultistageList steps book list → IsMultistage steps book list
+planned_member steps book list is = record { two = ap length is.two; plan = is.plan; level = is.level; levels = planned_levels steps book list is }
+
+-- what holds for that number of steps holds for each for which the list is in the class
+pub threshold_at : (n steps : ℕ) (book : BookCosts) (list : List Action) (certificate : Certificate) → n ≡ length list / 4 → IsMultistage steps book list →
+    IsPlaces (λ threshold. IsThresholdOf threshold n book list) certificate → IsPlaces (λ threshold. IsThresholdOf threshold steps book list) certificate
+threshold_at n steps book list certificate quarter member is =
+    subst (λ (s : ℕ). IsPlaces (λ threshold. IsThresholdOf threshold s book list) certificate) (at_length n steps book list quarter member) is
+
+pub accepted_at : (n steps : ℕ) (book : BookCosts) (list : List Action) (certificate : Certificate) → n ≡ length list / 4 →
+    (IsMultistageList n book list → IsAccepted list n book certificate) → IsMultistageList steps book list → IsAccepted list steps book certificate
+accepted_at n steps book list certificate quarter accepted planned =
+    subst (λ (s : ℕ). IsMultistageList s book list → IsAccepted list s book certificate) (at_length n steps book list quarter (planned_member steps book list planned)) accepted planned

@@ -5,3 +5,4 @@ pub mod Tested
 pub mod Accepting
 pub mod Certified
 pub mod Texts
+pub mod Deciding

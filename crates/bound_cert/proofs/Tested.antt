@@ -1,4 +1,4 @@
--- What tables come to by their four tests is told apart, and is one thing.
+-- What tables come to by their five tests is told apart, and is one thing.
 use Rattle.std.proofs.Common.{◌≡◌, ◌⊎◌, ℕ, List, refl, sym, ◌∙◌, ap, inl, inr}
 use Rattle.std.proofs.lemmas.Bool.{cases_order}
 use Rattle.plan_types.specs.declared.action.Action.{Action}
@@ -7,7 +7,7 @@ use Rattle.level_book.specs.Valid.{Valid}
 use Rattle.level_book.specs.CostFold.{cost}
 use Rattle.level_book.specs.NestedClass.{Nested}
 use Rattle.level_book.specs.DiskClass.{Disk}
-use Rattle.level_book.specs.UnderTable.{Entry, IsUnderTable, top_entry}
+use Rattle.level_book.specs.UnderTable.{IsUnderTable, top_entry}
 use Rattle.level_book.specs.DiskUnderTable.{IsDiskUnderTable, disk_top_entry}
 use Rattle.cost_tables.specs.TableRows.{TableRows, tables_in}
 use Rattle.disk_gen.specs.DiskRows.{DiskRows, disk_tables_in}
@@ -21,7 +21,7 @@ use Rattle.bound_cert.specs.declared.verdict.CertVerdict.{CertVerdict}
 use Rattle.bound_cert.specs.declared.verdict.CertVerdict.TheVariants.{Least, Not}
 use Rattle.bound_cert.specs.declared.verdict.Reason.{Reason}
 use Rattle.bound_cert.specs.declared.verdict.Reason.TheVariants.{Invalid, WrongShape, OutsideClass, Inequality, ValueDiffers}
-use Rattle.bound_cert.specs.TableTests.{Passes, FailsFirst, AreSized, AreSizedDisk, PassesNested, FailsNested, PassesDisk, FailsDisk}
+use Rattle.bound_cert.specs.TableTests.{FiveTests, Passes, FailsFirst, AreSized, AreSizedDisk, nested_tests, disk_tests}
 use Rattle.bound_cert.specs.Verdicts.{IsVerdict, IsTopVerdict}
 
 -- of two places one comes first, or they are the same
@@ -56,9 +56,9 @@ one_place Broken p q x y = elim (either_first p q) [
   | inr (inr same) ↦ same
 ]
 
-module _ (Right Sized Member Under : Type 0) (First : Place → Type 0) (top : Entry) (list_cost : ℕ) where
+module _ (tests : FiveTests) where
   -- tables that pass fail no test
-  pub passed_apart : (Under → (p : Place) → First p → ⊥) → (reason : Reason) → FailsFirst Right Sized Member Under First top list_cost reason → Passes Right Sized Member Under top list_cost → ⊥
+  pub passed_apart : (tests.Under → (p : Place) → tests.BreaksFirst p → ⊥) → (reason : Reason) → FailsFirst tests reason → Passes tests → ⊥
   passed_apart whole Invalid f p = f p.0
   passed_apart whole WrongShape f p = f.1 p.1
   passed_apart whole OutsideClass f p = f.2 p.2
@@ -66,8 +66,8 @@ module _ (Right Sized Member Under : Type 0) (First : Place → Type 0) (top : E
   passed_apart whole (ValueDiffers c v) f p = f.4 p.4
 
   -- one test at most fails first
-  pub one_test : (Under → (p : Place) → First p → ⊥) → ((p q : Place) → First p → First q → p ≡ q) → (a b : Reason) →
-      FailsFirst Right Sized Member Under First top list_cost a → FailsFirst Right Sized Member Under First top list_cost b → a ≡ b
+  pub one_test : (tests.Under → (p : Place) → tests.BreaksFirst p → ⊥) → ((p q : Place) → tests.BreaksFirst p → tests.BreaksFirst q → p ≡ q) → (a b : Reason) →
+      FailsFirst tests a → FailsFirst tests b → a ≡ b
   one_test whole one Invalid Invalid x y = refl
   one_test whole one Invalid WrongShape x y = absurd (x y.0)
   one_test whole one Invalid OutsideClass x y = absurd (x y.0)
@@ -100,24 +100,20 @@ module _ (list : List Action) (steps : ℕ) (book : BookCosts) where
   whole_nested : (t : TableRows) → IsUnderTable steps book (tables_in t) → (p : Place) → IsFirst (Breaks steps book (tables_in t)) p → ⊥
   whole_nested t under p first = (under_where_none steps book (tables_in t)).0 under p first.broken
 
-  pub nested_apart : (t : TableRows) (reason : Reason) → FailsNested list steps book t reason → PassesNested list steps book t → ⊥
-  nested_apart t = passed_apart (Valid steps (slots_of book) list) (AreSized steps book t) (Nested steps (slots_of book) list) (IsUnderTable steps book (tables_in t))
-      (IsFirst (Breaks steps book (tables_in t))) (top_entry steps book (tables_in t)) (cost list book) (whole_nested t)
+  pub nested_apart : (t : TableRows) (reason : Reason) → FailsFirst (nested_tests list steps book t) reason → Passes (nested_tests list steps book t) → ⊥
+  nested_apart t = passed_apart (nested_tests list steps book t) (whole_nested t)
 
-  pub one_nested_reason : (t : TableRows) (a b : Reason) → FailsNested list steps book t a → FailsNested list steps book t b → a ≡ b
-  one_nested_reason t = one_test (Valid steps (slots_of book) list) (AreSized steps book t) (Nested steps (slots_of book) list) (IsUnderTable steps book (tables_in t))
-      (IsFirst (Breaks steps book (tables_in t))) (top_entry steps book (tables_in t)) (cost list book) (whole_nested t) (one_place (Breaks steps book (tables_in t)))
+  pub one_nested_reason : (t : TableRows) (a b : Reason) → FailsFirst (nested_tests list steps book t) a → FailsFirst (nested_tests list steps book t) b → a ≡ b
+  one_nested_reason t = one_test (nested_tests list steps book t) (whole_nested t) (one_place (Breaks steps book (tables_in t)))
 
   whole_disk : (t : DiskRows) → IsDiskUnderTable steps book (disk_tables_in t) → (p : Place) → IsFirst (DiskBreaks steps book (disk_tables_in t)) p → ⊥
   whole_disk t under p first = (disk_under_where_none steps book (disk_tables_in t)).0 under p first.broken
 
-  pub disk_apart : (t : DiskRows) (reason : Reason) → FailsDisk list steps book t reason → PassesDisk list steps book t → ⊥
-  disk_apart t = passed_apart (Valid steps (slots_of book) list) (AreSizedDisk steps book t) (Disk steps (slots_of book) list) (IsDiskUnderTable steps book (disk_tables_in t))
-      (IsFirst (DiskBreaks steps book (disk_tables_in t))) (disk_top_entry steps (disk_tables_in t)) (cost list book) (whole_disk t)
+  pub disk_apart : (t : DiskRows) (reason : Reason) → FailsFirst (disk_tests list steps book t) reason → Passes (disk_tests list steps book t) → ⊥
+  disk_apart t = passed_apart (disk_tests list steps book t) (whole_disk t)
 
-  pub one_disk_reason : (t : DiskRows) (a b : Reason) → FailsDisk list steps book t a → FailsDisk list steps book t b → a ≡ b
-  one_disk_reason t = one_test (Valid steps (slots_of book) list) (AreSizedDisk steps book t) (Disk steps (slots_of book) list) (IsDiskUnderTable steps book (disk_tables_in t))
-      (IsFirst (DiskBreaks steps book (disk_tables_in t))) (disk_top_entry steps (disk_tables_in t)) (cost list book) (whole_disk t) (one_place (DiskBreaks steps book (disk_tables_in t)))
+  pub one_disk_reason : (t : DiskRows) (a b : Reason) → FailsFirst (disk_tests list steps book t) a → FailsFirst (disk_tests list steps book t) b → a ≡ b
+  one_disk_reason t = one_test (disk_tests list steps book t) (whole_disk t) (one_place (DiskBreaks steps book (disk_tables_in t)))
 
 -- ---- what the cost of a list and a top entry come to is the verdict where the other tests are passed
 

@@ -1,5 +1,5 @@
 -- Which certificate is accepted for a list, and why another isn't.
-use Rattle.std.specs.Prelude.{◌≡◌, ◌≢◌, ◌⊎◌, ℕ, ◌+◌, ◌-◌, ◌*◌, ◌≤◌, List}
+use Rattle.std.specs.Prelude.{◌≡◌, ◌≢◌, ◌⊎◌, ℕ, ◌+◌, ◌*◌, ◌<◌, ◌≤◌, List}
 use Rattle.plan_types.specs.declared.action.Action.{Action}
 use Rattle.level_book.specs.BookCosts.{BookCosts, slots_of, total_room}
 use Rattle.level_book.specs.Valid.{Valid}
@@ -15,12 +15,20 @@ use Rattle.bound_cert.specs.declared.verdict.Class.TheVariants as class
 use Rattle.bound_cert.specs.declared.verdict.Reason.{Reason}
 use Rattle.bound_cert.specs.declared.verdict.Reason.TheVariants.{Invalid, WrongShape, OutsideClass, Inequality, ValueDiffers}
 use Rattle.bound_cert.specs.Thresholds.{FitsThreshold, IsFirstMisfit}
-use Rattle.bound_cert.specs.TableTests.{PassesNested, FailsNested, PassesDisk, FailsDisk}
+use Rattle.bound_cert.specs.TableTests.{Passes, FailsFirst, nested_tests, disk_tests}
 
--- the number of k: N + k · N - β(c + 1, k - 1), and 0 where that is negative; for every k it is no more than the forward
--- steps of a valid list for N steps and c slots
-abbrev pub bound : ℕ → ℕ → ℕ → ℕ
-bound steps c k = steps + k * steps - beta_before (c + 1) k
+-- The value is the number of k, N + k · N - β(c + 1, k - 1), which is said by a sum: no value is that number where it is negative.
+-- For every k it is no more than the forward steps of a valid list for N steps and c slots.
+abbrev pub IsNumberOf : ℕ → ℕ → ℕ → ℕ → Type 0
+IsNumberOf steps c k value = value + beta_before (c + 1) k ≡ steps + k * steps
+
+-- the number of k is negative
+abbrev pub IsNegative : ℕ → ℕ → ℕ → Type 0
+IsNegative steps c k = steps + k * steps < beta_before (c + 1) k
+
+-- what is told of the number of k: the number, and 0 where it is negative
+abbrev pub IsTold : ℕ → ℕ → ℕ → ℕ → Type 0
+IsTold steps c k told = IsNumberOf steps c k told ⊎ (IsNegative steps c k × (told ≡ 0))
 
 -- the class in which an accepted certificate shows a list to be least
 abbrev pub class_of : Certificate → Class
@@ -34,15 +42,16 @@ class_of (Disk t) = class.Disk
 -- their top entry is what the list costs, which is in the nested or in the disk class.
 abbrev pub IsAccepted : List Action → ℕ → BookCosts → Certificate → Type 0
 IsAccepted list steps book (Revolve k value) =
-    Valid steps (slots_of book) list × (forward list ≡ value) × (value ≡ bound steps (total_room book steps) k)
+    Valid steps (slots_of book) list × (forward list ≡ value) × IsNumberOf steps (total_room book steps) k value
 IsAccepted list steps book (Places threshold) = Valid steps (slots_of book) list × FitsThreshold threshold steps book list
-IsAccepted list steps book (Nested t) = PassesNested list steps book t
-IsAccepted list steps book (Disk t) = PassesDisk list steps book t
+IsAccepted list steps book (Nested t) = Passes (nested_tests list steps book t)
+IsAccepted list steps book (Disk t) = Passes (disk_tests list steps book t)
 
--- what the forward steps of a list, the cost, differ from: the value of its certificate, or, where they are that, the number
--- of its k
-abbrev pub Differs : ℕ → ℕ → ℕ → ℕ → Type 0
-Differs cost value number other = ((cost ≢ value) × (other ≡ value)) ⊎ ((cost ≡ value) × (value ≢ number) × (other ≡ number))
+-- what the forward steps of a list, the cost, differ from: the value of its certificate, or, where they are that and it isn't the
+-- number of its k, what is told of that number
+abbrev pub Differs : ℕ → ℕ → ℕ → ℕ → ℕ → ℕ → Type 0
+Differs steps c k cost value other =
+    ((cost ≢ value) × (other ≡ value)) ⊎ ((cost ≡ value) × (IsNumberOf steps c k value → ⊥) × IsTold steps c k other)
 
 -- why the certificate isn't accepted, by the first test that fails
 abbrev pub IsFirstReason : List Action → ℕ → BookCosts → Certificate → Reason → Type 0
@@ -51,14 +60,14 @@ IsFirstReason list steps book (Revolve k value) WrongShape = ⊥
 IsFirstReason list steps book (Revolve k value) OutsideClass = ⊥
 IsFirstReason list steps book (Revolve k value) (Inequality entry) = ⊥
 IsFirstReason list steps book (Revolve k value) (ValueDiffers cost other) =
-    Valid steps (slots_of book) list × (cost ≡ forward list) × Differs cost value (bound steps (total_room book steps) k) other
+    Valid steps (slots_of book) list × (cost ≡ forward list) × Differs steps (total_room book steps) k cost value other
 IsFirstReason list steps book (Places threshold) Invalid = Valid steps (slots_of book) list → ⊥
 IsFirstReason list steps book (Places threshold) WrongShape = ⊥
 IsFirstReason list steps book (Places threshold) OutsideClass = Valid steps (slots_of book) list × (IsMultistage steps book list → ⊥)
 IsFirstReason list steps book (Places threshold) (Inequality entry) = Valid steps (slots_of book) list × IsFirstMisfit threshold steps book list entry
 IsFirstReason list steps book (Places threshold) (ValueDiffers cost other) = ⊥
-IsFirstReason list steps book (Nested t) reason = FailsNested list steps book t reason
-IsFirstReason list steps book (Disk t) reason = FailsDisk list steps book t reason
+IsFirstReason list steps book (Nested t) reason = FailsFirst (nested_tests list steps book t) reason
+IsFirstReason list steps book (Disk t) reason = FailsFirst (disk_tests list steps book t) reason
 
 -- a certificate is a threshold of which this holds
 abbrev pub IsPlaces : (ℕ → Type 0) → Certificate → Type 0

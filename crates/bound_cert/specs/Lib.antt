@@ -2,3 +2,4 @@ pub mod Thresholds
 pub mod TableTests
 pub mod Accepted
 pub mod Verdicts
+pub mod Laws

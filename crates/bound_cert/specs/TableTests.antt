@@ -20,45 +20,64 @@ abbrev pub entry_value : Entry → ℕ
 entry_value (number n) = n
 entry_value never = 2 ^ 64 - 1
 
--- ---- five tests, in their order: the list is valid, the tables have their sizes, the list is a member of the class, the tables
--- are an under-table, and their top entry is what the list costs
+-- ---- five tests of tables, in their order
+
+pub record FiveTests : Type 1 where
+  -- the list is valid
+  pub Right : Type 0
+  -- the tables have their sizes
+  pub Sized : Type 0
+  -- the list is a member of the class
+  pub Member : Type 0
+  -- the tables are an under-table; else a clause fails first at a place
+  pub Under : Type 0
+  pub BreaksFirst : Place → Type 0
+  -- the top entry is what the list costs
+  pub top : Entry
+  pub list_cost : ℕ
 
 -- all are passed
-abbrev pub Passes : Type 0 → Type 0 → Type 0 → Type 0 → Entry → ℕ → Type 0
-Passes Right Sized Member Under top list_cost = Right × Sized × Member × Under × (top ≡ number list_cost)
+abbrev pub Passes : FiveTests → Type 0
+Passes tests = tests.Right × tests.Sized × tests.Member × tests.Under × (tests.top ≡ number tests.list_cost)
 
 -- The first that fails, as a reason. Of the clauses the first that fails is told; of the top entry, what the list costs and the
 -- entry, as numbers.
-abbrev pub FailsFirst : Type 0 → Type 0 → Type 0 → Type 0 → (Place → Type 0) → Entry → ℕ → Reason → Type 0
-FailsFirst Right Sized Member Under BreaksFirst top list_cost Invalid = Right → ⊥
-FailsFirst Right Sized Member Under BreaksFirst top list_cost WrongShape = Right × (Sized → ⊥)
-FailsFirst Right Sized Member Under BreaksFirst top list_cost OutsideClass = Right × Sized × (Member → ⊥)
-FailsFirst Right Sized Member Under BreaksFirst top list_cost (Inequality place) = Right × Sized × Member × BreaksFirst place
-FailsFirst Right Sized Member Under BreaksFirst top list_cost (ValueDiffers cost_is value_is) =
-    Right × Sized × Member × Under × (top ≢ number list_cost) × (cost_is ≡ list_cost) × (value_is ≡ entry_value top)
+abbrev pub FailsFirst : FiveTests → Reason → Type 0
+FailsFirst tests Invalid = tests.Right → ⊥
+FailsFirst tests WrongShape = tests.Right × (tests.Sized → ⊥)
+FailsFirst tests OutsideClass = tests.Right × tests.Sized × (tests.Member → ⊥)
+FailsFirst tests (Inequality place) = tests.Right × tests.Sized × tests.Member × tests.BreaksFirst place
+FailsFirst tests (ValueDiffers cost_is value_is) =
+    tests.Right × tests.Sized × tests.Member × tests.Under × (tests.top ≢ number tests.list_cost) × (cost_is ≡ tests.list_cost) × (value_is ≡ entry_value tests.top)
 
 -- ---- of tables for the nested class
 
 abbrev pub AreSized : ℕ → BookCosts → TableRows → Type 0
 AreSized steps book t = Fits steps book × AreFor steps book t
 
-abbrev pub PassesNested : List Action → ℕ → BookCosts → TableRows → Type 0
-PassesNested list steps book t =
-    Passes (Valid steps (slots_of book) list) (AreSized steps book t) (Nested steps (slots_of book) list) (IsUnderTable steps book (tables_in t)) (top_entry steps book (tables_in t)) (cost list book)
-
-abbrev pub FailsNested : List Action → ℕ → BookCosts → TableRows → Reason → Type 0
-FailsNested list steps book t =
-    FailsFirst (Valid steps (slots_of book) list) (AreSized steps book t) (Nested steps (slots_of book) list) (IsUnderTable steps book (tables_in t)) (IsFirst (Breaks steps book (tables_in t))) (top_entry steps book (tables_in t)) (cost list book)
+abbrev pub nested_tests : List Action → ℕ → BookCosts → TableRows → FiveTests
+nested_tests list steps book t = record {
+  Right = Valid steps (slots_of book) list;
+  Sized = AreSized steps book t;
+  Member = Nested steps (slots_of book) list;
+  Under = IsUnderTable steps book (tables_in t);
+  BreaksFirst = IsFirst (Breaks steps book (tables_in t));
+  top = top_entry steps book (tables_in t);
+  list_cost = cost list book;
+}
 
 -- ---- of tables for the disk class
 
 abbrev pub AreSizedDisk : ℕ → BookCosts → DiskRows → Type 0
 AreSizedDisk steps book t = FitsFastest steps book × AreDiskSized steps book t
 
-abbrev pub PassesDisk : List Action → ℕ → BookCosts → DiskRows → Type 0
-PassesDisk list steps book t =
-    Passes (Valid steps (slots_of book) list) (AreSizedDisk steps book t) (Disk steps (slots_of book) list) (IsDiskUnderTable steps book (disk_tables_in t)) (disk_top_entry steps (disk_tables_in t)) (cost list book)
-
-abbrev pub FailsDisk : List Action → ℕ → BookCosts → DiskRows → Reason → Type 0
-FailsDisk list steps book t =
-    FailsFirst (Valid steps (slots_of book) list) (AreSizedDisk steps book t) (Disk steps (slots_of book) list) (IsDiskUnderTable steps book (disk_tables_in t)) (IsFirst (DiskBreaks steps book (disk_tables_in t))) (disk_top_entry steps (disk_tables_in t)) (cost list book)
+abbrev pub disk_tests : List Action → ℕ → BookCosts → DiskRows → FiveTests
+disk_tests list steps book t = record {
+  Right = Valid steps (slots_of book) list;
+  Sized = AreSizedDisk steps book t;
+  Member = Disk steps (slots_of book) list;
+  Under = IsDiskUnderTable steps book (disk_tables_in t);
+  BreaksFirst = IsFirst (DiskBreaks steps book (disk_tables_in t));
+  top = disk_top_entry steps (disk_tables_in t);
+  list_cost = cost list book;
+}

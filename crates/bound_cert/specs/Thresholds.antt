@@ -23,14 +23,14 @@ pub record FitsThreshold (threshold steps : ℕ) (book : BookCosts) (list : List
   pub meets : MeetsThreshold threshold steps book fast slow (slice_index levels) list
 
 -- The threshold doesn't fit at this entry, whose table is 4, and whose number of free slots is that of the place. Clause 21: a
--- place on level 0 saves less. Clause 22: a place on level 1 would save more. Clause 23: the threshold isn't 0, and level 0 hasn't
--- as many places as it has room for; it never has more.
+-- place on level 0 saves less. Clause 22: a place on level 1 would save more. Clause 23: the threshold isn't 0, and fewer
+-- places are on level 0 than it has room for.
 abbrev pub Misfits : ℕ → ℕ → BookCosts → List Action → Level → Level → List ℕ → Entry → Type 0
 Misfits threshold steps book list fast slow levels e =
     (e.table ≡ 4) × (e.steps ≡ 0)
     × (((e.clause ≡ 21) × (e.level ≡ 0) × (e.free < length levels) × (slice_index levels e.free ≡ 0) × (saving list fast slow e.free < threshold))
     ⊎ ((e.clause ≡ 22) × (e.level ≡ 1) × (e.free < length levels) × (slice_index levels e.free ≡ 1) × (threshold < saving list fast slow e.free))
-    ⊎ ((e.clause ≡ 23) × (e.level ≡ 0) × (e.free ≡ 0) × (threshold ≢ 0) × (places_on (slice_index levels) 0 (length levels) ≢ room book 0 steps)))
+    ⊎ ((e.clause ≡ 23) × (e.level ≡ 0) × (e.free ≡ 0) × (threshold ≢ 0) × (places_on (slice_index levels) 0 (length levels) < room book 0 steps)))
 
 -- one entry stands before another, by the clause and then by the place
 abbrev pub StandsBefore : Entry → Entry → Type 0

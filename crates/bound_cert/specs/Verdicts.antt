@@ -13,7 +13,7 @@ use Rattle.bound_cert.specs.declared.verdict.Class.TheVariants as class
 use Rattle.level_book.specs.UnderTable.{Entry as TableEntry, number}
 use Rattle.bound_cert.specs.TableTests.{entry_value}
 use Rattle.bound_cert.specs.declared.verdict.Reason.TheVariants.{Invalid, WrongShape, OutsideClass, Inequality, ValueDiffers}
-use Rattle.bound_cert.specs.Accepted.{class_of, IsAccepted, IsFirstReason, Differs}
+use Rattle.bound_cert.specs.Accepted.{class_of, IsAccepted, IsFirstReason, IsNumberOf, IsNegative, Differs}
 
 -- the certificate is accepted, or isn't, for this reason first
 abbrev pub IsVerdict : List Action → ℕ → BookCosts → Certificate → CertVerdict → Type 0
@@ -37,17 +37,21 @@ FindsMisfit threshold steps book list fast slow levels found =
     MatchOption found ((e : Entry) → Misfits threshold steps book list fast slow levels e → ⊥)
     (λ e. Misfits threshold steps book list fast slow levels e × ((other : Entry) → StandsBefore other e → Misfits threshold steps book list fast slow levels other → ⊥))
 
--- what three numbers come to: the forward steps of a list, the value of its certificate, and the number of its k
-abbrev pub IsComparison : ℕ → ℕ → ℕ → CertVerdict → Type 0
-IsComparison list_cost value of_k (Least class.Valid) = (list_cost ≡ value) × (value ≡ of_k)
-IsComparison list_cost value of_k (Least class.Multistage) = ⊥
-IsComparison list_cost value of_k (Least class.Nested) = ⊥
-IsComparison list_cost value of_k (Least class.Disk) = ⊥
-IsComparison list_cost value of_k (Not Invalid) = ⊥
-IsComparison list_cost value of_k (Not WrongShape) = ⊥
-IsComparison list_cost value of_k (Not OutsideClass) = ⊥
-IsComparison list_cost value of_k (Not (Inequality entry)) = ⊥
-IsComparison list_cost value of_k (Not (ValueDiffers c other)) = (c ≡ list_cost) × Differs list_cost value of_k other
+-- the number of a k is this, or it is negative and this is None
+abbrev pub FindsNumber : ℕ → ℕ → ℕ → Option ℕ → Type 0
+FindsNumber steps c k found = MatchOption found (IsNegative steps c k) (IsNumberOf steps c k)
+
+-- what the forward steps of a list and the value of its certificate come to, for so many steps, slots and repeats
+abbrev pub IsComparison : ℕ → ℕ → ℕ → ℕ → ℕ → CertVerdict → Type 0
+IsComparison steps slots k list_cost value (Least class.Valid) = (list_cost ≡ value) × IsNumberOf steps slots k value
+IsComparison steps slots k list_cost value (Least class.Multistage) = ⊥
+IsComparison steps slots k list_cost value (Least class.Nested) = ⊥
+IsComparison steps slots k list_cost value (Least class.Disk) = ⊥
+IsComparison steps slots k list_cost value (Not Invalid) = ⊥
+IsComparison steps slots k list_cost value (Not WrongShape) = ⊥
+IsComparison steps slots k list_cost value (Not OutsideClass) = ⊥
+IsComparison steps slots k list_cost value (Not (Inequality entry)) = ⊥
+IsComparison steps slots k list_cost value (Not (ValueDiffers c other)) = (c ≡ list_cost) × Differs steps slots k list_cost value other
 
 -- what the cost of a list and a top entry come to
 abbrev pub IsTopVerdict : Class → ℕ → TableEntry → CertVerdict → Type 0

@@ -1,24 +1,34 @@
 // The number of a certificate.
-ghost use Rattle.std.specs.Prelude.{◌≡◌, ◌≤◌};
-ghost use Rattle.bound_cert.specs.Accepted.{bound};
+ghost use Rattle.std.specs.Prelude.{◌≡◌, ◌≤◌, ◌^◌, min};
+ghost use Rattle.binomials.specs.Binomials.{beta_before};
+ghost use Rattle.bound_cert.specs.Verdicts.{FindsNumber};
 
 use binomials::beta;
 
-// N + k · N − β(c + 1, k − 1) for N steps and c slots, and 0 where that is negative. It takes no memory.
-pub(crate) fn bound(steps: u32, slots: u32, k: u32) -> u64
+// N + k · N − β(c + 1, k − 1) for N steps and c slots, and None where that is negative. It takes no memory.
+pub(crate) fn bound(steps: u32, slots: u32, k: u32) -> Option<u64>
     requires short { steps ≤ 1000000 }
     requires slots { slots ≤ steps }
-    ensures { result ≡ bound steps slots k }
+    ensures { FindsNumber steps slots k result }
 {
     let most = u64::from(steps) * (u64::from(k) + 1);
     if slots == 0 {
         // β(1, k − 1) is k.
-        return most.saturating_sub(u64::from(k));
+        return most.checked_sub(u64::from(k));
     }
-    if k >= 2 * steps {
+    if k > 2 * steps {
         // β(c + 1, k − 1) is no less than β(2, k − 1), which is k · (k + 1) / 2.
-        return 0;
+        return None;
     }
-    let less = beta(slots + 1, i64::from(k) - 1, u128::from(most));
-    most - less as u64
+    // Where it is more than all, the cap shows it.
+    let less = beta_before(slots + 1, k, most + 1);
+    most.checked_sub(less)
+}
+
+// β(c, k − 1), and the cap where that is less.
+fn beta_before(c: u32, k: u32, cap: u64) -> u64
+    requires { k ≤ 2000001 }
+    ensures { result ≡ min (beta_before c k) cap }
+{
+    beta(c, i64::from(k) - 1, u128::from(cap)) as u64
 }

@@ -40,6 +40,9 @@ pub fn certify_revolve(steps: u32, book: &Book) -> Certificate
     ensures more { 2 ≤ steps → result ≡ Certificate.Revolve (repeats steps (total_room book.now steps))
         (steps + least_advances steps (total_room book.now steps)) }
 
+    // It has a text: its numbers are those that a text may have.
+    ensures text { HasText steps book.now result }
+
     // It is accepted for that list, so no valid list takes fewer forward steps.
     ensures accepted { IsAccepted (revolve_list steps book.now) steps book.now result }
     ensures least { (other : List Action) → Valid steps (slots_of book.now) other → forward (revolve_list steps book.now) ≤ forward other }
@@ -58,8 +61,26 @@ pub fn certify_revolve(steps: u32, book: &Book) -> Certificate
 }
 
 /// The certificate of a list of the multistage class: the most that the images of a place on the slower level would save on the
-/// faster one.
+/// faster one. For how many steps the list is, its length tells.
 pub fn certify_places(
+    alloc: Global,
+    list: &[Action],
+    book: &Book,
+) -> Result<Certificate, AllocError>
+    requires { (steps : ℕ) × (steps ≤ 1000000) × IsMultistage steps book.now list.now }
+    ensures threshold { IfOk result (λ certificate. (steps : ℕ) → IsMultistage steps book.now list.now → IsPlaces (λ threshold. IsThresholdOf threshold steps book.now list.now) certificate) }
+    ensures text { IfOk result (λ certificate. (steps : ℕ) → HasText steps book.now certificate) }
+
+    // It is accepted for the list that is planned.
+    ensures accepted { IfOk result (λ certificate. (steps : ℕ) → IsMultistageList steps book.now list.now → IsAccepted list.now steps book.now certificate) }
+{
+    // A list of Revolve has four actions for each step, and two for none.
+    let steps = (list.len() / 4) as u32;
+    certify_for(alloc, list, steps, book)
+}
+
+// The same for a list for so many steps.
+fn certify_for(
     alloc: Global,
     list: &[Action],
     steps: u32,
@@ -69,9 +90,7 @@ pub fn certify_places(
     requires few { length list.now ≤ 16777216 }
     requires class { IsMultistage steps book.now list.now }
     ensures threshold { IfOk result (IsPlaces (λ threshold. IsThresholdOf threshold steps book.now list.now)) }
-    ensures text { IfOk result (HasText steps book.now) }
-
-    // It is accepted for the list that is planned.
+    ensures text { IfOk result (λ certificate. (n : ℕ) → HasText n book.now certificate) }
     ensures accepted { IfOk result (λ certificate. IsMultistageList steps book.now list.now → IsAccepted list.now steps book.now certificate) }
 {
     let Some(levels) = place_levels(alloc, list, steps, book)? else {

@@ -1,7 +1,6 @@
 // Whether a certificate is accepted for a list.
-ghost use Rattle.std.specs.Prelude.{◌≡◌, ◌≤◌, ◌↔◌, List, [], ◌∷◌, length, IfOk};
+ghost use Rattle.std.specs.Prelude.{◌≡◌, ◌≤◌, ◌↔◌, ℕ, List, length, IfOk};
 ghost use Rattle.plan_types.specs.declared.action.Action.{Action};
-ghost use Rattle.level_book.specs.declared.book.Level.{Level};
 ghost use Rattle.level_book.specs.BookCosts.{slots_of};
 ghost use Rattle.level_book.specs.Valid.{Valid};
 ghost use Rattle.level_book.specs.CostFold.{forward, cost};
@@ -12,7 +11,7 @@ ghost use Rattle.cert_text.specs.declared.certificate.Certificate.{Certificate};
 ghost use Rattle.bound_cert.specs.declared.verdict.Class.{Class};
 ghost use Rattle.bound_cert.specs.declared.verdict.Reason.{Reason};
 ghost use Rattle.bound_cert.specs.Accepted.{class_of, IsAccepted, IsFirstReason};
-ghost use Rattle.bound_cert.specs.Verdicts.{IsVerdict, IsComparison};
+ghost use Rattle.bound_cert.specs.Verdicts.{IsVerdict, FindsNumber, IsComparison};
 
 use crate::bound::bound;
 use crate::places::weigh_places;
@@ -39,12 +38,10 @@ pub fn check_certificate(
     ensures accepted { IfOk result (λ v. (class : Class) → (v ≡ CertVerdict.Least class) ↔ ((class ≡ class_of certificate.now) × IsAccepted list.now steps book.now certificate.now)) }
     ensures refused { IfOk result (λ v. (reason : Reason) → (v ≡ CertVerdict.Not reason) ↔ (IsFirstReason list.now steps book.now certificate.now reason)) }
 
-    // An accepted certificate shows that no valid list takes fewer forward steps, or that no list of the class costs less. The
-    // second level of the book costs no less than the first.
+    // An accepted certificate shows that no valid list takes fewer forward steps, or that no list of the class costs less.
     ensures least { IfOk result (λ v. v ≡ CertVerdict.Least Class.Valid →
         (other : List Action) → Valid steps (slots_of book.now) other → forward list.now ≤ forward other) }
     ensures least_multistage { IfOk result (λ v. v ≡ CertVerdict.Least Class.Multistage →
-        (fast slow : Level) → book.now.levels ≡ fast ∷ slow ∷ [] → fast.write ≤ slow.write → fast.read ≤ slow.read →
         (other : List Action) → IsMultistage steps book.now other → cost list.now book.now ≤ cost other book.now) }
     ensures least_nested { IfOk result (λ v. v ≡ CertVerdict.Least Class.Nested →
         (other : List Action) → Nested steps (slots_of book.now) other → cost list.now book.now ≤ cost other book.now) }
@@ -52,6 +49,7 @@ pub fn check_certificate(
         (other : List Action) → Disk steps (slots_of book.now) other → cost list.now book.now ≤ cost other book.now) }
 {
     let _levels = book.levels();
+    book.costs_rise();
     match check(alloc, list, steps, book)? {
         Verdict::Valid => weigh(alloc, list, steps, book, certificate),
         Verdict::Broken { .. } => Ok(CertVerdict::Not(Reason::Invalid)),
@@ -94,18 +92,22 @@ fn forward_steps(list: &[Action], steps: u32, book: &Book) -> u64
     tally(list).forward
 }
 
-// The verdict on a list that takes so many forward steps, by the value of its certificate and the number of its k.
-fn compare(cost: u64, value: u64, number: u64) -> CertVerdict
-    ensures { IsComparison cost value number result }
+// The verdict on a list that takes so many forward steps, by the value of its certificate and the number of its k, which is None
+// where it is negative.
+fn compare(cost: u64, value: u64, number: Option<u64>) -> CertVerdict
+    ensures { (steps slots k : ℕ) → FindsNumber steps slots k number → IsComparison steps slots k cost value result }
 {
     if cost != value {
-        CertVerdict::Not(Reason::ValueDiffers { cost, value })
-    } else if value != number {
-        CertVerdict::Not(Reason::ValueDiffers {
+        return CertVerdict::Not(Reason::ValueDiffers { cost, value });
+    }
+    let Some(number) = number else {
+        return CertVerdict::Not(Reason::ValueDiffers { cost, value: 0 });
+    };
+    if value != number {
+        return CertVerdict::Not(Reason::ValueDiffers {
             cost,
             value: number,
-        })
-    } else {
-        CertVerdict::Least(Class::Valid)
+        });
     }
+    CertVerdict::Least(Class::Valid)
 }

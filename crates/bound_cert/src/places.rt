@@ -54,7 +54,7 @@ fn first_misfit(levels: &[u8], savings: &[u64], most: u32, threshold: u64) -> Op
     if let Some(place) = first_above(levels, savings, threshold) {
         return Some(misfit(22, 1, place));
     }
-    if threshold != 0 && count_fast(levels) != most {
+    if threshold != 0 && count_fast(levels) < most {
         return Some(misfit(23, 0, 0));
     }
     None

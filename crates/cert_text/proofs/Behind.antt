@@ -7,7 +7,7 @@ use Rattle.cert_text.specs.declared.certificate.Certificate.{Certificate}
 use Rattle.cert_text.specs.WordLines.{word_lines}
 use Rattle.cert_text.specs.Meaning.{HasText}
 use Rattle.cert_text.specs.Canonical.{canonical}
-use Rattle.cert_text.proofs.Spelled.{ArePlain, spelled, all_spelled, spelled_no_end, text_bytes, plain_lines}
+use Rattle.cert_text.proofs.Spelled.{ArePlain, spelled, all_spelled, spelled_no_end, canonical_bytes, plain_lines}
 
 are_lines : (more : List (List (List ℕ))) → all_spelled more ≡ flat_map certificate_line (map spelled more)
 are_lines [] = refl
@@ -22,4 +22,4 @@ one_ends (ws ∷ more) all = (spelled_no_end ws all.0, one_ends more all.1)
 pub stands_behind : (steps : ℕ) (book : BookCosts) (certificate : Certificate) → HasText steps book certificate →
     (texts : List (List ℕ)) × (canonical certificate ≡ flat_map certificate_line texts) × AllByRecursion HasOneEnd texts
 stands_behind steps book certificate has =
-    (map spelled (word_lines certificate), text_bytes (word_lines certificate) ∙ are_lines (word_lines certificate), one_ends (word_lines certificate) (plain_lines steps book certificate has))
+    (map spelled (word_lines certificate), canonical_bytes (word_lines certificate) ∙ are_lines (word_lines certificate), one_ends (word_lines certificate) (plain_lines steps book certificate has))

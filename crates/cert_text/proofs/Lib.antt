@@ -14,6 +14,7 @@ pub mod Rest
 pub mod DiskText
 pub mod Shaping
 pub mod Spelled
+pub mod Sized
 pub mod Tabled
 pub mod TextLaws
 pub mod WordLemmas

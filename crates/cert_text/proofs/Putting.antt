@@ -100,6 +100,12 @@ pub one_line_stopped : {T E : Type 0} (r : Result T E) (ws : List (List ℕ)) (r
 one_line_stopped (Ok x) ws room left text after a b c full start put end = tt
 one_line_stopped (Err f) ws room left text after a b c full start put end = stopped_before (line_of ws) [] a c (end_stopped ws room left text after a b c full start put end)
 
-pub stopped_told : {T E : Type 0} (r : Result T E) (ps : List (List ℕ)) (a b : Seen) → OnErr r (StopsIn ps a b) → OnErr r (Tells a.told b.told (AddsPrefix (concat ps)))
-stopped_told (Ok x) ps a b stop = tt
-stopped_told (Err f) ps a b stop = stopped_prefix ps a b stop
+-- ---- the writes of a whole text, which join to these bytes
+
+pub added_told : {T E : Type 0} (r : Result T E) (ps : List (List ℕ)) (bytes : List ℕ) (a b : Seen) → concat ps ≡ bytes → OnOk r (AddsLines ps a b) → OnOk r (Tells a.told b.told (λ old new. new ≡ old ++ bytes))
+added_told (Ok x) ps bytes a b joined added = subst (λ (l : List ℕ). Tells a.told b.told (λ old new. new ≡ old ++ l)) joined added.told
+added_told (Err f) ps bytes a b joined added = tt
+
+pub stopped_told : {T E : Type 0} (r : Result T E) (ps : List (List ℕ)) (bytes : List ℕ) (a b : Seen) → concat ps ≡ bytes → OnErr r (StopsIn ps a b) → OnErr r (Tells a.told b.told (AddsPrefix bytes))
+stopped_told (Ok x) ps bytes a b joined stop = tt
+stopped_told (Err f) ps bytes a b joined stop = subst (λ (l : List ℕ). Tells a.told b.told (AddsPrefix l)) joined (stopped_prefix ps a b stop)

@@ -18,8 +18,8 @@ use Rattle.cert_text.specs.MarkedLines.{marked, certificate_lines}
 use Rattle.cert_text.specs.Words.{starts_word, words, texts_of}
 use Rattle.cert_text.specs.WordLines.{entry_word, row_line, row_lines, level_lines, column_lines, word_lines}
 use Rattle.cert_text.specs.Meaning.{HasText}
-use Rattle.cert_text.specs.Canonical.{pieces_from}
-use Rattle.cert_text.specs.Laws.{IsOtherLine, CanonicalIsRead}
+use Rattle.cert_text.specs.Canonical.{line_of, pieces_from}
+use Rattle.cert_text.specs.Laws.{IsOtherLine, PiecesJoin, CanonicalIsRead}
 use Rattle.cert_text.specs.Left.{texts}
 use Rattle.cert_text.proofs.WordLemmas.{which, of_word, word_at}
 use Rattle.cert_text.proofs.Ranges.{all_mapped, all_appended, all_flat}
@@ -184,6 +184,21 @@ text_bytes (ws ∷ more) =
     ∙ (λ i. line_bytes 16 (codes "#!") ws i ++ text_bytes more i)
     ∙ ap (λ (l : List ℕ). 35 ∷ 33 ∷ l) (append_assoc (spelled ws) (10 ∷ []) (all_spelled more))
 
+-- the words of a line, and the canonical lines, are the same bytes
+spelled_is : (ws : List (List ℕ)) → flat_map (λ word. 32 ∷ word) ws ≡ spelled ws
+spelled_is [] = refl
+spelled_is (w ∷ ws) = ap (λ (l : List ℕ). 32 ∷ (w ++ l)) (spelled_is ws)
+
+pub canonical_bytes : (more : List (List (List ℕ))) → flat_map line_of more ≡ all_spelled more
+canonical_bytes [] = refl
+canonical_bytes (ws ∷ more) =
+    (λ i. ((codes "#!" ++ spelled_is ws i) ++ 10 ∷ []) ++ canonical_bytes more i)
+    ∙ ap (λ (l : List ℕ). 35 ∷ 33 ∷ l) (append_assoc (spelled ws) (10 ∷ []) (all_spelled more))
+
+-- the writes join to the canonical text
+pub joined : PiecesJoin
+joined certificate = text_bytes (word_lines certificate) ∙ sym (canonical_bytes (word_lines certificate))
+
 abbrev pub ArePlain : List (List (List ℕ)) → Type 0
 ArePlain more = AllByRecursion (λ ws. AllByRecursion IsPlainWord ws) more
 
@@ -248,7 +263,7 @@ canonical_read steps book certificate has others all =
     record {
       has_text = has;
       says =
-          ap (λ (bs : List ℕ). map texts_of (certificate_lines (before ++ bs))) (text_bytes (word_lines certificate))
+          ap (λ (bs : List ℕ). map texts_of (certificate_lines (before ++ bs))) (canonical_bytes (word_lines certificate))
           ∙ ap (map texts_of) (behind_others others 1 (all_spelled (word_lines certificate)) all)
           ∙ lines_said (1 + length others) (word_lines certificate) (plain_lines steps book certificate has);
     }

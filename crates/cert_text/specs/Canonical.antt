@@ -1,8 +1,18 @@
--- The one text of a certificate that is written: one space stands before each word of a line, and a byte 10 ends it.
+-- The one text of a certificate that is written, and the writes of which it is put together.
 use Rattle.std.specs.Prelude.{ℕ, zero, suc, List, [], ◌∷◌, ◌++◌, codes}
-use Rattle.std.specs.List.{flat_map, concat}
+use Rattle.std.specs.List.{flat_map}
 use Rattle.cert_text.specs.declared.certificate.Certificate.{Certificate}
 use Rattle.cert_text.specs.WordLines.{word_lines}
+
+-- a line with these words: `#!`, a space and a word for each word, and a byte 10
+abbrev pub line_of : List (List ℕ) → List ℕ
+line_of words = codes "#!" ++ flat_map (λ word. 32 ∷ word) words ++ 10 ∷ []
+
+-- the text of a certificate: its lines, one behind the other
+abbrev pub canonical : Certificate → List ℕ
+canonical certificate = flat_map line_of (word_lines certificate)
+
+-- ---- the writes, which join to that text
 
 -- The writes of a line, each with sixteen words at most: `text` is what the next write has so far, and so many words may still
 -- be put into it.
@@ -14,7 +24,3 @@ pieces_from (suc room) text (word ∷ words) = pieces_from room (text ++ 32 ∷ 
 -- the writes of a certificate, line by line
 abbrev pub pieces : Certificate → List (List ℕ)
 pieces certificate = flat_map (pieces_from 16 (codes "#!")) (word_lines certificate)
-
--- its text
-abbrev pub canonical : Certificate → List ℕ
-canonical certificate = concat (pieces certificate)

@@ -1,13 +1,16 @@
 -- What the definitions of texts imply.
 use Rattle.std.specs.Prelude.{◌≡◌, ◌≢◌, ◌⊎◌, ℕ, false, List, [], ◌∷◌, ◌++◌}
-use Rattle.std.specs.List.{AllByRecursion, flat_map}
+use Rattle.std.specs.List.{AllByRecursion, flat_map, concat}
 use Rattle.level_book.specs.BookCosts.{BookCosts}
+use Rattle.cost_tables.specs.TableRows.{TableRows, AreFor, Fits, FitsFastest}
+use Rattle.disk_gen.specs.DiskRows.{DiskRows, AreDiskSized}
 use Rattle.cert_text.specs.declared.certificate.Certificate.{Certificate}
+use Rattle.cert_text.specs.declared.certificate.Certificate.TheVariants.{Nested, Disk}
 use Rattle.cert_text.specs.declared.fault.CertFault.{CertFault}
 use Rattle.cert_text.specs.MarkedLines.{is_marked}
 use Rattle.cert_text.specs.Meaning.{IsCertificateText, HasText}
 use Rattle.cert_text.specs.Faults.{HasFirstFault}
-use Rattle.cert_text.specs.Canonical.{canonical}
+use Rattle.cert_text.specs.Canonical.{canonical, pieces}
 
 -- bytes say one certificate at most
 abbrev pub OneCertificate : Type 0
@@ -29,6 +32,10 @@ CertificateOrFault =
     (steps : ℕ) (book : BookCosts) (bytes : List ℕ) →
     ((certificate : Certificate) × IsCertificateText steps book bytes certificate) ⊎ ((fault : CertFault) × HasFirstFault steps book bytes fault)
 
+-- the writes of a certificate join to its text
+abbrev pub PiecesJoin : Type 0
+PiecesJoin = (certificate : Certificate) → concat (pieces certificate) ≡ canonical certificate
+
 -- a line that isn't one of a certificate, without the byte 10 that ends it
 pub record IsOtherLine (line : List ℕ) : Type 0 where
   pub unmarked : is_marked line ≡ false
@@ -39,3 +46,11 @@ abbrev pub CanonicalIsRead : Type 0
 CanonicalIsRead =
     (steps : ℕ) (book : BookCosts) (certificate : Certificate) → HasText steps book certificate → (others : List (List ℕ)) → AllByRecursion IsOtherLine others →
     IsCertificateText steps book (flat_map (λ line. line ++ 10 ∷ []) others ++ canonical certificate) certificate
+
+-- Tables that can be built for so many steps and a book, and that are for them, have a text, whichever entries were set; so it is
+-- with disk tables.
+abbrev pub SizedHasText : TableRows → Type 0
+SizedHasText t = (steps : ℕ) (book : BookCosts) → Fits steps book → AreFor steps book t → HasText steps book (Nested t)
+
+abbrev pub DiskSizedHasText : DiskRows → Type 0
+DiskSizedHasText t = (steps : ℕ) (book : BookCosts) → FitsFastest steps book → AreDiskSized steps book t → HasText steps book (Disk t)

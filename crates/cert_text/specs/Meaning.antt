@@ -1,9 +1,9 @@
 -- Which text says which certificate.
 use Rattle.std.specs.Prelude.{◌≡◌, ℕ, ◌^◌, ◌<◌, ◌≤◌, List, map, length, slice_index_or}
 use Rattle.level_book.specs.BookCosts.{BookCosts}
-use Rattle.level_book.specs.UnderTable.{Entry, number, never}
+use Rattle.level_book.specs.UnderTable.{Entry}
 use Rattle.cost_tables.specs.TableRows.{TableRows, tables_in, AreFor, Fits, FitsFastest, fastest}
-use Rattle.cost_tables.specs.Shapes.{AreShaped}
+use Rattle.cost_tables.specs.Shapes.{AreShaped, IsShort}
 use Rattle.disk_gen.specs.DiskRows.{DiskRows, disk_tables_in}
 use Rattle.cert_text.specs.declared.certificate.Certificate.{Certificate}
 use Rattle.cert_text.specs.declared.certificate.Certificate.TheVariants.{Revolve, Places, Nested, Disk}
@@ -13,8 +13,7 @@ use Rattle.cert_text.specs.WordLines.{word_lines}
 
 -- an entry has a word: it is Never or a number of 64 bits
 abbrev pub HasWord : Entry → Type 0
-HasWord (number n) = n < 2 ^ 64
-HasWord never = Unit {0}
+HasWord entry = IsShort entry
 
 -- each entry of level k has one
 pub record HaveWords (t : TableRows) (k : ℕ) : Type 0 where

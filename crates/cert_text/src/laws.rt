@@ -1,5 +1,8 @@
 // Laws of the texts of certificates. Each function does nothing; its contract is the law.
-ghost use Rattle.cert_text.specs.Laws.{OneCertificate, OneFault, CertificatesHaveNoFault, CertificateOrFault, CanonicalIsRead};
+ghost use Rattle.cert_text.specs.Laws.{OneCertificate, OneFault, CertificatesHaveNoFault, CertificateOrFault, PiecesJoin, CanonicalIsRead, SizedHasText, DiskSizedHasText};
+
+use cost_tables::Tables;
+use disk_gen::DiskTables;
 
 /// Bytes say one certificate at most.
 pub fn texts_say_one_certificate()
@@ -17,7 +20,28 @@ pub fn bytes_say_a_certificate_or_have_a_fault()
     ensures { CertificateOrFault }
 {}
 
+/// The writes of a certificate, one behind the other, are its canonical text.
+pub fn pieces_join()
+    ensures { PiecesJoin }
+{}
+
 /// The canonical text of a certificate says it, also behind lines of other kinds.
 pub fn canonical_texts_are_read()
     ensures { CanonicalIsRead }
 {}
+
+/// Tables for so many steps and a book have a text, whichever entries were set. It changes nothing.
+pub fn sized_tables_have_a_text(tables: &Tables)
+    ensures { SizedHasText tables.now }
+{
+    tables.is_shaped();
+    tables.is_short();
+}
+
+/// The same of disk tables.
+pub fn sized_disk_tables_have_a_text(tables: &DiskTables)
+    ensures { DiskSizedHasText tables.now }
+{
+    tables.is_shaped();
+    tables.is_short();
+}

@@ -21,8 +21,6 @@ mod printing_rows;
 mod reader;
 mod reading;
 mod rows;
-#[cfg(test)]
-mod tests;
 mod words;
 
 pub use crate::certificate::Certificate;

@@ -1,3 +1,5 @@
 pub mod Walking
 pub mod Classing
 pub mod Stacking
+pub mod Levelling
+pub mod Deciding

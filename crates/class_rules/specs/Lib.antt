@@ -1,3 +1,4 @@
 pub mod PlaceLevels
 pub mod Walked
 pub mod Stacks
+pub mod Laws

@@ -4,11 +4,10 @@
 #![tactic(auto)]
 
 mod disk;
+pub mod laws;
 mod multistage;
 mod nested;
 mod stack;
-#[cfg(test)]
-mod tests;
 
 pub use crate::disk::in_disk;
 pub use crate::multistage::{in_multistage, place_levels};

@@ -1,10 +1,12 @@
 -- Counts, whose list they are, and what they cost.
-use Rattle.std.specs.Prelude.{◌≡◌, ℕ, ◌+◌, ◌*◌, ◌^◌, ◌<◌, List, slice_index, sum, sum_by}
+use Rattle.std.specs.Prelude.{◌≡◌, ℕ, ◌+◌, ◌*◌, ◌^◌, ◌<◌, List, slice_index, sum_by}
 use Rattle.std.specs.List.{enumerate_from}
 use Rattle.plan_types.specs.declared.action.Action.{Action}
 use Rattle.level_book.specs.BookCosts.{BookCosts}
 use Rattle.level_book.specs.CostFold.{forward, taped, reversed, writes, reads}
 use Rattle.cost_fold.specs.declared.counts.Counts.{Counts}
+use Rattle.cost_fold.specs.declared.counting.SoFar.{SoFar}
+use Rattle.cost_fold.specs.AllCounted.{all_counted}
 
 -- these are the counts of the list
 pub record AreCountsOf (list : List Action) (counts : Counts) : Type 0 where
@@ -16,7 +18,7 @@ pub record AreCountsOf (list : List Action) (counts : Counts) : Type 0 where
 
 -- all that has a cost, each forward step, reversed step, write and read once
 abbrev pub all_of : Counts → ℕ
-all_of counts = counts.forward + counts.reversed + sum counts.writes + sum counts.reads
+all_of counts = all_counted counts.forward counts.reversed counts.writes counts.reads
 
 -- the steps at their costs, and each level's writes and reads at its costs
 abbrev pub price : Counts → BookCosts → ℕ
@@ -24,8 +26,8 @@ price counts book =
     counts.forward * book.forward + counts.reversed * book.reverse
     + sum_by (λ level. slice_index counts.writes level.0 * level.1.write + slice_index counts.reads level.0 * level.1.read) (enumerate_from 0 book.levels)
 
--- each count can take what one action adds to it
-pub record HasRoomForOne (counts : Counts) : Type 0 where
+-- each count of the actions so far can take what one action adds to it
+pub record HasRoomForOne (counts : SoFar) : Type 0 where
   pub forward : counts.forward + 1000000 < 2 ^ 64
   pub taped : counts.taped + 1 < 2 ^ 64
   pub reversed : counts.reversed + 1 < 2 ^ 64

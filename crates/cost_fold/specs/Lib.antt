@@ -1,2 +1,3 @@
+pub mod AllCounted
 pub mod CanBeTallied
 pub mod CountsOf

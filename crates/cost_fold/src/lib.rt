@@ -3,11 +3,11 @@
 //! is, or what bounds its cost from below.
 #![tactic(auto)]
 
+mod counting;
 mod counts;
 pub mod laws;
 mod price;
-#[cfg(test)]
-mod tests;
 
-pub use crate::counts::{Counts, tally};
+pub use crate::counting::tally;
+pub use crate::counts::Counts;
 pub use crate::price::total;

@@ -1,15 +1,14 @@
 // What counts cost by a book.
-ghost use Rattle.std.specs.Prelude.{◌≡◌, ◌*◌, ◌^◌, ◌<◌, List};
+ghost use Rattle.std.specs.Prelude.{◌≡◌, List};
 ghost use Rattle.plan_types.specs.declared.action.Action.{Action};
 ghost use Rattle.level_book.specs.CostFold.{cost};
-ghost use Rattle.cost_fold.specs.CountsOf.{AreCountsOf, all_of, price};
+ghost use Rattle.cost_fold.specs.CountsOf.{AreCountsOf, price};
 
 use crate::counts::Counts;
 use level_book::Book;
 
 /// What counts cost by a book. It takes no memory.
 pub fn total(counts: &Counts, book: &Book) -> u64
-    requires { all_of counts.now * 1000000 < 2 ^ 64 }
     ensures price { result ≡ price counts.now book.now }
     ensures cost { (list : List Action) → AreCountsOf list counts.now → result ≡ cost list book.now }
 {

@@ -5,7 +5,5 @@
 
 mod lines;
 mod reporting;
-#[cfg(test)]
-mod tests;
 
 pub use crate::reporting::report;

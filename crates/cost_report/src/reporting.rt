@@ -1,6 +1,5 @@
 // The report of counts.
-ghost use Rattle.std.specs.Prelude.{◌≡◌, ◌*◌, ◌^◌, ◌<◌, ◌++◌, length, OnOk, OnErr};
-ghost use Rattle.cost_fold.specs.CountsOf.{all_of};
+ghost use Rattle.std.specs.Prelude.{◌≡◌, ◌++◌, length, OnOk, OnErr};
 ghost use Rattle.keepers.specs.Counts.{Rose, raised};
 ghost use Rattle.keepers.specs.Told.{Tells, AddsPrefix};
 ghost use Rattle.cost_report.specs.Report.{step_lines, level_lines, report_lines, report_text};
@@ -13,7 +12,6 @@ use level_book::Book;
 
 /// Writes the report of counts by a book, each line in one write. It takes no memory.
 pub fn report<O: Sink>(counts: &Counts, book: &Book, out: &mut O) -> Result<(), SinkFault>
-    requires { all_of counts.now * 1000000 < 2 ^ 64 }
     ensures ok { OnOk result (Tells (O.told out.old) (O.told out.new) (λ old new. new ≡ old ++ report_text book.now counts.now)) }
     ensures refused { OnErr result (Tells (O.told out.old) (O.told out.new) (AddsPrefix (report_text book.now counts.now))) }
     ensures calls { OnOk result (O.call_count out.new ≡ raised (O.call_count out.old) (length (report_lines book.now counts.now))) }

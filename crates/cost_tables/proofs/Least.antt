@@ -166,6 +166,11 @@ pub in_memory : (steps : ℕ) (book : BookCosts) (t : Tables) → steps ≤ 8192
     (fresh : ℕ → ℕ → ℕ → ℕ) × ((k l m : ℕ) → k < length book.levels → 1 ≤ l → l ≤ steps → m ≤ room book k steps → t.fresh k l m ≡ entry (fresh k (l - 1) m))
 in_memory steps book t few limits is = (fresh_at steps book, λ k l m known one le some. same_fresh steps book (modest_within steps book few limits) t is k l m known one le some)
 
+-- and there are such numbers
+pub worked_out_greatest : (steps : ℕ) (book : BookCosts) → steps ≤ 8192 → IsWithinLimits book → (fresh : ℕ → ℕ → ℕ → ℕ) × (held : ℕ → ℕ → ℕ → ℕ) × IsGreatest steps book (tables_of fresh held)
+worked_out_greatest steps book few limits =
+    (fresh_at steps book, held_at steps book, greatest steps book (fresh_at steps book) (held_at steps book) (modest_within steps book few limits) (are_levels steps book))
+
 -- ---- the numbers among them are low
 
 pub low_entry : (n v : ℕ) → entry n ≡ number v → v < 2 ^ 61

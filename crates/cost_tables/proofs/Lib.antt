@@ -14,3 +14,5 @@ pub mod Views
 pub mod Least
 pub mod Fastest
 pub mod Nevers
+pub mod Existing
+pub mod Shorts

@@ -11,6 +11,7 @@ use Rattle.cost_tables.specs.Entries.{entry, never_in_memory, fresh_in, held_in}
 use Rattle.cost_tables.specs.Levels.{IsLevel, base_of}
 use Rattle.cost_tables.specs.Rows.{IsRow}
 use Rattle.cost_tables.specs.TableRows.{TableRows, value_of}
+use Rattle.cost_tables.specs.Shapes.{IsShort}
 
 -- the rows of level k
 abbrev pub rows_at : List (Vec Row Global) → ℕ → List Row
@@ -68,6 +69,11 @@ pub record IsNeverCells (room : ℕ) (cells : Cells) : Type 0 where
   pub wide : IsWide room cells
   pub fresh : All (λ cost. cost ≡ Never) cells.fresh.items
   pub held : All (λ cost. cost ≡ Never) cells.held.items
+
+-- what is kept has 64 bits
+pub record AreShortCells (cells : Cells) : Type 0 where
+  pub fresh : All (λ cost. IsShort (value_of cost)) cells.fresh.items
+  pub held : All (λ cost. IsShort (value_of cost)) cells.held.items
 
 -- one step alone
 abbrev pub first_in : ℕ → ℕ → ℕ

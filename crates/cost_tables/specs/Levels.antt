@@ -21,7 +21,7 @@ abbrev pub AreLevels : ℕ → BookCosts → (ℕ → ℕ → ℕ → ℕ) → (
 AreLevels steps book fresh held = (k : ℕ) → k < length book.levels →
     IsLevel steps (room book k steps) book.forward (write_cost book k) (read_cost book k) (base_of book.forward book.reverse (λ j. room book j steps) fresh k) (fresh k) (held k)
 
--- the tables that the numbers stand for
+-- The tables that the numbers stand for. An entry is asked for where there is a step, so l - 1 is one less.
 abbrev pub tables_of : (ℕ → ℕ → ℕ → ℕ) → (ℕ → ℕ → ℕ → ℕ) → Tables
 tables_of fresh held = record { fresh = λ k l m. entry (fresh k (l - 1) m); held = λ k l m. entry (held k (l - 1) m) }
 

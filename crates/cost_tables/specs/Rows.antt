@@ -34,11 +34,20 @@ abbrev pub cut_of : ℕ → ℕ → ℕ → ℕ
 cut_of room pieces i = i * room / pieces
 
 -- What the splits of row r cost at least that stand on the first rows alone, at m free slots. They are those from
--- split r - filled on, up to the number of these rows.
+-- split r - filled on, up to the number of these rows, and none where r - filled is more than that.
 abbrev pub partial_in : List Row → ℕ → ℕ → ℕ → ℕ → ℕ
 partial_in rows forward filled r m = least_after forward (λ q. fresh_in rows q m) (λ q. held_in rows q m) r (r - filled) (filled - (r - filled))
 
--- what is so at each number of free slots, from m = low up to high
+-- Row r has r splits. For each row before it that isn't filled, two of them don't stand on the filled rows alone: they are at most
+-- one in eight.
+abbrev pub IsMostlyStarted : ℕ → ℕ → Type 0
+IsMostlyStarted filled r = 16 * r ≤ 16 * filled + r
+
+-- this is so for so many rows that come next: one, and one more for each 16 that are filled
+abbrev pub AreFew : ℕ → ℕ → Type 0
+AreFew filled count = 16 * count ≤ filled + 16
+
+-- what is so at each number of free slots, from m = low up to high, which is no less
 pub record IsPiece (cost : ℕ → ℕ) (low high : ℕ) (costs : List ℕ) : Type 0 where
   pub wide : length costs ≡ high - low
   pub small : All (λ n. n ≤ 2 ^ 61) costs

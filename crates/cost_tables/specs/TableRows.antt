@@ -17,7 +17,7 @@ pub record TableRows : Type 0 where
 abbrev pub entry_at : List (List (List Entry)) → ℕ → ℕ → ℕ → Entry
 entry_at levels k r m = slice_index_or (slice_index_or (slice_index_or levels k []) r []) m (number 0)
 
--- the tables that stand in the rows
+-- The tables that stand in the rows. An entry is asked for where there is a step, so l - 1 is one less.
 abbrev pub tables_in : TableRows → Tables
 tables_in t = record { fresh = λ k l m. entry_at t.fresh k (l - 1) m; held = λ k l m. entry_at t.held k (l - 1) m }
 

@@ -2,9 +2,9 @@
 ghost use Rattle.std.specs.Prelude.{◌≡◌, ◌+◌, length, map, All, IfOk};
 ghost use Rattle.cost_tables.specs.TableRows.{value_of};
 ghost use Rattle.cost_tables.specs.Entries.{entry};
-ghost use Rattle.cost_tables.specs.Built.{AreCellsOf, AreLevelsOf, IsNeverCells};
+ghost use Rattle.cost_tables.specs.Built.{AreCellsOf, AreLevelsOf, IsNeverCells, AreShortCells};
 
-use crate::cost::Cost;
+use crate::cost::{Cost, are_short};
 use crate::rows::{NEVER, Row};
 use std::alloc::{AllocError, Global};
 
@@ -85,4 +85,23 @@ pub(crate) fn never_cells(alloc: Global, steps: u32, room: u32) -> Result<Vec<Ce
         cells.push(Cells { fresh, held })?;
     }
     Ok(cells)
+}
+
+// The entries of a level have 64 bits. It changes nothing.
+fn short_cells(rows: &[Cells])
+    ensures { All AreShortCells rows.now }
+{
+    for cells in rows {
+        are_short(&cells.fresh);
+        are_short(&cells.held);
+    }
+}
+
+// The same of all levels.
+pub(crate) fn short_levels(levels: &[Vec<Cells>])
+    ensures { All (λ level. All AreShortCells level.items) levels.now }
+{
+    for rows in levels {
+        short_cells(rows);
+    }
 }

@@ -16,5 +16,5 @@ mod tables;
 #[cfg(test)]
 mod tests;
 
-pub use crate::cost::Cost;
+pub use crate::cost::{Cost, are_short};
 pub use crate::tables::Tables;

@@ -1,7 +1,7 @@
 // The rows of one level's tables.
 ghost use Rattle.std.specs.Prelude.{◌≡◌, ℕ, suc, ◌+◌, ◌-◌, ◌*◌, ◌^◌, ◌<◌, ◌≤◌, min, length, All, IfOk, OnOk, slice_index, slice_index_or};
 ghost use Rattle.cost_tables.specs.Entries.{fresh_in, held_in, least_after};
-ghost use Rattle.cost_tables.specs.Rows.{split_in, partial_in, cut_of, IsRow, IsNextRow, IsMore, IsPiece, AreRows, AreStarted};
+ghost use Rattle.cost_tables.specs.Rows.{split_in, partial_in, cut_of, IsRow, IsNextRow, IsMore, IsPiece, AreRows, AreStarted, AreFew, IsMostlyStarted};
 
 use crate::sharing::{Pieces, joined, start_rows};
 use plan_types::Gate;
@@ -18,8 +18,12 @@ pub struct Row {
     pub held: Vec<u64>,
 }
 
-// How many rows are shared at a time. Workers are started for each time, and what the caller does alone grows with it.
-const ROWS: usize = 64;
+// How many rows are shared at a time, at most: 64, and one for each 16 that are filled and one more. Workers are started for each
+// time. The first rows are shared one at a time: the splits of a row that stand on rows which aren't filled are the caller's, and
+// so these are at most one in eight.
+const MOST_ROWS: usize = 64;
+
+const FILLED_ROWS: usize = 16;
 
 // What a forward step costs, and an image on a level.
 #[derive(Clone, Copy)]
@@ -96,6 +100,7 @@ fn finished(
     requires forward { forward < 2 ^ 32 }
     requires few { length rows.now < 8192 }
     requires filled { filled ≤ length rows.now }
+    requires share { IsMostlyStarted filled (length rows.now) }
     requires shapes { All (IsRow room) rows.now }
     requires partial { IsPiece (partial_in rows.now forward filled (length rows.now)) 0 room partial.now }
     ensures { IfOk result (λ costs. IsPiece (split_in rows.now forward) 0 room costs.items) }
@@ -129,6 +134,7 @@ fn push_row(
     requires base { All (λ n. n ≤ 2 ^ 61) base.now }
     requires next { length rows.old.items < length base.now }
     requires filled { filled ≤ length rows.old.items }
+    requires share { IsMostlyStarted filled (length rows.old.items) }
     requires rows { AreRows room costs.forward costs.write costs.read base.now rows.old.items }
     requires partial { IsPiece (partial_in rows.old.items costs.forward filled (length rows.old.items)) 0 room partial.now }
     ensures more { OnOk result (IsMore rows.old.items rows.new.items 1) }
@@ -157,6 +163,7 @@ fn push_rows(
     requires few { length base.now ≤ 8192 }
     requires base { All (λ n. n ≤ 2 ^ 61) base.now }
     requires next { length rows.old.items + count ≤ length base.now }
+    requires share { AreFew (length rows.old.items) count }
     requires rows { AreRows room costs.forward costs.write costs.read base.now rows.old.items }
     requires pieces { (1 ≤ length parts.now) × (length parts.now ≤ 64) }
     requires parts { (i : ℕ) (d : _) → i < length parts.now → IfOk (slice_index_or parts.now i d) (λ p. AreStarted rows.old.items costs.forward count (cut_of room (length parts.now) i) (cut_of room (length parts.now) (i + 1)) p.items) }
@@ -169,6 +176,16 @@ fn push_rows(
         push_row(alloc, rows, filled, &partial, base, room, costs)?;
     }
     Ok(())
+}
+
+// How many of the rows that are still to come are shared next.
+fn shared_rows(filled: usize, left: usize) -> usize
+    requires { 1 ≤ left }
+    ensures some { 1 ≤ result }
+    ensures within { result ≤ left }
+    ensures share { AreFew filled result }
+{
+    (filled / FILLED_ROWS + 1).min(MOST_ROWS).min(left)
 }
 
 // The rows of a level, over what its first state in work costs where the level isn't used. They are filled so many at a
@@ -195,7 +212,7 @@ pub(crate) fn level_rows<R: Threads + Sync, G: Gate + Sync>(
     let mut rows = Vec::with_capacity(alloc, base.len())?;
     let pieces = workers.min(room).max(1);
     while rows.len() < base.len() {
-        let count = (base.len() - rows.len()).min(ROWS);
+        let count = shared_rows(rows.len(), base.len() - rows.len());
         let parts = start_rows(rt, alloc, gate, pieces, &rows, room, costs.forward, count)?;
         push_rows(alloc, &mut rows, &parts, base, room, costs, count)?;
     }

@@ -1,6 +1,6 @@
-// The greater part of the splits of the next rows, shared by workers.
+// What the splits of the next rows cost, shared by workers.
 ghost use Rattle.std.specs.Prelude.{◌≡◌, ℕ, ◌+◌, ◌-◌, ◌*◌, ◌/◌, ◌^◌, ◌<◌, ◌≤◌, ◌++◌, length, All, IfOk, OnOk, slice_index, slice_index_or};
-ghost use Rattle.cost_tables.specs.Rows.{IsRow, cut_of, row_in, IsPiece, AreStarted, ArePieces};
+ghost use Rattle.cost_tables.specs.Rows.{IsRow, cut_of, row_in, IsPiece, AreStarted, ArePieces, AreFew};
 
 use crate::columns::slot_piece;
 use crate::rows::Row;
@@ -72,7 +72,7 @@ fn gated_piece<G: Gate>(
     rows_piece(alloc, rows, room, forward, count, low, high)
 }
 
-// All pieces, each filled by a worker.
+// All pieces, each filled by a worker. The rows are so few that next to all of their splits stand on filled rows.
 pub(crate) fn start_rows<R: Threads + Sync, G: Gate + Sync>(
     rt: &R,
     alloc: Global,
@@ -85,6 +85,7 @@ pub(crate) fn start_rows<R: Threads + Sync, G: Gate + Sync>(
 ) -> Result<Vec<Result<Pieces, AllocError>>, AllocError>
     requires forward { forward < 2 ^ 32 }
     requires few { length rows.now + count ≤ 8192 }
+    requires share { AreFew (length rows.now) count }
     requires shapes { All (IsRow room) rows.now }
     requires room { room ≤ 64 }
     requires pieces { (1 ≤ pieces) × (pieces ≤ 64) }

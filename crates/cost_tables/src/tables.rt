@@ -2,13 +2,13 @@
 ghost use Rattle.std.specs.Prelude.{◌≡◌, ◌↔◌, ℕ, ◌+◌, ◌^◌, ◌<◌, ◌≤◌, true, length, All, IfOk, slice_index};
 ghost use Rattle.level_book.specs.UnderTable.{IsGreatest};
 ghost use Rattle.cost_tables.specs.TableRows.{AreFor, Fits, FitsFastest, fastest, tables_in, value_of};
-ghost use Rattle.cost_tables.specs.Shapes.{AreShaped};
+ghost use Rattle.cost_tables.specs.Shapes.{AreShaped, AreShort};
 ghost use Rattle.cost_tables.specs.Filling.{AreAllNever, IsOther};
 ghost use Rattle.cost_tables.specs.Entries.{fresh_in};
 ghost use Rattle.cost_tables.specs.Rows.{IsRow};
 ghost use Rattle.cost_tables.specs.Built.{first_in};
 
-use crate::cells::{Cells, levels_of, never_cells};
+use crate::cells::{Cells, levels_of, never_cells, short_levels};
 use crate::cost::Cost;
 use crate::rows::{Costs, NEVER, Row, level_rows};
 use level_book::Book;
@@ -298,6 +298,13 @@ impl Tables {
         let _steps = self.steps;
     }
 
+    /// Changes nothing. Its contract is a law: each entry is Never or a number of 64 bits.
+    pub fn is_short(&self)
+        ensures { AreShort self.now }
+    {
+        short_levels(&self.levels);
+    }
+
     /// For how many steps the tables are.
     pub fn steps(&self) -> u32
         ensures { result ≡ self.now.steps }
@@ -323,7 +330,7 @@ impl Tables {
 }
 
 // What the stretches cost that can do without an image: one step alone.
-fn first_base(alloc: Global, steps: u32, one: u64) -> Result<Vec<u64>, AllocError>
+pub(crate) fn first_base(alloc: Global, steps: u32, one: u64) -> Result<Vec<u64>, AllocError>
     requires { one ≤ 2 ^ 61 }
     ensures count { IfOk result (λ base. length base.items ≡ steps) }
     ensures low { IfOk result (λ base. All (λ n. n ≤ 2 ^ 61) base.items) }

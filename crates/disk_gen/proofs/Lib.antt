@@ -15,3 +15,6 @@ pub mod DiskUnique
 pub mod DiskNevers
 pub mod DiskSetting
 pub mod DiskLow
+pub mod DiskExisting
+pub mod Lengths
+pub mod DiskEndForwards

@@ -12,7 +12,7 @@ pub record DiskRows : Type 0 where
   pub disk_fresh : List Entry
   pub disk_held : List Entry
 
--- the disk tables that stand in the rows
+-- The disk tables that stand in the rows. An entry is asked for where there is a step, so l - 1 is one less.
 abbrev pub disk_tables_in : DiskRows → DiskTables
 disk_tables_in t = record {
   fresh = (tables_in t.fast).fresh 0;

@@ -38,7 +38,7 @@ fast_tables t = record { fresh = λ _. t.fresh; held = λ _. t.held }
 abbrev pub IsLeast : ℕ → Entry → (ℕ → Entry) → Type 0
 IsLeast j own after = (i : ℕ) → 1 ≤ i → i < j → own ≢ after i
 
--- what splitting after so many steps costs
+-- what splitting after so many steps costs, which are fewer than l
 abbrev pub held_split : BookCosts → ℕ → DiskTables → ℕ → ℕ → Entry
 held_split book c t l i = sum_of (read_cost book 1 + i * book.forward) (t.fresh (l - i) c) (t.disk_held i)
 

@@ -1,12 +1,19 @@
 -- What holds of the periodic lists, and of those that are read from disk tables.
-use Rattle.std.specs.Prelude.{◌≡◌, ℕ, ◌*◌, ◌≤◌, List}
+use Rattle.std.specs.Prelude.{◌≡◌, ℕ, ◌*◌, ◌≤◌, List, length}
 use Rattle.plan_types.specs.declared.action.Action.{Action}
-use Rattle.level_book.specs.BookCosts.{BookCosts, slots_of}
+use Rattle.level_book.specs.BookCosts.{BookCosts, slots_of, IsWithinLimits}
 use Rattle.level_book.specs.Valid.{Valid}
 use Rattle.level_book.specs.DiskUnderTable.{DiskTables, IsGreatestDisk}
+use Rattle.hrevolve_gen.specs.Laws.{EndsForwardAtTape}
 use Rattle.disk_gen.specs.Periodic.{stretches, periodic_list}
+use Rattle.cost_tables.specs.Exact.{IsExact}
+use Rattle.cost_tables.specs.TableRows.{fastest}
 use Rattle.disk_gen.specs.Plans.{HasPlan}
-use Rattle.disk_gen.specs.DiskWritten.{IsDiskWritten}
+use Rattle.disk_gen.specs.DiskPlans.{HasDiskPlan}
+use Rattle.disk_gen.specs.DiskReading.{IsDiskExact}
+use Rattle.disk_gen.specs.DiskRows.{DiskRows, AreDiskSized, disk_tables_in}
+use Rattle.disk_gen.specs.DiskShapes.{AreDiskShaped}
+use Rattle.disk_gen.specs.DiskWritten.{IsDiskWritten, fast_tables}
 
 -- the number of stretches is the least whole number that, times the period, is no less than the steps
 pub record AreLeast (steps period q : ℕ) : Type 0 where
@@ -20,7 +27,26 @@ StretchesAreLeast steps period = 1 ≤ period → AreLeast steps period (stretch
 abbrev pub PeriodicIsValid : ℕ → ℕ → BookCosts → Type 0
 PeriodicIsValid steps period book = 1 ≤ period → HasPlan steps period book → Valid steps (slots_of book) (periodic_list steps period book)
 
+-- it has four actions for each step
+abbrev pub PeriodicIsCounted : ℕ → ℕ → BookCosts → Type 0
+PeriodicIsCounted steps period book = 1 ≤ steps → 1 ≤ period → HasPlan steps period book → length (periodic_list steps period book) ≡ 4 * steps
+
 -- two lists that are read from disk tables whose entries are the greatest are one, whichever tables these are
 abbrev pub DiskPlanIsUnique : ℕ → BookCosts → DiskTables → DiskTables → List Action → List Action → Type 0
 DiskPlanIsUnique steps book s t list other =
     IsGreatestDisk steps book s → IsGreatestDisk steps book t → IsDiskWritten steps book s list → IsDiskWritten steps book t other → list ≡ other
+
+-- where there is a plan there are greatest disk tables for so many steps and a book's costs, in whole rows
+abbrev pub GreatestDiskExist : ℕ → BookCosts → Type 0
+GreatestDiskExist steps book =
+    HasDiskPlan book → steps ≤ 8192 → IsWithinLimits book →
+    (t : DiskRows) × AreDiskSized steps book t × AreDiskShaped t × IsGreatestDisk steps book (disk_tables_in t)
+
+-- from disk tables whose entries are attained a list can be read
+abbrev pub DiskListExists : ℕ → BookCosts → DiskTables → Type 0
+DiskListExists steps book t =
+    HasDiskPlan book → IsExact steps (fastest book) (fast_tables t) → IsDiskExact steps book t → (list : List Action) × IsDiskWritten steps book t list
+
+-- in each list that is read, where there is a step, EndForward stands directly after the first Forward with Tape, and nowhere else
+abbrev pub DiskListEndsForward : ℕ → BookCosts → DiskTables → List Action → Type 0
+DiskListEndsForward steps book t list = 1 ≤ steps → IsDiskWritten steps book t list → EndsForwardAtTape list

@@ -15,7 +15,7 @@ use Rattle.revolve_gen.specs.Written.{fresh}
 abbrev pub stretches : ℕ → ℕ → ℕ
 stretches steps period = (steps + (period - 1)) / period
 
--- the images on the slower level: that of the start of each stretch but the last
+-- the images on the slower level: that of the start of each stretch but the last, and none where there is no stretch
 abbrev pub images : ℕ → ℕ → ℕ
 images steps period = stretches steps period - 1
 
@@ -30,7 +30,7 @@ abbrev pub back : ℕ → ℕ → ℕ → List Action
 back period c zero = []
 back period c (suc i) = Move (i * period) 1 Work ∷ (fresh period (λ _. 0) false (i * period) period c 0 ++ back period c i)
 
--- the last stretch, of which no image is on the slower level
+-- the last stretch, of which no image is on the slower level; the stretches before it have fewer steps than there are
 abbrev pub last_steps : ℕ → ℕ → ℕ
 last_steps steps period = steps - images steps period * period
 

@@ -7,10 +7,10 @@ ghost use Rattle.cost_tables.specs.TableRows.{FitsFastest, tables_in, value_of};
 ghost use Rattle.cost_tables.specs.Filling.{IsOther};
 ghost use Rattle.disk_gen.specs.DiskPlans.{HasDiskPlan, IsDiskFault};
 ghost use Rattle.disk_gen.specs.DiskRows.{AreDiskSized, AreDiskFor, AreAllNeverDisk, disk_tables_in};
-ghost use Rattle.disk_gen.specs.DiskShapes.{AreDiskShaped};
+ghost use Rattle.disk_gen.specs.DiskShapes.{AreDiskShaped, AreDiskShort};
 ghost use Rattle.disk_gen.specs.DiskBuilt.{IsHeldColumn, IsFreshColumn};
 
-use cost_tables::{Cost, Tables};
+use cost_tables::{Cost, Tables, are_short};
 use level_book::{Book, Slots};
 use revolve_gen::GenFault;
 use std::alloc::{AllocError, Global};
@@ -114,6 +114,15 @@ impl DiskTables {
         ensures { AreDiskShaped self.now }
     {
         self.fast.is_shaped();
+    }
+
+    /// Changes nothing. Its contract is a law: each entry is Never or a number of 64 bits.
+    pub fn is_short(&self)
+        ensures { AreDiskShort self.now }
+    {
+        self.fast.is_short();
+        are_short(&self.disk_fresh);
+        are_short(&self.disk_held);
     }
 
     /// Whether the tables are for so many steps and level 0 of a book. It takes no memory.

@@ -6,17 +6,11 @@
 #![tactic(auto)]
 
 mod disk_reading;
-#[cfg(test)]
-mod disk_search_tests;
 mod disk_tables;
-#[cfg(test)]
-mod disk_tests;
 pub mod laws;
 mod periodic;
 mod phase;
 mod plans;
-#[cfg(test)]
-mod tests;
 
 pub use crate::disk_reading::disk_list;
 pub use crate::disk_tables::DiskTables;

@@ -11,7 +11,7 @@ pub record Piece : Type 0 where
   pub size : ℕ
   pub bytes : List ℕ
 
--- the stack of so many pages ends at 0xC0000000
+-- the stack of so many pages, of which there are at most 1,024, ends at 0xC0000000
 abbrev pub stack_start : ℕ → ℕ
 stack_start stack = 0xC0000000 - 4096 * stack
 

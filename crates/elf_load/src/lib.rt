@@ -11,8 +11,6 @@ pub mod laws;
 mod loading;
 mod pages;
 mod segment;
-#[cfg(test)]
-mod tests;
 
 pub use crate::fault::ElfFault;
 pub use crate::loading::{load, load_raw};

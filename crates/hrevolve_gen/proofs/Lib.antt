@@ -9,3 +9,5 @@ pub mod PartReads
 pub mod NoPlans
 pub mod OnePart
 pub mod Greatest
+pub mod Existing
+pub mod EndForwards

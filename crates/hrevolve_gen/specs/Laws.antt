@@ -1,8 +1,12 @@
 -- What holds of the lists that are read.
-use Rattle.std.specs.Prelude.{◌≡◌, ℕ, List}
+use Rattle.std.specs.Prelude.{◌≡◌, ℕ, ◌<◌, ◌≤◌, List, [], ◌∷◌, length}
+use Rattle.plan_types.specs.declared.action.Keep.TheVariants.{Tape}
 use Rattle.plan_types.specs.declared.action.Action.{Action}
+use Rattle.plan_types.specs.declared.action.Action.TheVariants.{Forward, EndForward}
 use Rattle.level_book.specs.BookCosts.{BookCosts}
 use Rattle.level_book.specs.UnderTable.{Tables, IsGreatest}
+use Rattle.cost_tables.specs.Exact.{IsExact}
+use Rattle.hrevolve_gen.specs.Plans.{HasPlan}
 use Rattle.hrevolve_gen.specs.Written.{IsWritten}
 
 -- two lists that are read from the same tables are one
@@ -12,3 +16,25 @@ ListIsUnique steps book t list other = IsWritten steps book t list → IsWritten
 -- two lists that are read from tables whose entries are the greatest are one, whichever tables these are
 abbrev pub PlanIsUnique : ℕ → BookCosts → Tables → Tables → List Action → List Action → Type 0
 PlanIsUnique steps book s t list other = IsGreatest steps book s → IsGreatest steps book t → IsWritten steps book s list → IsWritten steps book t other → list ≡ other
+
+-- from tables whose entries are attained a list can be read where there is a plan
+abbrev pub ListExists : ℕ → BookCosts → Tables → Type 0
+ListExists steps book t = IsExact steps book t → 0 < length book.levels → HasPlan steps book → (list : List Action) × IsWritten steps book t list
+
+-- none of the actions is EndForward
+abbrev pub HasNoEndForward : List Action → Type 0
+HasNoEndForward [] = Unit {0}
+HasNoEndForward (EndForward ∷ rest) = ⊥
+HasNoEndForward (_ ∷ rest) = HasNoEndForward rest
+
+-- EndForward stands directly after the first Forward with Tape, and nowhere else
+abbrev pub EndsForwardAtTape : List Action → Type 0
+EndsForwardAtTape [] = ⊥
+EndsForwardAtTape (EndForward ∷ rest) = ⊥
+EndsForwardAtTape (Forward from to Tape ∷ EndForward ∷ rest) = HasNoEndForward rest
+EndsForwardAtTape (Forward from to Tape ∷ rest) = ⊥
+EndsForwardAtTape (_ ∷ rest) = EndsForwardAtTape rest
+
+-- so it does in each list that is read, where there is a step
+abbrev pub ListEndsForward : ℕ → BookCosts → Tables → List Action → Type 0
+ListEndsForward steps book t list = 1 ≤ steps → IsWritten steps book t list → EndsForwardAtTape list

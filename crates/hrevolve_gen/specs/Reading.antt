@@ -19,7 +19,7 @@ pub record IsReadable (book : BookCosts) (t : TableRows) : Type 0 where
   pub exact : IsExactTo (length t.rooms) t.steps book (tables_in t)
   pub few : t.steps ≤ 8192
 
--- what splitting after j steps costs, where the first state's image costs n
+-- what splitting after j steps costs, which are fewer than l, where the first state's image costs n
 abbrev pub split_cost : Tables → ℕ → ℕ → ℕ → ℕ → ℕ → ℕ → Entry
 split_cost t n forward k l m j = sum_of (n + j * forward) (t.fresh k (l - j) m) (t.held k j m)
 

@@ -31,7 +31,8 @@ pub record IsFirst (k j : ℕ) (own : Entry) (without : ℕ → Entry) (after : 
   pub used : (i : ℕ) → suc i ≡ k → own ≢ without i
   pub least : (i : ℕ) → 1 ≤ i → i < j → own ≢ after i
 
--- the part is read from the tables, for a stretch of l steps and m free slots of level k
+-- The part is read from the tables, for a stretch of l steps and m free slots of level k. A split is after fewer than l steps, so
+-- l - j and, of the earlier splits, l - i are what is left.
 abbrev pub Reads : ℕ → BookCosts → Tables → Bool → ℕ → ℕ → ℕ → Part → Type 0
 Reads steps book t false k l m one = (l ≡ 1) × (t.fresh k l m ≡ number (book.forward + book.reverse))
 Reads steps book t true k l m one = (l ≡ 1) × (t.held k l m ≡ number (read_cost book k + book.forward + book.reverse))
@@ -50,7 +51,8 @@ Reads steps book t true k l m (split j p q) = (1 ≤ j) × (j < l) × (t.held k 
 abbrev pub whole : ℕ → ℕ → Part → List Action
 whole steps last p = actions steps false last 0 p ++ EndReverse ∷ []
 
--- The list is read from the tables, from the top entry down.
+-- The list is read from the tables, from the top entry down. A book has a level, so the last one's number is one less than their
+-- count.
 abbrev pub IsWritten : ℕ → BookCosts → Tables → List Action → Type 0
 IsWritten zero book t list = list ≡ EndForward ∷ EndReverse ∷ []
 IsWritten (suc n) book t list =

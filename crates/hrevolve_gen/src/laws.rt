@@ -3,7 +3,7 @@ ghost use Rattle.std.specs.Prelude.{ℕ, List};
 ghost use Rattle.plan_types.specs.declared.action.Action.{Action};
 ghost use Rattle.level_book.specs.BookCosts.{BookCosts};
 ghost use Rattle.level_book.specs.UnderTable.{Tables};
-ghost use Rattle.hrevolve_gen.specs.Laws.{ListIsUnique, PlanIsUnique};
+ghost use Rattle.hrevolve_gen.specs.Laws.{ListIsUnique, PlanIsUnique, ListExists, ListEndsForward};
 
 /// At most one list is read from tables.
 pub fn lists_are_unique()
@@ -13,4 +13,14 @@ pub fn lists_are_unique()
 /// At most one list is read from tables of the greatest entries, whichever they are.
 pub fn plans_are_unique()
     ensures { (steps : ℕ) (book : BookCosts) (s t : Tables) (list other : List Action) → PlanIsUnique steps book s t list other }
+{}
+
+/// From tables whose entries are attained, as those of the greatest ones are, a list can be read where there is a plan.
+pub fn lists_exist()
+    ensures { (steps : ℕ) (book : BookCosts) (t : Tables) → ListExists steps book t }
+{}
+
+/// In a list that is read EndForward stands directly after the first Forward with Tape.
+pub fn lists_end_forward_at_the_first_tape()
+    ensures { (steps : ℕ) (book : BookCosts) (t : Tables) (list : List Action) → ListEndsForward steps book t list }
 {}

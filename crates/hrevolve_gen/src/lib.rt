@@ -7,8 +7,6 @@
 mod entries;
 pub mod laws;
 mod list;
-#[cfg(test)]
-mod tests;
 mod writing;
 
 pub use crate::entries::is_sum;

@@ -27,9 +27,10 @@ pub record IsKept (old new : ShelfState) (n : ℕ) (image : List ℕ) (before af
   pub pairs : new ≡ with_pair old n (kept_in slot image)
   pub told : Tells before after (λ images images'. images' ≡ finmap.insert images slot image)
 
--- a pair isn't kept: one slot that no pair has may hold anything
+-- a pair isn't kept: one slot of the level that no pair has may hold anything
 pub record IsNotKept (old : ShelfState) (before after : Option Images) : Type 0 where
   pub slot : ℕ
+  pub within : slot < old.room
   pub unused : IsFreeSlot old.pairs slot
   pub told : Tells before after (SameButAt slot)
 

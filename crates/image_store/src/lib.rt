@@ -6,8 +6,6 @@
 pub mod laws;
 mod shelf;
 mod store;
-#[cfg(test)]
-mod tests;
 
 pub use crate::shelf::{Kept, StoreFault};
 pub use crate::store::Store;

@@ -1,6 +1,6 @@
 // A journal of recorded input.
-ghost use Rattle.std.specs.Prelude.{◌≡◌, ◌<◌, [], length, slice_get, Some};
-ghost use Rattle.std.specs.List.{All};
+ghost use Rattle.std.specs.Prelude.{◌≡◌, ◌≤◌, ◌<◌, ◌^◌, [], length, slice_get, Some};
+ghost use Rattle.std.specs.List.{All, sum_by};
 ghost use Rattle.input_journal.specs.Form.{IsShort, IsRecorded};
 
 use std::alloc::Global;
@@ -52,6 +52,18 @@ impl Journal {
         self.items[index as usize].as_slice()
     }
 
+    /// How many bytes all items have together.
+    pub fn bytes(&self) -> u64
+        ensures value { result ≡ sum_by length self.now }
+        ensures few { result ≤ 2 ^ 36 }
+    {
+        let mut count = 0;
+        for item in &self.items {
+            count += item.len() as u64;
+        }
+        count
+    }
+
     /// Changes nothing. Its contract is a law: the items are recorded input.
     pub fn is_recorded(&self)
         ensures { IsRecorded self.now }
@@ -66,13 +78,3 @@ impl Journal {
 fn are_bytes(bytes: &[u8])
     ensures { All (λ b. b < 256) bytes.now }
 {}
-
-#[cfg(test)]
-mod tests {
-    use super::*;
-
-    #[test]
-    fn the_journal_without_items_has_none(rt: HostRuntime) {
-        assert_eq!(rt; Journal::none(rt.alloc()).count(), 0);
-    }
-}

@@ -7,8 +7,6 @@ mod fault;
 mod journal;
 pub mod laws;
 mod reading;
-#[cfg(test)]
-mod tests;
 mod writing;
 
 pub use crate::fault::JournalFault;

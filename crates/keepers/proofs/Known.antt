@@ -1,11 +1,11 @@
 -- What several reads take from known bytes, and what several writes add to them.
-use Rattle.std.proofs.Common.{◌≡◌, ℕ, ◌+◌, ◌-◌, ◌≤◌, List, [], ◌++◌, take, drop, length, Option, Some, None, sym, ap, ◌∙◌, append_assoc, append-nil, arith}
+use Rattle.std.proofs.Common.{◌≡◌, ℕ, ◌+◌, ◌-◌, ◌≤◌, List, [], ◌++◌, take, drop, length, Option, Some, None, IfSome, sym, ap, ◌∙◌, append_assoc, append-nil, arith}
 use Rattle.std.proofs.Math.Seq.{take-add}
 use Rattle.std.proofs.lemmas.List.{take-take, length-take, length-drop, length-take-le, take_at, take_all, drop_at, take-append-le}
 use Rattle.std.proofs.lemmas.Slice.{take-put_mid_below}
 use borrow.Rule.Slice.PartMut.{put_mid, post_of, same_len_mid}
 use Rattle.std.specs.Io.KnownBytes.{Appends, Consumes, IsAtEnd, Keeps}
-use Rattle.keepers.specs.Told.{WhereTold}
+use Rattle.keepers.specs.Told.{WhereTold, Begins}
 
 pub consumes_more : (a b c : Option (List ℕ)) (xs ys : List ℕ) → Consumes a b xs → Consumes b c ys → Consumes a c (xs ++ ys)
 consumes_more None b c xs ys first second = tt
@@ -18,6 +18,12 @@ consumes_kept None b c xs first second = tt
 consumes_kept (Some before) None c xs first second = absurd first
 consumes_kept (Some before) (Some between) None xs first second = absurd second
 consumes_kept (Some before) (Some between) (Some after) xs first second = first ∙ ap (λ rest. xs ++ rest) (sym second)
+
+-- bytes that were taken begin what there was
+pub consumes_begins : (a b : Option (List ℕ)) (xs : List ℕ) → Consumes a b xs → IfSome a (λ bytes. Begins xs bytes)
+consumes_begins None b xs took = tt
+consumes_begins (Some before) None xs took = absurd took
+consumes_begins (Some before) (Some rest) xs took = (rest, took)
 
 pub appends_more : (a b c : Option (List ℕ)) (xs ys : List ℕ) → Appends a b xs → Appends b c ys → Appends a c (xs ++ ys)
 appends_more None b c xs ys first second = tt

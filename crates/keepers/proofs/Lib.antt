@@ -3,3 +3,4 @@ pub mod Images
 pub mod Known
 pub mod Listed
 pub mod Adding
+pub mod Begun

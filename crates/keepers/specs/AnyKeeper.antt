@@ -1,5 +1,7 @@
 -- What a keeper of any kind tells and counts, which is what its part does.
-use Rattle.std.specs.Prelude.{ℕ, Option, Some, None}
+use Rattle.std.specs.Prelude.{ℕ, List, Option, Some, None}
+use Rattle.keepers.specs.Parts.{Answer, IsPut, IsGet, IsFree, IsFlipPut, IsFlipGet, IsFlipFree}
+use Rattle.keepers.specs.SlotFiles.{StaysThere}
 use Rattle.keepers.specs.Told.{Images}
 use Rattle.keepers.specs.declared.any_keeper.AnyKeeper.{AnyKeeper}
 use Rattle.keepers.specs.declared.any_keeper.AnyKeeper.TheVariants.{Memory, Flip, File}
@@ -38,3 +40,22 @@ module _ {R : Type 0} where
   -- no part has a room
   abbrev pub room_of : AnyKeeper R → Option ℕ
   room_of k = None
+
+  -- a call does to a keeper of any kind what it does to its part, which stays of its kind
+  abbrev pub put_of : AnyKeeper R → ℕ → List ℕ → Answer → AnyKeeper R → Type 0
+  put_of (Memory a) slot image answer (Memory b) = IsPut slot image answer a b
+  put_of (Flip a) slot image answer (Flip b) = IsFlipPut slot image answer a b
+  put_of (File a) slot image answer (File b) = StaysThere a b
+  put_of a slot image answer b = ⊥
+
+  abbrev pub get_of : AnyKeeper R → ℕ → ℕ → List ℕ → Answer → AnyKeeper R → Type 0
+  get_of (Memory a) slot len bytes answer (Memory b) = IsGet slot len bytes answer a b
+  get_of (Flip a) slot len bytes answer (Flip b) = IsFlipGet slot len bytes answer a b
+  get_of (File a) slot len bytes answer (File b) = StaysThere a b
+  get_of a slot len bytes answer b = ⊥
+
+  abbrev pub free_of : AnyKeeper R → ℕ → Answer → AnyKeeper R → Type 0
+  free_of (Memory a) slot answer (Memory b) = IsFree slot answer a b
+  free_of (Flip a) slot answer (Flip b) = IsFlipFree slot answer a b
+  free_of (File a) slot answer (File b) = StaysThere a b
+  free_of a slot answer b = ⊥

@@ -1,7 +1,7 @@
 -- Numbers of calls and of faults, which are u64: they only rise, and stand still at the end of their type.
 use Rattle.std.specs.Prelude.{ℕ, ◌+◌, ◌-◌, ◌^◌, ◌≤◌, min, max}
 
--- the greatest u64
+-- the greatest u64; 2 ^ 64 is more than 1, so nothing is cut
 abbrev pub top : ℕ
 top = 2 ^ 64 - 1
 

@@ -4,6 +4,8 @@ pub mod Failing
 pub mod FlipState
 pub mod InputsState
 pub mod KeeperState
+pub mod Parts
 pub mod SinkState
+pub mod SlotFiles
 pub mod Told
 pub mod Writing

@@ -1,8 +1,9 @@
 -- What an object tells of its content, which is its own choice: it tells it always or never.
-use Rattle.std.specs.Prelude.{◌≡◌, ℕ, List, [], ◌++◌, take, Option, None, Some, unwrap_or}
+use Rattle.std.specs.Prelude.{◌≡◌, ℕ, ◌≤◌, List, [], ◌++◌, length, take, Option, None, Some, unwrap_or}
 use Rattle.std.specs.Ordering.{nat_cmp}
 use Rattle.std.specs.Cmp.Lexicographic.{slice_cmp}
 use Rattle.std.specs.FinMap as finmap
+use Rattle.std.specs.Io.KnownBytes.{Consumes}
 
 -- the images in slots
 abbrev pub Images : Type 0
@@ -32,6 +33,22 @@ image_in images slot = unwrap_or (finmap.get images slot) []
 abbrev pub SameButAt : ℕ → Images → Images → Type 0
 SameButAt slot old new = (other : ℕ) → (other ≡ slot → ⊥) → finmap.get new other ≡ finmap.get old other
 
+-- the bytes of a file; one that isn't there counts as no bytes
+abbrev pub bytes_in : Files → List ℕ → List ℕ
+bytes_in files name = unwrap_or (finmap.get files name) []
+
+-- all files but the one of this name hold what they held
+abbrev pub SameButNamed : List ℕ → Files → Files → Type 0
+SameButNamed name old new = (other : List ℕ) → (other ≡ name → ⊥) → finmap.get new other ≡ finmap.get old other
+
+-- these bytes begin those
+abbrev pub Begins : List ℕ → List ℕ → Type 0
+Begins front bytes = (rest : List ℕ) × (bytes ≡ front ++ rest)
+
 -- a prefix of the piece was added
 abbrev pub AddsPrefix : List ℕ → List ℕ → List ℕ → Type 0
 AddsPrefix piece old new = (k : ℕ) × (new ≡ old ++ take k piece)
+
+-- at most so many bytes were taken from what was left of a file, where it tells what is left
+abbrev pub TakesAtMost : ℕ → Option (List ℕ) → Option (List ℕ) → Type 0
+TakesAtMost most before after = (taken : List ℕ) × ((length taken ≤ most) × Consumes before after taken)

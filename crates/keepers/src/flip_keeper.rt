@@ -77,6 +77,8 @@ impl FlipKeeper {
 }
 
 impl Keeper for FlipKeeper {
+    ghost use Rattle.keepers.specs.Parts.{IsFlipPut, IsFlipGet, IsFlipFree};
+
     ghost told = { λ _. None };
 
     ghost slot_count = { λ k. k.keeper.slots };
@@ -90,6 +92,12 @@ impl Keeper for FlipKeeper {
     ghost fault_count = { λ k. k.keeper.faults };
 
     ghost room_bytes = { λ _. None };
+
+    ghost put_does = { λ old slot image answer new. IsFlipPut slot image answer old new };
+
+    ghost get_does = { λ old slot len bytes answer new. IsFlipGet slot len bytes answer old new };
+
+    ghost free_does = { λ old slot answer new. IsFlipFree slot answer old new };
 
     fn slots(&self) -> u32 {
         self.keeper.slots()
@@ -133,32 +141,5 @@ fn flip(bytes: &mut [u8], at: usize)
 {
     if at < bytes.len() {
         bytes[at] ^= 1;
-    }
-}
-
-#[cfg(test)]
-mod tests {
-    use super::*;
-    use crate::keeper::calls::{frees, gives, puts};
-
-    #[test]
-    fn one_get_gives_one_wrong_bit(rt: HostRuntime) {
-        let mut into = Vec::new(rt.alloc());
-        let mut keeper = FlipKeeper::new(rt.alloc(), 1, 2, 3);
-        assert!(rt; puts(&mut keeper, 0, b"abcd"));
-        assert!(rt; gives(&mut keeper, 0, 4, b"abcd", &mut into));
-        assert!(rt; gives(&mut keeper, 0, 4, b"abce", &mut into));
-        assert!(rt; gives(&mut keeper, 0, 4, b"abcd", &mut into));
-        assert!(rt; frees(&mut keeper, 0));
-        assert_eq!(rt; (keeper.puts(), keeper.gets(), keeper.frees()), (1, 3, 1));
-        assert_eq!(rt; keeper.faults(), 0);
-    }
-
-    #[test]
-    fn there_is_no_wrong_bit_past_the_end(rt: HostRuntime) {
-        let mut into = Vec::new(rt.alloc());
-        let mut keeper = FlipKeeper::new(rt.alloc(), 1, 1, 4);
-        assert!(rt; puts(&mut keeper, 0, b"abcd"));
-        assert!(rt; gives(&mut keeper, 0, 4, b"abcd", &mut into));
     }
 }

@@ -3,7 +3,7 @@ ghost use Rattle.std.specs.Prelude.{◌≡◌, ◌≢◌, ◌⊎◌, ℕ, ◌<�
 ghost use Rattle.std.specs.Vec.{vec_len, vec_capacity};
 ghost use Rattle.std.specs.FinMap as finmap;
 ghost use Rattle.keepers.specs.Counts.{Rose};
-ghost use Rattle.keepers.specs.Told.{Files, WhereTold};
+ghost use Rattle.keepers.specs.Told.{Files, WhereTold, Begins, bytes_in};
 
 use thiserror::Error;
 
@@ -37,10 +37,13 @@ pub trait Inputs {
     ghost fault_count: { Self → ℕ };
 
     /// Reads the named input into `into`, in place of what was there. An input of more than `limit` bytes is not read to
-    /// its end. After a refusal `into` may hold anything. A name that isn't there is a fault.
+    /// its end. Where the answer isn't All, `into` holds bytes that the input begins with, of no input none. A name that
+    /// isn't there is a fault.
     fn read(&mut self, name: &[u8], limit: u32, into: &mut Vec<u8>) -> Result<Whole, InputFault>
         ensures all { result ≡ Ok Whole.All → WhereTold (told self.old) (λ files. finmap.get files name.now ≡ Some into.new.items) }
         ensures fits { result ≡ Ok Whole.All → vec_len into.new ≤ limit }
+        ensures within { vec_len into.new ≤ limit }
+        ensures begun { WhereTold (told self.old) (λ files. Begins into.new.items (bytes_in files name.now)) }
         ensures longer { result ≡ Ok Whole.Longer → WhereTold (told self.old) (λ files. IsSomeAnd (finmap.get files name.now) (λ bytes. limit < length bytes)) }
         ensures reserved { vec_capacity into.old ≤ vec_capacity into.new }
         ensures same { told self.new ≡ told self.old }

@@ -1,5 +1,5 @@
 // Where images are kept.
-ghost use Rattle.std.specs.Prelude.{◌≡◌, ◌≢◌, ◌⊎◌, ℕ, ◌<◌, ◌≤◌, length, take, Option, Some, Err, OnOk, OnErr};
+ghost use Rattle.std.specs.Prelude.{◌≡◌, ◌≢◌, ◌⊎◌, ℕ, ◌<◌, ◌≤◌, List, length, take, Option, Some, Err, OnOk, OnErr};
 ghost use Rattle.std.specs.Vec.{vec_len, vec_capacity};
 ghost use Rattle.std.specs.FinMap as finmap;
 ghost use Rattle.keepers.specs.Counts.{Rose, raised};
@@ -20,6 +20,8 @@ pub enum KeepFault {
 
 /// Slots of storage, each of which holds an image or nothing.
 pub trait Keeper {
+    ghost use Rattle.keepers.specs.Parts.{Answer};
+
     /// The images that it holds by their slots, where it tells.
     ghost told: { Self → Option Images };
     /// How many slots it has.
@@ -34,6 +36,13 @@ pub trait Keeper {
     ghost fault_count: { Self → ℕ };
     /// A number of bytes for which it never asks for memory, if it has one.
     ghost room_bytes: { Self → Option ℕ };
+    /// What a call does besides, where a keeper says more than what is said here of each: of the keeper before it, the slot,
+    /// the image or the bytes that were got, what was answered, and the keeper after it.
+    ghost put_does: { Self → ℕ → List ℕ → Answer → Self → Type 0 } = { λ _ _ _ _ _. Unit {0} };
+
+    ghost get_does: { Self → ℕ → ℕ → List ℕ → Answer → Self → Type 0 } = { λ _ _ _ _ _ _. Unit {0} };
+
+    ghost free_does: { Self → ℕ → Answer → Self → Type 0 } = { λ _ _ _ _. Unit {0} };
 
     /// The number of slots.
     fn slots(&self) -> u32
@@ -45,6 +54,7 @@ pub trait Keeper {
         requires { slot < slot_count self.old }
         ensures ok { OnOk result (Tells (told self.old) (told self.new) (λ old new. new ≡ finmap.insert old slot image.now)) }
         ensures refused { OnErr result (Tells (told self.old) (told self.new) (SameButAt slot)) }
+        ensures does { put_does self.old slot image.now result self.new }
         ensures slots { slot_count self.new ≡ slot_count self.old }
         ensures room { room_bytes self.new ≡ room_bytes self.old }
         ensures roomy { (room : ℕ) → room_bytes self.old ≡ Some room → length image.now ≤ room → result ≢ Err KeepFault.Memory }
@@ -63,6 +73,7 @@ pub trait Keeper {
         ensures short { OnOk result (vec_len into.new ≤ len) }
         ensures reserved { vec_capacity into.old ≤ vec_capacity into.new }
         ensures same { told self.new ≡ told self.old }
+        ensures does { get_does self.old slot len into.new.items result self.new }
         ensures slots { slot_count self.new ≡ slot_count self.old }
         ensures room { room_bytes self.new ≡ room_bytes self.old }
         ensures roomy { (room : ℕ) → room_bytes self.old ≡ Some room → len ≤ vec_capacity into.old → result ≢ Err KeepFault.Memory }
@@ -78,6 +89,7 @@ pub trait Keeper {
         requires { slot < slot_count self.old }
         ensures ok { OnOk result (Tells (told self.old) (told self.new) (λ old new. new ≡ finmap.remove old slot)) }
         ensures refused { OnErr result (Tells (told self.old) (told self.new) (λ old new. (new ≡ old) ⊎ (new ≡ finmap.remove old slot))) }
+        ensures does { free_does self.old slot result self.new }
         ensures slots { slot_count self.new ≡ slot_count self.old }
         ensures room { room_bytes self.new ≡ room_bytes self.old }
         ensures roomy { (room : ℕ) → room_bytes self.old ≡ Some room → result ≢ Err KeepFault.Memory }
@@ -87,46 +99,4 @@ pub trait Keeper {
         ensures quiet { result ≢ Err KeepFault.Failed → fault_count self.new ≡ fault_count self.old }
         ensures later { fault_count self.old ≤ fault_count self.new }
         ensures cause { result ≡ Err KeepFault.Failed → Rose (fault_count self.old) (fault_count self.new) };
-}
-
-// Calls that the tests of the keepers make. Each says whether the keeper did as it should.
-#[cfg(test)]
-pub(crate) mod calls {
-    use super::{KeepFault, Keeper};
-
-    pub fn puts<K: Keeper>(keeper: &mut K, slot: u32, image: &[u8]) -> bool
-        requires { slot < K.slot_count keeper.old }
-        ensures { K.slot_count keeper.new ≡ K.slot_count keeper.old }
-    {
-        keeper.put(slot, image).is_ok()
-    }
-
-    pub fn gives<K: Keeper>(
-        keeper: &mut K,
-        slot: u32,
-        len: u32,
-        image: &[u8],
-        into: &mut Vec<u8>,
-    ) -> bool
-        requires { slot < K.slot_count keeper.old }
-        ensures { K.slot_count keeper.new ≡ K.slot_count keeper.old }
-    {
-        keeper.get(slot, len, into).is_ok() && into.as_slice() == image
-    }
-
-    pub fn frees<K: Keeper>(keeper: &mut K, slot: u32) -> bool
-        requires { slot < K.slot_count keeper.old }
-        ensures { K.slot_count keeper.new ≡ K.slot_count keeper.old }
-    {
-        keeper.free(slot).is_ok()
-    }
-
-    pub fn fails<K: Keeper>(keeper: &mut K, slot: u32, into: &mut Vec<u8>) -> bool
-        requires { slot < K.slot_count keeper.old }
-        ensures { K.slot_count keeper.new ≡ K.slot_count keeper.old }
-    {
-        keeper.put(slot, b"new") == Err(KeepFault::Failed)
-            && keeper.get(slot, 9, into) == Err(KeepFault::Failed)
-            && keeper.free(slot) == Err(KeepFault::Failed)
-    }
 }

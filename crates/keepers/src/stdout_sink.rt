@@ -1,27 +1,29 @@
 // Output to standard output.
-ghost use Rattle.std.specs.Prelude.{◌≡◌, ℕ, take, OnOk, OnErr};
+ghost use Rattle.std.specs.Prelude.{◌≡◌, ℕ, ◌≤◌, take, OnOk, OnErr};
 ghost use Rattle.std.specs.Io.KnownBytes.{Appends};
+ghost use Rattle.keepers.specs.Counts.{raised};
 
 use crate::sink::{Sink, SinkFault};
-use std::io;
-use std::io::{ErrorKind, Write};
+use crate::transfer::write_whole;
+use std::io::Write;
 
-/// Writes to standard output, and flushes each piece.
+/// Writes to standard output, or to any other writer, and flushes each piece.
 #[derive(Drop)]
-pub struct StdoutSink<R> {
-    rt: R,
+pub struct StdoutSink<W> {
+    out: W,
     calls: u64,
     faults: u64,
 }
 
-impl<R: Print> StdoutSink<R> {
+impl<W: Write> StdoutSink<W> {
     /// Has written nothing.
-    pub fn new(rt: R) -> Self
-        ensures calls { ⟦<StdoutSink<R> as Sink>⟧.call_count result ≡ 0 }
-        ensures faults { ⟦<StdoutSink<R> as Sink>⟧.fault_count result ≡ 0 }
+    pub fn new(out: W) -> Self
+        ensures calls { ⟦<StdoutSink<W> as Sink>⟧.call_count result ≡ 0 }
+        ensures faults { ⟦<StdoutSink<W> as Sink>⟧.fault_count result ≡ 0 }
+        ensures out { result.out ≡ out }
     {
         Self {
-            rt,
+            out,
             calls: 0,
             faults: 0,
         }
@@ -29,13 +31,14 @@ impl<R: Print> StdoutSink<R> {
 
     /// How often `write` failed, up to `u64::MAX`.
     pub fn faults(&self) -> u64
-        ensures { result ≡ ⟦<StdoutSink<R> as Sink>⟧.fault_count self.now }
+        ensures { result ≡ ⟦<StdoutSink<W> as Sink>⟧.fault_count self.now }
     {
         self.faults
     }
 }
 
-impl<R: Print> Sink for StdoutSink<R> {
+// It tells nothing of its own. What a call does to the writer, where that tells, are further clauses.
+impl<W: Write> Sink for StdoutSink<W> {
     ghost use Rattle.std.specs.Prelude.{None};
 
     ghost told = { λ _. None };
@@ -44,51 +47,21 @@ impl<R: Print> Sink for StdoutSink<R> {
 
     ghost fault_count = { λ s. s.faults };
 
-    fn write(&mut self, piece: &[u8]) -> Result<(), SinkFault> {
+    fn write(&mut self, piece: &[u8]) -> Result<(), SinkFault>
+        ensures written { OnOk result (Appends (W.contents self.old.out) (W.contents self.new.out) piece.now) }
+        ensures begun { OnErr result ((k : ℕ) × Appends (W.contents self.old.out) (W.contents self.new.out) (take k piece.now)) }
+        ensures calls { self.new.calls ≡ raised self.old.calls 1 }
+        ensures quiet { OnOk result (self.new.faults ≡ self.old.faults) }
+        ensures counted { OnErr result (self.new.faults ≡ raised self.old.faults 1) }
+        ensures later { self.old.faults ≤ self.new.faults }
+    {
         self.calls = self.calls.saturating_add(1);
-        let outcome = write_whole(&mut io::writer(&self.rt), piece);
-        if outcome.is_err() {
-            self.faults = self.faults.saturating_add(1);
-        }
-        outcome
-    }
-}
-
-// Writes a whole piece, and flushes it. After a refusal a prefix of it was written.
-pub(crate) fn write_whole<W: Write>(out: &mut W, piece: &[u8]) -> Result<(), SinkFault>
-    ensures ok { OnOk result (Appends (W.contents out.old) (W.contents out.new) piece.now) }
-    ensures refused { OnErr result ((k : ℕ) × Appends (W.contents out.old) (W.contents out.new) (take k piece.now)) }
-{
-    let mut at = 0;
-    for _ in 0..u64::MAX {
-        if at == piece.len() {
-            if out.flush().is_err() {
-                return Err(SinkFault::Failed);
-            }
-            return Ok(());
-        }
-        match out.write(&piece[at..]) {
-            Ok(0) => return Err(SinkFault::Failed),
-            Ok(count) => at += count,
-            Err(error) => {
-                if error.kind() != ErrorKind::Interrupted {
-                    return Err(SinkFault::Failed);
-                }
+        match write_whole(&mut self.out, piece) {
+            Ok(()) => Ok(()),
+            Err(_) => {
+                self.faults = self.faults.saturating_add(1);
+                Err(SinkFault::Failed)
             }
         }
-    }
-    Err(SinkFault::Failed)
-}
-
-#[cfg(test)]
-mod tests {
-    use super::*;
-
-    #[test]
-    fn writes_a_piece(rt: HostRuntime) -> io::Result<()> {
-        let mut sink = StdoutSink::new(rt.clone()?);
-        assert_eq!(rt; sink.write(b"a piece\n"), Ok(()));
-        assert_eq!(rt; sink.faults(), 0);
-        Ok(())
     }
 }

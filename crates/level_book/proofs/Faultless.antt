@@ -26,7 +26,7 @@ pub none_of_both : (a b : Option BookFault) → option_or a b ≡ None → (a �
 none_of_both None b h = (refl, h)
 none_of_both (Some x) b h = cc
 
-unmapped : {A : Type 0} (f : A → BookFault) (o : Option A) → option_map f o ≡ None → o ≡ None
+pub unmapped : {A : Type 0} (f : A → BookFault) (o : Option A) → option_map f o ≡ None → o ≡ None
 unmapped f None h = refl
 unmapped f (Some x) h = cc
 

@@ -37,7 +37,7 @@ stops (None ∷ rest) (suc k) fault here before = stops rest k fault here before
 stops (Some other ∷ rest) (suc k) fault here before = cc
 
 -- what is found at an entry
-each_from : (f : ℕ → Data → Option BookFault) (n : ℕ) (ds : List Data) (k : ℕ) (d : Data) (j : ℕ) → slice_get ds k ≡ Some d → j ≡ n + k →
+pub each_from : (f : ℕ → Data → Option BookFault) (n : ℕ) (ds : List Data) (k : ℕ) (d : Data) (j : ℕ) → slice_get ds k ≡ Some d → j ≡ n + k →
     slice_get (map (λ entry. f entry.0 entry.1) (enumerate_from n ds)) k ≡ Some (f j d)
 each_from f n [] k d j here at = cc
 each_from f n (first ∷ rest) zero d j here at =

@@ -1,16 +1,13 @@
 -- The names of a book's levels.
-use Rattle.std.proofs.Common.{◌≡◌, ℕ, zero, suc, ◌+◌, ◌≤◌, Bool, true, false, cond, not, ◌||◌, List, [], ◌∷◌, ◌++◌, length, map, take, drop, Option, Some, None, slice_get, refl, sym, ◌∙◌, ap, subst, arith, append_assoc, add-one}
-use Rattle.std.specs.Prelude.{codes, unwrap_or, position, option_map}
-use Rattle.std.specs.List.{list_any, position_from, AllByRecursion, IsDistinct}
+use Rattle.std.proofs.Common.{◌≡◌, ℕ, ◌+◌, Bool, true, false, not, ◌||◌, List, [], ◌∷◌, ◌++◌, length, map, take, Some, None, refl, sym, ◌∙◌, ap, subst, arith, append_assoc}
+use Rattle.std.specs.Prelude.{codes, unwrap_or}
+use Rattle.std.specs.List.{list_any, AllByRecursion, IsDistinct}
 use Rattle.std.specs.Str.{bytes_eq}
-use Rattle.std.proofs.lemmas.List.{take_at, length-append, length-map}
-use Rattle.std.proofs.lemmas.Iterator.Adapters.{position_from-zero}
-use Rattle.std.proofs.lemmas.Option.{slice_get-map}
+use Rattle.std.proofs.lemmas.List.{take_at, length-append}
 use Rattle.serde_json.specs.Data.{Data}
 use Rattle.level_book.specs.declared.book.Level.{Level}
 use Rattle.level_book.specs.declared.fault.BookFault.TheVariants.{Name}
 use Rattle.level_book.specs.Names.{is_name, AreNames}
-use Rattle.level_book.specs.BookCosts.{BookCosts, names_of}
 use Rattle.level_book.specs.BookText.{SayLevels, text_in}
 use Rattle.level_book.specs.BookFaults.{first_of, each, name_of, name_fault}
 use Rattle.level_book.proofs.Faultless.{holds_unless, both_hold, none_of_both, from}
@@ -83,41 +80,3 @@ pub levels_named : (ds : List Data) (levels : List Level) → SayLevels ds level
 levels_named ds levels say none =
     let all = all_new ds [] ds 0 refl refl none in
     rw (names_said ds levels say) (record { each = all.each; distinct = all.distinct })
-
--- ---- the level of a name
-
--- what is found from name k on
-abbrev pub found_from : List ℕ → List (List ℕ) → ℕ → Option ℕ
-found_from name names k = position_from (bytes_eq name) k (drop k names)
-
-pub found_at_all : (name : List ℕ) (names : List (List ℕ)) → position (bytes_eq name) names ≡ found_from name names 0
-found_at_all name names = position_from-zero (bytes_eq name) names
-
-next_name : (names : List (List ℕ)) (k : ℕ) (here : List ℕ) → slice_get names k ≡ Some here → drop k names ≡ here ∷ drop (suc k) names
-next_name [] k here at = cc
-next_name (first ∷ names) zero here at = let same : first ≡ here = cc in ap (λ name. name ∷ names) same
-next_name (first ∷ names) (suc k) here at = next_name names k here at
-
-name_at : (book : BookCosts) (k : ℕ) (level : Level) → slice_get book.levels k ≡ Some level → slice_get (names_of book) k ≡ Some level.name
-name_at book k level at = slice_get-map (λ (l : Level). l.name) book.levels k ∙ ap (option_map (λ (l : Level). l.name)) at
-
-here_is : (book : BookCosts) (k : ℕ) (level : Level) (name : List ℕ) → slice_get book.levels k ≡ Some level →
-    found_from name (names_of book) k ≡ cond (bytes_eq name level.name) (Some k) (found_from name (names_of book) (k + 1))
-here_is book k level name at = rw (next_name (names_of book) k level.name (name_at book k level at), add-one) refl
-
-pub found_here : (book : BookCosts) (k : ℕ) (level : Level) (name : List ℕ) → slice_get book.levels k ≡ Some level → bytes_eq name level.name ≡ true →
-    found_from name (names_of book) k ≡ Some k
-found_here book k level name at eq = here_is book k level name at ∙ rw eq refl
-
-pub found_later : (book : BookCosts) (k : ℕ) (level : Level) (name : List ℕ) → slice_get book.levels k ≡ Some level → bytes_eq name level.name ≡ false →
-    found_from name (names_of book) k ≡ found_from name (names_of book) (k + 1)
-found_later book k level name at eq = here_is book k level name at ∙ rw eq refl
-
-past : (names : List (List ℕ)) (k : ℕ) → length names ≤ k → drop k names ≡ []
-past [] zero le = refl
-past [] (suc k) le = refl
-past (first ∷ names) zero le = absurd (omega arith)
-past (first ∷ names) (suc k) le = past names k (omega arith)
-
-pub found_nowhere : (book : BookCosts) (k : ℕ) (name : List ℕ) → length book.levels ≤ k → found_from name (names_of book) k ≡ None
-found_nowhere book k name le = ap (position_from (bytes_eq name) k) (past (names_of book) k (rw length-map le))

@@ -6,3 +6,6 @@ pub mod Faultless
 pub mod Refusing
 pub mod OneBook
 pub mod LevelNames
+pub mod Rising
+pub mod Deciding
+pub mod NestedOn

@@ -103,7 +103,7 @@ one_fault bytes a b refused also other more = elim (fault_of bytes a refused oth
 
 -- ---- the names of a book that a text says
 
-none_of_all : (faults : List (Option BookFault)) → first_of faults ≡ None → AllByRecursion (λ fault. fault ≡ None) faults
+pub none_of_all : (faults : List (Option BookFault)) → first_of faults ≡ None → AllByRecursion (λ fault. fault ≡ None) faults
 none_of_all [] h = tt
 none_of_all (fault ∷ faults) h = let parts = none_of_both fault (first_of faults) h in (parts.0, none_of_all faults parts.1)
 

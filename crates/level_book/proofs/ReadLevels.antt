@@ -26,7 +26,7 @@ all_hold true true false d none = cc
 all_hold true true true false none = cc
 
 -- what is there is what is said, whatever stands for what isn't
-some_is : {A : Type 0} (o : Option A) (otherwise : A) → is_some o ≡ true → o ≡ Some (unwrap_or o otherwise)
+pub some_is : {A : Type 0} (o : Option A) (otherwise : A) → is_some o ≡ true → o ≡ Some (unwrap_or o otherwise)
 some_is (Some x) otherwise there = refl
 some_is None otherwise there = cc
 

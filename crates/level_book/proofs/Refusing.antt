@@ -1,5 +1,5 @@
 -- A value's fault refuses the bytes that it was read from.
-use Rattle.std.proofs.Common.{◌≡◌, ℕ, ◌+◌, ◌*◌, Bool, true, false, List, [], ◌∷◌, map, Option, Some, None, Result, Ok, Err, refl, sym, ◌∙◌, ap}
+use Rattle.std.proofs.Common.{◌≡◌, ◌≢◌, ℕ, ◌+◌, ◌*◌, Bool, true, false, List, [], ◌∷◌, map, Option, Some, None, Result, Ok, Err, refl, sym, ◌∙◌, ap}
 use Rattle.std.specs.Prelude.{MatchResult, IfErr, codes, unwrap_or, is_some, nat_lt, nat_le, length, min, ◌&&◌}
 use Rattle.std.specs.List.{enumerate_from, AllByRecursion}
 use Rattle.std.specs.Option.{option_map}
@@ -86,8 +86,15 @@ fault_is_other d =
       ),
     )
 
+-- so it isn't want of memory
+pub not_memory : (d : Data) (fault : BookFault) → fault_in d ≡ Some fault → fault ≢ Memory
+unfolding is_of_bytes
+not_memory d fault is memory =
+    let other = ap is_of_bytes (sym (is ∙ ap Some memory)) ∙ fault_is_other d in
+    absurd (cc other)
+
 -- what a value's fault says of the bytes
-refuses : (bytes : List ℕ) (d : Data) (fault : BookFault) → IsTextOf bytes d → fault_in d ≡ Some fault → IsRefused bytes fault
+pub refuses : (bytes : List ℕ) (d : Data) (fault : BookFault) → IsTextOf bytes d → fault_in d ≡ Some fault → IsRefused bytes fault
 unfolding is_of_bytes
 refuses bytes d NotJson text is = let other = ap is_of_bytes (sym is) ∙ fault_is_other d in absurd (cc other)
 refuses bytes d Memory text is =

@@ -1,5 +1,5 @@
 -- What a book says: the costs of the two kinds of step, and its levels, the fastest first.
-use Rattle.std.specs.Prelude.{ℕ, ◌+◌, ◌≤◌, min, List, [], ◌∷◌, map, fold, slice_index_or, codes}
+use Rattle.std.specs.Prelude.{◌≡◌, ℕ, suc, ◌+◌, ◌≤◌, min, List, [], ◌∷◌, map, fold, slice_get, slice_index_or, Some, codes}
 use Rattle.std.specs.List.{AllByRecursion}
 use Rattle.level_book.specs.declared.book.Level.{Level}
 use Rattle.level_book.specs.declared.book.Slots.{Slots}
@@ -60,3 +60,13 @@ pub record IsWithinLimits (book : BookCosts) : Type 0 where
   pub forward : book.forward ≤ 1000000
   pub reverse : book.reverse ≤ 1000000
   pub levels : AllByRecursion IsLevelWithinLimits book.levels
+
+-- a level costs no less to write and to read than the one before it
+pub record CostsNoLess (before level : Level) : Type 0 where
+  pub write : before.write ≤ level.write
+  pub read : before.read ≤ level.read
+
+-- so it is with each two neighbouring levels: levels cost no less as they get slower
+abbrev pub CostsRise : BookCosts → Type 0
+CostsRise book =
+    (k : ℕ) (before level : Level) → slice_get book.levels k ≡ Some before → slice_get book.levels (suc k) ≡ Some level → CostsNoLess before level

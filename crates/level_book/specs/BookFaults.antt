@@ -58,7 +58,7 @@ cost_fault k d = unless (nat_le (number_of (codes "write") d) 1000000 && nat_le 
 abbrev pub slot_fault : ℕ → Data → Option BookFault
 slot_fault k d = unless (nat_le (number_of (codes "slots") d) 1000000) (SlotRange k)
 
--- an entry costs no less to write and to read than the one before it
+-- An entry costs no less to write and to read than the one before it. The first passes, and there `k - 1` stands for nothing.
 abbrev pub order_fault : List Data → ℕ → Data → Option BookFault
 order_fault entries k d =
     let before = slice_index_or entries (k - 1) null in

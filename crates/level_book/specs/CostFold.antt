@@ -7,7 +7,7 @@ use Rattle.plan_types.specs.declared.action.Action.{Action}
 use Rattle.plan_types.specs.declared.action.Action.TheVariants.{Forward, Reverse, Copy, Move}
 use Rattle.level_book.specs.BookCosts.{BookCosts}
 
--- the forward steps of an action
+-- the forward steps of an action; in a valid list a Forward leads on, so `from` is below `to`
 abbrev pub steps_of : Action → ℕ
 steps_of (Forward from to keep) = to - from
 steps_of _ = 0

@@ -58,7 +58,7 @@ pub record IsUnderTable (steps : ℕ) (book : BookCosts) (t : Tables) : Type 0 w
   pub split_held : (k j l m : ℕ) → k < length book.levels → 1 ≤ j → 1 ≤ l → j + l ≤ steps → m < room book k steps →
       IsAtMost (t.held k (j + l) m) (sum_of (read_cost book k + j * book.forward) (t.fresh k l m) (t.held k j m))
 
--- the entry of the slowest level with all its slots, for all steps
+-- the entry of the slowest level with all its slots, for all steps; each book has a level
 abbrev pub top_entry : ℕ → BookCosts → Tables → Entry
 top_entry zero book t = number 0
 top_entry (suc n) book t = t.fresh (length book.levels - 1) (suc n) (room book (length book.levels - 1) (suc n))

@@ -21,7 +21,8 @@ BreaksRule steps slots c (Some a) number level = (rule steps slots c a ≡ numbe
 BreaksRule steps slots c None number level = (c.ended ≡ false) × (number ≡ 16) × (level ≡ 0)
 
 -- The list is broken at this place, counted from 1: the actions before it lead from the start to a configuration at
--- which it breaks a rule. A list that ends without EndReverse is broken one past its end.
+-- which it breaks a rule. A list that ends without EndReverse is broken one past its end. A place is 1 or more, so that
+-- `place - 1` is how many actions stand before it.
 pub record BrokenAt (steps : ℕ) (slots : List Slots) (list : List Action) (place number level : ℕ) : Type 0 where
   pub from_one : 0 < place
   pub within : place < length list + 2

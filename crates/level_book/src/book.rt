@@ -1,7 +1,6 @@
 // The book of levels.
-ghost use Rattle.std.specs.Prelude.{◌≡◌, ◌≤◌, ◌<◌, [], ◌∷◌, take, length, slice_get, Some, position};
-ghost use Rattle.std.specs.Str.{bytes_eq};
-ghost use Rattle.level_book.specs.BookCosts.{plain, room, total_room, names_of, BookCosts, IsWithinLimits};
+ghost use Rattle.std.specs.Prelude.{◌≡◌, ◌≤◌, ◌<◌, [], ◌∷◌, take, length, slice_get, Some};
+ghost use Rattle.level_book.specs.BookCosts.{plain, room, total_room, names_of, BookCosts, IsWithinLimits, CostsRise};
 ghost use Rattle.level_book.specs.Names.{AreNames};
 
 use std::marker::Model;
@@ -75,14 +74,14 @@ pub struct Book {
 
 impl Model for Book {
     ghost use Rattle.std.specs.Prelude.{◌≤◌, length, take};
-    ghost use Rattle.level_book.specs.BookCosts.{names_of, BookCosts, IsWithinLimits};
+    ghost use Rattle.level_book.specs.BookCosts.{names_of, BookCosts, IsWithinLimits, CostsRise};
     ghost use Rattle.level_book.specs.Names.{AreNames};
 
     ghost Value = { BookCosts };
 
     ghost view = { λ b. record { forward = b.forward; reverse = b.reverse; levels = take b.count b.levels } };
 
-    ghost invariant = { λ b. (1 ≤ b.count) × (b.count ≤ 4) × (b.count ≤ length b.levels) × IsWithinLimits (record { forward = b.forward; reverse = b.reverse; levels = b.levels }) × AreNames (names_of (record { forward = b.forward; reverse = b.reverse; levels = take b.count b.levels })) };
+    ghost invariant = { λ b. (1 ≤ b.count) × (b.count ≤ 4) × (b.count ≤ length b.levels) × IsWithinLimits (record { forward = b.forward; reverse = b.reverse; levels = b.levels }) × AreNames (names_of (record { forward = b.forward; reverse = b.reverse; levels = take b.count b.levels })) × CostsRise (record { forward = b.forward; reverse = b.reverse; levels = take b.count b.levels }) };
 }
 
 impl Book {
@@ -91,6 +90,7 @@ impl Book {
         requires count { (1 ≤ count) × (count ≤ 4) }
         requires limits { IsWithinLimits (record { forward = forward; reverse = reverse; levels = levels }) }
         requires names { AreNames (names_of (record { forward = forward; reverse = reverse; levels = take count levels })) }
+        requires costs { CostsRise (record { forward = forward; reverse = reverse; levels = take count levels }) }
         ensures { result ≡ record { forward = forward; reverse = reverse; levels = take count levels } }
     {
         Book {
@@ -124,6 +124,13 @@ impl Book {
     /// Does nothing. Its contract is a law: the names of a book's levels are names, and no two are the same.
     pub fn has_names(&self)
         ensures { AreNames (names_of self.now) }
+    {
+        let _count = self.count;
+    }
+
+    /// Does nothing. Its contract is a law: no level of a book is cheaper to write or to read than the one before it.
+    pub fn costs_rise(&self)
+        ensures { CostsRise self.now }
     {
         let _count = self.count;
     }
@@ -183,18 +190,6 @@ impl Book {
     {
         &self.levels[k as usize]
     }
-
-    /// The number of the level with this name. At most four names are compared with it.
-    pub fn level_named(&self, name: &[u8]) -> Option<u8>
-        ensures { result ≡ position (bytes_eq name.now) (names_of self.now) }
-    {
-        for k in 0..self.levels() {
-            if name == self.level(k).name.bytes() {
-                return Some(k);
-            }
-        }
-        None
-    }
 }
 
 // A level `RAM` that costs nothing.
@@ -209,22 +204,5 @@ pub(crate) fn ram(slots: u32) -> Level
         slots: Slots::Count(slots),
         write: 0,
         read: 0,
-    }
-}
-
-#[cfg(test)]
-mod tests {
-    use super::*;
-
-    #[test]
-    fn the_plain_book_has_one_free_level(rt: HostRuntime) {
-        let book = Book::plain(3);
-        assert_eq!(rt; (book.forward(), book.reverse(), book.levels()), (1, 1, 1));
-        let level = book.level(0);
-        assert_eq!(rt; level.name.bytes(), b"RAM".as_slice());
-        assert_eq!(rt; level.slots, Slots::Count(3));
-        assert_eq!(rt; (level.write, level.read), (0, 0));
-        assert_eq!(rt; book.level_named(b"RAM"), Some(0));
-        assert_eq!(rt; book.level_named(b"RA"), None);
     }
 }

@@ -12,8 +12,6 @@ mod fault;
 mod fields;
 pub mod laws;
 mod reading;
-#[cfg(test)]
-mod tests;
 
 pub use crate::book::{Book, Level, Name, Slots};
 pub use crate::fault::BookFault;

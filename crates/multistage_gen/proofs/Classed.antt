@@ -1,5 +1,5 @@
 -- The planned list, and that it is in the class.
-use Rattle.std.proofs.Common.{◌≡◌, ◌⊎◌, ℕ, zero, suc, ◌+◌, ◌-◌, ◌*◌, ◌<◌, ◌≤◌, min, List, [], ◌∷◌, ◌++◌, length, map, fold, get_or, refl, sym, ap, subst, ◌∙◌, inl, inr, arith}
+use Rattle.std.proofs.Common.{◌≡◌, ◌⊎◌, ℕ, zero, suc, ◌+◌, ◌-◌, ◌*◌, ◌<◌, ◌≤◌, min, List, [], ◌∷◌, length, map, fold, get_or, sym, ap, subst, ◌∙◌, inl, inr, arith}
 use Rattle.plan_types.specs.declared.action.Action.{Action}
 use Rattle.level_book.specs.declared.book.Level.{Level}
 use Rattle.level_book.specs.declared.book.Slots.{Slots}
@@ -13,7 +13,7 @@ use Rattle.revolve_gen.specs.Written.{revolve, revolve_list}
 use Rattle.revolve_gen.proofs.Written.{revolve_counted}
 use Rattle.revolve_gen.proofs.Stacked.{levels_free, uses_its_slots, written_same, read_same, used_same}
 use Rattle.revolve_gen.proofs.Extending.{on_both}
-use Rattle.multistage_gen.specs.Planned.{ComesBefore, IsPlan, IsMultistageList}
+use Rattle.multistage_gen.specs.Planned.{IsMultistageList}
 use Rattle.multistage_gen.specs.Ranks.{ArePlanned}
 
 pub revolve_short : (level : ℕ → ℕ) (steps c : ℕ) → HasPlan steps c → steps ≤ 1000000 → length (revolve level steps c) ≤ 16777216

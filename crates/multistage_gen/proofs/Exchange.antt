@@ -18,7 +18,7 @@ use Rattle.revolve_gen.specs.Multistage.{HasPlaces, HasLevels, place_cost, savin
 use Rattle.revolve_gen.proofs.Stacked.{levels_free, uses_its_slots, written_same, read_same, used_same}
 use Rattle.revolve_gen.proofs.Costs.{below_same, by_places}
 use Rattle.revolve_gen.proofs.Extending.{on_both}
-use Rattle.multistage_gen.specs.Threshold.{MeetsThreshold, LeastOfTheMultistage}
+use Rattle.multistage_gen.specs.Threshold.{LeastOfTheMultistage}
 
 -- a place's number by its level: on level 0 the first, else the second
 abbrev chosen : ℕ → ℕ → ℕ → ℕ
@@ -152,7 +152,7 @@ relevelled steps book fast slow level new list other two has other_has =
     }
 
 -- level 0 has room for as many places as stand on it
-first_fits : (steps : ℕ) (book : BookCosts) (level : ℕ → ℕ) (list : List Action) → HasPlan steps (total_room book steps) → HasLevels steps book level list →
+pub first_fits : (steps : ℕ) (book : BookCosts) (level : ℕ → ℕ) (list : List Action) → HasPlan steps (total_room book steps) → HasLevels steps book level list →
     places_on level 0 (places_used list) ≤ room book 0 steps
 first_fits steps book level list plan has =
     let c = total_room book steps in

@@ -6,3 +6,4 @@ pub mod Classed
 pub mod Unique
 pub mod Exchange
 pub mod Least
+pub mod Existing

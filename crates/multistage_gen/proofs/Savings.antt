@@ -1,5 +1,5 @@
 -- What the places of a list save, and their levels by it.
-use Rattle.std.proofs.Common.{◌≡◌, ◌==◌, ◌⊎◌, ℕ, zero, suc, ◌+◌, ◌-◌, ◌*◌, ◌<◌, ◌≤◌, min, Bool, true, nat_lt, ◌&&◌, ◌||◌, All, List, [], ◌∷◌, ◌++◌, length, length-append, map, get_or, Some, refl, sym, ap, subst, ◌∙◌, inl, inr, arith}
+use Rattle.std.proofs.Common.{◌≡◌, ◌==◌, ◌⊎◌, ℕ, zero, suc, ◌+◌, ◌<◌, ◌≤◌, min, true, nat_lt, ◌&&◌, ◌||◌, All, List, [], ◌∷◌, length, length-append, map, get_or, Some, refl, sym, ap, subst, ◌∙◌, inl, inr, arith}
 use Rattle.std.specs.List.{slice_get}
 use Rattle.std.proofs.lemmas.Bool.{or_cases, and_parts, ltb-true, eqb-true}
 use Rattle.std.proofs.lemmas.List.Sums.{count_by-le-length}
@@ -14,7 +14,6 @@ use Rattle.revolve_gen.specs.Multistage.{saving}
 use Rattle.multistage_gen.specs.declared.ranking.Rank.{Rank}
 use Rattle.multistage_gen.specs.declared.traffic.PlaceTraffic.{PlaceTraffic}
 use Rattle.multistage_gen.specs.Traffic.{IsTraffic}
-use Rattle.multistage_gen.specs.Planned.{ComesBefore}
 use Rattle.multistage_gen.specs.Threshold.{AreSavings}
 use Rattle.multistage_gen.specs.Ranks.{is_before, StandByPlace, AreLevels, rank_of, ranks_from, IsCounted, ArePlanned, saving_of}
 use Rattle.multistage_gen.proofs.Counts.{at_get}
@@ -32,13 +31,13 @@ one_read h Read = omega arith
 one_read h Pop = omega arith
 one_read h Stay = omega arith
 
-written_few : (h : ℕ) (list : List Action) → length (written h list) ≤ length list
+pub written_few : (h : ℕ) (list : List Action) → length (written h list) ≤ length list
 written_few h [] = omega arith
 written_few h (a ∷ rest) =
     let s = stack_step a in
     omega (arith, length-append (place_written h s) (written (held_after h s) rest), one_written h s, written_few (held_after h s) rest)
 
-read_few : (h : ℕ) (list : List Action) → length (read h list) ≤ length list
+pub read_few : (h : ℕ) (list : List Action) → length (read h list) ≤ length list
 read_few h [] = omega arith
 read_few h (a ∷ rest) =
     let s = stack_step a in

@@ -1,5 +1,5 @@
 -- There is one planned list at most.
-use Rattle.std.proofs.Common.{◌≡◌, ◌==◌, ◌⊎◌, ℕ, zero, suc, ◌+◌, ◌<◌, ◌≤◌, Bool, cond, List, [], ◌∷◌, ◌++◌, refl, sym, ap, subst, ◌∙◌, inl, inr, arith}
+use Rattle.std.proofs.Common.{◌≡◌, ◌==◌, ◌⊎◌, ℕ, zero, suc, ◌<◌, ◌≤◌, Bool, cond, List, [], ◌∷◌, refl, sym, ap, subst, ◌∙◌, inl, inr, arith}
 use Rattle.std.proofs.lemmas.Bool.{cases_eq, eq-eqb, ne_eqb}
 use Rattle.plan_types.specs.declared.action.Action.{Action}
 use Rattle.level_book.specs.declared.book.Level.{Level}
@@ -7,10 +7,9 @@ use Rattle.level_book.specs.BookCosts.{BookCosts, total_room}
 use Rattle.revolve_gen.specs.Places.{places_on}
 use Rattle.revolve_gen.specs.Stack.{written, read, places_used, placed}
 use Rattle.revolve_gen.specs.Multistage.{saving}
-use Rattle.revolve_gen.specs.Written.{revolve}
 use Rattle.revolve_gen.proofs.Stacked.{levels_free, used_same, first_of_both, second_of_both}
 use Rattle.revolve_gen.proofs.Extending.{placed_same}
-use Rattle.multistage_gen.specs.Planned.{ComesBefore, IsPlan, IsMultistageList, PlansAreUnique}
+use Rattle.multistage_gen.specs.Planned.{ComesBefore, IsPlan, PlansAreUnique}
 use Rattle.multistage_gen.proofs.Classed.{saving_same}
 
 abbrev one_if : Bool → ℕ

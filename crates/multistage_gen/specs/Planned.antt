@@ -44,3 +44,7 @@ IsFault steps book Memory = (length book.levels ≡ 2) × HasPlan steps (total_r
 -- there is one such list at most
 abbrev pub PlansAreUnique : ℕ → BookCosts → Type 0
 PlansAreUnique steps book = (list other : List Action) → IsMultistageList steps book list → IsMultistageList steps book other → list ≡ other
+
+-- there is one where the book has two levels and Revolve has a list
+abbrev pub PlanExists : ℕ → BookCosts → Type 0
+PlanExists steps book = length book.levels ≡ 2 → HasPlan steps (total_room book steps) → (list : List Action) × IsMultistageList steps book list

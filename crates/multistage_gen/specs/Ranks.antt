@@ -24,7 +24,7 @@ pub record AreLevels (ranks : List Rank) (room : ℕ) (levels : List ℕ) : Type
   pub order : (p q : ℕ) (d : Rank) → p < length ranks → q < length ranks → slice_index levels p ≡ 0 → slice_index levels q ≡ 1 →
       is_before (slice_index_or ranks p d) (slice_index_or ranks q d) ≡ true
 
--- what a place with this traffic saves
+-- What a place with this traffic saves. The second level of a book costs no less than the first, so these differences are whole.
 abbrev pub saving_of : Level → Level → PlaceTraffic → ℕ
 saving_of fast slow t = t.writes * (slow.write - fast.write) + t.reads * (slow.read - fast.read)
 

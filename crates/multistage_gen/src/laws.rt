@@ -2,7 +2,7 @@
 ghost use Rattle.std.specs.Prelude.{ℕ, List};
 ghost use Rattle.plan_types.specs.declared.action.Action.{Action};
 ghost use Rattle.level_book.specs.BookCosts.{BookCosts};
-ghost use Rattle.multistage_gen.specs.Planned.{PlansAreUnique};
+ghost use Rattle.multistage_gen.specs.Planned.{PlansAreUnique, PlanExists};
 ghost use Rattle.multistage_gen.specs.Threshold.{LeastOfTheMultistage, PlannedIsLeast};
 
 /// There is at most one planned list for so many steps and a book.
@@ -18,4 +18,9 @@ pub fn least_of_the_multistage()
 /// No list of the multistage class costs less than the planned one.
 pub fn planned_lists_are_least()
     ensures { (steps : ℕ) (book : BookCosts) (list other : List Action) → PlannedIsLeast steps book list other }
+{}
+
+/// There is a planned list wherever the book has two levels and Revolve has a list.
+pub fn plans_exist()
+    ensures { (steps : ℕ) (book : BookCosts) → PlanExists steps book }
 {}

@@ -9,8 +9,6 @@ mod list;
 mod placing;
 mod planning;
 mod ranking;
-#[cfg(test)]
-mod tests;
 mod traffic;
 
 pub use crate::list::multistage_list;

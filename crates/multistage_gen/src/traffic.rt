@@ -1,5 +1,5 @@
 // The traffic of the places of a stack.
-ghost use Rattle.std.specs.Prelude.{◌≡◌, ℕ, ◌+◌, ◌<◌, ◌≤◌, [], ◌∷◌, ◌++◌, List, length, slice_get, Some, IfOk, OnOk, vec_len};
+ghost use Rattle.std.specs.Prelude.{◌≡◌, ℕ, ◌+◌, ◌-◌, ◌^◌, ◌<◌, ◌≤◌, [], ◌∷◌, ◌++◌, List, length, slice_get, Some, IfOk, OnOk, vec_len};
 ghost use Rattle.revolve_gen.specs.Stack.{written, read};
 ghost use Rattle.multistage_gen.specs.Traffic.{IsTraffic};
 
@@ -16,9 +16,10 @@ pub struct PlaceTraffic {
 
 /// The writes and reads of each place of a list. Each Copy and Move counts as one of the newest image, whichever it names.
 pub fn places(alloc: Global, list: &[Action]) -> Result<Vec<PlaceTraffic>, AllocError>
-    requires { length list.now ≤ 16777216 }
     ensures { IfOk result (λ places. IsTraffic (written 0 list.now) (read 0 list.now) places.items) }
 {
+    // A list has fewer actions than 2^64, so the counts fit.
+    let _actions = list.len();
     let mut places = Vec::new(alloc);
     let mut held = 0;
     for action in list {
@@ -58,7 +59,7 @@ fn reach(places: &mut Vec<PlaceTraffic>, place: usize) -> Result<(), AllocError>
 // A place is written once more.
 fn write_at(places: &mut Vec<PlaceTraffic>, place: usize) -> Result<(), AllocError>
     requires near { place ≤ vec_len places.old }
-    requires small { (ws : List ℕ) × (rs : List ℕ) × IsTraffic ws rs places.old.items × (length ws < 16777216) }
+    requires small { (ws : List ℕ) × (rs : List ℕ) × IsTraffic ws rs places.old.items × (length ws < 2 ^ 64 - 1) }
     ensures ok { OnOk result ((ws rs : List ℕ) → IsTraffic ws rs places.old.items → IsTraffic (ws ++ place ∷ []) rs places.new.items) }
     ensures there { OnOk result ((place < vec_len places.new) × (vec_len places.old ≤ vec_len places.new)) }
 {
@@ -70,7 +71,7 @@ fn write_at(places: &mut Vec<PlaceTraffic>, place: usize) -> Result<(), AllocErr
 // A place is read once more.
 fn read_at(places: &mut Vec<PlaceTraffic>, place: usize) -> Result<(), AllocError>
     requires near { place ≤ vec_len places.old }
-    requires small { (ws : List ℕ) × (rs : List ℕ) × IsTraffic ws rs places.old.items × (length rs < 16777216) }
+    requires small { (ws : List ℕ) × (rs : List ℕ) × IsTraffic ws rs places.old.items × (length rs < 2 ^ 64 - 1) }
     ensures ok { OnOk result ((ws rs : List ℕ) → IsTraffic ws rs places.old.items → IsTraffic ws (rs ++ place ∷ []) places.new.items) }
     ensures there { OnOk result ((place < vec_len places.new) × (vec_len places.old ≤ vec_len places.new)) }
 {

@@ -1,5 +1,5 @@
 -- The laws over all valid lists.
-use Rattle.std.proofs.Common.{◌≡◌, ℕ, zero, suc, ◌+◌, ◌-◌, ◌*◌, ◌≤◌, List, refl, arith}
+use Rattle.std.proofs.Common.{◌≡◌, ℕ, zero, suc, ◌+◌, ◌*◌, ◌≤◌, List, refl, arith}
 use Rattle.plan_types.specs.declared.action.Action.{Action}
 use Rattle.level_book.specs.BookCosts.{BookCosts, slots_of, total_room}
 use Rattle.level_book.specs.CostFold.{forward}
@@ -31,7 +31,7 @@ none_below steps book c list is =
     let bound = forward_bounded steps book c list is (repeats steps c) in
     omega (arith, taped, bound)
 
-too_many : (n k m f : ℕ) → n + k * n - m ≤ f → m ≡ k → k ≡ suc f → n ≤ 1
+too_many : (n k m f : ℕ) → n + k * n ≤ f + m → m ≡ k → k ≡ suc f → n ≤ 1
 too_many zero k m f h e g = omega arith
 too_many (suc zero) k m f h e g = omega arith
 too_many (suc (suc n)) k m f h e g = absurd (omega arith)

@@ -231,7 +231,7 @@ few_sum_most x c n (suc k) h = omega (arith, few_sum_most x c n k h, h (suc k), 
 
 -- the forward steps of a list, where few steps are crossed seldom
 pub forward_from : (steps c : ℕ) (slots : List Slots) (list : List Action) → Valid steps slots list → ((k : ℕ) → few (crossings list) k steps ≤ beta_before c k) →
-    (k : ℕ) → steps + k * steps - beta_before (c + 1) k ≤ forward list
+    (k : ℕ) → steps + k * steps ≤ forward list + beta_before (c + 1) k
 forward_from steps c slots list valid seldom k =
     let all = steps_on steps slots (start steps slots) list valid.0 steps valid.1 (last_untaped steps slots list valid) in
     let few_all = few_sum_most (crossings list) c steps k seldom in

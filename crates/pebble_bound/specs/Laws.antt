@@ -1,7 +1,7 @@
 -- What holds of every valid list, for every number of slots that is no less than the book has room for: how often steps are
 -- advanced, and how many forward steps that makes. For the pebble game of a chain this is the bound of Griewank and
 -- Walther; here nothing is taken for granted of a list but that it is valid.
-use Rattle.std.specs.Prelude.{◌≡◌, ℕ, ◌+◌, ◌*◌, ◌-◌, ◌≤◌, List, cond, nat_lt}
+use Rattle.std.specs.Prelude.{◌≡◌, ℕ, ◌+◌, ◌*◌, ◌≤◌, List, cond, nat_lt}
 use Rattle.plan_types.specs.declared.action.Action.{Action}
 use Rattle.level_book.specs.BookCosts.{BookCosts, slots_of, total_room}
 use Rattle.level_book.specs.Valid.{Valid}
@@ -23,9 +23,9 @@ FewAreAdvancedSeldom steps book c list = IsValidWithin steps book c list → (k 
 abbrev pub EachIsTapedOnce : ℕ → BookCosts → List Action → Type 0
 EachIsTapedOnce steps book list = Valid steps (slots_of book) list → (i : ℕ) → tapings list i ≡ cond (nat_lt i steps) 1 0
 
--- for every k, the forward steps are at least N + k · N - β(c + 1, k - 1)
+-- for every k, the forward steps are at least N + k · N - β(c + 1, k - 1), which is said by a sum, since it may be negative
 abbrev pub ForwardIsBounded : ℕ → BookCosts → ℕ → List Action → Type 0
-ForwardIsBounded steps book c list = IsValidWithin steps book c list → (k : ℕ) → steps + k * steps - beta_before (c + 1) k ≤ forward list
+ForwardIsBounded steps book c list = IsValidWithin steps book c list → (k : ℕ) → steps + k * steps ≤ forward list + beta_before (c + 1) k
 
 -- the forward steps are at least N + t(N, c), as many as Revolve takes
 abbrev pub NoneIsBelowRevolve : ℕ → BookCosts → ℕ → List Action → Type 0

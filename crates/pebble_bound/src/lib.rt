@@ -6,7 +6,5 @@
 
 pub mod laws;
 mod least;
-#[cfg(test)]
-mod tests;
 
 pub use crate::least::least_forward;

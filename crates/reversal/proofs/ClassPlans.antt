@@ -16,11 +16,13 @@ use Rattle.revolve_gen.proofs.Extending.{multistage_valid}
 use Rattle.cert_text.specs.declared.certificate.Certificate.{Certificate}
 use Rattle.cert_text.specs.declared.certificate.Certificate.TheVariants.{Places, Nested, Disk}
 use Rattle.cert_text.specs.Meaning.{HasText}
-use Rattle.cost_tables.specs.TableRows.{TableRows, tables_in}
+use Rattle.cost_tables.specs.TableRows.{TableRows, Fits, FitsFastest, tables_in}
 use Rattle.disk_gen.specs.DiskRows.{DiskRows, disk_tables_in}
 use Rattle.cert_text.specs.Canonical as certificate_text
 use Rattle.bound_cert.specs.Accepted.{IsAccepted}
+use Rattle.bound_cert.proofs.Deciding.{threshold_low}
 use Rattle.bound_cert.proofs.Fitting.{planned_fits}
+use Rattle.bound_cert.proofs.Texts.{nested_has_text, disk_has_text}
 use Rattle.class_bounds.proofs.NestedCosts.{nested_least}
 use Rattle.class_bounds.proofs.DiskCosts.{disk_least as disk_list_least}
 use Rattle.level_book.specs.DiskClass.{Disk as IsDisk}
@@ -31,12 +33,12 @@ use Rattle.disk_gen.proofs.DiskCosts.{written_disk_costs}
 use Rattle.disk_gen.proofs.DiskWhole.{written_in_class}
 use Rattle.reversal.specs.Deeds.{Job, write}
 use Rattle.reversal.specs.Decision.{accept, DecidesPlanDisk, DecidesPlanHrevolve, DecidesPlanMultistage}
-use Rattle.reversal.specs.Ending.{bad_book}
+use Rattle.requests.specs.Ending.{bad_book}
 use Rattle.reversal.specs.Plans.{list_pieces}
 use Rattle.reversal.specs.WrittenPlans.{SaysAgain}
 use Rattle.reversal.proofs.Lengths.{written_few, disk_written_few}
 use Rattle.reversal.proofs.ReadAgain.{read_again}
-use Rattle.reversal.proofs.BookTexts.{some_level, costs_rise}
+use Rattle.reversal.proofs.BookTexts.{some_level, costs_rise, within_limits}
 use Rattle.reversal.proofs.Deciding.{read_said, need_met, tabulate_met, job_or}
 
 -- the entry of a stretch whose first state is in work, or held
@@ -78,15 +80,18 @@ said_again steps book b list c job is short is_book few valid has =
     subst (λ (j : Job). SaysAgain steps b j list c) (sym is) (λ shown. read_again steps book b list c short is_book few valid has)
 
 -- a plan of H-Revolve is nested, its certificate is accepted for it, no nested list costs less, and it is read again
-pub hrevolve_least : (steps : ℕ) (book : List ℕ) (job : Job) → DecidesPlanHrevolve steps book (accept job) →
+pub hrevolve_least : (steps : ℕ) (book : List ℕ) (job : Job) → steps ≤ 2048 → DecidesPlanHrevolve steps book (accept job) →
     (b : BookCosts) × IsBookText book b × (list : List Action) × (t : TableRows) × (job ≡ write (list_pieces (names_of b) list ++ certificate_text.pieces (Nested t))) × IsNested steps (slots_of b) list
     × IsAccepted list steps b (Nested t) × ((other : List Action) → IsNested steps (slots_of b) other → cost list b ≤ cost other b) × SaysAgain steps b job list (Nested t)
-hrevolve_least steps book job h =
+hrevolve_least steps book job short h =
     let b = read_said (IsBookText book) _ bad_book job _ h in
-    let plan = need_met _ _ job _ (tabulate_met steps b.0 job _ b.1.1) in
+    let narrow = tabulate_met steps b.0 job _ b.1.1 in
+    let plan = need_met _ _ job _ narrow.1 in
     let t = plan.1.0 in
-    let has = plan.1.1.0 in
+    let are = plan.1.1.0 in
     let greatest = plan.1.1.1.0 in
+    let fits : Fits steps b.0 = record { few = short; narrow = narrow.0 } in
+    let has = nested_has_text steps b.0 t (within_limits book b.0 b.1.0) fits are.0 are.1 greatest in
     let list = plan.1.1.1.1.0 in
     let is = plan.1.1.1.1.1.0 in
     let done : job ≡ write (list_pieces (names_of b.0) list ++ certificate_text.pieces (Nested t)) = ap (job_or job) plan.1.1.1.1.1.1 in
@@ -94,15 +99,14 @@ hrevolve_least steps book job h =
     let top = top_number steps b.0 (tables_in t) list is in
     let costs = top.1 ∙ ap (λ n. number n) (sym (written_costs steps b.0 (tables_in t) list top.0 is top.1)) in
     let member = written_nested steps b.0 (tables_in t) list some is in
-    let few = written_few steps b.0 (tables_in t) list is in
-    let short = has.fit.few in (
+    let few = written_few steps b.0 (tables_in t) list is in (
       b.0,
       b.1.0,
       list,
       t,
       done,
       member,
-      (member.0, (has.fit, has.tables.sized), member, greatest.under, costs),
+      (member.0, (fits, are.0), member, greatest.under, costs),
       (λ other nested. nested_least steps b.0 (tables_in t) list other some greatest.under costs nested),
       said_again steps book b.0 list (Nested t) job done (omega (arith, short)) b.1.0 (omega (arith, few, short)) member.0 has,
     )
@@ -135,33 +139,34 @@ disk_top_number zero book t list is = (0, refl)
 disk_top_number (suc n) book t list is = disk_number (suc n) book t (suc n) is.0 is.1
 
 -- a plan of DiskRevolve is in the disk class, its certificate is accepted for it, no list of the class costs less, and it is read again
-pub disk_least : (steps : ℕ) (book : List ℕ) (job : Job) → DecidesPlanDisk steps book (accept job) →
+pub disk_least : (steps : ℕ) (book : List ℕ) (job : Job) → steps ≤ 8192 → DecidesPlanDisk steps book (accept job) →
     (b : BookCosts) × IsBookText book b × (list : List Action) × (t : DiskRows) × (job ≡ write (list_pieces (names_of b) list ++ certificate_text.pieces (Disk t))) × IsDisk steps (slots_of b) list
     × IsAccepted list steps b (Disk t) × ((other : List Action) → IsDisk steps (slots_of b) other → cost list b ≤ cost other b) × SaysAgain steps b job list (Disk t)
-disk_least steps book job h =
+disk_least steps book job short h =
     let b = read_said (IsBookText book) _ bad_book job _ h in
     let few = need_met _ _ job _ b.1.1 in
     let two = need_met _ _ job _ few.1 in
     let unlimited = need_met _ _ job _ two.1 in
     let t = unlimited.1.0 in
-    let has = unlimited.1.1.0 in
+    let are = unlimited.1.1.0 in
     let greatest = unlimited.1.1.1.0 in
     let list = unlimited.1.1.1.1.0 in
     let is = unlimited.1.1.1.1.1.0 in
     let done : job ≡ write (list_pieces (names_of b.0) list ++ certificate_text.pieces (Disk t)) = ap (job_or job) unlimited.1.1.1.1.1.1 in
     let plan : HasDiskPlan b.0 = record { two = two.0; unlimited = unlimited.0 } in
+    let fits : FitsFastest steps b.0 = record { few = short; narrow = few.0 } in
+    let has = disk_has_text steps b.0 t (within_limits book b.0 b.1.0) fits (record { sized = are.0; plan = plan }) are.1 greatest in
     let top = disk_top_number steps b.0 (disk_tables_in t) list is in
     let costs = top.1 ∙ ap (λ n. number n) (sym (written_disk_costs steps b.0 (disk_tables_in t) list top.0 is top.1)) in
     let member = written_in_class steps b.0 (disk_tables_in t) list plan is in
-    let long = disk_written_few steps b.0 (disk_tables_in t) list is in
-    let short = has.fit.few in (
+    let long = disk_written_few steps b.0 (disk_tables_in t) list is in (
       b.0,
       b.1.0,
       list,
       t,
       done,
       member,
-      (member.nested.0, (has.fit, has.fast.sized), member, greatest.under, costs),
+      (member.nested.0, (fits, are.0), member, greatest.under, costs),
       (λ other class. disk_list_least steps b.0 (disk_tables_in t) list other greatest.under costs class),
       said_again steps book b.0 list (Disk t) job done (omega (arith, short)) b.1.0 (omega (arith, long, short)) member.nested.0 has,
     )
@@ -178,8 +183,7 @@ multistage_least steps book job h =
     let is = plan.1.1.0 in
     let threshold = plan.1.1.1.0 in
     let of = plan.1.1.1.1.0 in
-    let has = plan.1.1.1.1.1.0 in
-    let done : job ≡ write (list_pieces (names_of b.0) list ++ certificate_text.pieces (Places threshold)) = ap (job_or job) plan.1.1.1.1.1.1 in
+    let done : job ≡ write (list_pieces (names_of b.0) list ++ certificate_text.pieces (Places threshold)) = ap (job_or job) plan.1.1.1.1.1 in
     let member = planned_in_class steps b.0 list is in
     let valid = multistage_valid steps b.0 list member in
     let few : steps ≤ 1000000 → length list ≤ 16777216 = λ short. subst (λ (l : List Action). length l ≤ 16777216) (sym is.planned.is) (revolve_short is.level steps (total_room b.0 steps) is.plan short) in
@@ -192,5 +196,5 @@ multistage_least steps book job h =
       member,
       (valid, planned_fits threshold steps b.0 list of is),
       (λ other other_member. planned_least steps b.0 list other is rise.0 rise.1 other_member),
-      (λ short. said_again steps book b.0 list (Places threshold) job done short b.1.0 (few short) valid has),
+      (λ short. said_again steps book b.0 list (Places threshold) job done short b.1.0 (few short) valid (threshold_low threshold steps b.0 list short (within_limits book b.0 b.1.0) is of)),
     )

@@ -13,15 +13,15 @@ use Rattle.action_text.specs.ScheduleText.{IsSchedule}
 use Rattle.schedule_rules.proofs.Lawful.{one_break}
 use Rattle.rv_machine.specs.MachineState.{MachineState}
 use Rattle.reverse_runner.specs.KeepersSeen.{HaveRoom}
-use Rattle.reversal.specs.declared.ended.Ended.{Ended}
-use Rattle.reversal.specs.Request.{Choice}
-use Rattle.reversal.specs.Ending.{no_memory, unreadable, too_long as longer, bad_program, bad_journal, bad_book, bad_text, invalid, bad_certificate, out_of_range, no_plan}
+use Rattle.requests.specs.declared.ended.Ended.{Ended}
+use Rattle.requests.specs.Request.{Choice}
+use Rattle.requests.specs.Ending.{no_memory, unreadable, too_long as longer, bad_program, bad_journal, bad_book, bad_text, invalid, bad_certificate, out_of_range, no_plan}
 use Rattle.revolve_gen.specs.Plans.{HasPlan}
 use Rattle.revolve_gen.specs.Written.{revolve_list}
 use Rattle.revolve_gen.proofs.Books.{book_right}
-use Rattle.reversal.specs.Request.{says_raw, stack_pages, Command, run, run_revolve, plan, plan_periodic, check, certify, price, ask, demo, Request}
-use Rattle.reversal.specs.Inputs.{Input, inputs_of}
-use Rattle.reversal.specs.InputReading.{Reading, all, too_long, not_there, with_front, reading}
+use Rattle.requests.specs.Request.{says_raw, stack_pages, Command, run, run_revolve, plan, plan_periodic, check, certify, price, ask, demo, Request}
+use Rattle.requests.specs.Inputs.{Input, inputs_of}
+use Rattle.requests.specs.InputReading.{Reading, all, too_long, not_there, with_front, reading}
 use Rattle.multistage_gen.specs.Planned.{IsMultistageList}
 use Rattle.multistage_gen.proofs.Unique.{plans_unique}
 use Rattle.bound_cert.specs.Thresholds.{IsThresholdOf}
@@ -37,14 +37,14 @@ use Rattle.hrevolve_gen.proofs.Greatest.{plan_unique}
 use Rattle.disk_gen.specs.Periodic.{images, periodic_list}
 use Rattle.disk_gen.specs.Plans.{slots_at, HasSlots}
 use Rattle.reversal.specs.NoPlans.{IsUnperiodic, IsUndisked, IsUnnested}
-use Rattle.reversal.specs.declared.kind.PlanKind.{PlanKind}
-use Rattle.reversal.specs.declared.kind.PlanKind.TheVariants.{Revolve, Multistage, Disk, Hrevolve}
-use Rattle.reversal.specs.Plans.{list_pieces, plan_pieces, certificate_of}
+use Rattle.requests.specs.declared.kind.PlanKind.{PlanKind}
+use Rattle.requests.specs.declared.kind.PlanKind.TheVariants.{Revolve, Multistage, Disk, Hrevolve}
+use Rattle.reversal.specs.Plans.{list_pieces, plan_pieces, certificate_of, AreTablesFor, AreDiskTablesFor}
 use Rattle.reversal.proofs.Planned.{plan_valid, plan_certified, revolve_least}
 use Rattle.reversal.proofs.ReadAgain.{plan_read_again}
 use Rattle.reversal.specs.Demo as demonstration
-use Rattle.reversal.specs.declared.question.Question.{Question}
-use Rattle.reversal.specs.Bounds.{IsWithin, question_bound}
+use Rattle.requests.specs.declared.question.Question.{Question}
+use Rattle.requests.specs.Bounds.{IsWithin, question_bound}
 use Rattle.reversal.specs.Pricing.{list_report}
 use Rattle.level_book.specs.declared.book.Slots.TheVariants.{Unlimited}
 use Rattle.level_book.specs.DiskUnderTable.{IsGreatestDisk}
@@ -55,7 +55,7 @@ use Rattle.reversal.specs.Decision.{Decision, refuse, accept, Need, Read, Judge,
 use Rattle.reversal.specs.JobReading.{IsRefusal, IsUnweighed}
 use Rattle.reversal.proofs.Refused.{IsOne, Excludes, book_one, book_fault_one, book_excludes, start_one, program_fault_one, start_excludes, items_one, journal_fault_one, items_exclude, list_one, text_fault_one, list_excludes, IsRefusing, refusing_at, program_refuses, journal_refuses, book_refuses, text_refuses, program_fault_is_other, journal_fault_is_other, text_fault_is_other, certificate_one, certificate_fault_one, certificate_excludes, certificate_refuses, certificate_fault_is_other}
 use Rattle.cert_text.specs.declared.certificate.Certificate.{Certificate}
-use Rattle.cert_text.specs.Meaning.{HasText, IsCertificateText}
+use Rattle.cert_text.specs.Meaning.{IsCertificateText}
 use Rattle.cert_text.specs.Faults.{HasFirstFault as CertificateFirst}
 use Rattle.bound_cert.specs.Accepted.{class_of, IsAccepted, IsLeastOf}
 use Rattle.level_book.specs.CostFold.{forward}
@@ -66,7 +66,7 @@ use Rattle.reversal.proofs.LeastTables.{nested_same, disk_same}
 use Rattle.reversal.proofs.Weighing.{weigh_one, weigh_met, weigh_refusing, weigh_refuses}
 use Rattle.reversal.proofs.Keeping.{keep_one, keep_met, keep_refusing, keep_refuses, keep_accepts, keep_passes}
 use Rattle.action_text.specs.Faults.{HasFirstFault}
-use Rattle.reversal.proofs.Performing.{bytes_performed, steps_performed}
+use Rattle.reversal.proofs.Progress.{bytes_of_run, steps_of_run}
 use Rattle.reversal.proofs.Answered.{bytes_asked, steps_asked}
 
 -- ---- a decision is unique, line by line
@@ -158,7 +158,7 @@ multistage_one steps book c d =
     need_one (HasPlan steps (total_room b steps)) (no_plan steps (total_room b steps) 1) c d _ _ (λ x y.
     let list = plans_unique steps b x.0 y.0 x.1.0 y.1.0 in
     let threshold = one_threshold steps b y.0 x.1.1.0 y.1.1.0 (subst (λ (l : List Action). IsThresholdOf x.1.1.0 steps b l) list x.1.1.1.0) y.1.1.1.0 in
-    x.1.1.1.1.1 ∙ (λ i. accept (write (list_pieces (names_of b) (list i) ++ certificate_text.pieces (certified.Places (threshold i))))) ∙ sym y.1.1.1.1.1)))
+    x.1.1.1.1 ∙ (λ i. accept (write (list_pieces (names_of b) (list i) ++ certificate_text.pieces (certified.Places (threshold i))))) ∙ sym y.1.1.1.1)))
 
 -- two levels that are the first of their kind are one
 one_wide : (steps : ℕ) (book : BookCosts) (k l : ℕ) → IsFirstWide steps book k → IsFirstWide steps book l → k ≡ l
@@ -339,15 +339,16 @@ multistage_met steps book job h =
     let b = read_met _ _ bad_book job _ h in
     let two = need_met _ _ job _ b.1 in
     let plan = need_met _ _ job _ two.1 in
-    writes _ (ap (job_or job) plan.1.1.1.1.1.1)
+    writes _ (ap (job_or job) plan.1.1.1.1.1)
 
-pub tabulate_met : (steps : ℕ) (b : BookCosts) (job : Job) (Below : Type 0) → Tabulate steps b (accept job) Below → Below
-tabulate_met steps b job Below h = elim h [ inl n ↦ absurd (accept_refuse job _ n.1.1) | inr y ↦ y.1 ]
+pub tabulate_met : (steps : ℕ) (b : BookCosts) (job : Job) (Below : Type 0) → Tabulate steps b (accept job) Below → ((k : ℕ) → k < length b.levels → room b k steps ≤ 64) × Below
+tabulate_met steps b job Below h = elim h [ inl n ↦ absurd (accept_refuse job _ n.1.1) | inr y ↦ y ]
 
 hrevolve_met : (steps : ℕ) (book : List ℕ) (job : Job) → DecidesPlanHrevolve steps book (accept job) → IsMet job
 hrevolve_met steps book job h =
     let b = read_met _ _ bad_book job _ h in
-    let plan = need_met _ _ job _ (tabulate_met steps b.0 job _ b.1) in
+    let narrow = tabulate_met steps b.0 job _ b.1 in
+    let plan = need_met _ _ job _ narrow.1 in
     let read = plan.1.1.1.1 in
     writes _ (ap (job_or job) read.1.1)
 
@@ -475,7 +476,7 @@ silent_steps list = fold-map (λ n (d : Deed). n + d.steps) silent_deed 0 list
 met_output : (job : Job) → IsMet job → (shown : Shown) → bytes_written (deeds shown job) ≡ output shown job
 met_output job (performs first journal steps slots list valid is) shown =
     let P : Job → Type 0 = λ j. bytes_written (deeds shown j) ≡ output shown j in
-    subst P (sym is) (bytes_performed shown.states steps slots list valid)
+    subst P (sym is) (bytes_of_run shown.states steps slots list valid)
 met_output job (asks question first journal steps slots list within valid is) shown =
     let P : Job → Type 0 = λ j. bytes_written (deeds shown j) ≡ output shown j in
     subst P (sym is) (bytes_asked shown question first journal steps slots list within valid)
@@ -494,7 +495,7 @@ deeds_output r given slots job h =
     met_output job (bytes_met r.options r.command met.0 slots job met.1)
 
 pub deeds_steps : (shown : Shown) (job : Job) → steps_made (deeds shown job) ≡ steps_taken shown job
-deeds_steps shown (perform first journal steps slots list) = steps_performed shown.states steps list
+deeds_steps shown (perform first journal steps slots list) = steps_of_run shown.states steps list
 deeds_steps shown (ask_job question first journal steps slots list) = steps_asked shown question first journal steps slots list
 deeds_steps shown (write texts) = refl
 deeds_steps shown (demonstrate number first steps slots) =
@@ -673,7 +674,7 @@ multistage_refusing : (steps : ℕ) (book : List ℕ) (e : Ended) → DecidesPla
 multistage_refusing steps book e =
     read_refusing _ _ bad_book e _ (λ f h. book_refuses f h.1) (λ b.
     no_plan_refusing _ _ _ _ e _ (
-    plan_line_refusing steps b e _ (λ is. absurd (refuse_accept e _ is.1.1.1.1.1))))
+    plan_line_refusing steps b e _ (λ is. absurd (refuse_accept e _ is.1.1.1.1))))
 
 tabulate_refusing : (steps : ℕ) (b : BookCosts) (e : Ended) (Below : Type 0) → (Below → IsRefusing e) → Tabulate steps b (refuse e) Below → IsRefusing e
 tabulate_refusing steps b e Below below h = elim h [
@@ -868,9 +869,9 @@ multistage_by_plan steps book e b is_book h = elim h [
   ]
 ]
 
-pub multistage_accepted : (steps : ℕ) (book : List ℕ) (b : BookCosts) (list : List Action) (threshold : ℕ) → IsBookText book b → IsMultistageList steps b list → IsThresholdOf threshold steps b list → HasText steps b (certified.Places threshold) →
+pub multistage_accepted : (steps : ℕ) (book : List ℕ) (b : BookCosts) (list : List Action) (threshold : ℕ) → IsBookText book b → IsMultistageList steps b list → IsThresholdOf threshold steps b list →
     DecidesPlanMultistage steps book (accept (write (list_pieces (names_of b) list ++ certificate_text.pieces (certified.Places threshold))))
-multistage_accepted steps book b list threshold is_book is of has = inr (b, is_book, inr (ap length is.two, inr (is.plan, (list, (is, (threshold, (of, (has, refl))))))))
+multistage_accepted steps book b list threshold is_book is of = inr (b, is_book, inr (ap length is.two, inr (is.plan, (list, (is, (threshold, (of, refl)))))))
 
 -- ---- the lines of a plan of H-Revolve
 
@@ -888,7 +889,7 @@ hrevolve_by_plan steps book e b is_book narrow h = elim h [
 ]
 
 pub hrevolve_accepted : (steps : ℕ) (book : List ℕ) (b : BookCosts) (t : TableRows) (list : List Action) → IsBookText book b → ((k : ℕ) → k < length b.levels → room b k steps ≤ 64) → nested.HasPlan steps b →
-    HasText steps b (certified.Nested t) → IsGreatest steps b (tables_in t) → IsWritten steps b (tables_in t) list → DecidesPlanHrevolve steps book (accept (write (list_pieces (names_of b) list ++ certificate_text.pieces (certified.Nested t))))
+    AreTablesFor steps b t → IsGreatest steps b (tables_in t) → IsWritten steps b (tables_in t) list → DecidesPlanHrevolve steps book (accept (write (list_pieces (names_of b) list ++ certificate_text.pieces (certified.Nested t))))
 hrevolve_accepted steps book b t list is_book narrow planned has greatest is = inr (b, is_book, inr (narrow, inr (planned, (t, (has, (greatest, (list, (is, refl))))))))
 
 -- ---- the lines of a plan of DiskRevolve
@@ -909,7 +910,7 @@ disk_by_plan steps book e b is_book few h = elim h [
 ]
 
 pub disk_accepted : (steps : ℕ) (book : List ℕ) (b : BookCosts) (t : DiskRows) (list : List Action) → IsBookText book b → room b 0 steps ≤ 64 → length b.levels ≡ 2 → slice_get (slots_of b) 1 ≡ Some Unlimited →
-    HasText steps b (certified.Disk t) → IsGreatestDisk steps b (disk_tables_in t) → IsDiskWritten steps b (disk_tables_in t) list →
+    AreDiskTablesFor steps b t → IsGreatestDisk steps b (disk_tables_in t) → IsDiskWritten steps b (disk_tables_in t) list →
     DecidesPlanDisk steps book (accept (write (list_pieces (names_of b) list ++ certificate_text.pieces (certified.Disk t))))
 disk_accepted steps book b t list is_book few two unlimited has greatest is = inr (b, is_book, inr (few, inr (two, inr (unlimited, (t, (has, (greatest, (list, (is, refl)))))))))
 

@@ -1,5 +1,5 @@
 -- A run that is shown: what is known of it after each action.
-use Rattle.std.proofs.Common.{◌≡◌, ℕ, zero, suc, ◌+◌, ◌<◌, false, List, [], ◌∷◌, ◌++◌, length, map, take, append-nil, append_assoc, IsSome, Option, Some, None, Result, Ok, Err, OnOk, OnErr, MatchOption, refl, sym, ◌∙◌, ap, subst, arith, slice_get}
+use Rattle.std.proofs.Common.{◌≡◌, ℕ, zero, suc, ◌+◌, ◌*◌, ◌<◌, false, List, [], ◌∷◌, ◌++◌, length, map, take, append-nil, append_assoc, IsSome, Option, Some, None, Result, Ok, Err, OnOk, OnErr, MatchOption, refl, sym, ◌∙◌, ap, subst, arith, slice_get}
 use Rattle.std.specs.List.{flat_map}
 use Rattle.std.specs.Result.{result_ok}
 use Rattle.std.proofs.lemmas.Grind.{flat_map-append}
@@ -26,9 +26,10 @@ use Rattle.revolve_gen.proofs.Books.{book_right}
 use Rattle.rv_machine.specs.MachineState.{MachineState, IsMachineState}
 use Rattle.rv_machine.specs.States.{state_number}
 use Rattle.state_image.specs.Line.{line}
-use Rattle.reverse_runner.specs.Handed.{handed, handed_by}
+use Rattle.reverse_runner.specs.Handed.{handed, handed_by, countdown}
+use Rattle.reverse_runner.specs.Units.{unit_states}
 use Rattle.reverse_runner.specs.KeepersSeen.{HaveRoom, told_by}
-use Rattle.reverse_runner.specs.Performed.{Gets}
+use Rattle.reverse_runner.specs.Performed.{states_out, GetsAll}
 use Rattle.reverse_runner.specs.SessionState.{SessionState}
 use Rattle.reverse_runner.specs.Standing.{begun, Performs, StandsAt}
 use Rattle.reverse_runner.proofs.Handing.{valid_hands}
@@ -37,7 +38,8 @@ use Rattle.reversal.specs.declared.demo.Demonstrated.{Demonstrated}
 use Rattle.reversal.specs.declared.line_hasher.LineHasher.{LineHasher}
 use Rattle.reversal.specs.DemoReading.{IsAtStart, BreaksWithin}
 use Rattle.reversal.specs.Output.{line_of, lines_down}
-use Rattle.reversal.proofs.Showing.{on_tape, handed_more}
+use Rattle.reversal.proofs.Showing.{Shows, hands_of_run, handed_more}
+use Rattle.reversal.proofs.Progress.{one_times}
 
 -- ---- the start
 
@@ -53,13 +55,13 @@ one_tells steps slots keeper (suc n) within = absurd (omega (arith, within))
 
 -- a session over one keeper in memory
 pub at_start : (d : Demonstrated) (first : MachineState) (steps slots : ℕ) (before : List KeeperState) (keeper : KeeperState) → IsMachineState first → HasPlan steps (total_room (plain slots) steps) →
-    d.session ≡ begun first [] steps (slots_of (plain slots)) → d.actions ≡ revolve_list steps (plain slots) → before ≡ [] → d.keepers.items ≡ before ++ keeper ∷ [] → keeper.slots ≡ slots →
+    d.session ≡ begun first [] 1 steps (slots_of (plain slots)) → d.actions ≡ revolve_list steps (plain slots) → before ≡ [] → d.keepers.items ≡ before ++ keeper ∷ [] → keeper.slots ≡ slots →
     ((told : ℕ → Option Images) → ((k : ℕ) → k < length (slots_of (plain slots)) → IsSome (told k)) → StandsAt first d.session told) → IsAtStart d
 at_start d first steps slots before keeper good plan session actions none added room stands =
     let keepers : d.keepers.items ≡ keeper ∷ [] = added ∙ ap (λ l. l ++ keeper ∷ []) none in
     record {
       state = (let P : SessionState → Type 0 = λ s. IsMachineState s.work in subst P (sym session) good);
-      begun_so = session ∙ sym (ap (λ (s : SessionState). begun s.work s.journal s.situation.steps s.situation.slots) session);
+      begun_so = session ∙ sym (ap (λ (s : SessionState). begun s.work s.journal 1 s.situation.steps s.situation.slots) session);
       stands =
           (let P : SessionState → Type 0 = λ s. StandsAt s.work d.session (told_by (λ (k : KeeperState). Some k.images) d.keepers.items) in
           let Q : List KeeperState → Type 0 = λ ks. StandsAt first d.session (told_by (λ (k : KeeperState). Some k.images) ks) in
@@ -85,10 +87,11 @@ pub record HasDone (d now : Demonstrated) (hasher : LineHasher) (before after : 
   pub steps : now.session.situation.steps ≡ d.session.situation.steps
   pub slots : now.session.situation.slots ≡ d.session.situation.slots
   pub journal : now.session.journal ≡ d.session.journal
+  pub unit : now.session.unit ≡ 1
   pub leads : Leads d.session.situation.steps d.session.situation.slots (start d.session.situation.steps d.session.situation.slots) done now.session.situation.at
   pub room : map (λ (k : KeeperState). k.slots) now.keepers.items ≡ map (λ (k : KeeperState). k.slots) d.keepers.items
   pub stands : StandsAt d.session.work now.session (told_by (λ (k : KeeperState). Some k.images) now.keepers.items)
-  pub hashed : Holds256 hasher.hasher (flat_map (line_of (state_number d.session.work d.session.journal)) (handed d.session.situation.steps done))
+  pub hashed : Holds256 hasher.hasher (flat_map (line_of (state_number d.session.work d.session.journal)) (handed 1 d.session.situation.steps done))
   pub counted : after ≡ before + forward done
 
 pub none_done : (d : Demonstrated) (hasher : LineHasher) (n : ℕ) → IsAtStart d → Holds256 hasher.hasher [] → HasDone d d hasher n n
@@ -99,6 +102,7 @@ none_done d hasher n h holds = record {
   steps = refl;
   slots = refl;
   journal = refl;
+  unit = ap (λ (s : SessionState). s.unit) h.begun_so;
   leads = ap (λ (s : SessionState). s.situation.at) h.begun_so;
   room = refl;
   stands = h.stands;
@@ -139,35 +143,26 @@ abbrev pub Hashed : LineHasher → ℕ → MachineState → List (List ℕ) → 
 Hashed h n s journal g = (lines : List ℕ) → Holds256 h.hasher lines → Holds256 g.hasher (lines ++ (line n s ++ 10 ∷ []))
 
 -- the hasher holds the lines of the states that one action more hands out
-hashed_more : (first : MachineState) (journal other : List (List ℕ)) (steps : ℕ) (slots : List Slots) (c : Configuration) (a : Action) (d : Configuration) (work tape : MachineState) (x y : LineHasher) (lines : List ℕ) →
-    Goes steps slots c a d → work ≡ state_number first journal c.work → TapeIs first journal c.tape tape → MatchOption c.tape (Unit {0}) (λ t. t + 1 ≡ c.reverse) →
-    Gets Hashed other a c.work work tape x y → Holds256 x.hasher lines → Holds256 y.hasher (lines ++ flat_map (line_of (state_number first journal)) (handed_by steps a))
-hashed_more first journal other steps slots c a d work tape x y lines g here taped next got holds = by_cases a g got
-  where
-    nothing : y ≡ x → Holds256 y.hasher (lines ++ [])
-    nothing e =
-        let P : LineHasher → Type 0 = λ v. Holds256 v.hasher (lines ++ []) in
-        let Q : List ℕ → Type 0 = λ l. Holds256 x.hasher l in
-        subst P (sym e) (subst Q (sym (append-nil lines)) holds)
-
-    one : (n m : ℕ) (state : MachineState) → Hashed x n state other y → n ≡ m → state ≡ state_number first journal m → Holds256 y.hasher (lines ++ (line_of (state_number first journal) m ++ []))
-    one n m state got same is =
-        let P : List ℕ → Type 0 = λ l. Holds256 y.hasher (lines ++ l) in
-        subst P ((λ i. line (same i) (is i) ++ 10 ∷ []) ∙ sym (append-nil (line_of (state_number first journal) m))) (got lines holds)
-
-    by_cases : (a : Action) → Goes steps slots c a d → Gets Hashed other a c.work work tape x y → Holds256 y.hasher (lines ++ flat_map (line_of (state_number first journal)) (handed_by steps a))
-    by_cases (Forward from to keep) g got = nothing got
-    by_cases (Copy n k dest) g got = nothing got
-    by_cases (Move n k dest) g got = nothing got
-    by_cases EndReverse g got = nothing got
-    by_cases EndForward g got = one c.work steps work got g.2 (here ∙ ap (state_number first journal) g.2)
-    by_cases (Reverse from to) g got = one to to tape got refl (on_tape first journal c.tape tape c.reverse to g.2 next (g.4 ∙ g.3) taped)
+hashed_more : (shown : ℕ → MachineState) (journal : List (List ℕ)) (numbers : List ℕ) (states : List MachineState) (x y : LineHasher) (lines : List ℕ) → Shows shown numbers states →
+    GetsAll Hashed journal numbers states x y → Holds256 x.hasher lines → Holds256 y.hasher (lines ++ flat_map (line_of shown) numbers)
+hashed_more shown journal [] [] x y lines shows got holds =
+    let P : LineHasher → Type 0 = λ v. Holds256 v.hasher (lines ++ []) in
+    let Q : List ℕ → Type 0 = λ l. Holds256 x.hasher l in
+    subst P (sym got) (subst Q (sym (append-nil lines)) holds)
+hashed_more shown journal [] (s ∷ states) x y lines shows got holds = absurd got
+hashed_more shown journal (n ∷ numbers) [] x y lines shows got holds = absurd got
+hashed_more shown journal (n ∷ numbers) (s ∷ states) x y lines shows got holds =
+    let P : List ℕ → Type 0 = λ l. Holds256 got.0.hasher (lines ++ l) in
+    let Q : List ℕ → Type 0 = λ l. Holds256 y.hasher l in
+    let here = subst P (ap (λ s. line n s ++ 10 ∷ []) (sym shows.0)) (got.1.0 lines holds) in
+    subst Q (append_assoc lines (line_of shown n) (flat_map (line_of shown) numbers)) (hashed_more shown journal numbers states got.0 y (lines ++ line_of shown n) shows.1 got.1.1 here)
 
 -- one action more was done
 pub one_more_done : (d now then : Demonstrated) (hasher hasher' : LineHasher) (before after after' : ℕ) (a : Action) → HasDone d now hasher before after → now.actions ≡ a ∷ then.actions →
     Performs now.session a then.session → map (λ (k : KeeperState). k.slots) then.keepers.items ≡ map (λ (k : KeeperState). k.slots) now.keepers.items →
     StandsAt d.session.work then.session (told_by (λ (k : KeeperState). Some k.images) then.keepers.items) →
-    Gets Hashed now.session.journal a now.session.situation.at.work now.session.work now.session.tape hasher hasher' → after' ≡ after + steps_of a → HasDone d then hasher' before after'
+    GetsAll Hashed now.session.journal (handed_by now.session.unit now.session.situation.steps a) (states_out a now.session.work now.session.tape.states) hasher hasher' →
+    after' ≡ after + now.session.unit * steps_of a → HasDone d then hasher' before after'
 one_more_done d now then hasher hasher' before after after' a h next performs room stands got counted =
     let steps = d.session.situation.steps in
     let slots = d.session.situation.slots in
@@ -178,8 +173,11 @@ one_more_done d now then hasher hasher' before after after' a h next performs ro
     let G : ℕ → Type 0 = λ n. Goes n now.session.situation.slots c a then.session.situation.at in
     let H : List Slots → Type 0 = λ s. Goes steps s c a then.session.situation.at in
     let goes = subst H h.slots (subst G h.steps performs.goes) in
-    let W : List (List ℕ) → Type 0 = λ j. now.session.work ≡ state_number first j c.work in
-    let T : List (List ℕ) → Type 0 = λ j. TapeIs first j c.tape now.session.tape in
+    let W : List (List ℕ) → ℕ → Type 0 = λ j u. now.session.work ≡ unit_states first j u c.work in
+    let T : List (List ℕ) → ℕ → Type 0 = λ j u. TapeIs first j u c.tape now.session.tape in
+    let N : ℕ → ℕ → Type 0 = λ u n. GetsAll Hashed now.session.journal (handed_by u n a) (states_out a now.session.work now.session.tape.states) hasher hasher' in
+    let work = subst (λ j. W j 1) h.journal (subst (W now.session.journal) h.unit h.stands.work) in
+    let tape = subst (λ j. T j 1) h.journal (subst (T now.session.journal) h.unit h.stands.tape) in
     let L : List ℕ → Type 0 = λ l. Holds256 hasher'.hasher l in
     let taped = (sound_on steps slots (start steps slots) h.done c (sound_start steps slots) h.leads).tape_is_next in
     record {
@@ -189,14 +187,19 @@ one_more_done d now then hasher hasher' before after after' a h next performs ro
       steps = performs.steps ∙ h.steps;
       slots = performs.slots ∙ h.slots;
       journal = performs.journal ∙ h.journal;
+      unit = performs.unit ∙ h.unit;
       leads = leads_more steps slots (start steps slots) h.done c a then.session.situation.at h.leads goes;
       room = room ∙ h.room;
       stands = stands;
       hashed =
           subst L
-          (sym (flat_map-append (line_of states) (handed steps h.done) (handed_by steps a)) ∙ ap (flat_map (line_of states)) (sym (handed_more steps h.done a)))
-          (hashed_more first journal now.session.journal steps slots c a then.session.situation.at now.session.work now.session.tape hasher hasher' _ goes (subst W h.journal h.stands.work) (subst T h.journal h.stands.tape) taped got h.hashed);
-      counted = let two = sum_by-append steps_of h.done (a ∷ []) in omega (arith, two, h.counted, counted);
+          (sym (flat_map-append (line_of states) (handed 1 steps h.done) (handed_by 1 steps a)) ∙ ap (flat_map (line_of states)) (sym (handed_more 1 steps h.done a)))
+          (hashed_more states now.session.journal (handed_by 1 steps a) (states_out a now.session.work now.session.tape.states) hasher hasher' _ (hands_of_run first journal 1 steps slots c a then.session.situation.at now.session.work now.session.tape goes work tape taped)
+          (subst (N 1) h.steps (subst (λ u. N u now.session.situation.steps) h.unit got)) h.hashed);
+      counted =
+          (let two = sum_by-append steps_of h.done (a ∷ []) in
+          let one = ap (λ u. after + u * steps_of a) h.unit in
+          omega (arith, two, h.counted, counted, one));
     }
 
 -- ---- the end
@@ -221,7 +224,7 @@ all_done d now hasher before after at_start h none =
     let whole : d.actions ≡ h.done = h.split ∙ ap (λ l. h.done ++ l) none ∙ append-nil h.done in
     let states = state_number d.session.work d.session.journal in
     let P : List ℕ → Type 0 = λ l. Holds256 hasher.hasher (flat_map (line_of states) l) in (
-      subst P (ap (handed d.session.situation.steps) (sym whole) ∙ valid_hands d.session.situation.steps d.session.situation.slots d.actions at_start.valid) h.hashed,
+      subst P (ap (handed 1 d.session.situation.steps) (sym whole) ∙ valid_hands 1 d.session.situation.steps d.session.situation.slots d.actions at_start.valid ∙ ap countdown (one_times d.session.situation.steps)) h.hashed,
       h.counted ∙ ap (λ l. before + forward l) (sym whole),
     )
 

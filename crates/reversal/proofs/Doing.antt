@@ -1,14 +1,13 @@
 -- What was done of a list of deeds, one after the other.
-use Rattle.std.proofs.Common.{◌≡◌, ◌≢◌, ◌⊎◌, ℕ, ◌+◌, ◌-◌, ◌<◌, ◌≤◌, List, [], ◌∷◌, ◌++◌, length, take, append-nil, append_assoc, Option, None, Some, refl, sym, ◌∙◌, ap, subst, arith, slice_get, sum_by}
+use Rattle.std.proofs.Common.{◌≡◌, ℕ, ◌+◌, ◌<◌, ◌≤◌, List, [], ◌∷◌, ◌++◌, length, take, append-nil, append_assoc, Option, None, Some, refl, sym, ◌∙◌, ap, subst, arith, slice_get, sum_by}
 use Rattle.std.proofs.lemmas.Grind.{flat_map-append}
 use Rattle.std.proofs.lemmas.List.Sums.{sum_by-append}
-use Rattle.sha2.specs.Sha256.{sha256}
 use Rattle.keepers.specs.Counts.{raised}
 use Rattle.keepers.specs.Told.{Tells, AddsPrefix}
 use Rattle.schedule_rules.proofs.Judging.{take_one_more}
 use Rattle.reverse_runner.specs.KeepersSeen.{Calls, Called, CalledAtMost}
 use Rattle.reversal.specs.Output.{Adds}
-use Rattle.reversal.specs.Deeds.{Deed, bytes_of, bytes_written, writes_made, steps_made, calls_made, Moment, Did, DidUntil, BreaksOff, AddsAndPart, Job, CallsLevel, FailsAt, DamagedAt, Halts, MayWant, IsNoImageOf, AllTell, levels_of}
+use Rattle.reversal.specs.Deeds.{Deed, bytes_of, bytes_written, writes_made, steps_made, calls_made, Moment, Did, DidUntil, BreaksOff, AddsAndPart, Job, Shown, deeds, IsShownNext, SparesNext, AllLevels, WentThrough, CallsLevel, FailsAt, IsDamagedIn, DamagedAt, Halts, MayWant, AllTell, levels_of}
 
 -- what is told after two calls
 pub tells_then : {A : Type 0} (x y z : Option A) (P Q R : A → A → Type 0) → ((a b c : A) → P a b → Q b c → R a c) → Tells x y P → Tells y z Q → Tells x z R
@@ -113,28 +112,64 @@ still_called m a b c called none = record {
   free_calls = λ k. let h = called.free_calls k in let n = none.free_calls k in omega (arith, h, n.0, n.1);
 }
 
--- the deeds before a place were done, and the first piece of the deed there was written in part
-pub did_until : (ds : List Deed) (i place : ℕ) (d : Deed) (piece : List ℕ) (a b c : Moment) → slice_get ds i ≡ Some d → place ≡ i + 1 → slice_get d.pieces 0 ≡ Some piece →
-    Did (take i ds) a b → Tells b.told c.told (AddsPrefix piece) → c.writes ≡ raised b.writes 1 → c.steps ≡ b.steps →
-    CalledAtMost (record { puts = λ _. 0; gets = λ _. 0; frees = λ _. 0 }) b.calls c.calls → DidUntil ds place a c
-did_until ds i place d piece a b c at is next before part wrote still uncalled =
-    let here : place - 1 ≡ i = omega (arith, is) in
-    let W : ℕ → List ℕ = λ n. bytes_written (take n ds) in
-    let C : ℕ → Type 0 = λ n. Called (calls_made (take n ds)) a.calls c.calls in
+-- So many deeds of a list were done, and of the next one some pieces, and a part of the one behind them.
+pub record IsUntil (ds : List Deed) (performed : ℕ) (old new : Moment) : Type 0 where
+  pub deed : Deed
+  pub there : slice_get ds performed ≡ Some deed
+  pub whole : ℕ
+  pub piece : List ℕ
+  pub next : slice_get deed.pieces whole ≡ Some piece
+  pub added : Tells old.told new.told (AddsAndPart (bytes_written (take performed ds) ++ bytes_of (take whole deed.pieces)) piece)
+  pub wrote : new.writes ≡ raised old.writes (writes_made (take performed ds) + (whole + 1))
+  pub counted : new.steps ≡ old.steps + steps_made (take performed ds)
+  pub called : Called (calls_made (take performed ds)) old.calls new.calls
+
+pub is_until : (ds : List Deed) (i : ℕ) (d : Deed) (whole : ℕ) (piece : List ℕ) (a b c : Moment) → slice_get ds i ≡ Some d → slice_get d.pieces whole ≡ Some piece →
+    Did (take i ds) a b → Tells b.told c.told (AddsAndPart (bytes_of (take whole d.pieces)) piece) → c.writes ≡ raised b.writes (whole + 1) → c.steps ≡ b.steps →
+    CalledAtMost (record { puts = λ _. 0; gets = λ _. 0; frees = λ _. 0 }) b.calls c.calls → IsUntil ds i a c
+is_until ds i d whole piece a b c at next before part wrote still uncalled =
+    let front = bytes_written (take i ds) in
+    let some = bytes_of (take whole d.pieces) in
     record {
-      from_one = omega (arith, is);
       deed = d;
-      there = ap (slice_get ds) here ∙ at;
-      whole = 0;
+      there = at;
+      whole = whole;
       piece = piece;
       next = next;
-      added = tells_then a.told b.told c.told (Adds (W i)) (AddsPrefix piece) (AddsAndPart (W (place - 1) ++ []) piece) (λ x y z p q. (
+      added = tells_then a.told b.told c.told (Adds front) (AddsAndPart some piece) (AddsAndPart (front ++ some) piece) (λ x y z p q. (
         q.0,
-        q.1 ∙ ap (λ l. l ++ take q.0 piece) (p ∙ ap (λ n. x ++ W n) (sym here) ∙ ap (λ l. x ++ l) (sym (append-nil (W (place - 1))))),
+        q.1 ∙ ap (λ l. l ++ take q.0 piece) (ap (λ l. l ++ some) p ∙ append_assoc x front some),
       )) before.added part;
-      wrote = raised_then a.writes b.writes c.writes (writes_made (take i ds)) 1 before.wrote wrote ∙ ap (λ n. raised a.writes (writes_made (take n ds) + (0 + 1))) (sym here);
-      counted = let same = ap (λ n. steps_made (take n ds)) here in omega (arith, same, before.counted, still);
-      called = subst C (sym here) (still_called (calls_made (take i ds)) a.calls b.calls c.calls before.called uncalled);
+      wrote = raised_then a.writes b.writes c.writes (writes_made (take i ds)) (whole + 1) before.wrote wrote;
+      counted = omega (arith, before.counted, still);
+      called = still_called (calls_made (take i ds)) a.calls b.calls c.calls before.called uncalled;
+    }
+
+-- of the first piece a part
+pub is_until_first : (ds : List Deed) (i : ℕ) (d : Deed) (piece : List ℕ) (a b c : Moment) → slice_get ds i ≡ Some d → slice_get d.pieces 0 ≡ Some piece →
+    Did (take i ds) a b → Tells b.told c.told (AddsPrefix piece) → c.writes ≡ raised b.writes 1 → c.steps ≡ b.steps →
+    CalledAtMost (record { puts = λ _. 0; gets = λ _. 0; frees = λ _. 0 }) b.calls c.calls → IsUntil ds i a c
+is_until_first ds i d piece a b c at next before part wrote still uncalled =
+    is_until ds i d 0 piece a b c at next before
+    (tells_so b.told c.told (AddsPrefix piece) (AddsAndPart [] piece) (λ x y p. (p.0, p.1 ∙ ap (λ l. l ++ take p.0 piece) (sym (append-nil x)))) part)
+    wrote still uncalled
+
+-- the same of the deeds of a job
+pub did_until : (shown : Shown) (job : Job) (ds : List Deed) (i : ℕ) (a c : Moment) → deeds shown job ≡ ds → IsUntil ds i a c → IsShownNext job shown i a c → WentThrough AllLevels shown job i a c → DidUntil shown job i a c
+did_until shown job ds i a c are until shows went =
+    let h = subst (λ (es : List Deed). IsUntil es i a c) (sym are) until in
+    record {
+      deed = h.deed;
+      there = h.there;
+      whole = h.whole;
+      piece = h.piece;
+      next = h.next;
+      added = h.added;
+      wrote = h.wrote;
+      counted = h.counted;
+      called = h.called;
+      shows = shows;
+      went = went;
     }
 
 -- the sum over one deed more
@@ -178,24 +213,18 @@ broke_off ds i d a b c at before told writes steps called =
     )
 
 -- the keeper of a level that the deed calls failed there
-pub failed_at : (ds : List Deed) (i level : ℕ) (d : Deed) (a c : Moment) → ((breaks : BreaksOff ds i a c) × (breaks.next ≡ d)) → CallsLevel d level → FailsAt ds (i + 1) level a c
-failed_at ds i level d a c broke calls =
-    let P : ℕ → Type 0 = λ n. (breaks : BreaksOff ds n a c) × CallsLevel breaks.next level in
+pub failed_at : (shown : Shown) (job : Job) (i level : ℕ) (d : Deed) (a c : Moment) → ((breaks : BreaksOff (deeds shown job) i a c) × (breaks.next ≡ d)) → CallsLevel d level → WentThrough SparesNext shown job i a c → FailsAt shown job i level a c
+failed_at shown job i level d a c broke calls went =
     let C : Deed → Type 0 = λ e. CallsLevel e level in
-    let here : i + 1 - 1 ≡ i = omega arith in
-    let at = subst P (sym here) (broke.0, subst C (sym broke.1) calls) in
-    record { from_one = omega arith; breaks = at.0; calls = at.1 }
+    record { breaks = broke.0; calls = subst C (sym broke.1) calls; went = went }
 
 -- an image of a level that the deed gets was damaged there
-pub damaged_at : (job : Job) (ds : List Deed) (i level : ℕ) (put got : List ℕ) (d : Deed) (a c : Moment) → ((breaks : BreaksOff ds i a c) × (breaks.next ≡ d)) → 0 < d.calls.gets level →
-    ((got ≢ put) ⊎ ((bytes : List ℕ) × ((got ≡ sha256 bytes) × IsNoImageOf job bytes))) → (AllTell (levels_of job) a.images → ⊥) → DamagedAt job ds (i + 1) level put got a c
-damaged_at job ds i level put got d a c broke gets wrong silent =
-    let P : ℕ → Type 0 = λ n. (breaks : BreaksOff ds n a c) × (0 < breaks.next.calls.gets level) in
+pub damaged_at : (shown : Shown) (job : Job) (i level : ℕ) (put got : List ℕ) (d : Deed) (a c : Moment) → ((breaks : BreaksOff (deeds shown job) i a c) × (breaks.next ≡ d)) → 0 < d.calls.gets level →
+    IsDamagedIn job i level put got a → (AllTell (levels_of job) a.images → ⊥) → WentThrough AllLevels shown job i a c → DamagedAt shown job i level put got a c
+damaged_at shown job i level put got d a c broke gets damaged silent went =
     let C : Deed → Type 0 = λ e. 0 < e.calls.gets level in
-    let here : i + 1 - 1 ≡ i = omega arith in
-    let at = subst P (sym here) (broke.0, subst C (sym broke.1) gets) in
-    record { from_one = omega arith; breaks = at.0; gets = at.1; wrong = wrong; silent = silent }
+    record { breaks = broke.0; gets = subst C (sym broke.1) gets; damaged = damaged; silent = silent; went = went }
 
 -- the deed wanted memory
-pub halted_at : (job : Job) (ds : List Deed) (i : ℕ) (d : Deed) (a c : Moment) → ((breaks : BreaksOff ds i a c) × (breaks.next ≡ d)) → MayWant job d → Halts job ds a c
-halted_at job ds i d a c broke wants = record { performed = i; breaks = broke.0; wants = subst (MayWant job) (sym broke.1) wants }
+pub halted_at : (shown : Shown) (job : Job) (i : ℕ) (d : Deed) (a c : Moment) → ((breaks : BreaksOff (deeds shown job) i a c) × (breaks.next ≡ d)) → MayWant job d → WentThrough SparesNext shown job i a c → Halts shown job a c
+halted_at shown job i d a c broke wants went = record { performed = i; breaks = broke.0; wants = subst (MayWant job) (sym broke.1) wants; went = went }

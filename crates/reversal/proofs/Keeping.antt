@@ -3,8 +3,8 @@ use Rattle.std.proofs.Common.{◌≡◌, ◌⊎◌, inl, inr, ℕ, zero, suc, �
 use Rattle.std.proofs.lemmas.Bool.{cases_order}
 use Rattle.level_book.specs.declared.book.Slots.{Slots}
 use Rattle.reverse_runner.specs.KeepersSeen.{HaveRoom}
-use Rattle.reversal.specs.declared.ended.Ended.{Ended}
-use Rattle.reversal.specs.Ending.{no_memory, few_keepers, small_keeper}
+use Rattle.requests.specs.declared.ended.Ended.{Ended}
+use Rattle.requests.specs.Ending.{no_memory, few_keepers, small_keeper}
 use Rattle.reversal.specs.Deeds.{Job}
 use Rattle.reversal.specs.Decision.{Decision, refuse, accept, IsFirstSmall, Keep}
 use Rattle.reversal.proofs.Refused.{IsRefusing, refusing_past}

@@ -1,15 +1,7 @@
-pub mod Steps
-pub mod Decimal
-pub mod Texts
-pub mod Addresses
-pub mod Requests
-pub mod Refusing
-pub mod Placing
-pub mod Lists
-pub mod Taking
 pub mod OnTheWay
 pub mod Doing
 pub mod Showing
+pub mod Through
 pub mod Performing
 pub mod Answered
 pub mod Progress
@@ -31,3 +23,6 @@ pub mod BookTexts
 pub mod Lengths
 pub mod ClassPlans
 pub mod Costing
+pub mod RunLists
+pub mod DemoStart
+pub mod Coming

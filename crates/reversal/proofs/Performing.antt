@@ -1,10 +1,12 @@
 -- The deeds of a performed list: what a writer of lines writes for its actions, on the way through a valid list.
-use Rattle.std.proofs.Common.{◌≡◌, ◌⊎◌, inl, inr, ℕ, zero, suc, ◌==◌, true, get_or, eq-eqb, ◌+◌, ◌<◌, List, [], ◌∷◌, ◌++◌, length, map, append-nil, Option, Some, Contains, refl, sym, ◌∙◌, ap, subst, arith, slice_get}
+use Rattle.std.proofs.Common.{◌≡◌, ◌⊎◌, inl, inr, ℕ, zero, suc, ◌==◌, true, get_or, eq-eqb, ◌+◌, ◌*◌, ◌<◌, List, [], ◌∷◌, ◌++◌, length, map, take, append-nil, append_assoc, Option, Some, Contains, refl, sym, ◌∙◌, ap, subst, arith, slice_get}
+use Rattle.std.proofs.Math.Nat.{mul-zero}
+use Rattle.std.proofs.lemmas.List.Sums.{sum_by-cons}
 use Rattle.std.specs.List.{flat_map}
 use Rattle.std.proofs.lemmas.Bool.{false≢true}
 use Rattle.std.proofs.lemmas.Option.{same_Some}
 use Rattle.std.proofs.lemmas.Grind.{flat_map-append}
-use Rattle.std.proofs.lemmas.List.Folds.{flat_map-map, fold-map}
+use Rattle.std.proofs.lemmas.List.Folds.{flat_map-map}
 use Rattle.plan_types.specs.declared.action.Keep.TheVariants.{Nothing, Store, Tape}
 use Rattle.plan_types.specs.declared.action.Dest.TheVariants.{Work, Level}
 use Rattle.plan_types.specs.declared.action.Action.{Action}
@@ -20,15 +22,15 @@ use Rattle.keepers.specs.Told.{Images, Tells, AddsPrefix}
 use Rattle.rv_machine.specs.MachineState.{MachineState}
 use Rattle.state_image.specs.Line.{line}
 use Rattle.reverse_runner.specs.declared.line_writer.LineWriter.{LineWriter}
-use Rattle.reverse_runner.specs.Performed.{Gets, Misses, calls_keepers}
+use Rattle.reverse_runner.specs.Performed.{states_out, GetsAll, MissesOne, calls_keepers}
 use Rattle.reverse_runner.specs.KeepersSeen.{Called, calls_to, calls_of, one_if}
 use Rattle.reverse_runner.specs.Handed.{handed_by, handed}
 use Rattle.reverse_runner.specs.Standing.{pair_read}
 use Rattle.reverse_runner.proofs.Getting.{gets_keeps}
 use Rattle.reverse_runner.proofs.Handing.{valid_hands}
-use Rattle.reversal.specs.Output.{line_of, lines_down}
-use Rattle.reversal.specs.Deeds.{Deed, States, deed_of, moment, Did, bytes_of, bytes_written, steps_made, CallsLevel}
-use Rattle.reversal.proofs.Doing.{tells_nothing, raised_none, did_one}
+use Rattle.reversal.specs.Output.{line_of, lines_down, Adds}
+use Rattle.reversal.specs.Deeds.{Deed, States, deed_of, moment, Did, AddsAndPart, bytes_of, bytes_written, steps_made, CallsLevel}
+use Rattle.reversal.proofs.Doing.{tells_then, tells_so, tells_nothing, raised_then, raised_none, did_one}
 use Rattle.reversal.proofs.Showing.{Shows}
 
 -- the writer's relation for a state that it gets: it writes to the same sink, and in one call the line was added
@@ -46,114 +48,138 @@ Missed told writes w n s journal v =
     × (writes v.out.now ≡ raised (writes w.out.now) 1)
 
 -- after an action the writer writes to the same sink
-pub same_sink : {X : Type 0} (told : X → Option (List ℕ)) (writes : X → ℕ) (journal : List (List ℕ)) (a : Action) (position : ℕ) (work tape : MachineState) (x y : LineWriter X) →
-    Gets (Wrote told writes) journal a position work tape x y → y.out.ghost_name ≡ x.out.ghost_name
-same_sink {X} told writes = gets_keeps (Wrote told writes) (λ (x : LineWriter X) (y : LineWriter X). y.out.ghost_name ≡ x.out.ghost_name) (λ x n s journal y got. got.0) (λ x. refl)
+pub same_sink : {X : Type 0} (told : X → Option (List ℕ)) (writes : X → ℕ) (journal : List (List ℕ)) (numbers : List ℕ) (states : List MachineState) (x y : LineWriter X) →
+    GetsAll (Wrote told writes) journal numbers states x y → y.out.ghost_name ≡ x.out.ghost_name
+same_sink {X} told writes =
+    gets_keeps (Wrote told writes) (λ (x : LineWriter X) (y : LineWriter X). y.out.ghost_name ≡ x.out.ghost_name) (λ x n s journal y got. got.0) (λ x. refl) (λ x y z h g. g ∙ h)
 
 -- and after one that was missed
-pub same_sink_missed : {X : Type 0} (told : X → Option (List ℕ)) (writes : X → ℕ) (journal : List (List ℕ)) (a : Action) (position : ℕ) (work tape : MachineState) (x y : LineWriter X) →
-    Misses (Missed told writes) journal a position work tape x y → y.out.ghost_name ≡ x.out.ghost_name
-same_sink_missed told writes journal (Forward from to keep) position work tape x y h = absurd h
-same_sink_missed told writes journal (Reverse from to) position work tape x y h = h.0
-same_sink_missed told writes journal (Copy n from dest) position work tape x y h = absurd h
-same_sink_missed told writes journal (Move n from dest) position work tape x y h = absurd h
-same_sink_missed told writes journal EndForward position work tape x y h = h.0
-same_sink_missed told writes journal EndReverse position work tape x y h = absurd h
+pub same_sink_missed : {X : Type 0} (told : X → Option (List ℕ)) (writes : X → ℕ) (journal : List (List ℕ)) (numbers : List ℕ) (states : List MachineState) (x y : LineWriter X) →
+    MissesOne (Wrote told writes) (Missed told writes) journal numbers states x y → y.out.ghost_name ≡ x.out.ghost_name
+same_sink_missed told writes journal [] states x y h = absurd h
+same_sink_missed told writes journal (n ∷ numbers) [] x y h = absurd h
+same_sink_missed told writes journal (n ∷ numbers) (s ∷ states) x y h = elim h [
+  | inl missed ↦ missed.0
+  | inr later ↦ same_sink_missed told writes journal numbers states later.0 y later.1.1 ∙ later.1.0.0
+]
 
 -- the line of a state that is shown
-the_line : (shown : States) (n m : ℕ) (state : MachineState) → shown m ≡ state → n ≡ m → line n state ++ 10 ∷ [] ≡ line_of shown m
-the_line shown n m state is same = (λ i. line (same i) (sym is i) ++ 10 ∷ [])
+the_line : (shown : States) (n : ℕ) (state : MachineState) → shown n ≡ state → line n state ++ 10 ∷ [] ≡ line_of shown n
+the_line shown n state is = ap (λ s. line n s ++ 10 ∷ []) (sym is)
+
+-- the lines of the states that a writer got
+got_lines : {X : Type 0} (told : X → Option (List ℕ)) (writes : X → ℕ) (shown : States) (journal : List (List ℕ)) (numbers : List ℕ) (states : List MachineState) (x y : LineWriter X) →
+    Shows shown numbers states → GetsAll (Wrote told writes) journal numbers states x y →
+    Tells (told x.out.now) (told y.out.now) (Adds (bytes_of (map (line_of shown) numbers))) × (writes y.out.now ≡ raised (writes x.out.now) (length (map (line_of shown) numbers)))
+got_lines told writes shown journal [] [] x y shows got =
+    (tells_nothing _ _ (ap (λ w. told w.out.now) got), ap (λ w. writes w.out.now) got ∙ raised_none (writes x.out.now))
+got_lines told writes shown journal [] (s ∷ states) x y shows got = absurd got
+got_lines told writes shown journal (n ∷ numbers) [] x y shows got = absurd got
+got_lines told writes shown journal (n ∷ numbers) (s ∷ states) x y shows got =
+    let z = got.0 in
+    let here = got.1.0 in
+    let there = got_lines told writes shown journal numbers states z y shows.1 got.1.1 in
+    let rest = bytes_of (map (line_of shown) numbers) in
+    let same = the_line shown n s shows.0 in (
+      tells_then (told x.out.now) (told z.out.now) (told y.out.now) (λ old new. new ≡ old ++ (line n s ++ 10 ∷ [])) (Adds rest) (Adds (line_of shown n ++ rest)) (λ a b c p q.
+          q ∙ ap (λ l. l ++ rest) (p ∙ ap (λ l. a ++ l) same) ∙ append_assoc a (line_of shown n) rest) here.1 there.0,
+      (let more = raised_then (writes x.out.now) (writes z.out.now) (writes y.out.now) 1 (length (map (line_of shown) numbers)) here.2 there.1 in
+          let one : 1 + length (map (line_of shown) numbers) ≡ length (map (line_of shown) (n ∷ numbers)) = omega arith in
+          more ∙ ap (raised (writes x.out.now)) one),
+    )
+
+-- What is written of pieces, where a write failed: some of them, and a part of the next.
+pub record Part {X : Type 0} (told : X → Option (List ℕ)) (writes : X → ℕ) (pieces : List (List ℕ)) (x y : X) : Type 0 where
+  pub whole : ℕ
+  pub piece : List ℕ
+  pub next : slice_get pieces whole ≡ Some piece
+  pub added : Tells (told x) (told y) (AddsAndPart (bytes_of (take whole pieces)) piece)
+  pub wrote : writes y ≡ raised (writes x) (whole + 1)
+
+pub missed_lines : {X : Type 0} (told : X → Option (List ℕ)) (writes : X → ℕ) (shown : States) (journal : List (List ℕ)) (numbers : List ℕ) (states : List MachineState) (x y : LineWriter X) →
+    Shows shown numbers states → MissesOne (Wrote told writes) (Missed told writes) journal numbers states x y → Part told writes (map (line_of shown) numbers) x.out.now y.out.now
+missed_lines told writes shown journal [] states x y shows h = absurd h
+missed_lines told writes shown journal (n ∷ numbers) [] x y shows h = absurd h
+missed_lines {X} told writes shown journal (n ∷ numbers) (s ∷ states) x y shows h = elim h [
+  | inl missed ↦ here missed
+  | inr later ↦ there later.0 later.1.0 (missed_lines told writes shown journal numbers states later.0 y shows.1 later.1.1)
+]
+  where
+    same : line n s ++ 10 ∷ [] ≡ line_of shown n
+    same = the_line shown n s shows.0
+
+    here : Missed told writes x n s journal y → Part told writes (map (line_of shown) (n ∷ numbers)) x.out.now y.out.now
+    here missed = record {
+      whole = 0;
+      piece = line_of shown n;
+      next = refl;
+      added =
+          tells_so (told x.out.now) (told y.out.now) (AddsPrefix (line n s ++ 10 ∷ [])) (AddsAndPart [] (line_of shown n))
+          (λ a b p. (p.0, p.1 ∙ (λ i. sym (append-nil a) i ++ take p.0 (same i)))) missed.1;
+      wrote = missed.2;
+    }
+
+    there : (z : LineWriter X) → Wrote told writes x n s journal z → Part told writes (map (line_of shown) numbers) z.out.now y.out.now → Part told writes (map (line_of shown) (n ∷ numbers)) x.out.now y.out.now
+    there z got rest =
+        let front = bytes_of (take rest.whole (map (line_of shown) numbers)) in
+        record {
+          whole = suc rest.whole;
+          piece = rest.piece;
+          next = rest.next;
+          added =
+              tells_then (told x.out.now) (told z.out.now) (told y.out.now) (λ old new. new ≡ old ++ (line n s ++ 10 ∷ [])) (AddsAndPart front rest.piece) (AddsAndPart (line_of shown n ++ front) rest.piece) (λ a b c p q. (
+                q.0,
+                q.1 ∙ ap (λ l. l ++ take q.0 rest.piece) (ap (λ l. l ++ front) (p ∙ ap (λ l. a ++ l) same) ∙ append_assoc a (line_of shown n) front),
+              )) got.1 rest.added;
+          wrote = (let all = raised_then (writes x.out.now) (writes z.out.now) (writes y.out.now) 1 (rest.whole + 1) got.2 rest.wrote in all ∙ ap (raised (writes x.out.now)) (omega arith));
+        }
 
 module _ {X K : Type 0} (told : X → Option (List ℕ)) (writes : X → ℕ) (images : K → Option Images) (puts gets frees : K → ℕ) where
-  -- what an action does that writes one line
-  lined : (shown : States) (steps : ℕ) (a : Action) (n m : ℕ) (state : MachineState) (x y : X) (ks ls : List K) (before after : ℕ) → bytes_of (deed_of shown steps a).pieces ≡ line_of shown m ++ [] →
-      length (deed_of shown steps a).pieces ≡ 1 → shown m ≡ state → n ≡ m →
-      Tells (told x) (told y) (λ old new. new ≡ old ++ (line n state ++ 10 ∷ [])) → writes y ≡ raised (writes x) 1 → after ≡ before + steps_of a →
-      Called (calls_of a) (calls_to puts gets frees ks) (calls_to puts gets frees ls) →
-      Did (deed_of shown steps a ∷ []) (moment told writes images puts gets frees x ks before) (moment told writes images puts gets frees y ls after)
-  lined shown steps a n m state x y ks ls before after bytes one is same added wrote counted called =
-      did_one (deed_of shown steps a) (moment told writes images puts gets frees x ks before) (moment told writes images puts gets frees y ls after) (line n state ++ 10 ∷ []) 1
-      (bytes ∙ append-nil (line_of shown m) ∙ sym (the_line shown n m state is same)) one added wrote counted called
-
-  -- what an action does that writes nothing
-  unwritten : (shown : States) (steps : ℕ) (a : Action) (x y : LineWriter X) (ks ls : List K) (before after : ℕ) → bytes_of (deed_of shown steps a).pieces ≡ [] → length (deed_of shown steps a).pieces ≡ 0 → y ≡ x →
-      after ≡ before + steps_of a → Called (calls_of a) (calls_to puts gets frees ks) (calls_to puts gets frees ls) →
-      Did (deed_of shown steps a ∷ []) (moment told writes images puts gets frees x.out.now ks before) (moment told writes images puts gets frees y.out.now ls after)
-  unwritten shown steps a x y ks ls before after bytes none same counted called =
-      did_one (deed_of shown steps a) (moment told writes images puts gets frees x.out.now ks before) (moment told writes images puts gets frees y.out.now ls after) [] 0 bytes none
-      (tells_nothing _ _ (ap (λ (w : LineWriter X). told w.out.now) same))
-      (ap (λ (w : LineWriter X). writes w.out.now) same ∙ raised_none (writes x.out.now)) counted called
-
   -- what an action does that may be done
-  pub did_action : (shown : States) (journal : List (List ℕ)) (steps : ℕ) (slots : List Slots) (c : Configuration) (a : Action) (d : Configuration) (work tape : MachineState) (x y : LineWriter X) (ks ls : List K) (before after : ℕ) →
-      Goes steps slots c a d → Shows shown steps a work tape → Gets (Wrote told writes) journal a c.work work tape x y → after ≡ before + steps_of a →
+  pub did_action : (shown : States) (journal : List (List ℕ)) (unit steps : ℕ) (a : Action) (work : MachineState) (tape : List MachineState) (x y : LineWriter X) (ks ls : List K) (before after : ℕ) →
+      Shows shown (handed_by unit steps a) (states_out a work tape) → GetsAll (Wrote told writes) journal (handed_by unit steps a) (states_out a work tape) x y → after ≡ before + unit * steps_of a →
       Called (calls_of a) (calls_to puts gets frees ks) (calls_to puts gets frees ls) →
-      Did (deed_of shown steps a ∷ []) (moment told writes images puts gets frees x.out.now ks before) (moment told writes images puts gets frees y.out.now ls after)
-  did_action shown journal steps slots c (Forward from to keep) d work tape x y ks ls before after g shows got counted called =
-      unwritten shown steps (Forward from to keep) x y ks ls before after refl refl got counted called
-  did_action shown journal steps slots c (Copy n k to) d work tape x y ks ls before after g shows got counted called =
-      unwritten shown steps (Copy n k to) x y ks ls before after refl refl got counted called
-  did_action shown journal steps slots c (Move n k to) d work tape x y ks ls before after g shows got counted called =
-      unwritten shown steps (Move n k to) x y ks ls before after refl refl got counted called
-  did_action shown journal steps slots c EndReverse d work tape x y ks ls before after g shows got counted called =
-      unwritten shown steps EndReverse x y ks ls before after refl refl got counted called
-  did_action shown journal steps slots c EndForward d work tape x y ks ls before after g shows got counted called =
-      lined shown steps EndForward c.work steps work x.out.now y.out.now ks ls before after refl refl shows g.2 got.1 got.2 counted called
-  did_action shown journal steps slots c (Reverse from to) d work tape x y ks ls before after g shows got counted called =
-      lined shown steps (Reverse from to) to to tape x.out.now y.out.now ks ls before after refl refl shows refl got.1 got.2 counted called
-
--- what an action writes of its first piece, where the write failed
-pub record Part {X : Type 0} (told : X → Option (List ℕ)) (writes : X → ℕ) (d : Deed) (x y : X) : Type 0 where
-  pub piece : List ℕ
-  pub next : slice_get d.pieces 0 ≡ Some piece
-  pub added : Tells (told x) (told y) (AddsPrefix piece)
-  pub wrote : writes y ≡ raised (writes x) 1
-
-a_part : {X : Type 0} (told : X → Option (List ℕ)) (writes : X → ℕ) (shown : States) (d : Deed) (n m : ℕ) (state : MachineState) (x y : X) → slice_get d.pieces 0 ≡ Some (line_of shown m) →
-    shown m ≡ state → n ≡ m → Tells (told x) (told y) (AddsPrefix (line n state ++ 10 ∷ [])) → writes y ≡ raised (writes x) 1 → Part told writes d x y
-a_part told writes shown d n m state x y at is same added wrote =
-    let P : List ℕ → Type 0 = λ l. Tells (told x) (told y) (AddsPrefix l) in
-    record { piece = line_of shown m; next = at; added = subst P (the_line shown n m state is same) added; wrote = wrote }
-
-pub missed_action : {X : Type 0} (told : X → Option (List ℕ)) (writes : X → ℕ) (shown : States) (journal : List (List ℕ)) (steps : ℕ) (slots : List Slots) (c : Configuration) (a : Action) (d : Configuration) (work tape : MachineState) (x y : LineWriter X) →
-    Goes steps slots c a d → Shows shown steps a work tape → Misses (Missed told writes) journal a c.work work tape x y → Part told writes (deed_of shown steps a) x.out.now y.out.now
-missed_action told writes shown journal steps slots c (Forward from to keep) d work tape x y g shows got = absurd got
-missed_action told writes shown journal steps slots c (Copy n k to) d work tape x y g shows got = absurd got
-missed_action told writes shown journal steps slots c (Move n k to) d work tape x y g shows got = absurd got
-missed_action told writes shown journal steps slots c EndReverse d work tape x y g shows got = absurd got
-missed_action told writes shown journal steps slots c EndForward d work tape x y g shows got =
-    a_part told writes shown (deed_of shown steps EndForward) c.work steps work x.out.now y.out.now refl shows g.2 got.1 got.2
-missed_action told writes shown journal steps slots c (Reverse from to) d work tape x y g shows got =
-    a_part told writes shown (deed_of shown steps (Reverse from to)) to to tape x.out.now y.out.now refl shows refl got.1 got.2
+      Did (deed_of shown unit steps a ∷ []) (moment told writes images puts gets frees x.out.now ks before) (moment told writes images puts gets frees y.out.now ls after)
+  did_action shown journal unit steps a work tape x y ks ls before after shows got counted called =
+      let lines = got_lines told writes shown journal (handed_by unit steps a) (states_out a work tape) x y shows got in
+      did_one (deed_of shown unit steps a) (moment told writes images puts gets frees x.out.now ks before) (moment told writes images puts gets frees y.out.now ls after)
+      (bytes_of (map (line_of shown) (handed_by unit steps a))) (length (map (line_of shown) (handed_by unit steps a))) refl refl lines.0 lines.1 counted called
 
 -- an action that the visitor misses calls no keeper
-pub missed_calls_none : {V : Type 0} (missed : V → ℕ → MachineState → List (List ℕ) → V → Type 0) (journal : List (List ℕ)) (a : Action) (position : ℕ) (work tape : MachineState) (x y : V) →
-    Misses missed journal a position work tape x y → calls_of a ≡ record { puts = λ _. 0; gets = λ _. 0; frees = λ _. 0 }
-missed_calls_none missed journal (Forward from to keep) position work tape x y h = absurd h
-missed_calls_none missed journal (Reverse from to) position work tape x y h = refl
-missed_calls_none missed journal (Copy n from dest) position work tape x y h = absurd h
-missed_calls_none missed journal (Move n from dest) position work tape x y h = absurd h
-missed_calls_none missed journal EndForward position work tape x y h = refl
-missed_calls_none missed journal EndReverse position work tape x y h = absurd h
+pub missed_calls_none : {V : Type 0} (got missed : V → ℕ → MachineState → List (List ℕ) → V → Type 0) (journal : List (List ℕ)) (unit steps : ℕ) (a : Action) (work : MachineState) (tape : List MachineState) (x y : V) →
+    MissesOne got missed journal (handed_by unit steps a) (states_out a work tape) x y → calls_of a ≡ record { puts = λ _. 0; gets = λ _. 0; frees = λ _. 0 }
+missed_calls_none got missed journal unit steps (Forward from to keep) work tape x y h = absurd h
+missed_calls_none got missed journal unit steps (Reverse from to) work tape x y h = refl
+missed_calls_none got missed journal unit steps (Copy n from dest) work tape x y h = absurd h
+missed_calls_none got missed journal unit steps (Move n from dest) work tape x y h = absurd h
+missed_calls_none got missed journal unit steps EndForward work tape x y h = refl
+missed_calls_none got missed journal unit steps EndReverse work tape x y h = absurd h
 
 -- ---- the deeds of a whole list
 
 -- the lines of the states that a list hands out are those that its deeds write
-lines_of_deeds : (shown : States) (steps : ℕ) (list : List Action) → flat_map (λ a. bytes_of (deed_of shown steps a).pieces) list ≡ flat_map (line_of shown) (handed steps list)
-lines_of_deeds shown steps [] = refl
-lines_of_deeds shown steps (a ∷ rest) =
-    (λ i. flat_map-map (λ (piece : List ℕ). piece) (line_of shown) (handed_by steps a) i ++ lines_of_deeds shown steps rest i)
-    ∙ sym (flat_map-append (line_of shown) (handed_by steps a) (handed steps rest))
+lines_of_deeds : (shown : States) (unit steps : ℕ) (list : List Action) → flat_map (λ a. bytes_of (deed_of shown unit steps a).pieces) list ≡ flat_map (line_of shown) (handed unit steps list)
+lines_of_deeds shown unit steps [] = refl
+lines_of_deeds shown unit steps (a ∷ rest) =
+    (λ i. flat_map-map (λ (piece : List ℕ). piece) (line_of shown) (handed_by unit steps a) i ++ lines_of_deeds shown unit steps rest i)
+    ∙ sym (flat_map-append (line_of shown) (handed_by unit steps a) (handed unit steps rest))
 
 -- the deeds of a valid list write the lines of all states, from the last to the first
-pub bytes_performed : (shown : States) (steps : ℕ) (slots : List Slots) (list : List Action) → Valid steps slots list → bytes_written (map (deed_of shown steps) list) ≡ lines_down shown steps
-bytes_performed shown steps slots list valid =
-    flat_map-map (λ (d : Deed). bytes_of d.pieces) (deed_of shown steps) list ∙ lines_of_deeds shown steps list
-    ∙ ap (flat_map (line_of shown)) (valid_hands steps slots list valid)
+pub bytes_performed : (shown : States) (unit steps : ℕ) (slots : List Slots) (list : List Action) → Valid steps slots list → bytes_written (map (deed_of shown unit steps) list) ≡ lines_down shown (unit * steps)
+bytes_performed shown unit steps slots list valid =
+    flat_map-map (λ (d : Deed). bytes_of d.pieces) (deed_of shown unit steps) list ∙ lines_of_deeds shown unit steps list
+    ∙ ap (flat_map (line_of shown)) (valid_hands unit steps slots list valid)
 
 -- and take its forward steps
-pub steps_performed : (shown : States) (steps : ℕ) (list : List Action) → steps_made (map (deed_of shown steps) list) ≡ forward list
-steps_performed shown steps list = fold-map (λ n (d : Deed). n + d.steps) (deed_of shown steps) 0 list
+pub steps_performed : (shown : States) (unit steps : ℕ) (list : List Action) → steps_made (map (deed_of shown unit steps) list) ≡ unit * forward list
+steps_performed shown unit steps [] = sym (mul-zero unit)
+steps_performed shown unit steps (a ∷ rest) =
+    let here = sum_by-cons (λ (d : Deed). d.steps) (deed_of shown unit steps a) (map (deed_of shown unit steps) rest) in
+    let there = sum_by-cons steps_of a rest in
+    let later = steps_performed shown unit steps rest in
+    let whole = ap (λ n. unit * n) there in
+    let two : unit * (steps_of a + forward rest) ≡ unit * steps_of a + unit * forward rest = omega arith in
+    here ∙ ap (λ n. unit * steps_of a + n) later ∙ sym two ∙ sym whole
 
 -- ---- levels that actions name
 
@@ -172,7 +198,7 @@ two_named i j k h = at h.0 h.1 h.2
     at (suc zero) lt e = inr (sym e)
     at (suc (suc m)) lt e = absurd (omega (arith, lt))
 
-none_named : (k : ℕ) → Contains [] k → ⊥
+pub none_named : (k : ℕ) → Contains [] k → ⊥
 none_named k h = let lt = h.1 in absurd (omega (arith, lt))
 
 -- an action that may be done names levels of the book alone
@@ -193,34 +219,34 @@ one_here : (j k : ℕ) → k ≡ j → one_if (j == k) ≡ 1
 one_here j k e = ap one_if (eq-eqb j k (sym e))
 
 -- an action calls the keepers of the levels that it names
-pub calls_named : (shown : States) (steps : ℕ) (a : Action) (k : ℕ) → Contains (levels_named a) k → CallsLevel (deed_of shown steps a) k
-calls_named shown steps (Forward from to Nothing) k h = absurd (none_named k h)
-calls_named shown steps (Forward from to (Store j)) k h = let e = one_here j k (one_named j k h) in omega (arith, e)
-calls_named shown steps (Forward from to Tape) k h = absurd (none_named k h)
-calls_named shown steps (Reverse from to) k h = absurd (none_named k h)
-calls_named shown steps (Copy n i Work) k h = let e = one_here i k (one_named i k h) in omega (arith, e)
-calls_named shown steps (Copy n i (Level j)) k h = elim (two_named i j k h) [ inl e ↦ (let o = one_here i k e in omega (arith, o)) | inr e ↦ (let o = one_here j k e in omega (arith, o)) ]
-calls_named shown steps (Move n i Work) k h = let e = one_here i k (one_named i k h) in omega (arith, e)
-calls_named shown steps (Move n i (Level j)) k h = elim (two_named i j k h) [ inl e ↦ (let o = one_here i k e in omega (arith, o)) | inr e ↦ (let o = one_here j k e in omega (arith, o)) ]
-calls_named shown steps EndForward k h = absurd (none_named k h)
-calls_named shown steps EndReverse k h = absurd (none_named k h)
+pub calls_named : (shown : States) (unit steps : ℕ) (a : Action) (k : ℕ) → Contains (levels_named a) k → CallsLevel (deed_of shown unit steps a) k
+calls_named shown unit steps (Forward from to Nothing) k h = absurd (none_named k h)
+calls_named shown unit steps (Forward from to (Store j)) k h = let e = one_here j k (one_named j k h) in omega (arith, e)
+calls_named shown unit steps (Forward from to Tape) k h = absurd (none_named k h)
+calls_named shown unit steps (Reverse from to) k h = absurd (none_named k h)
+calls_named shown unit steps (Copy n i Work) k h = let e = one_here i k (one_named i k h) in omega (arith, e)
+calls_named shown unit steps (Copy n i (Level j)) k h = elim (two_named i j k h) [ inl e ↦ (let o = one_here i k e in omega (arith, o)) | inr e ↦ (let o = one_here j k e in omega (arith, o)) ]
+calls_named shown unit steps (Move n i Work) k h = let e = one_here i k (one_named i k h) in omega (arith, e)
+calls_named shown unit steps (Move n i (Level j)) k h = elim (two_named i j k h) [ inl e ↦ (let o = one_here i k e in omega (arith, o)) | inr e ↦ (let o = one_here j k e in omega (arith, o)) ]
+calls_named shown unit steps EndForward k h = absurd (none_named k h)
+calls_named shown unit steps EndReverse k h = absurd (none_named k h)
 
 -- one that calls keepers calls one
-pub calls_one : (shown : States) (steps : ℕ) (a : Action) → calls_keepers a ≡ true → (k : ℕ) × CallsLevel (deed_of shown steps a) k
-calls_one shown steps (Forward from to Nothing) h = absurd (false≢true h)
-calls_one shown steps (Forward from to (Store j)) h = (j, (let o = one_here j j refl in omega (arith, o)))
-calls_one shown steps (Forward from to Tape) h = absurd (false≢true h)
-calls_one shown steps (Reverse from to) h = absurd (false≢true h)
-calls_one shown steps (Copy n i dest) h = (i, (let o = one_here i i refl in omega (arith, o)))
-calls_one shown steps (Move n i dest) h = (i, (let o = one_here i i refl in omega (arith, o)))
-calls_one shown steps EndForward h = absurd (false≢true h)
-calls_one shown steps EndReverse h = absurd (false≢true h)
+pub calls_one : (shown : States) (unit steps : ℕ) (a : Action) → calls_keepers a ≡ true → (k : ℕ) × CallsLevel (deed_of shown unit steps a) k
+calls_one shown unit steps (Forward from to Nothing) h = absurd (false≢true h)
+calls_one shown unit steps (Forward from to (Store j)) h = (j, (let o = one_here j j refl in omega (arith, o)))
+calls_one shown unit steps (Forward from to Tape) h = absurd (false≢true h)
+calls_one shown unit steps (Reverse from to) h = absurd (false≢true h)
+calls_one shown unit steps (Copy n i dest) h = (i, (let o = one_here i i refl in omega (arith, o)))
+calls_one shown unit steps (Move n i dest) h = (i, (let o = one_here i i refl in omega (arith, o)))
+calls_one shown unit steps EndForward h = absurd (false≢true h)
+calls_one shown unit steps EndReverse h = absurd (false≢true h)
 
 -- one that reads a pair gets an image of its level
-pub gets_pair : (shown : States) (steps : ℕ) (a : Action) (n k : ℕ) → pair_read a ≡ Some (n, k) → 0 < (deed_of shown steps a).calls.gets k
-gets_pair shown steps (Forward from to keep) n k e = absurd cc
-gets_pair shown steps (Reverse from to) n k e = absurd cc
-gets_pair shown steps (Copy m i dest) n k e = let o = one_here i k (ap (λ (p : ℕ × ℕ). p.1) (sym (same_Some _ _ e))) in omega (arith, o)
-gets_pair shown steps (Move m i dest) n k e = let o = one_here i k (ap (λ (p : ℕ × ℕ). p.1) (sym (same_Some _ _ e))) in omega (arith, o)
-gets_pair shown steps EndForward n k e = absurd cc
-gets_pair shown steps EndReverse n k e = absurd cc
+pub gets_pair : (shown : States) (unit steps : ℕ) (a : Action) (n k : ℕ) → pair_read a ≡ Some (n, k) → 0 < (deed_of shown unit steps a).calls.gets k
+gets_pair shown unit steps (Forward from to keep) n k e = absurd cc
+gets_pair shown unit steps (Reverse from to) n k e = absurd cc
+gets_pair shown unit steps (Copy m i dest) n k e = let o = one_here i k (ap (λ (p : ℕ × ℕ). p.1) (sym (same_Some _ _ e))) in omega (arith, o)
+gets_pair shown unit steps (Move m i dest) n k e = let o = one_here i k (ap (λ (p : ℕ × ℕ). p.1) (sym (same_Some _ _ e))) in omega (arith, o)
+gets_pair shown unit steps EndForward n k e = absurd cc
+gets_pair shown unit steps EndReverse n k e = absurd cc

@@ -12,14 +12,14 @@ use Rattle.keepers.specs.Counts.{raised}
 use Rattle.keepers.specs.Told.{Images, Tells, AddsPrefix}
 use Rattle.rv_machine.specs.declared.status.Status.TheVariants.{Running}
 use Rattle.reverse_runner.specs.KeepersSeen.{Calls, Called}
-use Rattle.reversal.specs.declared.ended.Ended.{Ended}
-use Rattle.reversal.specs.Ending.{done, stopped}
+use Rattle.requests.specs.declared.ended.Ended.{Ended}
+use Rattle.requests.specs.Ending.{done, stopped}
 use Rattle.reversal.specs.Output.{Adds}
 use Rattle.reversal.specs.Plans.{in_pieces}
 use Rattle.reversal.specs.Deeds.{write, Shown, writing, no_calls, bytes_of, Moment, AddsAndPart}
 use Rattle.reversal.specs.Decision.{accept, EndsBy}
 use Rattle.schedule_rules.proofs.Judging.{take_one_more}
-use Rattle.reversal.proofs.Lists.{get_map, none_left}
+use Rattle.requests.proofs.Lists.{get_map, none_left}
 use Rattle.reversal.proofs.Doing.{tells_nothing, tells_then, raised_then, raised_none, did_one}
 
 -- a text shows no states
@@ -48,7 +48,7 @@ texts_done texts e old new w v steps calls images is added wrote = (
         output_whole = added;
         stepped = sym (add-zero steps);
         answered = tt;
-        held = tt;
+        went = tt;
       },
     ),
   ),
@@ -74,11 +74,9 @@ texts_cut front piece rest texts e old new w v steps calls images are is added w
       (
         tt,
         inr (inl (
-          1,
+          0,
           is,
-          tt,
           record {
-            from_one = omega arith;
             deed = writing texts;
             there = refl;
             whole = length front;
@@ -88,6 +86,8 @@ texts_cut front piece rest texts e old new w v steps calls images are is added w
             wrote = let all = wrote in omega (arith, all);
             counted = sym (add-zero steps);
             called = not_called calls;
+            shows = tt;
+            went = tt;
           },
         )),
       ),

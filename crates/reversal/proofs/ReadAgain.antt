@@ -29,7 +29,7 @@ use Rattle.cert_text.specs.Laws.{IsOtherLine}
 use Rattle.cert_text.specs.MarkedLines.{is_marked}
 use Rattle.cert_text.specs.Meaning.{IsCertificateText}
 use Rattle.bound_cert.proofs.Numbers.{at_repeats}
-use Rattle.cert_text.proofs.Spelled.{canonical_read as certificate_read}
+use Rattle.cert_text.proofs.Spelled.{canonical_read as certificate_read, joined as certificate_joined}
 use Rattle.cert_text.proofs.Behind.{stands_behind}
 use Rattle.revolve_gen.specs.Plans.{HasPlan}
 use Rattle.revolve_gen.specs.Written.{revolve_list}
@@ -41,12 +41,16 @@ use Rattle.reversal.proofs.Spelled.{valid_spelled}
 
 -- ---- the text of a list and of a certificate
 
+pub list_text_is : (names : List (List ℕ)) (list : List Action) → bytes_of (list_pieces names list) ≡ text_of names list
+list_text_is names list =
+    let many = length-map list (line_of_action names) in
+    pieces_bytes (length list) (map (line_of_action names) list) (omega (arith, many)) ∙ flat_map-map (λ l. l) (line_of_action names) list
+
 plan_text_is : (names : List (List ℕ)) (list : List Action) (c : Certificate) → bytes_of (list_pieces names list ++ certificate.pieces c) ≡ text_of names list ++ certificate.canonical c
 plan_text_is names list c =
     let pieces = certificate.pieces c in
-    let many = length-map list (line_of_action names) in
     flat_map-append (λ l. l) (list_pieces names list) pieces
-    ∙ (λ i. (pieces_bytes (length list) (map (line_of_action names) list) (omega (arith, many)) ∙ flat_map-map (λ l. l) (line_of_action names) list) i ++ sym (concat_is pieces) i)
+    ∙ (λ i. list_text_is names list i ++ (sym (concat_is pieces) ∙ certificate_joined c) i)
 
 -- ---- its numbers
 

@@ -23,8 +23,8 @@ use Rattle.cert_text.specs.declared.fault.CertFault.TheVariants as certificate
 use Rattle.cert_text.specs.Meaning.{IsCertificateText}
 use Rattle.cert_text.specs.Faults.{HasFirstFault as CertificateFirst}
 use Rattle.cert_text.proofs.TextLaws.{one_certificate, one_fault as one_certificate_fault, no_fault as certificates_have_no_fault}
-use Rattle.reversal.specs.declared.ended.Ended.{Ended}
-use Rattle.reversal.specs.Ending.{bad_program, bad_journal, bad_book, bad_text, bad_certificate}
+use Rattle.requests.specs.declared.ended.Ended.{Ended}
+use Rattle.requests.specs.Ending.{bad_program, bad_journal, bad_book, bad_text, bad_certificate}
 use Rattle.reversal.specs.JobReading.{IsRefusal}
 use Rattle.reversal.specs.Decision.{HasBookFault, IsStartOf, HasProgramFault, AreItemsOf, HasJournalFault}
 

@@ -16,16 +16,16 @@ use Rattle.reverse_runner.specs.SessionState.{SessionState}
 use Rattle.reverse_runner.specs.Standing.{begun}
 use Rattle.reverse_runner.specs.KeepersSeen.{Calls, Called, CalledAtMost}
 use Rattle.reversal.specs.declared.demo.Demonstrated.{Demonstrated}
-use Rattle.reversal.specs.declared.ended.Ended.{Ended}
+use Rattle.requests.specs.declared.ended.Ended.{Ended}
 use Rattle.reversal.specs.Decision.{accept, EndsBy}
 use Rattle.reversal.specs.Deeds.{Deed, Shown, Moment, no_calls, silent_deed, writing, demonstrate, bytes_written, calls_made, Did, HaltsShowing}
 use Rattle.reversal.specs.Demo.{demo_list, summary, summary_text}
 use Rattle.reversal.specs.DemoReading.{BreaksWithin}
-use Rattle.reversal.specs.Ending.{done, stopped}
+use Rattle.requests.specs.Ending.{done, stopped}
 use Rattle.reversal.specs.Output.{Adds, lines_down}
 use Rattle.reversal.proofs.Demonstrating.{behind}
-use Rattle.reversal.proofs.Doing.{tells_nothing, raised_none, did_then, did_one, did_until, broke_off}
-use Rattle.reversal.proofs.Lists.{get_map}
+use Rattle.reversal.proofs.Doing.{tells_nothing, raised_none, did_then, did_one, is_until_first, did_until, broke_off}
+use Rattle.requests.proofs.Lists.{get_map}
 
 -- nothing is written
 nothing_written : (list : List Action) → bytes_written (map silent_deed list) ≡ []
@@ -93,14 +93,14 @@ module _ (number : ℕ) (first : MachineState) (steps slots : ℕ) where
       let P : List Deed → Type 0 = λ ds. Did ds a c in
       let front : map silent_deed (take i list) ≡ take i (silent ++ last) = sym (take-map silent_deed i list) ∙ sym (take_front silent last i (silent_deed h.next) at) in
       let broke = broke_off (silent ++ last) i (silent_deed h.next) a c c (get_front silent last i (silent_deed h.next) at) (subst P front (did_silent (take i list) a c told writes h.counted calls)) refl refl refl (uncalled c.calls) in
-      (shown, (tt, record { performed = i; breaks = broke.0; wants = ap (λ (d : Deed). d.pieces) broke.1 }))
+      (shown, (tt, record { performed = i; breaks = broke.0; wants = ap (λ (d : Deed). d.pieces) broke.1; went = tt }))
 
   -- what is seen after the actions, before the write
   abbrev pub between : Moment → Moment → Moment
   between a c = record { told = a.told; writes = a.writes; steps = c.steps; calls = a.calls; images = a.images }
 
   -- The whole run was made, and its digest found; then the line of its summary was given to the sink.
-  module _ (d : Demonstrated) (session : d.session ≡ begun first [] steps (slots_of (plain slots))) (list : d.actions ≡ demo_list steps slots) (digest line bytes : List ℕ)
+  module _ (d : Demonstrated) (session : d.session ≡ begun first [] 1 steps (slots_of (plain slots))) (list : d.actions ≡ demo_list steps slots) (digest line bytes : List ℕ)
       (is_digest : digest ≡ sha256 (lines_down (state_number d.session.work d.session.journal) d.session.situation.steps))
       (is_line : line ≡ summary_text number steps slots (forward (demo_list steps slots)) digest) (is_bytes : bytes ≡ line) (a c : Moment) (counted : c.steps ≡ a.steps + forward d.actions) where
     the_text : bytes ≡ text
@@ -131,7 +131,7 @@ module _ (number : ℕ) (first : MachineState) (steps slots : ℕ) where
                 output_whole = all;
                 stepped = stepped;
                 answered = tt;
-                held = tt;
+                went = tt;
               },
             ),
           ),
@@ -151,10 +151,10 @@ module _ (number : ℕ) (first : MachineState) (steps slots : ℕ) where
           (
             tt,
             inr (inl (
-              i + 1,
+              i,
               is,
-              tt,
-              did_until (silent ++ last ∷ []) i (i + 1) last text a b c (behind silent last []) refl refl before (subst T the_text added) wrote refl (subst C (sym calls) (uncalled a.calls)),
+              did_until shown (demonstrate number first steps slots) (silent ++ last ∷ []) i a c refl
+                  (is_until_first (silent ++ last ∷ []) i last text a b c (behind silent last []) refl before (subst T the_text added) wrote refl (subst C (sym calls) (uncalled a.calls))) tt tt,
             )),
           ),
         )

@@ -7,9 +7,9 @@ use Rattle.bound_cert.specs.declared.verdict.Reason.{Reason}
 use Rattle.bound_cert.specs.declared.verdict.Reason.TheVariants.{Invalid, WrongShape, OutsideClass, Inequality, ValueDiffers}
 use Rattle.bound_cert.specs.Accepted.{IsAccepted}
 use Rattle.bound_cert.proofs.Accepting.{apart, one_reason}
-use Rattle.reversal.specs.declared.ended.Ended.{Ended}
+use Rattle.requests.specs.declared.ended.Ended.{Ended}
 use Rattle.reversal.specs.Deeds.{Job}
-use Rattle.reversal.specs.Ending.{no_memory, not_least}
+use Rattle.requests.specs.Ending.{no_memory, not_least}
 use Rattle.reversal.specs.Decision.{Decision, refuse, accept, Weigh}
 use Rattle.reversal.specs.JobReading.{IsUnweighed}
 use Rattle.reversal.proofs.Refused.{IsRefusing, refusing_past}

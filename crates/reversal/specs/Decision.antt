@@ -12,7 +12,7 @@ use Rattle.level_book.specs.DiskUnderTable.{IsGreatestDisk}
 use Rattle.cost_tables.specs.TableRows.{TableRows, tables_in}
 use Rattle.disk_gen.specs.DiskRows.{DiskRows, disk_tables_in}
 use Rattle.disk_gen.specs.DiskWritten.{IsDiskWritten}
-use Rattle.reversal.specs.declared.question.Question.{Question}
+use Rattle.requests.specs.declared.question.Question.{Question}
 use Rattle.level_book.specs.BookFaults.{IsBookText, IsRefused}
 use Rattle.level_book.specs.Valid.{Valid, BrokenAt}
 use Rattle.action_text.specs.ScheduleText.{IsSchedule}
@@ -34,28 +34,28 @@ use Rattle.bound_cert.specs.declared.verdict.Reason.{Reason}
 use Rattle.bound_cert.specs.declared.verdict.Class.{Class}
 use Rattle.bound_cert.specs.declared.verdict.Class.TheVariants as class
 use Rattle.bound_cert.specs.Thresholds.{IsThresholdOf}
-use Rattle.cert_text.specs.Meaning.{HasText, IsCertificateText}
+use Rattle.cert_text.specs.Meaning.{IsCertificateText}
 use Rattle.cert_text.specs.Faults.{HasFirstFault as CertificateFirst}
 use Rattle.bound_cert.specs.Accepted.{class_of, IsAccepted, IsFirstReason}
-use Rattle.revolve_gen.specs.Plans.{HasPlan}
+use Rattle.revolve_gen.specs.Plans as revolve
 use Rattle.revolve_gen.specs.Written.{revolve_list}
-use Rattle.reversal.specs.declared.ended.Ended.{Ended}
-use Rattle.reversal.specs.Request.{Choice}
-use Rattle.reversal.specs.Ending.{done, stopped, keeper_failed, damaged, few_keepers, small_keeper, unreadable, too_long, bad_program, bad_journal, bad_book, bad_text, invalid, bad_certificate, out_of_range, no_plan, not_least}
+use Rattle.requests.specs.declared.ended.Ended.{Ended}
+use Rattle.requests.specs.Request.{Choice}
+use Rattle.requests.specs.Ending.{done, stopped, keeper_failed, damaged, few_keepers, small_keeper, unreadable, too_long, bad_program, bad_journal, bad_book, bad_text, invalid, bad_certificate, out_of_range, no_plan, not_least}
 use Rattle.multistage_gen.specs.Planned.{IsMultistageList}
 use Rattle.hrevolve_gen.specs.Plans as nested
 use Rattle.hrevolve_gen.specs.Written.{IsWritten}
 use Rattle.disk_gen.specs.Periodic.{images, periodic_list}
 use Rattle.disk_gen.specs.Plans.{slots_at, HasSlots}
-use Rattle.reversal.specs.declared.kind.PlanKind.{PlanKind}
-use Rattle.reversal.specs.declared.kind.PlanKind.TheVariants.{Revolve, Multistage, Disk, Hrevolve}
-use Rattle.reversal.specs.Request.{run_revolve, plan, plan_periodic, certify, price, ask, demo, says_raw, stack_pages, Command, run, check, Request}
-use Rattle.reversal.specs.Bounds.{IsWithin, question_bound}
-use Rattle.reversal.specs.Inputs.{Input, inputs_of, names, contents, asked_count}
-use Rattle.reversal.specs.Plans.{list_pieces, plan_pieces}
+use Rattle.requests.specs.declared.kind.PlanKind.{PlanKind}
+use Rattle.requests.specs.declared.kind.PlanKind.TheVariants.{Revolve, Multistage, Disk, Hrevolve}
+use Rattle.requests.specs.Request.{run_revolve, plan, plan_periodic, certify, price, ask, demo, says_raw, stack_pages, Command, run, check, Request}
+use Rattle.requests.specs.Bounds.{IsWithin, question_bound}
+use Rattle.requests.specs.Inputs.{Input, inputs_of, names, contents, asked_count}
+use Rattle.reversal.specs.Plans.{list_pieces, plan_pieces, AreTablesFor, AreDiskTablesFor}
 use Rattle.reversal.specs.Pricing.{list_report}
 use Rattle.reversal.specs.Demo as demonstration
-use Rattle.reversal.specs.Deeds.{Job, perform, ask as ask_job, write, demonstrate, Shown, IsShown, IsAnswered, deeds, shown_place, levels_of, Moment, Done, DidUntil, FailsAt, DamagedAt}
+use Rattle.reversal.specs.Deeds.{Job, perform, ask as ask_job, write, demonstrate, Shown, IsShown, shown_place, levels_of, Moment, Done, DidUntil, FailsAt, DamagedAt}
 
 pub data Decision : Type 0 where
   refuse : Ended → Decision
@@ -79,7 +79,7 @@ Judge steps slots list d below =
 
 -- Revolve has a list for so many steps and this book, and the lines below decide, or the call is refused
 abbrev pub Plan : ℕ → BookCosts → Decision → Type 0 → Type 0
-Plan steps book d below = Need (HasPlan steps (total_room book steps)) (no_plan steps (total_room book steps) 1) d below
+Plan steps book d below = Need (revolve.HasPlan steps (total_room book steps)) (no_plan steps (total_room book steps) 1) d below
 
 -- this level of a book is the first on which more than 64 images of a list for so many steps can be held
 pub record IsFirstWide (steps : ℕ) (book : BookCosts) (level : ℕ) : Type 0 where
@@ -200,8 +200,8 @@ DecidesPlanMultistage steps book d =
     Read (IsBookText book) (HasBookFault book) bad_book d (λ (b : BookCosts).
     Need (length b.levels ≡ 2) (no_plan steps (total_room b steps) 2) d (
     Plan steps b d
-    ((list : List Action) × (IsMultistageList steps b list × ((threshold : ℕ) × (IsThresholdOf threshold steps b list × (HasText steps b (certified.Places threshold)
-    × (d ≡ accept (write (list_pieces (names_of b) list ++ certificate_text.pieces (certified.Places threshold)))))))))))
+    ((list : List Action) × (IsMultistageList steps b list × ((threshold : ℕ) × (IsThresholdOf threshold steps b list
+    × (d ≡ accept (write (list_pieces (names_of b) list ++ certificate_text.pieces (certified.Places threshold))))))))))
 
 -- the text of the list of DiskRevolve for memory and an unlimited disk, which is read from the greatest disk tables, and of these
 -- tables
@@ -211,7 +211,8 @@ DecidesPlanDisk steps book d =
     Need (room b 0 steps ≤ 64) (out_of_range (room b 0 steps) 64 9) d (
     Need (length b.levels ≡ 2) (no_plan steps (total_room b steps) 2) d (
     Need (slice_get (slots_of b) 1 ≡ Some Unlimited) (no_plan steps (total_room b steps) 3) d
-    ((t : DiskRows) × (HasText steps b (certified.Disk t) × (IsGreatestDisk steps b (disk_tables_in t) × ((list : List Action) × (IsDiskWritten steps b (disk_tables_in t) list
+    ((t : DiskRows) × (AreDiskTablesFor steps b t × (IsGreatestDisk steps b (disk_tables_in t)
+    × ((list : List Action) × (IsDiskWritten steps b (disk_tables_in t) list
     × (d ≡ accept (write (list_pieces (names_of b) list ++ certificate_text.pieces (certified.Disk t))))))))))))
 
 -- the text of the list of H-Revolve, which is read from the greatest tables, and of these tables
@@ -220,7 +221,8 @@ DecidesPlanHrevolve steps book d =
     Read (IsBookText book) (HasBookFault book) bad_book d (λ (b : BookCosts).
     Tabulate steps b d (
     Need (nested.HasPlan steps b) (no_plan steps (total_room b steps) 1) d
-    ((t : TableRows) × (HasText steps b (certified.Nested t) × (IsGreatest steps b (tables_in t) × ((list : List Action) × (IsWritten steps b (tables_in t) list
+    ((t : TableRows) × (AreTablesFor steps b t × (IsGreatest steps b (tables_in t)
+    × ((list : List Action) × (IsWritten steps b (tables_in t) list
     × (d ≡ accept (write (list_pieces (names_of b) list ++ certificate_text.pieces (certified.Nested t)))))))))))
 
 -- the text of the list of a kind
@@ -312,14 +314,14 @@ pub record Comes (r : Request) (told : Option Files) (before after : List (List 
   pub decides : Decides r given slots d
   pub asked : after ≡ before ++ take (asked_count (inputs_of r.command) given) (names (inputs_of r.command))
 
--- how a job ends, and what it leaves: it was done, or it stopped where the sink failed, a keeper failed, or an image was
--- damaged
+-- How a job ends, and what it leaves: it was done, or it stopped where the sink failed, a keeper failed, or an image was
+-- damaged, in the deed behind so many that were done. Places count from 1.
 abbrev pub Ends : Shown → Job → Ended → Moment → Moment → Type 0
 Ends shown job e old new =
     ((e ≡ done) × Done shown job old new)
-    ⊎ ((place : ℕ) × (e ≡ stopped (shown_place job place)) × IsAnswered job shown old × DidUntil (deeds shown job) place old new)
-    ⊎ ((place : ℕ) × (level : ℕ) × (e ≡ keeper_failed place level) × FailsAt (deeds shown job) place level old new)
-    ⊎ ((place : ℕ) × (level : ℕ) × (put : List ℕ) × (got : List ℕ) × (e ≡ damaged place level put got) × DamagedAt job (deeds shown job) place level put got old new)
+    ⊎ ((performed : ℕ) × (e ≡ stopped (shown_place job (performed + 1))) × DidUntil shown job performed old new)
+    ⊎ ((performed : ℕ) × (level : ℕ) × (e ≡ keeper_failed (performed + 1) level) × FailsAt shown job performed level old new)
+    ⊎ ((performed : ℕ) × (level : ℕ) × (put : List ℕ) × (got : List ℕ) × (e ≡ damaged (performed + 1) level put got) × DamagedAt shown job performed level put got old new)
 
 -- how a call ends by a decision: by the refusal's own ending, or by that of a job, with the states that it shows
 abbrev pub EndsBy : Decision → Ended → Moment → Moment → Type 0

@@ -1,12 +1,11 @@
 -- What a job does, piece by piece: a list of deeds. Every command is such a list, so that one definition says what a call
 -- did that was done, that stopped at a write that failed or at storage, or that ran out of memory.
-use Rattle.std.specs.Prelude.{◌≡◌, ◌≢◌, ◌⊎◌, ℕ, ◌+◌, ◌-◌, ◌<◌, ◌≤◌, ◌++◌, cond, codes, decimal, List, [], ◌∷◌, length, take, map, sum_by, slice_get, Option, Some, None, IsSome}
+use Rattle.std.specs.Prelude.{◌≡◌, ◌⊎◌, ℕ, ◌+◌, ◌*◌, ◌<◌, ◌≤◌, ◌++◌, cond, codes, decimal, true, List, [], ◌∷◌, length, take, map, sum_by, slice_get, Option, Some, None, IsSome}
 use Rattle.std.specs.List.{flat_map}
 use Rattle.std.specs.FinMap as finmap
-use Rattle.sha2.specs.Sha256.{sha256}
 use Rattle.plan_types.specs.declared.action.Action.{Action}
 use Rattle.level_book.specs.declared.book.Slots.{Slots}
-use Rattle.level_book.specs.CostFold.{steps_of, forward}
+use Rattle.level_book.specs.CostFold.{steps_of, forward, is_write}
 use Rattle.level_book.specs.Configuration.{Configuration, start, held_on}
 use Rattle.level_book.specs.Valid.{Leads}
 use Rattle.keepers.specs.Counts.{raised}
@@ -16,14 +15,16 @@ use Rattle.rv_machine.specs.States.{state_number}
 use Rattle.image_store.specs.Standing.{IsToldAnd}
 use Rattle.reverse_runner.specs.Handed.{handed_by}
 use Rattle.reverse_runner.specs.HoldsJust.{HoldsJust}
+use Rattle.reverse_runner.specs.Left.{Spares, MayLeave, HoldsBesides, HoldsAllBut}
 use Rattle.reverse_runner.specs.Acts.{Holdings}
-use Rattle.reverse_runner.specs.KeepersSeen.{Calls, calls_of, calls_to, told_by, Called, CalledBetween}
+use Rattle.reverse_runner.specs.KeepersSeen.{Calls, calls_of, is_release, calls_to, told_by, Called, CalledBetween}
 use Rattle.reverse_runner.specs.SessionState.{holdings_of}
-use Rattle.reverse_runner.specs.Standing.{IsNoImage, begun}
+use Rattle.reverse_runner.specs.Standing.{IsDamage, begun, pair_read}
 use Rattle.reverse_queries.specs.Queries.{WritesIn, WritesWord, ChangesIn, ChangesWord, IsLast, hands_out, front_to, up_to}
-use Rattle.reverse_queries.specs.OnTheWay.{IsFoundOn}
-use Rattle.reversal.specs.declared.question.Question.{Question}
-use Rattle.reversal.specs.declared.question.Question.TheVariants.{State, LastWrite, LastChange}
+use Rattle.reverse_queries.specs.OnTheWay.{GoesThrough, IsFoundOn}
+use Rattle.reverse_queries.specs.Performing.{IsOut}
+use Rattle.requests.specs.declared.question.Question.{Question}
+use Rattle.requests.specs.declared.question.Question.TheVariants.{State, LastWrite, LastChange}
 use Rattle.reversal.specs.Output.{line_of, lines_down, Adds}
 use Rattle.reversal.specs.Demo.{demo_list, summary}
 
@@ -60,25 +61,26 @@ pub record Shown : Type 0 where
   pub states : States
   pub answer : Option ℕ
 
--- an action writes the lines of the states that it hands out, takes its forward steps, and calls the keepers for its images
-abbrev pub deed_of : States → ℕ → Action → Deed
-deed_of shown steps action = record {
-  pieces = map (line_of shown) (handed_by steps action);
-  steps = steps_of action;
+-- An action writes the lines of the states that it hands out, takes its forward steps, and calls the keepers for its images.
+-- A step of the schedule is so many steps of the machine, its unit.
+abbrev pub deed_of : States → (unit steps : ℕ) → Action → Deed
+deed_of shown unit steps action = record {
+  pieces = map (line_of shown) (handed_by unit steps action);
+  steps = unit * steps_of action;
   calls = calls_of action;
 }
 
 -- the same with the line of one state alone
-abbrev pub deed_for : States → ℕ → ℕ → Action → Deed
-deed_for shown steps place action = record {
-  pieces = cond (hands_out steps place action) (line_of shown place ∷ []) [];
-  steps = steps_of action;
+abbrev pub deed_for : States → (unit steps place : ℕ) → Action → Deed
+deed_for shown unit steps place action = record {
+  pieces = cond (hands_out unit steps place action) (line_of shown place ∷ []) [];
+  steps = unit * steps_of action;
   calls = calls_of action;
 }
 
 -- the same without lines
-abbrev pub unseen_deed : Action → Deed
-unseen_deed action = record { pieces = []; steps = steps_of action; calls = calls_of action }
+abbrev pub unseen_deed : (unit : ℕ) → Action → Deed
+unseen_deed unit action = record { pieces = []; steps = unit * steps_of action; calls = calls_of action }
 
 -- the same without lines, and with no call of a keeper that was handed in
 abbrev pub silent_deed : Action → Deed
@@ -96,12 +98,12 @@ answer_text None = codes "none\n"
 -- For a state the list is performed up to the action that hands it out; for the last step that does something, up to the
 -- one that hands out the state before that step, or to the end where there is none.
 abbrev pub question_deeds : Shown → Question → ℕ → List Action → List Deed
-question_deeds shown (State place) steps list = map (deed_for shown.states steps place) (front_to steps place list)
-question_deeds shown (LastWrite address) steps list = map unseen_deed (up_to steps shown.answer list) ++ writing (answer_text shown.answer ∷ []) ∷ []
-question_deeds shown (LastChange address) steps list = map unseen_deed (up_to steps shown.answer list) ++ writing (answer_text shown.answer ∷ []) ∷ []
+question_deeds shown (State place) steps list = map (deed_for shown.states 1 steps place) (front_to 1 steps place list)
+question_deeds shown (LastWrite address) steps list = map (unseen_deed 1) (up_to 1 steps shown.answer list) ++ writing (answer_text shown.answer ∷ []) ∷ []
+question_deeds shown (LastChange address) steps list = map (unseen_deed 1) (up_to 1 steps shown.answer list) ++ writing (answer_text shown.answer ∷ []) ∷ []
 
 abbrev pub deeds : Shown → Job → List Deed
-deeds shown (perform first journal steps slots list) = map (deed_of shown.states steps) list
+deeds shown (perform first journal steps slots list) = map (deed_of shown.states 1 steps) list
 deeds shown (ask question first journal steps slots list) = question_deeds shown question steps list
 deeds shown (write texts) = writing texts ∷ []
 deeds shown (demonstrate number first steps slots) = map silent_deed (demo_list steps slots) ++ writing (summary number first steps slots ∷ []) ∷ []
@@ -132,9 +134,9 @@ output shown (demonstrate number first steps slots) = summary number first steps
 
 abbrev pub steps_taken : Shown → Job → ℕ
 steps_taken shown (perform first journal steps slots list) = forward list
-steps_taken shown (ask (State place) first journal steps slots list) = forward (front_to steps place list)
-steps_taken shown (ask (LastWrite address) first journal steps slots list) = forward (up_to steps shown.answer list)
-steps_taken shown (ask (LastChange address) first journal steps slots list) = forward (up_to steps shown.answer list)
+steps_taken shown (ask (State place) first journal steps slots list) = forward (front_to 1 steps place list)
+steps_taken shown (ask (LastWrite address) first journal steps slots list) = forward (up_to 1 steps shown.answer list)
+steps_taken shown (ask (LastChange address) first journal steps slots list) = forward (up_to 1 steps shown.answer list)
 steps_taken shown (write texts) = 0
 steps_taken shown (demonstrate number first steps slots) = forward (demo_list steps slots)
 
@@ -198,35 +200,112 @@ IsShown (ask question first journal steps slots list) shown old = AllTell (lengt
 IsShown (write texts) shown old = Unit {0}
 IsShown (demonstrate number first steps slots) shown old = Unit {0}
 
--- A list was gone through from its start as far as an answer takes it, and the answer is the last place at which something holds of the
--- states that it handed out. What these are the bytes that came back say, each with the digest that it was put with.
-abbrev pub IsFound : ((ℕ → MachineState) → ℕ → Type 0) → MachineState → List (List ℕ) → ℕ → List Slots → List Action → Option ℕ → Moment → Type 0
-IsFound Holds first journal steps slots list answer old =
-    (last : Holdings) × IsFoundOn Holds steps journal (up_to steps answer list) (holdings_of (begun first journal steps slots) old.images) last answer
+-- what a session over a run holds before the first action, by what its keepers tell
+abbrev pub held_at_start : MachineState → List (List ℕ) → ℕ → List Slots → Moment → Holdings
+held_at_start first journal steps slots old = holdings_of (begun first journal 1 steps slots) old.images
 
--- the answer that a job shows is that of its question: by the states that were handed out, and, where the keepers of its levels
--- tell, by those of the run
-abbrev pub IsAnswered : Job → Shown → Moment → Type 0
-IsAnswered (ask (State place) first journal steps slots list) shown old = Unit {0}
-IsAnswered (ask (LastWrite address) first journal steps slots list) shown old =
-    IsFound (λ states. WritesIn states journal address) first journal steps slots list shown.answer old
+-- A list was gone through from its start as far as an answer takes it, and this holds of the states that it handed out. What these
+-- are the bytes that came back say, each with the digest that it was put with. The keepers tell what they told after the last
+-- action.
+abbrev pub IsFound : (States → Type 0) → MachineState → List (List ℕ) → ℕ → List Slots → List Action → Option ℕ → Moment → Moment →
+    Type 0
+IsFound Holds first journal steps slots list answer old new =
+    (last : Holdings) × (new.images ≡ last.levels.told)
+    × IsFoundOn Holds 1 steps journal (up_to 1 steps answer list) (held_at_start first journal steps slots old) last
+
+-- What a job shows is the answer to its question: by the states that were handed out, and, where the keepers of its levels
+-- tell, by those of the run. For a state it is that state; for a number, the last place at which a step does something.
+abbrev pub IsAnswered : Job → Shown → Moment → Moment → Type 0
+IsAnswered (ask (State place) first journal steps slots list) shown old new =
+    IsFound (λ states. states place ≡ shown.states place) first journal steps slots list (Some place) old new
+IsAnswered (ask (LastWrite address) first journal steps slots list) shown old new =
+    IsFound (λ states. IsLast (WritesIn states journal address) steps shown.answer) first journal steps slots list shown.answer old new
     × (AllTell (length slots) old.images → IsLast (WritesWord first journal address) steps shown.answer)
-IsAnswered (ask (LastChange address) first journal steps slots list) shown old =
-    IsFound (λ states. ChangesIn states address) first journal steps slots list shown.answer old
+IsAnswered (ask (LastChange address) first journal steps slots list) shown old new =
+    IsFound (λ states. IsLast (ChangesIn states address) steps shown.answer) first journal steps slots list shown.answer old new
     × (AllTell (length slots) old.images → IsLast (ChangesWord first journal address) steps shown.answer)
-IsAnswered (perform first journal steps slots list) shown old = Unit {0}
-IsAnswered (write texts) shown old = Unit {0}
-IsAnswered (demonstrate number first steps slots) shown old = Unit {0}
+IsAnswered (perform first journal steps slots list) shown old new = Unit {0}
+IsAnswered (write texts) shown old new = Unit {0}
+IsAnswered (demonstrate number first steps slots) shown old new = Unit {0}
 
--- A list was performed to its end over keepers that tell and were empty: they hold just the images of the states that it
--- leaves held.
-abbrev pub LeavesHeld : Job → Moment → Moment → Type 0
-LeavesHeld (perform first journal steps slots list) old new =
-    AllEmpty (length slots) old.images → (last : Configuration) → Leads steps slots (start steps slots) list last →
-    (k : ℕ) → k < length slots → IsToldAnd (new.images k) (HoldsJust first journal (held_on last k))
-LeavesHeld (ask question first journal steps slots list) old new = Unit {0}
-LeavesHeld (write texts) old new = Unit {0}
-LeavesHeld (demonstrate number first steps slots) old new = Unit {0}
+-- ---- how far a list was gone through
+
+-- the action behind the first so many of a list, if there is one, puts no image on a level, and releases none there
+abbrev pub SparesNext : List Action → ℕ → ℕ → Type 0
+SparesNext list performed k = (a : Action) → slice_get list performed ≡ Some a → Spares a k
+
+-- of which levels an ending says that they are as the actions before it left them
+abbrev pub SameLevels : Type 1
+SameLevels = List Action → ℕ → ℕ → Type 0
+
+-- all of them, since the next action put and released nothing
+abbrev pub AllLevels : SameLevels
+AllLevels list performed k = Unit {0}
+
+-- The first so many actions of a list over a run were done. What is said of levels is said of these, and of those that the next
+-- action, which was refused, may have changed.
+pub record Went (Same : SameLevels) (first : MachineState) (journal : List (List ℕ)) (steps : ℕ) (slots : List Slots) (list : List Action)
+    (performed : ℕ) (states : States) (old new : Moment) : Type 0 where
+  -- What was held then. Each action did to what was held what it does, by the bytes that came back, each with the digest that
+  -- it was put with, and handed out the states that are shown.
+  pub held : Holdings
+  pub through : GoesThrough 1 steps journal (take performed list) (held_at_start first journal steps slots old) held states
+  -- so are those shown that the next action hands out
+  pub next : (a : Action) (n : ℕ) (state : MachineState) → slice_get list performed ≡ Some a → IsOut 1 steps n state a held → states n ≡ state
+  -- the keeper of a level that is the same tells what it told then, and the next action left no more on the others than it may
+  pub told : (k : ℕ) → Same list performed k → new.images k ≡ held.levels.told k
+  pub left : (a : Action) → slice_get list performed ≡ Some a → MayLeave a held.levels new.images
+  -- where the keepers tell and were empty, each holds just the images of the states that these actions leave held
+  pub just : AllEmpty (length slots) old.images → (c : Configuration) → Leads steps slots (start steps slots) (take performed list) c →
+      (k : ℕ) → k < length slots → Same list performed k → IsToldAnd (new.images k) (HoldsJust (state_number first journal) (held_on c k))
+  -- on a level to which the next action puts an image one more slot may hold anything
+  pub put_to : AllEmpty (length slots) old.images → (c : Configuration) → Leads steps slots (start steps slots) (take performed list) c →
+      (k : ℕ) → k < length slots → (a : Action) → slice_get list performed ≡ Some a → is_write k a ≡ true →
+      IsToldAnd (new.images k) (HoldsBesides (state_number first journal) (held_on c k))
+  -- where the next action releases an image this one may be gone
+  pub released : AllEmpty (length slots) old.images → (c : Configuration) → Leads steps slots (start steps slots) (take performed list) c →
+      (k n : ℕ) → k < length slots → (a : Action) → slice_get list performed ≡ Some a → is_release k a ≡ true → pair_read a ≡ Some (n, k) →
+      IsToldAnd (new.images k) (HoldsAllBut (state_number first journal) (held_on c k) n)
+
+-- how far a performed list was gone through
+abbrev pub WentThrough : SameLevels → Shown → Job → ℕ → Moment → Moment → Type 0
+WentThrough Same shown (perform first journal steps slots list) performed old new = Went Same first journal steps slots list performed shown.states old new
+WentThrough Same shown (ask question first journal steps slots list) performed old new = Unit {0}
+WentThrough Same shown (write texts) performed old new = Unit {0}
+WentThrough Same shown (demonstrate number first steps slots) performed old new = Unit {0}
+
+-- The first so many actions of a list over a run were gone through, and this holds of the next one and of what was held
+-- before it.
+pub record ComesTo (Holds : Action → Holdings → Type 0) (first : MachineState) (journal : List (List ℕ)) (steps : ℕ) (slots : List Slots)
+    (list : List Action) (performed : ℕ) (old : Moment) : Type 0 where
+  pub held : Holdings
+  pub states : States
+  pub through : GoesThrough 1 steps journal (take performed list) (held_at_start first journal steps slots old) held states
+  pub next : Action
+  pub there : slice_get list performed ≡ Some next
+  pub holds : Holds next held
+
+-- What came back of the pair that the next action of a job reads is damaged: the digests are those of what was put and of what
+-- was got. Jobs that go through no list over keepers get no image.
+abbrev pub IsDamagedIn : Job → (performed level : ℕ) → (put got : List ℕ) → Moment → Type 0
+IsDamagedIn (perform first journal steps slots list) performed level put got old =
+    ComesTo (λ action held. IsDamage action held level put got) first journal steps slots list performed old
+IsDamagedIn (ask question first journal steps slots list) performed level put got old =
+    ComesTo (λ action held. IsDamage action held level put got) first journal steps slots list performed old
+IsDamagedIn (write texts) performed level put got old = ⊥
+IsDamagedIn (demonstrate number first steps slots) performed level put got old = ⊥
+
+-- What is written in part of a question: the line of the state that the next action hands out, or the answer.
+abbrev pub IsShownNext : Job → Shown → ℕ → Moment → Moment → Type 0
+IsShownNext (ask (State place) first journal steps slots list) shown performed old new =
+    ComesTo (IsOut 1 steps place (shown.states place)) first journal steps slots list performed old
+IsShownNext (ask (LastWrite address) first journal steps slots list) shown performed old new =
+    IsAnswered (ask (LastWrite address) first journal steps slots list) shown old new
+IsShownNext (ask (LastChange address) first journal steps slots list) shown performed old new =
+    IsAnswered (ask (LastChange address) first journal steps slots list) shown old new
+IsShownNext (perform first journal steps slots list) shown performed old new = Unit {0}
+IsShownNext (write texts) shown performed old new = Unit {0}
+IsShownNext (demonstrate number first steps slots) shown performed old new = Unit {0}
 
 -- ---- how a job ends
 
@@ -235,26 +314,27 @@ pub record Done (shown : Shown) (job : Job) (old new : Moment) : Type 0 where
   pub did : Did (deeds shown job) old new
   pub output_whole : Tells old.told new.told (Adds (output shown job))
   pub stepped : new.steps ≡ old.steps + steps_taken shown job
-  pub answered : IsAnswered job shown old
-  pub held : LeavesHeld job old new
+  pub answered : IsAnswered job shown old new
+  pub went : WentThrough AllLevels shown job (length (deeds shown job)) old new
 
 -- these bytes were added, and then a part of a piece
 abbrev pub AddsAndPart : List ℕ → List ℕ → List ℕ → List ℕ → Type 0
 AddsAndPart bytes piece old new = AddsPrefix piece (old ++ bytes) new
 
--- The deeds before this place were done; of the deed at it some pieces were written, and a part of the next, whose write
--- failed. It called no keeper. Places count from 1.
-pub record DidUntil (ds : List Deed) (place : ℕ) (old new : Moment) : Type 0 where
-  pub from_one : 0 < place
+-- So many deeds were done; of the next one some pieces were written, and a part of the one behind them, whose write failed.
+-- It called no keeper.
+pub record DidUntil (shown : Shown) (job : Job) (performed : ℕ) (old new : Moment) : Type 0 where
   pub deed : Deed
-  pub there : slice_get ds (place - 1) ≡ Some deed
+  pub there : slice_get (deeds shown job) performed ≡ Some deed
   pub whole : ℕ
   pub piece : List ℕ
   pub next : slice_get deed.pieces whole ≡ Some piece
-  pub added : Tells old.told new.told (AddsAndPart (bytes_written (take (place - 1) ds) ++ bytes_of (take whole deed.pieces)) piece)
-  pub wrote : new.writes ≡ raised old.writes (writes_made (take (place - 1) ds) + (whole + 1))
-  pub counted : new.steps ≡ old.steps + steps_made (take (place - 1) ds)
-  pub called : Called (calls_made (take (place - 1) ds)) old.calls new.calls
+  pub added : Tells old.told new.told (AddsAndPart (bytes_written (take performed (deeds shown job)) ++ bytes_of (take whole deed.pieces)) piece)
+  pub wrote : new.writes ≡ raised old.writes (writes_made (take performed (deeds shown job)) + (whole + 1))
+  pub counted : new.steps ≡ old.steps + steps_made (take performed (deeds shown job))
+  pub called : Called (calls_made (take performed (deeds shown job))) old.calls new.calls
+  pub shows : IsShownNext job shown performed old new
+  pub went : WentThrough AllLevels shown job performed old new
 
 -- a deed calls the keeper of a level
 abbrev pub CallsLevel : Deed → ℕ → Type 0
@@ -269,18 +349,11 @@ pub record BreaksOff (ds : List Deed) (performed : ℕ) (old new : Moment) : Typ
   pub counted : new.steps ≡ old.steps + steps_made (take performed ds)
   pub called : CalledBetween (calls_made (take performed ds)) (calls_made (take (performed + 1) ds)) old.calls new.calls
 
--- the keeper of a level failed in the deed at this place, which calls it
-pub record FailsAt (ds : List Deed) (place level : ℕ) (old new : Moment) : Type 0 where
-  pub from_one : 0 < place
-  pub breaks : BreaksOff ds (place - 1) old new
+-- so many deeds were done, and the keeper of a level failed in the next one, which calls it
+pub record FailsAt (shown : Shown) (job : Job) (performed level : ℕ) (old new : Moment) : Type 0 where
+  pub breaks : BreaksOff (deeds shown job) performed old new
   pub calls : CallsLevel breaks.next level
-
--- the pages of a job's states are those of its first one; the other jobs get no image
-abbrev pub IsNoImageOf : Job → List ℕ → Type 0
-IsNoImageOf (perform first journal steps slots list) bytes = IsNoImage first bytes
-IsNoImageOf (ask question first journal steps slots list) bytes = IsNoImage first bytes
-IsNoImageOf (write texts) bytes = Unit {0}
-IsNoImageOf (demonstrate number first steps slots) bytes = Unit {0}
+  pub went : WentThrough SparesNext shown job performed old new
 
 -- of how many levels the keepers are called
 abbrev pub levels_of : Job → ℕ
@@ -289,14 +362,14 @@ levels_of (ask question first journal steps slots list) = length slots
 levels_of (write texts) = 0
 levels_of (demonstrate number first steps slots) = 0
 
--- In the deed at this place, which gets an image of a level, bytes came back with another digest than those that were put,
--- or with the same one, and they are no image of this machine. That never happens where the keepers tell.
-pub record DamagedAt (job : Job) (ds : List Deed) (place level : ℕ) (put got : List ℕ) (old new : Moment) : Type 0 where
-  pub from_one : 0 < place
-  pub breaks : BreaksOff ds (place - 1) old new
+-- So many deeds were done, and in the next one, which gets an image of a level, bytes came back with another digest than those
+-- that were put, or with the same one, and they are no image of this machine. That never happens where the keepers tell.
+pub record DamagedAt (shown : Shown) (job : Job) (performed level : ℕ) (put got : List ℕ) (old new : Moment) : Type 0 where
+  pub breaks : BreaksOff (deeds shown job) performed old new
   pub gets : 0 < breaks.next.calls.gets level
-  pub wrong : (got ≢ put) ⊎ ((bytes : List ℕ) × ((got ≡ sha256 bytes) × IsNoImageOf job bytes))
+  pub damaged : IsDamagedIn job performed level put got old
   pub silent : AllTell (levels_of job) old.images → ⊥
+  pub went : WentThrough AllLevels shown job performed old new
 
 -- which deeds of a job may want memory: those that call a keeper, and an action over images in memory of its own; no text
 abbrev pub MayWant : Job → Deed → Type 0
@@ -306,11 +379,12 @@ MayWant (write texts) deed = ⊥
 MayWant (demonstrate number first steps slots) deed = deed.pieces ≡ []
 
 -- some of the deeds were done, from the first on, and the next one wants memory
-pub record Halts (job : Job) (ds : List Deed) (old new : Moment) : Type 0 where
+pub record Halts (shown : Shown) (job : Job) (old new : Moment) : Type 0 where
   pub performed : ℕ
-  pub breaks : BreaksOff ds performed old new
+  pub breaks : BreaksOff (deeds shown job) performed old new
   pub wants : MayWant job breaks.next
+  pub went : WentThrough SparesNext shown job performed old new
 
 -- the same of the states that the job shows
 abbrev pub HaltsShowing : Job → Moment → Moment → Type 0
-HaltsShowing job old new = (shown : Shown) × (IsShown job shown old × Halts job (deeds shown job) old new)
+HaltsShowing job old new = (shown : Shown) × (IsShown job shown old × Halts shown job old new)

@@ -19,7 +19,7 @@ use Rattle.reversal.specs.Output.{lines_down}
 abbrev pub drawn : ℕ → ℕ
 drawn v = (1664525 * v + 1013904223) % 2 ^ 32
 
--- The instruction of a drawn number, by its two highest bits: ADDI, XOR, SW to one of the 512 words that x5 points to, or
+-- The instruction of a drawn number, by its bits 28 and 29: ADDI, XOR, SW to one of the 512 words that x5 points to, or
 -- ADD, over registers x8 to x15.
 abbrev pub instruction_of : ℕ → Inst
 instruction_of v =
@@ -35,7 +35,7 @@ abbrev pub drawn_from : ℕ → ℕ → List Inst
 drawn_from zero v = []
 drawn_from (suc n) v = instruction_of (drawn v) ∷ drawn_from n (drawn v)
 
--- LUI x5, 0x11; then an instruction of each of 62 draws; then JAL x0 by -248, a jump to the first of these
+-- LUI x5, 0x11; then an instruction of each of 62 draws; then JAL x0 by -248, as 32 bits have it, a jump to the first of these
 abbrev pub instructions : ℕ → List Inst
 instructions number = Lui 5 0x11000 ∷ (drawn_from 62 number ++ Jal 0 (2 ^ 32 - 248) ∷ [])
 

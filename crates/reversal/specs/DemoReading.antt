@@ -12,7 +12,7 @@ use Rattle.reversal.specs.declared.demo.Demonstrated.{Demonstrated}
 -- A run: the session is at its start, and stands there over the keeper, which has room; a valid list is still to come.
 pub record IsAtStart (d : Demonstrated) : Type 0 where
   pub state : IsMachineState d.session.work
-  pub begun_so : d.session ≡ begun d.session.work d.session.journal d.session.situation.steps d.session.situation.slots
+  pub begun_so : d.session ≡ begun d.session.work d.session.journal 1 d.session.situation.steps d.session.situation.slots
   pub stands : StandsAt d.session.work d.session (told_by (λ (k : KeeperState). Some k.images) d.keepers.items)
   pub room : HaveRoom d.session.situation.steps d.session.situation.slots (map (λ (k : KeeperState). k.slots) d.keepers.items)
   pub valid : Valid d.session.situation.steps d.session.situation.slots d.actions

@@ -10,9 +10,9 @@ use Rattle.cert_text.specs.declared.certificate.Certificate.{Certificate}
 use Rattle.cert_text.specs.Canonical as certificate
 use Rattle.bound_cert.specs.declared.verdict.Reason.{Reason}
 use Rattle.bound_cert.specs.Accepted.{IsFirstReason}
-use Rattle.revolve_gen.specs.Plans.{HasPlan}
+use Rattle.revolve_gen.specs.Plans as revolve
 use Rattle.reverse_runner.specs.KeepersSeen.{HaveRoom}
-use Rattle.reversal.specs.declared.ended.Ended.{Ended}
+use Rattle.requests.specs.declared.ended.Ended.{Ended}
 use Rattle.reversal.specs.declared.job.Job as in_memory
 use Rattle.reversal.specs.declared.job.Job.TheVariants.{Perform, Ask, Write, Report, Plan, Demonstrate}
 use Rattle.reversal.specs.declared.planning.Plan as plan_in_memory
@@ -24,12 +24,12 @@ use Rattle.cost_fold.specs.CountsOf.{all_of}
 use Rattle.cost_report.specs.Report.{report_lines}
 use Rattle.reversal.specs.ActionsLeft.{left_of}
 use Rattle.reversal.specs.Plans.{list_pieces}
-use Rattle.reversal.specs.Bounds.{IsWithin, question_bound}
+use Rattle.requests.specs.Bounds.{IsWithin, question_bound}
 use Rattle.reversal.specs.Deeds.{Job, perform, ask, write, demonstrate, Moment, HaltsShowing}
 use Rattle.reversal.specs.Decision.{accept, EndsBy}
 use Rattle.reverse_runner.specs.declared.fault.RunFault.{RunFault}
 use Rattle.reverse_runner.specs.declared.fault.RunFault.TheVariants as fault
-use Rattle.reversal.specs.Ending.{no_memory, not_least, keeper_failed, damaged, stopped}
+use Rattle.requests.specs.Ending.{no_memory, not_least, keeper_failed, damaged, stopped}
 
 -- the writes of a certificate, if there is one
 abbrev pub certificate_pieces : Option Certificate → List (List ℕ)
@@ -72,7 +72,7 @@ pub record IsWritable (p : plan_in_memory.Plan) : Type 0 where
 pub record IsShowable (d : demo_in_memory.Demonstration) : Type 0 where
   pub steps : d.steps ≤ 1000000
   pub slots : d.slots ≤ 1000000
-  pub plan : HasPlan d.steps (total_room (plain d.slots) d.steps)
+  pub plan : revolve.HasPlan d.steps (total_room (plain d.slots) d.steps)
 
 abbrev pub CanBeDone : in_memory.Job → Type 0
 CanBeDone (Perform p) = IsPerformable p

@@ -5,8 +5,8 @@ use Rattle.level_book.specs.BookCosts.{BookCosts, slots_of, room, total_room}
 use Rattle.disk_gen.specs.Periodic.{images}
 use Rattle.disk_gen.specs.Plans.{slots_at, HasSlots}
 use Rattle.hrevolve_gen.specs.Plans as nested
-use Rattle.reversal.specs.declared.ended.Ended.{Ended}
-use Rattle.reversal.specs.Ending.{no_plan}
+use Rattle.requests.specs.declared.ended.Ended.{Ended}
+use Rattle.requests.specs.Ending.{no_plan}
 
 -- no periodic one
 abbrev pub IsUnperiodic : ℕ → ℕ → BookCosts → Ended → Type 0

@@ -1,4 +1,4 @@
--- What is written of a list for a book: its text and its certificate, which say it again.
+-- What is written of a list for a book: its text and its certificate, which say it again; and the tables that some lists are read from.
 use Rattle.std.specs.Prelude.{ℕ, suc, zero, List, [], ◌∷◌, ◌++◌, length, map, take, drop, cond, nat_le, ◌+◌}
 use Rattle.std.specs.List.{flat_map}
 use Rattle.plan_types.specs.declared.action.Action.{Action}
@@ -9,6 +9,10 @@ use Rattle.revolve_gen.specs.Written.{revolve_list}
 use Rattle.cert_text.specs.declared.certificate.Certificate.{Certificate}
 use Rattle.cert_text.specs.declared.certificate.Certificate.TheVariants.{Revolve}
 use Rattle.cert_text.specs.Canonical as certificate
+use Rattle.cost_tables.specs.Shapes.{AreShaped}
+use Rattle.cost_tables.specs.TableRows.{TableRows, AreFor}
+use Rattle.disk_gen.specs.DiskRows.{DiskRows, AreDiskSized}
+use Rattle.disk_gen.specs.DiskShapes.{AreDiskShaped}
 
 -- The certificate of Revolve's list: its number of repeats, and its forward steps. For no step and for one these are known
 -- without a number of repeats.
@@ -33,3 +37,11 @@ list_pieces names list = in_pieces (length list) (map (line_of_action names) lis
 -- the writes of a plan: the text of the list, and that of its certificate
 abbrev pub plan_pieces : ℕ → BookCosts → List (List ℕ)
 plan_pieces steps book = list_pieces (names_of book) (revolve_list steps book) ++ certificate.pieces (certificate_of steps book)
+
+-- tables for so many steps and a book, in whole rows, with nothing else in them
+abbrev pub AreTablesFor : ℕ → BookCosts → TableRows → Type 0
+AreTablesFor steps book t = AreFor steps book t × AreShaped t
+
+-- the same of disk tables
+abbrev pub AreDiskTablesFor : ℕ → BookCosts → DiskRows → Type 0
+AreDiskTablesFor steps book t = AreDiskSized steps book t × AreDiskShaped t

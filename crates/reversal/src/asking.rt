@@ -11,16 +11,15 @@ ghost use Rattle.reverse_runner.specs.declared.fault.RunFault.TheVariants as fau
 ghost use Rattle.reversal.specs.Output.{Adds};
 ghost use Rattle.reversal.specs.Deeds.{ask, moment, AllTell, answer_text};
 ghost use Rattle.reversal.specs.Decision.{accept, EndsBy, KeepsOthers};
-ghost use Rattle.reversal.specs.Ending.{no_memory, done, stopped};
+ghost use Rattle.requests.specs.Ending.{no_memory, done, stopped};
 ghost use Rattle.reversal.specs.JobReading.{CanBeAsked, Works, fault_ending};
-ghost use Rattle.reversal.specs.declared.question.Question.TheVariants as about;
+ghost use Rattle.requests.specs.declared.question.Question.TheVariants as about;
 
-use crate::ended::Ended;
-use crate::question::Question;
 use input_journal::Journal;
 use keepers::{Keeper, Sink};
 use level_book::Book;
 use plan_types::{Action, Line};
+use requests::{Ended, Question};
 use reverse_queries::{last_change, last_write, state_at};
 use reverse_runner::{LineWriter, RunFault, Session};
 use rv_machine::{State, Steps};
@@ -73,7 +72,7 @@ impl Asking {
             list,
         } = self.over;
         start.is_machine_state();
-        let Ok(mut session) = Session::begin(alloc, start, journal, steps, book) else {
+        let Ok(mut session) = Session::begin(alloc, start, journal, steps, 1, book) else {
             return Ended::no_memory();
         };
         match question {
@@ -99,7 +98,7 @@ fn show_state<K: Keeper, O: Sink, L: Ledger>(
     out: &mut O,
     counter: &mut Steps<L>,
 ) -> Ended
-    requires begun { session.old ≡ begun session.old.work session.old.journal session.old.situation.steps session.old.situation.slots }
+    requires begun { session.old ≡ begun session.old.work session.old.journal 1 session.old.situation.steps session.old.situation.slots }
     requires stands { (told : ℕ → Option Images) → AllTell (length session.old.situation.slots) told → StandsAt session.old.work session.old told }
     requires state { IsMachineState session.old.work }
     requires valid { Valid session.old.situation.steps session.old.situation.slots list.now }
@@ -131,7 +130,7 @@ fn tell_last_write<K: Keeper, O: Sink, L: Ledger>(
     out: &mut O,
     counter: &mut Steps<L>,
 ) -> Ended
-    requires begun { session.old ≡ begun session.old.work session.old.journal session.old.situation.steps session.old.situation.slots }
+    requires begun { session.old ≡ begun session.old.work session.old.journal 1 session.old.situation.steps session.old.situation.slots }
     requires stands { (told : ℕ → Option Images) → AllTell (length session.old.situation.slots) told → StandsAt session.old.work session.old told }
     requires state { IsMachineState session.old.work }
     requires valid { Valid session.old.situation.steps session.old.situation.slots list.now }
@@ -162,7 +161,7 @@ fn tell_last_change<K: Keeper, O: Sink, L: Ledger>(
     out: &mut O,
     counter: &mut Steps<L>,
 ) -> Ended
-    requires begun { session.old ≡ begun session.old.work session.old.journal session.old.situation.steps session.old.situation.slots }
+    requires begun { session.old ≡ begun session.old.work session.old.journal 1 session.old.situation.steps session.old.situation.slots }
     requires stands { (told : ℕ → Option Images) → AllTell (length session.old.situation.slots) told → StandsAt session.old.work session.old told }
     requires state { IsMachineState session.old.work }
     requires valid { Valid session.old.situation.steps session.old.situation.slots list.now }

@@ -5,23 +5,22 @@ ghost use Rattle.level_book.specs.Valid.{Valid};
 ghost use Rattle.cert_text.specs.Meaning.{IsCertificateText};
 ghost use Rattle.cert_text.specs.Faults.{HasFirstFault};
 ghost use Rattle.bound_cert.specs.Accepted.{class_of, IsAccepted};
-ghost use Rattle.reversal.specs.Request.{Choice};
+ghost use Rattle.requests.specs.Request.{Choice};
 ghost use Rattle.reversal.specs.Decision.{accept, refuse, least_line, DecidesCertify, DecidesBytes};
-ghost use Rattle.reversal.specs.Ending.{no_memory, bad_certificate};
-ghost use Rattle.reversal.specs.Inputs.{inputs_of};
-ghost use Rattle.reversal.specs.InputReading.{AreWithinLimits};
+ghost use Rattle.requests.specs.Ending.{no_memory, bad_certificate};
+ghost use Rattle.requests.specs.Inputs.{inputs_of};
+ghost use Rattle.requests.specs.InputReading.{AreWithinLimits};
 ghost use Rattle.reversal.specs.JobReading.{job_of, CanBeDone, KeepersHaveRoom, IsRefusal, IsUnweighed};
-ghost use Rattle.reversal.specs.Request.{certify as certify_command};
-ghost use Rattle.reversal.specs.RequestReading.{as_certify};
+ghost use Rattle.requests.specs.Request.{certify as certify_command};
+ghost use Rattle.requests.specs.RequestReading.{as_certify};
 
 use crate::decision::{book_in, judge, list_in};
-use crate::ended::Ended;
 use crate::job::Job;
-use crate::request::Certify;
 use bound_cert::{CertVerdict, Class, check_certificate};
 use cert_text::{Certificate, read_certificate};
 use level_book::Book;
 use plan_types::{Action, Line};
+use requests::{Certify, Ended};
 use std::alloc::Global;
 
 /// What a request for a proof that a list is least comes to by the bytes of its inputs.

@@ -15,28 +15,27 @@ ghost use Rattle.reverse_runner.specs.KeepersSeen.{Calls, told_by};
 ghost use Rattle.reverse_runner.specs.Standing.{begun, StandsAt};
 ghost use Rattle.sha2.specs.Sha256.{sha256};
 ghost use Rattle.reversal.specs.DemoReading.{IsAtStart, BreaksWithin};
-ghost use Rattle.reversal.specs.Request.{Choice};
+ghost use Rattle.requests.specs.Request.{Choice};
 ghost use Rattle.reversal.specs.Deeds.{demonstrate};
 ghost use Rattle.reversal.specs.Decision.{accept, refuse, DecidesDemo, DecidesBytes};
 ghost use Rattle.rv_decode.specs.Ranges.{HasRanges};
 ghost use Rattle.rv_decode.specs.Words.{word_of};
 ghost use Rattle.reversal.specs.Demo.{drawn, instruction_of, program, demo_list, summary_text};
 ghost use Rattle.reversal.specs.Output.{lines_down};
-ghost use Rattle.reversal.specs.Ending.{no_memory};
+ghost use Rattle.requests.specs.Ending.{no_memory};
 ghost use Rattle.reversal.specs.JobReading.{job_of, IsShowable, CanBeDone, KeepersHaveRoom, Works};
-ghost use Rattle.reversal.specs.Request.{demo as demo_command};
-ghost use Rattle.reversal.specs.RequestReading.{as_demo};
+ghost use Rattle.requests.specs.Request.{demo as demo_command};
+ghost use Rattle.requests.specs.RequestReading.{as_demo};
 
-use crate::ended::{Ended, push_digest};
 use crate::job::Job;
 use crate::line_hasher::LineHasher;
-use crate::request::Demo;
 use elf_load::load_raw;
 use input_journal::Journal;
 use keepers::{MemoryKeeper, Sink};
 use level_book::Book;
 use pebble_bound::least_forward;
 use plan_types::Line;
+use requests::{Demo, Ended, push_digest};
 use reverse_runner::Session;
 use revolve_gen::{GenFault, Revolve};
 use rv_decode::{Inst, encode};
@@ -231,7 +230,7 @@ impl Demonstrated {
         requires slots { slots ≤ 1000000 }
         requires plan { HasPlan steps (total_room (plain slots) steps) }
         ensures start { IfOk result IsAtStart }
-        ensures session { IfOk result (λ d. d.session ≡ begun start [] steps (slots_of (plain slots))) }
+        ensures session { IfOk result (λ d. d.session ≡ begun start [] 1 steps (slots_of (plain slots))) }
         ensures list { IfOk result (λ d. d.actions ≡ demo_list steps slots) }
     {
         let book = Book::plain(slots);
@@ -243,7 +242,7 @@ impl Demonstrated {
         let mut keepers = Vec::with_capacity(alloc, 1)?;
         keepers.push(MemoryKeeper::new(alloc, slots))?;
         start.is_machine_state();
-        let session = Session::begin(alloc, start, Journal::none(alloc), steps, book)?;
+        let session = Session::begin(alloc, start, Journal::none(alloc), steps, 1, book)?;
         Ok(Demonstrated {
             session,
             actions,

@@ -12,19 +12,19 @@ ghost use Rattle.reverse_runner.specs.Standing.{begun, StandsAt};
 ghost use Rattle.reversal.specs.Deeds.{perform, write, moment, AllTell, AllEmpty};
 ghost use Rattle.reversal.specs.ActionsLeft.{left_of};
 ghost use Rattle.reversal.specs.Decision.{accept, EndsBy, KeepsOthers};
-ghost use Rattle.reversal.specs.Ending.{no_memory};
+ghost use Rattle.requests.specs.Ending.{no_memory};
 ghost use Rattle.reversal.specs.JobReading.{job_of, IsPerformable, CanBeDone, KeepersHaveRoom, Works};
 
 use crate::actions::Actions;
 use crate::asking::Asking;
 use crate::demo::Demonstration;
-use crate::ended::Ended;
 use crate::planning::Plan;
 use crate::pricing::Pricing;
 use input_journal::Journal;
 use keepers::{Keeper, Sink};
 use level_book::Book;
 use plan_types::Line;
+use requests::Ended;
 use reverse_runner::{LineWriter, RunFault, Session};
 use rv_machine::{State, Steps};
 use std::alloc::Global;
@@ -118,7 +118,7 @@ impl Performance {
             mut actions,
         } = self;
         start.is_machine_state();
-        match Session::begin(alloc, start, journal, steps, book) {
+        match Session::begin(alloc, start, journal, steps, 1, book) {
             Err(_) => Ended::no_memory(),
             Ok(mut session) => perform_all(&mut session, &mut actions, keepers, out, counter),
         }
@@ -148,7 +148,7 @@ fn perform_all<K: Keeper, O: Sink, L: Ledger>(
     out: &mut O,
     counter: &mut Steps<L>,
 ) -> Ended
-    requires begun { session.old ≡ begun session.old.work session.old.journal session.old.situation.steps session.old.situation.slots }
+    requires begun { session.old ≡ begun session.old.work session.old.journal 1 session.old.situation.steps session.old.situation.slots }
     requires stands { (told : ℕ → Option Images) → AllTell (length session.old.situation.slots) told → StandsAt session.old.work session.old told }
     requires alone { (told : ℕ → Option Images) → AllEmpty (length session.old.situation.slots) told → AreAlone (levels_of session.old told) }
     requires state { IsMachineState session.old.work }

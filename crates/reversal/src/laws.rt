@@ -1,14 +1,18 @@
 // Laws of requests and decisions. Each function does nothing; its contract is the law.
-ghost use Rattle.std.specs.Prelude.{◌≡◌, ℕ, ◌≤◌, ◌++◌, List, [], ◌∷◌, Option};
+ghost use Rattle.std.specs.Prelude.{◌≡◌, ℕ, ◌+◌, ◌≤◌, ◌++◌, List, [], ◌∷◌, Option};
 ghost use Rattle.plan_types.specs.declared.action.Action.{Action};
-ghost use Rattle.level_book.specs.BookCosts.{BookCosts, slots_of, names_of};
+ghost use Rattle.level_book.specs.BookCosts.{BookCosts, slots_of, names_of, total_room};
+ghost use Rattle.binomials.specs.Advances.{least_advances};
+ghost use Rattle.rv_machine.specs.MachineState.{MachineState};
+ghost use Rattle.disk_gen.specs.Periodic.{periodic_list};
 ghost use Rattle.level_book.specs.BookFaults.{IsBookText};
 ghost use Rattle.level_book.specs.CostFold.{forward, cost};
 ghost use Rattle.level_book.specs.DiskClass.{Disk};
 ghost use Rattle.level_book.specs.NestedClass.{Nested};
 ghost use Rattle.level_book.specs.Valid.{Valid};
 ghost use Rattle.action_text.specs.ScheduleText.{IsSchedule};
-ghost use Rattle.reversal.specs.Request.{Request, Says};
+ghost use Rattle.requests.specs.Request.{Choice, Request, Says, says_raw, stack_pages};
+ghost use Rattle.reversal.specs.Contents.{DecisionsExist};
 ghost use Rattle.cert_text.specs.declared.certificate.Certificate.{Certificate};
 ghost use Rattle.cert_text.specs.declared.certificate.Certificate.TheVariants as certified;
 ghost use Rattle.cost_tables.specs.TableRows.{TableRows};
@@ -18,10 +22,10 @@ ghost use Rattle.bound_cert.specs.Accepted.{class_of, IsAccepted, IsLeastOf};
 ghost use Rattle.cert_text.specs.Meaning.{IsCertificateText};
 ghost use Rattle.revolve_gen.specs.Multistage.{IsMultistage};
 ghost use Rattle.revolve_gen.specs.Written.{revolve_list};
-ghost use Rattle.reversal.specs.Decision.{Decision, accept, least_line, Decides, DecidesCertify, DecidesPlanRevolve, DecidesPlanMultistage, DecidesPlanDisk, DecidesPlanHrevolve};
+ghost use Rattle.reversal.specs.Decision.{Decision, accept, least_line, IsStartOf, AreItemsOf, Decides, DecidesRunRevolve, DecidesCertify, DecidesPlanRevolve, DecidesPlanMultistage, DecidesPlanDisk, DecidesPlanHrevolve, DecidesPlanPeriodic};
 ghost use Rattle.reversal.specs.Plans.{list_pieces, plan_pieces, certificate_of};
 ghost use Rattle.reversal.specs.WrittenPlans.{SaysAgain};
-ghost use Rattle.reversal.specs.Deeds.{Job, write, Shown, deeds, bytes_written, steps_made, output, steps_taken};
+ghost use Rattle.reversal.specs.Deeds.{Job, perform, write, Shown, deeds, bytes_written, steps_made, output, steps_taken};
 
 /// Words say one request at most.
 pub fn requests_are_unique()
@@ -31,6 +35,12 @@ pub fn requests_are_unique()
 /// A request comes to one decision at most, by what is there under its names and the slots of the keepers.
 pub fn decisions_are_unique()
     ensures { (r : Request) (given : List (Option (List ℕ))) (slots : List ℕ) (d e : Decision) → Decides r given slots d → Decides r given slots e → d ≡ e }
+{}
+
+/// A request whose numbers are within their bounds comes to a decision, whatever is there under its names and however many slots
+/// the keepers have: no table of decisions has a hole.
+pub fn requests_come_to_decisions()
+    ensures { DecisionsExist }
 {}
 
 /// The deeds of a job that was decided write its output, of whatever states they show, and take its steps.
@@ -56,6 +66,24 @@ pub fn revolve_plans_are_least()
         × ((other : List Action) → Valid steps (slots_of b) other → forward (revolve_list steps b) ≤ forward other) }
 {}
 
+/// A run by the list of Revolve takes the fewest forward steps: where a request for one comes to its job, that list is performed;
+/// it is valid for the book, takes N + t(N, c) forward steps with c slots of all levels, and no list that is valid for the book
+/// takes fewer.
+pub fn revolve_runs_are_least()
+    ensures { (options : List Choice) (steps : ℕ) (program : List ℕ) (journal : Option (List ℕ)) (book counts : List ℕ) (job : Job) → DecidesRunRevolve options steps program journal book counts (accept job) →
+        (b : BookCosts) × IsBookText book b × (start : MachineState) × IsStartOf (says_raw options) (stack_pages options) program start × (items : List (List ℕ)) × AreItemsOf journal items
+        × (job ≡ perform start items steps (slots_of b) (revolve_list steps b)) × Valid steps (slots_of b) (revolve_list steps b) × (1 ≤ steps → forward (revolve_list steps b) ≡ steps + least_advances steps (total_room b steps))
+        × ((other : List Action) → Valid steps (slots_of b) other → forward (revolve_list steps b) ≤ forward other) }
+{}
+
+/// A periodic plan is valid and is read again as it was made: where a request for one comes to its job, the text of the periodic
+/// list of the book is written; that list is valid for the book, and read as a schedule the text says it.
+pub fn periodic_plans_are_read_again()
+    ensures { (steps period : ℕ) (book : List ℕ) (job : Job) → steps ≤ 1000000 → 1 ≤ period → DecidesPlanPeriodic steps period book (accept job) →
+        (b : BookCosts) × IsBookText book b × (job ≡ write (list_pieces (names_of b) (periodic_list steps period b))) × Valid steps (slots_of b) (periodic_list steps period b)
+        × ((shown : Shown) → IsSchedule (names_of b) (output shown job) (periodic_list steps period b)) }
+{}
+
 /// What is written of a plan of Revolve is read again: as a schedule that says its list, and as a text that says its certificate.
 pub fn plans_are_read_again()
     ensures { (steps : ℕ) (book : List ℕ) (job : Job) → steps ≤ 1000000 → DecidesPlanRevolve steps book (accept job) →
@@ -67,7 +95,7 @@ pub fn plans_are_read_again()
 /// that is in the nested class, with a certificate that is accepted for it, and no list of that class costs less by the book.
 /// What is written is read again as that list and that certificate.
 pub fn hrevolve_plans_are_least()
-    ensures { (steps : ℕ) (book : List ℕ) (job : Job) → DecidesPlanHrevolve steps book (accept job) →
+    ensures { (steps : ℕ) (book : List ℕ) (job : Job) → steps ≤ 2048 → DecidesPlanHrevolve steps book (accept job) →
         (b : BookCosts) × IsBookText book b × (list : List Action) × (t : TableRows) × (job ≡ write (list_pieces (names_of b) list ++ pieces (certified.Nested t)))
         × Nested steps (slots_of b) list × IsAccepted list steps b (certified.Nested t)
         × ((other : List Action) → Nested steps (slots_of b) other → cost list b ≤ cost other b) × SaysAgain steps b job list (certified.Nested t) }
@@ -77,7 +105,7 @@ pub fn hrevolve_plans_are_least()
 /// that is in the disk class, with a certificate that is accepted for it, and no list of that class costs less by the book. What
 /// is written is read again as that list and that certificate.
 pub fn disk_plans_are_least()
-    ensures { (steps : ℕ) (book : List ℕ) (job : Job) → DecidesPlanDisk steps book (accept job) →
+    ensures { (steps : ℕ) (book : List ℕ) (job : Job) → steps ≤ 8192 → DecidesPlanDisk steps book (accept job) →
         (b : BookCosts) × IsBookText book b × (list : List Action) × (t : DiskRows) × (job ≡ write (list_pieces (names_of b) list ++ pieces (certified.Disk t)))
         × Disk steps (slots_of b) list × IsAccepted list steps b (certified.Disk t)
         × ((other : List Action) → Disk steps (slots_of b) other → cost list b ≤ cost other b) × SaysAgain steps b job list (certified.Disk t) }

@@ -5,18 +5,18 @@ ghost use Rattle.revolve_gen.specs.Plans.{HasPlan};
 ghost use Rattle.revolve_gen.specs.Multistage.{IsMultistage};
 ghost use Rattle.multistage_gen.specs.Planned.{IsMultistageList};
 ghost use Rattle.reversal.specs.Decision.{accept, refuse, DecidesPlanMultistage};
-ghost use Rattle.reversal.specs.Ending.{no_memory, no_plan};
+ghost use Rattle.requests.specs.Ending.{no_memory, no_plan};
 ghost use Rattle.reversal.specs.JobReading.{job_of, CanBeDone, KeepersHaveRoom};
 
 use crate::actions::{Actions, Listed};
 use crate::decision::book_in;
-use crate::ended::Ended;
 use crate::job::Job;
 use crate::planning::certified_text;
 use bound_cert::certify_places;
 use level_book::Book;
 use multistage_gen::multistage_list;
 use plan_types::Action;
+use requests::Ended;
 use revolve_gen::GenFault;
 use std::alloc::Global;
 
@@ -30,7 +30,7 @@ pub fn multistage_text(alloc: Global, steps: u32, book: &[u8]) -> Result<Job, En
 {
     let book = book_in(alloc, book)?;
     let list = list_for(alloc, steps, &book)?;
-    let certificate = certify_places(alloc, &list, steps, &book)?;
+    let certificate = certify_places(alloc, &list, &book)?;
     let job = certified_text(alloc, Actions::Listed(Listed::new(list)), book, certificate)?;
     Ok(job)
 }

@@ -4,17 +4,17 @@ ghost use Rattle.level_book.specs.BookCosts.{total_room};
 ghost use Rattle.disk_gen.specs.Periodic.{periodic_list};
 ghost use Rattle.disk_gen.specs.Plans.{HasPlan};
 ghost use Rattle.reversal.specs.Decision.{accept, refuse, DecidesPlanPeriodic};
-ghost use Rattle.reversal.specs.Ending.{no_memory};
+ghost use Rattle.requests.specs.Ending.{no_memory};
 ghost use Rattle.reversal.specs.JobReading.{job_of, CanBeDone, KeepersHaveRoom};
 ghost use Rattle.reversal.specs.NoPlans.{IsUnperiodic};
 
 use crate::actions::Actions;
 use crate::decision::book_in;
-use crate::ended::Ended;
 use crate::job::Job;
 use crate::planning::list_text;
 use disk_gen::Periodic;
 use level_book::Book;
+use requests::Ended;
 use revolve_gen::GenFault;
 use std::alloc::Global;
 

@@ -1,24 +1,22 @@
 // What requests for plans come to.
 ghost use Rattle.std.specs.Prelude.{◌≡◌, ◌⊎◌, ℕ, ◌≤◌, List, map, IfOk, IfErr};
 ghost use Rattle.std.specs.List.{AllByRecursion};
-ghost use Rattle.reversal.specs.Request.{Choice, plan as plan_command, plan_periodic as plan_periodic_command};
-ghost use Rattle.reversal.specs.Bounds.{plan_bound, IsWithin};
+ghost use Rattle.requests.specs.Request.{Choice, plan as plan_command, plan_periodic as plan_periodic_command};
+ghost use Rattle.requests.specs.Bounds.{plan_bound, IsWithin};
 ghost use Rattle.reversal.specs.Decision.{accept, refuse, DecidesPlan, DecidesBytes};
-ghost use Rattle.reversal.specs.Ending.{no_memory};
-ghost use Rattle.reversal.specs.Inputs.{inputs_of};
-ghost use Rattle.reversal.specs.InputReading.{AreWithinLimits};
+ghost use Rattle.requests.specs.Ending.{no_memory};
+ghost use Rattle.requests.specs.Inputs.{inputs_of};
+ghost use Rattle.requests.specs.InputReading.{AreWithinLimits};
 ghost use Rattle.reversal.specs.JobReading.{job_of, CanBeDone, KeepersHaveRoom};
-ghost use Rattle.reversal.specs.RequestReading.{as_plan, as_plan_periodic};
+ghost use Rattle.requests.specs.RequestReading.{as_plan, as_plan_periodic};
 
 use crate::disk::disk_text;
-use crate::ended::Ended;
 use crate::hrevolve::hrevolve_text;
 use crate::job::Job;
-use crate::kind::PlanKind;
 use crate::multistage::multistage_text;
 use crate::periodic::periodic_text;
 use crate::planning::revolve_text;
-use crate::request::{PlanFor, PlanPeriodic};
+use requests::{Ended, PlanFor, PlanKind, PlanPeriodic};
 use std::alloc::Global;
 use std::thread::Threads;
 

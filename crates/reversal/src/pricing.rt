@@ -7,25 +7,24 @@ ghost use Rattle.level_book.specs.Valid.{Valid};
 ghost use Rattle.cost_fold.specs.CountsOf.{all_of};
 ghost use Rattle.cost_report.specs.Report.{report_lines};
 ghost use Rattle.reverse_runner.specs.KeepersSeen.{Calls};
-ghost use Rattle.reversal.specs.Request.{Choice, price as price_command};
+ghost use Rattle.requests.specs.Request.{Choice, price as price_command};
 ghost use Rattle.reversal.specs.Deeds.{write};
 ghost use Rattle.reversal.specs.Decision.{accept, refuse, EndsBy, DecidesPrice, DecidesBytes};
-ghost use Rattle.reversal.specs.Ending.{no_memory};
-ghost use Rattle.reversal.specs.Inputs.{inputs_of};
-ghost use Rattle.reversal.specs.InputReading.{AreWithinLimits};
+ghost use Rattle.requests.specs.Ending.{no_memory};
+ghost use Rattle.requests.specs.Inputs.{inputs_of};
+ghost use Rattle.requests.specs.InputReading.{AreWithinLimits};
 ghost use Rattle.reversal.specs.JobReading.{job_of, CanBeDone, KeepersHaveRoom};
 ghost use Rattle.reversal.specs.Pricing.{list_report};
-ghost use Rattle.reversal.specs.RequestReading.{as_price};
+ghost use Rattle.requests.specs.RequestReading.{as_price};
 
 use crate::decision::{book_in, judge, list_in};
-use crate::ended::Ended;
 use crate::job::Job;
-use crate::request::Price;
 use cost_fold::{Counts, tally};
 use cost_report::report;
 use keepers::Sink;
 use level_book::Book;
 use plan_types::Action;
+use requests::{Ended, Price};
 use std::alloc::Global;
 
 /// The counts of a list, and the book by which they cost something.

@@ -1,7 +1,7 @@
 -- What the program writes to standard error of how a call ended.
 use Rattle.std.specs.Prelude.{ℕ, ◌==◌, ◌++◌, if◌then◌else◌, List, [], ◌∷◌}
-use Rattle.reversal.specs.declared.ended.Ended.{Ended}
-use Rattle.reversal.specs.Ending.{text_of_ended}
+use Rattle.requests.specs.declared.ended.Ended.{Ended}
+use Rattle.requests.specs.Ending.{text_of_ended}
 
 -- nothing for status 0, and else the text of the ending and a line end
 abbrev pub report_of : Ended → List ℕ

@@ -1,5 +1,5 @@
 -- Which calls an action makes of the keepers, and that a fault of a session fits the action that it refused.
-use Rattle.std.proofs.Common.{◌≡◌, inl, inr, ℕ, zero, suc, ◌+◌, ◌==◌, ◌<◌, Bool, true, List, [], ◌∷◌, take, slice_get, Some, Contains, Result, Err, OnErr, IfErr, Ok, refl, sym, ◌∙◌, ap, subst, arith, add-one, eq-eqb}
+use Rattle.std.proofs.Common.{◌≡◌, inl, inr, ℕ, zero, suc, ◌+◌, ◌==◌, ◌<◌, true, List, [], ◌∷◌, take, slice_get, Some, Contains, Result, Err, OnErr, IfErr, Ok, refl, sym, ◌∙◌, ap, subst, arith, add-one, eq-eqb}
 use Rattle.std.proofs.lemmas.Bool.{false≢true}
 use Rattle.std.proofs.lemmas.Option.{same_Some}
 use Rattle.plan_types.specs.declared.action.Keep.TheVariants.{Nothing, Store, Tape}
@@ -45,7 +45,7 @@ calls_one EndForward h = absurd (false≢true h)
 calls_one EndReverse h = absurd (false≢true h)
 
 -- one that reads a pair gets an image of its level
-gets_pair : (a : Action) (n k : ℕ) → pair_read a ≡ Some (n, k) → 0 < (calls_of a).gets k
+pub gets_pair : (a : Action) (n k : ℕ) → pair_read a ≡ Some (n, k) → 0 < (calls_of a).gets k
 gets_pair (Forward from to keep) n k e = absurd cc
 gets_pair (Reverse from to) n k e = absurd cc
 gets_pair (Copy m i dest) n k e = let o = one_here i k (ap (λ (p : ℕ × ℕ). p.1) (sym (same_Some _ _ e))) in omega (arith, o)
@@ -54,14 +54,14 @@ gets_pair EndForward n k e = absurd cc
 gets_pair EndReverse n k e = absurd cc
 
 -- the fault of a refused action fits it, by what is known of each fault
-pub fault_fits : {T : Type 0} (gives : Action → Bool) (a : Action) (s : Holdings) (r : Result T RunFault) (fault : RunFault) → r ≡ Err fault →
+pub fault_fits : {T : Type 0} (Misses : Action → Holdings → Type 0) (a : Action) (s : Holdings) (r : Result T RunFault) (fault : RunFault) → r ≡ Err fault →
     ((k : ℕ) → r ≡ Err (Keeper k) → Contains (levels_named a) k) → ((k : ℕ) (put got : List ℕ) → r ≡ Err (Damaged k put got) → IsDamage a s k put got) →
-    (r ≡ Err Memory → calls_keepers a ≡ true) → (r ≡ Err Visitor → gives a ≡ true) → (r ≡ Err Ended → ⊥) → Fits gives fault a
-fault_fits gives a s r (Keeper k) is keeper damaged wants given over = calls_named a k (keeper k is)
-fault_fits gives a s r (Damaged k put got) is keeper damaged wants given over = let damage = damaged k put got is in gets_pair a damage.number k damage.pair
-fault_fits gives a s r Visitor is keeper damaged wants given over = given is
-fault_fits gives a s r Memory is keeper damaged wants given over = calls_one a (wants is)
-fault_fits gives a s r Ended is keeper damaged wants given over = over is
+    (r ≡ Err Memory → calls_keepers a ≡ true) → (r ≡ Err Visitor → Misses a s) → (r ≡ Err Ended → ⊥) → Fits Misses fault a s
+fault_fits Misses a s r (Keeper k) is keeper damaged wants missed over = calls_named a k (keeper k is)
+fault_fits Misses a s r (Damaged k put got) is keeper damaged wants missed over = damaged k put got is
+fault_fits Misses a s r Visitor is keeper damaged wants missed over = missed is
+fault_fits Misses a s r Memory is keeper damaged wants missed over = calls_one a (wants is)
+fault_fits Misses a s r Ended is keeper damaged wants missed over = over is
 
 -- the last element of a front of a list stands at that place of the list
 get_of_take : {A : Type 0} (xs : List A) (i : ℕ) → slice_get (take (i + 1) xs) i ≡ slice_get xs i

@@ -3,5 +3,8 @@ pub mod Fronts
 pub mod Going
 pub mod Looking
 pub mod Naming
+pub mod Numbers
+pub mod Picking
+pub mod Running
 pub mod Turning
 pub mod Ways

@@ -1,5 +1,5 @@
 -- Which levels an action names, and that it leaves the pages of the state in work as they are.
-use Rattle.std.proofs.Common.{◌≡◌, ℕ, zero, suc, ◌-◌, ◌<◌, ◌≤◌, ◌⊎◌, inl, inr, List, [], ◌∷◌, length, get_or, Contains, sym, ◌∙◌, ap, arith}
+use Rattle.std.proofs.Common.{◌≡◌, ℕ, zero, suc, ◌-◌, ◌*◌, ◌<◌, ◌≤◌, ◌⊎◌, inl, inr, List, [], ◌∷◌, length, get_or, Contains, sym, ◌∙◌, ap, arith}
 use Rattle.plan_types.specs.declared.action.Keep.TheVariants.{Nothing, Store, Tape}
 use Rattle.plan_types.specs.declared.action.Dest.TheVariants.{Work, Level}
 use Rattle.plan_types.specs.declared.action.Action.{Action}
@@ -50,14 +50,14 @@ pub past_is_unnamed : (steps : ℕ) (slots : List Slots) (c : Configuration) (a 
 past_is_unnamed steps slots c a d k g past named = let within = names_levels steps slots c a d g k named in absurd (omega (arith, past, within))
 
 -- an action leaves the pages of the state in work as they are
-pub acts_keep_pages : (journal : List (List ℕ)) (a : Action) (old new : Holdings) → Acts journal a old new → SamePages new.work old.work
-acts_keep_pages journal (Forward from to Nothing) old new h = ap (λ (s : MachineState). page_numbers s.memory) h.does.0 ∙ state_number_keeps_pages old.work journal (to - from)
-acts_keep_pages journal (Forward from to (Store k)) old new h = ap (λ (s : MachineState). page_numbers s.memory) h.does.0 ∙ state_number_keeps_pages old.work journal (to - from)
-acts_keep_pages journal (Forward from to Tape) old new h = ap (λ (s : MachineState). page_numbers s.memory) h.does.0 ∙ state_number_keeps_pages old.work journal (to - from)
-acts_keep_pages journal (Reverse from to) old new h = ap (λ (s : MachineState). page_numbers s.memory) h.does.0
-acts_keep_pages journal (Copy n k Work) old new h = h.does.0.1.1.2
-acts_keep_pages journal (Copy n k (Level j)) old new h = ap (λ (s : MachineState). page_numbers s.memory) h.does.0
-acts_keep_pages journal (Move n k Work) old new h = h.does.0.1.1.2
-acts_keep_pages journal (Move n k (Level j)) old new h = ap (λ (s : MachineState). page_numbers s.memory) h.does.0
-acts_keep_pages journal EndForward old new h = ap (λ (s : MachineState). page_numbers s.memory) h.does.0
-acts_keep_pages journal EndReverse old new h = ap (λ (s : MachineState). page_numbers s.memory) h.does.0
+pub acts_keep_pages : (unit : ℕ) (journal : List (List ℕ)) (a : Action) (old new : Holdings) → Acts unit journal a old new → SamePages new.work old.work
+acts_keep_pages unit journal (Forward from to Nothing) old new h = ap (λ (s : MachineState). page_numbers s.memory) h.does.0 ∙ state_number_keeps_pages old.work journal (unit * (to - from))
+acts_keep_pages unit journal (Forward from to (Store k)) old new h = ap (λ (s : MachineState). page_numbers s.memory) h.does.0 ∙ state_number_keeps_pages old.work journal (unit * (to - from))
+acts_keep_pages unit journal (Forward from to Tape) old new h = ap (λ (s : MachineState). page_numbers s.memory) h.does.0 ∙ state_number_keeps_pages old.work journal (unit * (to - from))
+acts_keep_pages unit journal (Reverse from to) old new h = ap (λ (s : MachineState). page_numbers s.memory) h.does.0
+acts_keep_pages unit journal (Copy n k Work) old new h = h.does.0.1.1.2
+acts_keep_pages unit journal (Copy n k (Level j)) old new h = ap (λ (s : MachineState). page_numbers s.memory) h.does.0
+acts_keep_pages unit journal (Move n k Work) old new h = h.does.0.1.1.2
+acts_keep_pages unit journal (Move n k (Level j)) old new h = ap (λ (s : MachineState). page_numbers s.memory) h.does.0
+acts_keep_pages unit journal EndForward old new h = ap (λ (s : MachineState). page_numbers s.memory) h.does.0
+acts_keep_pages unit journal EndReverse old new h = ap (λ (s : MachineState). page_numbers s.memory) h.does.0

@@ -1,7 +1,8 @@
 -- What is known of a session, of the count of steps and of the keepers on the way through a valid list.
-use Rattle.std.proofs.Common.{◌≡◌, inl, inr, ℕ, zero, suc, ◌+◌, ◌-◌, ◌^◌, ◌<◌, ◌≤◌, min, false, true, cond, Bool, List, [], ◌∷◌, length, map, take, sum_by, Option, Some, Contains, Result, Ok, Err, OnErr, refl, sym, ◌∙◌, ap, subst, arith, slice_get}
+use Rattle.std.proofs.Common.{◌≡◌, ℕ, zero, suc, ◌+◌, ◌*◌, ◌-◌, ◌^◌, ◌<◌, ◌≤◌, min, false, true, cond, List, [], ◌∷◌, length, map, take, sum_by, Option, Some, Contains, Result, Ok, Err, OnErr, refl, sym, ◌∙◌, ap, subst, arith, slice_get}
 use Rattle.std.proofs.lemmas.List.{length-take-le, take_all}
 use Rattle.std.proofs.lemmas.List.Sums.{sum_by-append}
+use Rattle.std.proofs.Math.Nat.{mul-zero, mul-add}
 use Rattle.plan_types.specs.declared.action.Action.{Action}
 use Rattle.level_book.specs.declared.book.Slots.{Slots}
 use Rattle.level_book.specs.Configuration.{Configuration, start}
@@ -22,18 +23,23 @@ use Rattle.reverse_runner.specs.declared.fault.RunFault.{RunFault}
 use Rattle.reverse_runner.specs.Acts.{Holdings, Acts}
 use Rattle.reverse_runner.specs.KeepersSeen.{Calls, Called, CalledAtMost, CalledBetween, by_number, told_by, calls_to, calls_of, is_release, HaveRoom}
 use Rattle.reverse_runner.specs.SessionState.{SessionState, SamePages, levels_of, holdings_of}
-use Rattle.reverse_runner.specs.LevelsStand.{AreAlone}
-use Rattle.reverse_runner.specs.Standing.{StandsAt, Performs, Ends, IsDamage}
-use Rattle.reverse_queries.specs.Performing.{calls_of_all, done_after, PerformsAll, Fits, RefusedIn, IsDamaged}
+use Rattle.reverse_runner.specs.LevelsStand.{AreAlone, HoldingsStandAt}
+use Rattle.reverse_runner.specs.Handed.{handed_by}
+use Rattle.reverse_runner.specs.Performed.{GetsAll, MissesOne}
+use Rattle.rv_machine.specs.States.{state_number}
+use Rattle.reverse_runner.specs.Standing.{StandsAt, Performs, Ends}
+use Rattle.reverse_queries.specs.Performing.{calls_of_all, done_after, PerformsAll, Fits, RefusedIn}
 use Rattle.reverse_queries.proofs.Fronts.{is_within}
 use Rattle.reverse_queries.proofs.Fitting.{same_there}
+use Rattle.reverse_queries.proofs.Going.{Gone, through}
 use Rattle.reverse_queries.proofs.Naming.{past_is_unnamed, acts_keep_pages}
-use Rattle.reverse_queries.proofs.Turning.{Turns, turns_start, turns_on}
+use Rattle.reverse_queries.proofs.Turning.{Turns, turns_start, turns_on, out_of_run}
+use Rattle.reverse_queries.specs.OnTheWay.{HaveOut}
 
 -- the first i actions of a list were performed
 pub record Way {K : Type 0} (told : K → Option Images) (puts gets frees slots faults : K → ℕ) (list : List Action) (i : ℕ) (old new : SessionState) (ks ls : List K) (before after : ℕ) : Type 0 where
   pub performs : PerformsAll old (take i list) new
-  pub counted : after ≡ before + forward (take i list)
+  pub counted : after ≡ before + old.unit * forward (take i list)
   pub called : Called (calls_of_all (take i list)) (calls_to puts gets frees ks) (calls_to puts gets frees ls)
   pub room : map slots ls ≡ map slots ks
   pub quiet : (k : ℕ) → by_number 0 faults ls k ≡ by_number 0 faults ks k
@@ -46,11 +52,14 @@ pub record Way {K : Type 0} (told : K → Option Images) (puts gets frees slots 
 no_more : (a : ℕ) → a ≡ raised a 0
 no_more a = omega arith
 
+none_yet : (n unit : ℕ) → n ≡ n + unit * 0
+none_yet n unit = let none = mul-zero unit in omega (arith, none)
+
 pub way_start : {K : Type 0} (told : K → Option Images) (puts gets frees slots faults : K → ℕ) (list : List Action) (old : SessionState) (ks : List K) (n : ℕ) →
     old.situation.at ≡ start old.situation.steps old.situation.slots → old.ended ≡ false → Way told puts gets frees slots faults list 0 old old ks ks n n
 way_start told puts gets frees slots faults list old ks n at lasts = record {
-  performs = record { leads = refl; steps = refl; slots = refl; journal = refl; done = refl; lasts = lasts };
-  counted = omega arith;
+  performs = record { leads = refl; steps = refl; slots = refl; unit = refl; journal = refl; done = refl; lasts = lasts };
+  counted = none_yet n old.unit;
   called = record { put_calls = λ k. no_more _; get_calls = λ k. no_more _; free_calls = λ k. no_more _ };
   room = refl;
   quiet = λ k. refl;
@@ -126,6 +135,7 @@ performs_more old mid new list i a start_ at so_far performs =
       leads = subst B (sym start_) (goes_on steps slots list i mid.situation a new.situation.at so_far.steps so_far.slots at (leads_from old (take i list) mid.situation.at start_ so_far.leads) performs.goes);
       steps = performs.steps ∙ so_far.steps;
       slots = performs.slots ∙ so_far.slots;
+      unit = performs.unit ∙ so_far.unit;
       journal = performs.journal ∙ so_far.journal;
       done = performs.done ∙ ap (λ n. min (n + 1) (2 ^ 64 - 1)) so_far.done ∙ done_more old.done (length (take i list)) (length (take (i + 1) list)) (there ∙ ap (λ n. n + 1) (sym here));
       lasts = performs.lasts;
@@ -151,14 +161,21 @@ has_room told puts gets frees slots faults list i old mid ks ls before after roo
 -- what becomes of the keepers where an action was performed
 pub record Went {K : Type 0} (told : K → Option Images) (puts gets frees slots faults : K → ℕ) (mid new : SessionState) (a : Action) (ls ms : List K) (after last : ℕ) : Type 0 where
   pub performs : Performs mid a new
-  pub acts : Acts mid.journal a (holdings_of mid (told_by told ls)) (holdings_of new (told_by told ms))
-  pub counted : last ≡ after + steps_of a
+  pub acts : Acts mid.unit mid.journal a (holdings_of mid (told_by told ls)) (holdings_of new (told_by told ms))
+  pub counted : last ≡ after + mid.unit * steps_of a
   pub called : Called (calls_of a) (calls_to puts gets frees ls) (calls_to puts gets frees ms)
   pub room : map slots ms ≡ map slots ls
   pub quiet : (k : ℕ) → by_number 0 faults ms k ≡ by_number 0 faults ls k
   pub others : (k : ℕ) → (Contains (levels_named a) k → ⊥) → slice_get ms k ≡ slice_get ls k
   pub stands : (first : MachineState) → IsMachineState first → StandsAt first mid (told_by told ls) → StandsAt first new (told_by told ms)
   pub alone : AreAlone (levels_of mid (told_by told ls)) → AreAlone (levels_of new (told_by told ms))
+
+-- the count of steps after one action more
+counted_on : (before after last unit mid x y z : ℕ) → after ≡ before + unit * x → last ≡ after + mid * y → mid ≡ unit → z ≡ x + y → last ≡ before + unit * z
+counted_on before after last unit mid x y z one two same sum =
+    let more : unit * z ≡ unit * x + unit * y = ap (λ n. unit * n) sum ∙ mul-add unit x y in
+    let taken : mid * y ≡ unit * y = ap (λ n. n * y) same in
+    omega (arith, one, two, more, taken)
 
 pub way_on : {K : Type 0} (told : K → Option Images) (puts gets frees slots faults : K → ℕ) (list : List Action) (i : ℕ) (old mid new : SessionState) (ks ls ms : List K) (before after last : ℕ) (a : Action) →
     old.situation.at ≡ start old.situation.steps old.situation.slots → slice_get list i ≡ Some a → Way told puts gets frees slots faults list i old mid ks ls before after →
@@ -168,12 +185,12 @@ way_on told puts gets frees slots faults list i old mid new ks ls ms before afte
     let steps = count_more steps_of list i a at in
     record {
       performs = performs_more old mid new list i a start_ at way.performs went.performs;
-      counted = (let one = way.counted in let two = went.counted in omega (arith, one, two, steps));
+      counted = counted_on before after last old.unit mid.unit _ _ _ way.counted went.counted way.performs.unit steps;
       called = called_more list i a _ _ _ at way.called went.called;
       room = went.room ∙ way.room;
       quiet = λ k. went.quiet k ∙ way.quiet k;
       others = λ k past. went.others k (past_is_unnamed old.situation.steps old.situation.slots mid.situation.at a new.situation.at k goes past) ∙ way.others k past;
-      pages = acts_keep_pages mid.journal a _ _ went.acts ∙ way.pages;
+      pages = acts_keep_pages mid.unit mid.journal a _ _ went.acts ∙ way.pages;
       stands = λ first is stands. went.stands first is (way.stands first is stands);
       alone = λ alone. went.alone (way.alone alone);
       turns = turns_on old.situation.steps old.situation.slots mid.situation.at a new.situation.at goes way.turns;
@@ -181,11 +198,12 @@ way_on told puts gets frees slots faults list i old mid new ks ls ms before afte
 
 -- ---- a refusal
 
-pub refused_in : {K : Type 0} (told : K → Option Images) (puts gets frees slots faults : K → ℕ) (list front : List Action) (i : ℕ) (old mid new : SessionState) (ks ls ms : List K) (before after last : ℕ) (a : Action) (gives : Action → Bool) (fault : RunFault) →
+pub refused_in : {K : Type 0} (told : K → Option Images) (puts gets frees slots faults : K → ℕ) (list front : List Action) (i : ℕ) (old mid new : SessionState) (ks ls ms : List K) (before after last : ℕ) (a : Action) (Misses : Action → Holdings → Type 0) (fault : RunFault) →
     slice_get list i ≡ Some a → take i front ≡ take i list → take (i + 1) front ≡ take (i + 1) list → i < length front →
-    Way told puts gets frees slots faults list i old mid ks ls before after → Ends mid new → last ≡ after →
-    CalledAtMost (calls_of a) (calls_to puts gets frees ls) (calls_to puts gets frees ms) → Fits gives fault a → RefusedIn gives front fault old new before last (calls_to puts gets frees ks) (calls_to puts gets frees ms)
-refused_in told puts gets frees slots faults list front i old mid new ks ls ms before after last a gives fault at here there inside way ends still most fits =
+    Way told puts gets frees slots faults list i old mid ks ls before after → Gone old.unit old.situation.steps old.journal list i (holdings_of old (told_by told ks)) (holdings_of mid (told_by told ls)) mid.situation.at → Ends mid new → last ≡ after →
+    CalledAtMost (calls_of a) (calls_to puts gets frees ls) (calls_to puts gets frees ms) → Fits Misses fault a (holdings_of mid (told_by told ls)) →
+    RefusedIn Misses front fault old new (told_by told ks) before last (calls_to puts gets frees ks) (calls_to puts gets frees ms)
+refused_in told puts gets frees slots faults list front i old mid new ks ls ms before after last a Misses fault at here there inside way gone ends still most fits =
     let within = is_within list i a at in
     let C : Configuration → Type 0 = λ x. Leads old.situation.steps old.situation.slots old.situation.at (take i list) x in
     let L : List Action → Type 0 = λ l. Leads old.situation.steps old.situation.slots old.situation.at l new.situation.at in
@@ -196,24 +214,16 @@ refused_in told puts gets frees slots faults list front i old mid new ks ls ms b
       within = inside;
       next = a;
       there = same_there list front i a there at;
+      held = holdings_of mid (told_by told ls);
+      states = gone.states;
+      through = through old.unit old.situation.steps old.journal list (take i front) i _ _ mid.situation.at (omega (arith, within)) here gone;
       fits = fits;
       leads = subst L (sym here) (subst C (sym (ap (λ (s : Situation). s.at) ends.situation)) way.performs.leads);
       done = ends.done ∙ way.performs.done ∙ ap (done_after old.done) (length-take-le i list (omega (arith, within)));
       over = ends.over;
-      counted = still ∙ way.counted ∙ ap (λ l. before + forward l) (sym here);
+      counted = still ∙ way.counted ∙ ap (λ l. before + old.unit * forward l) (sym here);
       called = subst B (sym here) (subst M (sym there) (between_more list i a _ _ _ at way.called most));
     }
-
--- what was wrong with the bytes that came back
-pub damaged_of : (first : MachineState) (a : Action) (s : Holdings) (k : ℕ) (put got : List ℕ) → SamePages s.work first → IsDamage a s k put got → IsDamaged first put got
-damaged_of first a s k put got pages damage = record {
-  bytes = damage.bytes;
-  digest = damage.got_digest;
-  wrong = elim damage.wrong [
-    | inl other ↦ inl other
-    | inr none ↦ inr (λ state is same. none state is (same ∙ sym pages))
-  ];
-}
 
 -- a whole valid list leads to the end
 pub at_end : {K : Type 0} (told : K → Option Images) (puts gets frees slots faults : K → ℕ) (list : List Action) (i : ℕ) (old new : SessionState) (ks ls : List K) (before after : ℕ) →
@@ -244,10 +254,6 @@ may_go told puts gets frees slots faults list i old mid ks ls before after' a st
     goes old.situation.steps old.situation.slots mid.situation.at a
     (kept_on_the_way old.situation.steps old.situation.slots list i mid.situation.at a valid.0 at (leads_from old (take i list) mid.situation.at start_ way.performs.leads) valid.1)
 
--- the count of steps after one action more
-pub counted_more : (list : List Action) (i : ℕ) (a : Action) (before mid last : ℕ) → slice_get list i ≡ Some a → mid ≡ before + forward (take i list) → last ≡ mid + steps_of a → last ≡ before + forward (take (i + 1) list)
-counted_more list i a before mid last at one two = let more = count_more steps_of list i a at in omega (arith, one, two, more)
-
 -- a fault that is passed on is that of the call
 pub same_fault : {T U E : Type 0} (r : Result T E) (s : Result U E) (x y z : E) → r ≡ Err x → s ≡ Err y → y ≡ x → s ≡ Err z → r ≡ Err z
 same_fault r s x y z first second same last = cc
@@ -255,3 +261,34 @@ same_fault r s x y z first second same last = cc
 -- no result is both
 pub not_both : {T E : Type 0} (r : Result T E) (x : T) (y : E) → r ≡ Ok x → r ≡ Err y → ⊥
 not_both r x y first second = cc
+
+-- what was done and handed out, by the unit, the steps and the journal of the session
+pub acts_there : (old mid : SessionState) (front : List Action) (a : Action) (x y : Holdings) → PerformsAll old front mid → Acts mid.unit mid.journal a x y → Acts old.unit old.journal a x y
+acts_there old mid front a x y so_far acts =
+    let U : ℕ → Type 0 = λ u. Acts u mid.journal a x y in
+    let J : List (List ℕ) → Type 0 = λ j. Acts old.unit j a x y in
+    subst J so_far.journal (subst U so_far.unit acts)
+
+pub gets_there : {V : Type 0} (got : V → ℕ → MachineState → List (List ℕ) → V → Type 0) (old mid : SessionState) (front : List Action) (a : Action) (out : List MachineState) (x y : V) → PerformsAll old front mid →
+    GetsAll got mid.journal (handed_by mid.unit mid.situation.steps a) out x y → GetsAll got old.journal (handed_by old.unit old.situation.steps a) out x y
+gets_there got old mid front a out x y so_far gets =
+    let U : ℕ → Type 0 = λ u. GetsAll got mid.journal (handed_by u mid.situation.steps a) out x y in
+    let S : ℕ → Type 0 = λ n. GetsAll got mid.journal (handed_by old.unit n a) out x y in
+    let J : List (List ℕ) → Type 0 = λ j. GetsAll got j (handed_by old.unit old.situation.steps a) out x y in
+    subst J so_far.journal (subst S so_far.steps (subst U so_far.unit gets))
+
+pub misses_there : {V : Type 0} (got missed : V → ℕ → MachineState → List (List ℕ) → V → Type 0) (old mid : SessionState) (front : List Action) (a : Action) (out : List MachineState) (x y : V) → PerformsAll old front mid →
+    MissesOne got missed mid.journal (handed_by mid.unit mid.situation.steps a) out x y → MissesOne got missed old.journal (handed_by old.unit old.situation.steps a) out x y
+misses_there got missed old mid front a out x y so_far misses =
+    let U : ℕ → Type 0 = λ u. MissesOne got missed mid.journal (handed_by u mid.situation.steps a) out x y in
+    let S : ℕ → Type 0 = λ n. MissesOne got missed mid.journal (handed_by old.unit n a) out x y in
+    let J : List (List ℕ) → Type 0 = λ j. MissesOne got missed j (handed_by old.unit old.situation.steps a) out x y in
+    subst J so_far.journal (subst S so_far.steps (subst U so_far.unit misses))
+
+-- where a session stands, the states of the run have what it hands out next
+pub run_has : (first : MachineState) (old mid : SessionState) (told : ℕ → Option Images) (front : List Action) (a : Action) (d : Configuration) → old.situation.at ≡ start old.situation.steps old.situation.slots → PerformsAll old front mid →
+    Goes old.situation.steps old.situation.slots mid.situation.at a d → StandsAt first mid told → HaveOut old.unit old.situation.steps a (holdings_of mid told) (state_number first old.journal)
+run_has first old mid told front a d start_ so_far goes stands =
+    let U : ℕ → Type 0 = λ u. HoldingsStandAt first mid.journal u mid.situation.at (holdings_of mid told) in
+    let J : List (List ℕ) → Type 0 = λ j. HoldingsStandAt first j old.unit mid.situation.at (holdings_of mid told) in
+    out_of_run first old.unit old.situation.steps old.situation.slots old.journal mid.situation.at a d (holdings_of mid told) goes (is_sound old mid front start_ so_far) (subst J so_far.journal (subst U so_far.unit stands))

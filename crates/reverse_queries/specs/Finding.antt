@@ -1,5 +1,5 @@
 -- No public clause cites this file. What is looked for in the states that a session hands out, and what is kept of them.
-use Rattle.std.specs.Prelude.{◌≡◌, ◌⊎◌, ℕ, ◌+◌, ◌<◌, ◌≤◌, List, [], ◌∷◌, slice_index_or, Option, None, Some, Any}
+use Rattle.std.specs.Prelude.{◌≡◌, ◌⊎◌, ℕ, ◌+◌, ◌<◌, ◌≤◌, List, [], ◌∷◌, slice_index_or, Option, None, Some, Any, IsSome}
 use Rattle.rv_pages.specs.Memory.{Memory, byte_at}
 use Rattle.rv_machine.specs.MachineState.{MachineState}
 use Rattle.rv_machine.specs.StepTable.{written}
@@ -26,8 +26,8 @@ abbrev pub Finds : Question → ℕ → List (Option ℕ) → MachineState → L
 Finds Write word later s journal = Any (λ at. (word ≤ at) × (at < word + 4)) (written s journal)
 Finds Change word later s journal = SomeDiffer (word_bytes s.memory word) later
 
--- a finder got a state: where its step does what is asked, its number is the answer
-pub record Got (old : Finder) (n : ℕ) (s : MachineState) (journal : List (List ℕ)) (new : Finder) : Type 0 where
+-- a finder without an answer got a state: where its step does what is asked, its number is the answer
+pub record Looked (old : Finder) (n : ℕ) (s : MachineState) (journal : List (List ℕ)) (new : Finder) : Type 0 where
   pub question : new.question ≡ old.question
   pub word : new.word ≡ old.word
   pub last : new.last ≡ old.last
@@ -35,3 +35,8 @@ pub record Got (old : Finder) (n : ℕ) (s : MachineState) (journal : List (List
   pub answer :
       ((new.answer ≡ Some n) × (n < old.last) × Finds old.question old.word old.later s journal)
       ⊎ ((new.answer ≡ old.answer) × (n < old.last → Finds old.question old.word old.later s journal → ⊥))
+
+-- a finder got a state: one that has an answer keeps it
+pub record Got (old : Finder) (n : ℕ) (s : MachineState) (journal : List (List ℕ)) (new : Finder) : Type 0 where
+  pub keeps : IsSome old.answer → new ≡ old
+  pub looks : old.answer ≡ None → Looked old n s journal new

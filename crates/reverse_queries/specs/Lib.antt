@@ -1,4 +1,5 @@
 pub mod Finding
 pub mod OnTheWay
 pub mod Performing
+pub mod Picking
 pub mod Queries

@@ -1,31 +1,28 @@
 -- What a session holds on its way through a list of actions, and which states it hands out there. It is said also where
 -- nothing stands: the bytes that were fetched say then what the states are.
-use Rattle.std.specs.Prelude.{◌≡◌, ℕ, ◌+◌, true, List, length, slice_get, Option, Some}
+use Rattle.std.specs.Prelude.{◌≡◌, ℕ, ◌+◌, List, map, length, slice_get, Some}
 use Rattle.plan_types.specs.declared.action.Action.{Action}
-use Rattle.plan_types.specs.declared.action.Action.TheVariants.{EndForward}
 use Rattle.rv_machine.specs.MachineState.{MachineState}
 use Rattle.reverse_runner.specs.Acts.{Holdings, Acts}
-use Rattle.reverse_queries.specs.Queries.{IsLast, hands_out}
+use Rattle.reverse_runner.specs.Handed.{handed_by}
+use Rattle.reverse_runner.specs.Performed.{states_out}
 
--- the state that an action hands out, of those in work and on the tape: EndForward the one in work, a Reverse the one on the
--- tape
-abbrev pub state_out : Action → MachineState → MachineState → MachineState
-state_out EndForward work tape = work
-state_out _ work tape = tape
+-- the states, by their numbers, have those that an action hands out of what is held
+abbrev pub HaveOut : ℕ → ℕ → Action → Holdings → (ℕ → MachineState) → Type 0
+HaveOut unit steps a held states = map states (handed_by unit steps a) ≡ states_out a held.work held.tape.states
 
 -- A list was gone through, from what was held before it to what was held after it: each action did to what was held what it
--- does, and handed out its state of what was held before it. The states go by their numbers.
-pub record GoesThrough (steps : ℕ) (journal : List (List ℕ)) (list : List Action) (old new : Holdings) (states : ℕ → MachineState) : Type 0 where
+-- does, and handed out its states of what was held before it. The states go by their numbers.
+pub record GoesThrough (unit steps : ℕ) (journal : List (List ℕ)) (list : List Action) (old new : Holdings) (states : ℕ → MachineState) : Type 0 where
   -- what was held before each action, and after the last one
   pub held : ℕ → Holdings
   pub from : held 0 ≡ old
   pub to : held (length list) ≡ new
-  pub acts : (i : ℕ) (a : Action) → slice_get list i ≡ Some a → Acts journal a (held i) (held (i + 1))
-  pub hands : (i : ℕ) (a : Action) (n : ℕ) → slice_get list i ≡ Some a → hands_out steps n a ≡ true → states n ≡ state_out a (held i).work (held i).tape
+  pub acts : (i : ℕ) (a : Action) → slice_get list i ≡ Some a → Acts unit journal a (held i) (held (i + 1))
+  pub hands : (i : ℕ) (a : Action) → slice_get list i ≡ Some a → HaveOut unit steps a (held i) states
 
--- a list was gone through, and this is the last place below the steps at which something holds of the states that it handed out, or
--- there is none
-pub record IsFoundOn (Holds : (ℕ → MachineState) → ℕ → Type 0) (steps : ℕ) (journal : List (List ℕ)) (list : List Action) (old new : Holdings) (answer : Option ℕ) : Type 0 where
+-- a list was gone through, and this holds of the states that it handed out
+pub record IsFoundOn (Holds : (ℕ → MachineState) → Type 0) (unit steps : ℕ) (journal : List (List ℕ)) (list : List Action) (old new : Holdings) : Type 0 where
   pub states : ℕ → MachineState
-  pub through : GoesThrough steps journal list old new states
-  pub last : IsLast (Holds states) steps answer
+  pub through : GoesThrough unit steps journal list old new states
+  pub holds : Holds states

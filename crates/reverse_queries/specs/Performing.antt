@@ -1,21 +1,26 @@
 -- What becomes of a session that performs the actions of a list one after the other: of all of them, or up to a refusal.
-use Rattle.std.specs.Prelude.{◌≡◌, ◌≢◌, ◌⊎◌, ℕ, zero, suc, ◌+◌, ◌-◌, ◌^◌, ◌<◌, Bool, false, true, min, List, length, take, count_by, slice_get, Some}
-use Rattle.sha2.specs.Sha256.{sha256}
+use Rattle.std.specs.Prelude.{◌≡◌, ℕ, zero, suc, ◌+◌, ◌*◌, ◌-◌, ◌^◌, ◌<◌, false, true, min, List, length, take, count_by, slice_get, Option, Some}
+use Rattle.keepers.specs.Told.{Images}
 use Rattle.plan_types.specs.declared.action.Action.{Action}
 use Rattle.level_book.specs.CostFold.{forward, writes, reads}
 use Rattle.level_book.specs.Valid.{Leads}
-use Rattle.rv_machine.specs.MachineState.{MachineState}
+use Rattle.rv_machine.specs.MachineState.{MachineState, IsMachineState}
+use Rattle.rv_machine.specs.States.{state_number}
 use Rattle.reverse_runner.specs.declared.fault.RunFault.{RunFault}
 use Rattle.reverse_runner.specs.declared.fault.RunFault.TheVariants.{Keeper, Damaged, Visitor, Memory, Ended}
+use Rattle.reverse_runner.specs.Acts.{Holdings}
+use Rattle.reverse_runner.specs.Handed.{handed_by}
 use Rattle.reverse_runner.specs.KeepersSeen.{Calls, CalledBetween, calls_of, is_release}
-use Rattle.reverse_runner.specs.SessionState.{SessionState}
-use Rattle.reverse_runner.specs.Standing.{IsNoImage}
+use Rattle.reverse_runner.specs.Performed.{states_out}
+use Rattle.reverse_runner.specs.SessionState.{SessionState, holdings_of}
+use Rattle.reverse_runner.specs.Standing.{StandsAt, IsDamage}
+use Rattle.reverse_queries.specs.OnTheWay.{GoesThrough}
 
 -- the calls of the keepers that the actions of a list make
 abbrev pub calls_of_all : List Action → Calls
 calls_of_all list = record { puts = λ k. writes k list; gets = λ k. reads k list; frees = λ k. count_by (is_release k) list }
 
--- a count of performed actions after so many more: at the end of its type it stands still
+-- a count of performed actions after so many more: at the end of its type, the greatest u64, it stands still
 abbrev pub done_after : ℕ → ℕ → ℕ
 done_after done zero = done
 done_after done (suc n) = min (done + suc n) (2 ^ 64 - 1)
@@ -25,6 +30,7 @@ pub record PerformsAll (old : SessionState) (list : List Action) (new : SessionS
   pub leads : Leads old.situation.steps old.situation.slots old.situation.at list new.situation.at
   pub steps : new.situation.steps ≡ old.situation.steps
   pub slots : new.situation.slots ≡ old.situation.slots
+  pub unit : new.unit ≡ old.unit
   pub journal : new.journal ≡ old.journal
   pub done : new.done ≡ done_after old.done (length list)
   pub lasts : new.ended ≡ false
@@ -33,35 +39,54 @@ pub record PerformsAll (old : SessionState) (list : List Action) (new : SessionS
 abbrev pub CallsKeeper : Action → ℕ → Type 0
 CallsKeeper a k = 0 < (calls_of a).puts k + (calls_of a).gets k + (calls_of a).frees k
 
--- A fault fits an action that does what failed. It calls the keeper of the level, gets an image of the level, gives the
--- visitor a state, or calls some keeper; no action fits the fault of a session that has ended. The test says which actions
--- give the visitor a state.
-abbrev pub Fits : (Action → Bool) → RunFault → Action → Type 0
-Fits gives (Keeper k) a = CallsKeeper a k
-Fits gives (Damaged k put got) a = 0 < (calls_of a).gets k
-Fits gives Visitor a = gives a ≡ true
-Fits gives Memory a = (k : ℕ) × CallsKeeper a k
-Fits gives Ended a = ⊥
+-- an action hands out a state, of what is held before it, with this number
+pub record IsOut (unit steps n : ℕ) (s : MachineState) (a : Action) (held : Holdings) : Type 0 where
+  pub place : ℕ
+  pub number : slice_get (handed_by unit steps a) place ≡ Some n
+  pub state : slice_get (states_out a held.work held.tape.states) place ≡ Some s
 
--- The next action of a list was refused with a fault that fits it: those before it were performed, the count of steps rose
--- by theirs, and the keepers were called as often as those before it call them, and at most as those up to it do.
-pub record RefusedIn (gives : Action → Bool) (list : List Action) (fault : RunFault) (old new : SessionState) (steps steps' : ℕ) (calls calls' : Calls) : Type 0 where
+-- where a session stands at its start, this is state n of its run
+abbrev pub IsOfRun : SessionState → (ℕ → Option Images) → ℕ → MachineState → Type 0
+IsOfRun session told n s = (first : MachineState) → IsMachineState first → StandsAt first session told → s ≡ state_number first session.journal n
+
+-- a visitor got state n of these
+pub record GetsState {V : Type 0} (got : V → ℕ → MachineState → List (List ℕ) → V → Type 0) (session : SessionState) (told : ℕ → Option Images) (n : ℕ) (old new : V) (states : ℕ → MachineState) : Type 0 where
+  pub gets : got old n (states n) session.journal new
+  pub of_run : IsOfRun session told n (states n)
+
+-- a visitor missed state n, which an action hands out of what is held before it
+pub record MissesState {V : Type 0} (missed : V → ℕ → MachineState → List (List ℕ) → V → Type 0) (session : SessionState) (told : ℕ → Option Images) (n : ℕ) (old new : V) (a : Action) (held : Holdings) : Type 0 where
+  pub state : MachineState
+  pub out : IsOut session.unit session.situation.steps n state a held
+  pub misses : missed old n state session.journal new
+  pub of_run : IsOfRun session told n state
+
+-- A fault fits an action that does what failed, over what is held before it. It calls the keeper of the level; got bytes of an
+-- image of the level that are damaged; misses to give the visitor a state; or calls some keeper. No action fits the fault of
+-- a session that has ended. Which states the visitor can miss is said by the question.
+abbrev pub Fits : (Action → Holdings → Type 0) → RunFault → Action → Holdings → Type 0
+Fits Misses (Keeper k) a held = CallsKeeper a k
+Fits Misses (Damaged k put got) a held = IsDamage a held k put got
+Fits Misses Visitor a held = Misses a held
+Fits Misses Memory a held = (k : ℕ) × CallsKeeper a k
+Fits Misses Ended a held = ⊥
+
+-- The next action of a list was refused with a fault that fits it: those before it were performed, the count of steps of the
+-- machine rose by theirs, and the keepers were called as often as those before it call them, and at most as those up to it do.
+pub record RefusedIn (Misses : Action → Holdings → Type 0) (list : List Action) (fault : RunFault) (old new : SessionState) (told : ℕ → Option Images) (steps steps' : ℕ) (calls calls' : Calls) : Type 0 where
   -- how many actions stand before the refused one
   pub place : ℕ
   pub within : place < length list
   -- the refused one
   pub next : Action
   pub there : slice_get list place ≡ Some next
-  pub fits : Fits gives fault next
+  -- what was held before it: the actions before it lead there by the bytes that were fetched
+  pub held : Holdings
+  pub states : ℕ → MachineState
+  pub through : GoesThrough old.unit old.situation.steps old.journal (take place list) (holdings_of old told) held states
+  pub fits : Fits Misses fault next held
   pub leads : Leads old.situation.steps old.situation.slots old.situation.at (take place list) new.situation.at
   pub done : new.done ≡ done_after old.done place
   pub over : new.ended ≡ true
-  pub counted : steps' ≡ steps + forward (take place list)
+  pub counted : steps' ≡ steps + old.unit * forward (take place list)
   pub called : CalledBetween (calls_of_all (take place list)) (calls_of_all (take (place + 1) list)) calls calls'
-
--- The bytes that came back of an image have another digest than those that were put, or the same one, and are no image of
--- a state with the pages of this one.
-pub record IsDamaged (first : MachineState) (put got : List ℕ) : Type 0 where
-  pub bytes : List ℕ
-  pub digest : got ≡ sha256 bytes
-  pub wrong : (got ≢ put) ⊎ IsNoImage first bytes

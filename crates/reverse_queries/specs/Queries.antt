@@ -1,6 +1,7 @@
 -- What is asked of a run: which steps write or change a word, which of them is the last, and how much of a list is
--- performed for an answer. A word is the four bytes from an address on.
-use Rattle.std.specs.Prelude.{◌≢◌, ℕ, ◌+◌, ◌==◌, ◌<◌, ◌≤◌, Bool, false, cond, List, [], ◌∷◌, Option, None, Some, Any}
+-- performed for an answer. A word is the four bytes from an address on. Steps are those of the machine: a step of the list
+-- is a unit of so many of them.
+use Rattle.std.specs.Prelude.{◌≢◌, ℕ, ◌+◌, ◌*◌, ◌==◌, ◌<◌, ◌≤◌, ◌&&◌, leb, ltb, Bool, false, cond, List, [], ◌∷◌, Option, None, Some, Any}
 use Rattle.plan_types.specs.declared.action.Action.{Action}
 use Rattle.plan_types.specs.declared.action.Action.TheVariants.{Reverse, EndForward}
 use Rattle.rv_pages.specs.Memory.{byte_at}
@@ -35,18 +36,19 @@ abbrev pub IsLast : (ℕ → Type 0) → ℕ → Option ℕ → Type 0
 IsLast Holds bound (Some m) = Holds m × (m < bound) × ((n : ℕ) → m < n → n < bound → Holds n → ⊥)
 IsLast Holds bound None = (n : ℕ) → n < bound → Holds n → ⊥
 
--- whether an action hands out state n of a run of so many steps: EndForward the last, a Reverse the one that it leads to
-abbrev pub hands_out : ℕ → ℕ → Action → Bool
-hands_out steps n EndForward = steps == n
-hands_out steps n (Reverse from to) = to == n
-hands_out steps n _ = false
+-- whether an action hands out state n of a run of so many steps of the list, each of them a unit: EndForward the last state, a
+-- Reverse those of the unit that it leads back over
+abbrev pub hands_out : ℕ → ℕ → ℕ → Action → Bool
+hands_out unit steps n EndForward = unit * steps == n
+hands_out unit steps n (Reverse from to) = leb (unit * to) n && ltb n (unit * to + unit)
+hands_out unit steps n _ = false
 
 -- the actions of a list up to the first that hands out state n, and with it
-abbrev pub front_to : ℕ → ℕ → List Action → List Action
-front_to steps n [] = []
-front_to steps n (a ∷ rest) = a ∷ cond (hands_out steps n a) [] (front_to steps n rest)
+abbrev pub front_to : ℕ → ℕ → ℕ → List Action → List Action
+front_to unit steps n [] = []
+front_to unit steps n (a ∷ rest) = a ∷ cond (hands_out unit steps n a) [] (front_to unit steps n rest)
 
 -- what is performed of a list for an answer: up to the state with its number, or the whole list where there is none
-abbrev pub up_to : ℕ → Option ℕ → List Action → List Action
-up_to steps (Some n) list = front_to steps n list
-up_to steps None list = list
+abbrev pub up_to : ℕ → ℕ → Option ℕ → List Action → List Action
+up_to unit steps (Some n) list = front_to unit steps n list
+up_to unit steps None list = list

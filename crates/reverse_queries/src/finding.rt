@@ -1,5 +1,5 @@
 // The last step of a run that does something to a word.
-ghost use Rattle.std.specs.Prelude.{◌≡◌, ◌≢◌, ◌+◌, ◌≤◌, ◌<◌, ◌↔◌, ℕ, List, false, length, map, slice_get, Option, Some, None, Ok, Err, IfOk, IfErr, OnOk, IsTrue};
+ghost use Rattle.std.specs.Prelude.{◌≡◌, ◌≢◌, ◌+◌, ◌*◌, ◌≤◌, ◌<◌, ◌↔◌, ℕ, List, false, length, map, slice_get, Option, Some, None, Ok, Err, IfOk, IfErr, OnOk, IsTrue};
 ghost use Rattle.level_book.specs.CostFold.{forward};
 ghost use Rattle.level_book.specs.Configuration.{start};
 ghost use Rattle.level_book.specs.Valid.{Valid};
@@ -11,7 +11,7 @@ ghost use Rattle.reverse_runner.specs.LevelsStand.{AreAlone};
 ghost use Rattle.reverse_runner.specs.SessionState.{levels_of, holdings_of};
 ghost use Rattle.reverse_runner.specs.Standing.{StandsAt};
 ghost use Rattle.reverse_queries.specs.Queries.{Differ, IsLast, up_to};
-ghost use Rattle.reverse_queries.specs.Performing.{calls_of_all, PerformsAll, RefusedIn, IsDamaged};
+ghost use Rattle.reverse_queries.specs.Performing.{calls_of_all, PerformsAll, RefusedIn};
 ghost use Rattle.reverse_queries.specs.OnTheWay.{IsFoundOn};
 ghost use Rattle.reverse_queries.specs.Finding.{word_bytes, SomeDiffer, Does, Finds, Got};
 
@@ -61,6 +61,9 @@ impl Visitor for Finder {
     ghost fault_count = { λ v. 0 };
 
     fn state(&mut self, n: u32, state: &State, journal: &Journal) -> Result<(), VisitFault> {
+        if self.answer.is_some() {
+            return Ok(());
+        }
         let bytes = bytes_of_word(state, self.word);
         if self.finds(state, journal, &bytes) && n < self.last {
             self.answer = Some(n);
@@ -121,33 +124,32 @@ pub(crate) fn find_last<K: Keeper, L: Ledger>(
     requires word { word ≤ 0xFFFFFFFC }
 
     // The answer, where the session stands at its start.
-    ensures answer { (first : MachineState) → IsMachineState first → StandsAt first session.old (told_by K.told keepers.old.items) → IfOk result (IsLast (Does question session.old.journal word (state_number first session.old.journal)) session.old.situation.steps) }
+    ensures answer { (first : MachineState) → IsMachineState first → StandsAt first session.old (told_by K.told keepers.old.items) → IfOk result (IsLast (Does question session.old.journal word (state_number first session.old.journal)) (session.old.unit * session.old.situation.steps)) }
 
     // The same by the states that were handed out on the way, also where nothing stands.
-    ensures found { IfOk result (λ answer. IsFoundOn (Does question session.old.journal word) session.old.situation.steps session.old.journal (up_to session.old.situation.steps answer list.now) (holdings_of session.old (told_by K.told keepers.old.items)) (holdings_of session.new (told_by K.told keepers.new.items)) answer) }
+    ensures found { IfOk result (λ answer. IsFoundOn (λ states. IsLast (Does question session.old.journal word states) (session.old.unit * session.old.situation.steps) answer) session.old.unit session.old.situation.steps session.old.journal (up_to session.old.unit session.old.situation.steps answer list.now) (holdings_of session.old (told_by K.told keepers.old.items)) (holdings_of session.new (told_by K.told keepers.new.items))) }
 
     // What was performed for it.
-    ensures performs { IfOk result (λ answer. PerformsAll session.old (up_to session.old.situation.steps answer list.now) session.new) }
-    ensures counted { IfOk result (λ answer. steps.new ≡ steps.old + forward (up_to session.old.situation.steps answer list.now)) }
-    ensures called { IfOk result (λ answer. Called (calls_of_all (up_to session.old.situation.steps answer list.now)) (calls_to K.put_count K.get_count K.free_count keepers.old.items) (calls_to K.put_count K.get_count K.free_count keepers.new.items)) }
+    ensures performs { IfOk result (λ answer. PerformsAll session.old (up_to session.old.unit session.old.situation.steps answer list.now) session.new) }
+    ensures counted { IfOk result (λ answer. steps.new ≡ steps.old + session.old.unit * forward (up_to session.old.unit session.old.situation.steps answer list.now)) }
+    ensures called { IfOk result (λ answer. Called (calls_of_all (up_to session.old.unit session.old.situation.steps answer list.now)) (calls_to K.put_count K.get_count K.free_count keepers.old.items) (calls_to K.put_count K.get_count K.free_count keepers.new.items)) }
     ensures stands { (first : MachineState) → IsMachineState first → StandsAt first session.old (told_by K.told keepers.old.items) → OnOk result (StandsAt first session.new (told_by K.told keepers.new.items)) }
     ensures alone { AreAlone (levels_of session.old (told_by K.told keepers.old.items)) → OnOk result (AreAlone (levels_of session.new (told_by K.told keepers.new.items))) }
 
     // What stands after a refusal, and its cause.
-    ensures refused { IfErr result (λ fault. RefusedIn (λ action. false) list.now fault session.old session.new steps.old steps.new (calls_to K.put_count K.get_count K.free_count keepers.old.items) (calls_to K.put_count K.get_count K.free_count keepers.new.items)) }
+    ensures refused { IfErr result (λ fault. RefusedIn (λ action held. ⊥) list.now fault session.old session.new (told_by K.told keepers.old.items) steps.old steps.new (calls_to K.put_count K.get_count K.free_count keepers.old.items) (calls_to K.put_count K.get_count K.free_count keepers.new.items)) }
     ensures not_ended { result ≢ Err RunFault.Ended }
     ensures not_visitor { result ≢ Err RunFault.Visitor }
     ensures keeper_cause { (k : ℕ) → result ≡ Err (RunFault.Keeper k) → Rose (by_number 0 K.fault_count keepers.old.items k) (by_number 0 K.fault_count keepers.new.items k) }
     ensures keepers_quiet { ((k : ℕ) → result ≢ Err (RunFault.Keeper k)) → (j : ℕ) → by_number 0 K.fault_count keepers.new.items j ≡ by_number 0 K.fault_count keepers.old.items j }
     ensures keepers_later { (k : ℕ) → by_number 0 K.fault_count keepers.old.items k ≤ by_number 0 K.fault_count keepers.new.items k }
-    ensures damaged { (k : ℕ) (put got : List ℕ) → result ≡ Err (RunFault.Damaged k put got) → IsDamaged session.old.work put got }
     ensures undamaged { (first : MachineState) → IsMachineState first → StandsAt first session.old (told_by K.told keepers.old.items) → (k : ℕ) (put got : List ℕ) → result ≢ Err (RunFault.Damaged k put got) }
 
     // The keepers have the slots that they had, and those past the levels of the book are as they were.
     ensures slots { map K.slot_count keepers.new.items ≡ map K.slot_count keepers.old.items }
     ensures others { (k : ℕ) → length session.old.situation.slots ≤ k → slice_get keepers.new.items k ≡ slice_get keepers.old.items k }
 {
-    let last = session.config().reverse();
+    let last = session.unit() * session.config().reverse();
     let mut finder = Finder::new(question, word, last);
     for action in list {
         session.perform(action, keepers, &mut finder, steps)?;

@@ -6,9 +6,9 @@
 
 mod finder;
 mod finding;
+mod picked;
 mod queries;
 #[cfg(test)]
 mod tests;
-mod unheard;
 
 pub use crate::queries::{last_change, last_write, state_at};

@@ -158,7 +158,7 @@ fn ask_session<K: Keeper, L: Ledger>(
     requires room { HaveRoom session.old.situation.steps session.old.situation.slots (map K.slot_count keepers.old.items) }
 {
     match ask {
-        Ask::State(place) if place <= 4 => {
+        Ask::State(place) if place <= session.unit() * 4 => {
             let mut writer = LineWriter::new(out);
             state_at(session, list, keepers, place, &mut writer, steps)?;
             Ok(None)
@@ -180,6 +180,7 @@ fn performed<K: Keeper, L: Ledger>(
     list: &[Action],
     book: Book,
     keepers: &mut Vec<K>,
+    unit: u32,
     ask: Ask,
     out: &mut MemorySink,
     blank: Blank,
@@ -187,6 +188,7 @@ fn performed<K: Keeper, L: Ledger>(
     requires name { blank.name ≡ L.name }
     requires parts { blank.parts ≡ L.parts }
     requires some { 0 < blank.parts }
+    requires unit { (1 ≤ unit) × (unit ≤ 1024) }
 {
     assert!(rt;
         have_room(keepers.as_slice(), &book, 4),
@@ -195,18 +197,22 @@ fn performed<K: Keeper, L: Ledger>(
     let valid = is_valid(alloc, list, &book)?;
     assert!(rt; valid, "the list reverses four steps");
     let mut steps = Steps::<L>::new(blank);
-    let mut session = Session::begin(alloc, first_state(alloc)?, Journal::none(alloc), 4, book)?;
+    let start = first_state(alloc)?;
+    let mut session = Session::begin(alloc, start, Journal::none(alloc), 4, unit, book)?;
     let step = ask_session(&mut session, list, keepers, ask, out, &mut steps);
     Ok((step, session.done()))
 }
 
-// Asks over the four steps of the list, over one level with two slots.
+// Asks over the four steps of the list, each of so many steps of the machine, over one level with two slots.
 fn answered(
     rt: &impl Abort,
     alloc: Global,
+    unit: u32,
     ask: Ask,
     out: &mut MemorySink,
-) -> Result<Answer, AllocError> {
+) -> Result<Answer, AllocError>
+    requires { (1 ≤ unit) × (unit ≤ 1024) }
+{
     let mut keepers = vec![in alloc; MemoryKeeper::new(alloc, 2)]?;
     let (step, done) = performed::<MemoryKeeper, Brand>(
         rt,
@@ -214,6 +220,7 @@ fn answered(
         &LIST,
         Book::plain(2),
         &mut keepers,
+        unit,
         ask,
         out,
         Blank::new(1),
@@ -228,15 +235,32 @@ fn answered(
 // The step that was answered for a word.
 fn step(rt: &impl Abort, alloc: Global, ask: Ask) -> Result<Option<u32>, Fail> {
     let mut out = MemorySink::new(alloc, 0)?;
-    Ok(answered(rt, alloc, ask, &mut out)?.step?)
+    Ok(answered(rt, alloc, 1, ask, &mut out)?.step?)
 }
 
 #[test]
 fn a_state_is_handed_out_alone(rt: HostRuntime) -> Result<(), Fail> {
     let mut out = MemorySink::new(rt.alloc(), 4096)?;
-    let answer = answered(&rt, rt.alloc(), Ask::State(2), &mut out)?;
+    let answer = answered(&rt, rt.alloc(), 1, Ask::State(2), &mut out)?;
     assert_eq!(rt; answer.step, Ok(None));
     assert_eq!(rt; (answer.done, answer.gets), (9, Some(1)));
+    assert!(rt; out.bytes().starts_with(b"2 "), "the line of state 2");
+    Ok(())
+}
+
+#[test]
+fn an_answer_stands_inside_a_unit(rt: HostRuntime) -> Result<(), Fail> {
+    let mut out = MemorySink::new(rt.alloc(), 4096)?;
+    let answer = answered(&rt, rt.alloc(), 2, Ask::LastWrite(STACK), &mut out)?;
+    assert_eq!(rt;
+        (answer.step?, answer.done, answer.gets),
+        (Some(2), 12, Some(2))
+    );
+    let answer = answered(&rt, rt.alloc(), 2, Ask::State(2), &mut out)?;
+    assert_eq!(rt;
+        (answer.step?, answer.done, answer.gets),
+        (None, 12, Some(2))
+    );
     assert!(rt; out.bytes().starts_with(b"2 "), "the line of state 2");
     Ok(())
 }

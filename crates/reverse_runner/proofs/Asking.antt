@@ -1,5 +1,5 @@
 -- What an action asks of the levels, and what it does to them.
-use Rattle.std.proofs.Common.{◌≡◌, ◌≢◌, ℕ, ◌-◌, ◌<◌, ◌≤◌, List, [], ◌∷◌, length, map, get_or, Option, Some, None, IsSome, Contains, Result, Ok, Err, add-zero, zero-add, refl, sym, ◌∙◌, ap, subst, inl, arith}
+use Rattle.std.proofs.Common.{◌≡◌, ◌≢◌, ℕ, ◌-◌, ◌*◌, ◌<◌, ◌≤◌, List, [], ◌∷◌, length, map, get_or, Option, Some, None, IsSome, Contains, Result, Ok, Err, add-zero, zero-add, refl, sym, ◌∙◌, ap, subst, inl, arith}
 use Rattle.std.proofs.lemmas.List.{get_or-map, length-map}
 use Rattle.std.proofs.lemmas.Option.{slice_get-get_or}
 use Rattle.std.specs.Option.{option_map_or}
@@ -20,6 +20,7 @@ use Rattle.schedule_rules.proofs.Moving.{goes, unbroken}
 use Rattle.keepers.specs.Told.{Images}
 use Rattle.rv_machine.specs.MachineState.{MachineState}
 use Rattle.rv_machine.specs.States.{state_number}
+use Rattle.unit_undo.specs.Leading.{states_below}
 use Rattle.state_image.specs.Image.{image}
 use Rattle.image_store.specs.Calls.{IsKept, IsFreed, without_pair}
 use Rattle.image_store.specs.Pairs.{pair_at, held}
@@ -154,10 +155,10 @@ damage_of a s n from k put got pair same other =
 -- ---- what becomes of the holdings
 
 -- an image was fetched and decoded, and no level changed
-pub copied_to_work : (journal : List (List ℕ)) (n k : ℕ) (dest : Dest) (old new : Holdings) (got : List ℕ) → dest ≡ Work → IsFetched old.levels k n got → IsDecoded old.work new.work got →
-    new.tape ≡ old.tape → length new.levels.store ≡ length old.levels.store → ((j : ℕ) → IsAsBefore old.levels new.levels j) → Acts journal (Copy n k dest) old new
-copied_to_work journal n k dest old new got is fetched decoded tape count same =
-    let P : Dest → Type 0 = λ d. Acts journal (Copy n k d) old new in
+pub copied_to_work : (unit : ℕ) (journal : List (List ℕ)) (n k : ℕ) (dest : Dest) (old new : Holdings) (got : List ℕ) → dest ≡ Work → IsFetched old.levels k n got → IsDecoded old.work new.work got →
+    new.tape ≡ old.tape → length new.levels.store ≡ length old.levels.store → ((j : ℕ) → IsAsBefore old.levels new.levels j) → Acts unit journal (Copy n k dest) old new
+copied_to_work unit journal n k dest old new got is fetched decoded tape count same =
+    let P : Dest → Type 0 = λ d. Acts unit journal (Copy n k d) old new in
     subst P (sym is) (record { count = count; does = ((got, (fetched, decoded)), tape, same) })
 
 -- levels are as before twice
@@ -180,9 +181,9 @@ kept_after a b c k n bytes keeps same =
     subst Q (sym same.1) (subst P (sym same.0) keeps)
 
 -- a Move is a Copy, and then the release of its image
-pub moved : (journal : List (List ℕ)) (n k : ℕ) (dest : Dest) (a b c : Holdings) → ((j : ℕ) → dest ≡ Level j → j ≢ k) → Acts journal (Copy n k dest) a b → Releases b.levels c.levels k n →
-    c.work ≡ b.work → c.tape ≡ b.tape → length c.levels.store ≡ length b.levels.store → ((j : ℕ) → j ≢ k → IsAsBefore b.levels c.levels j) → Acts journal (Move n k dest) a c
-moved journal n k Work a b c apart acts releases work tape count others =
+pub moved : (unit : ℕ) (journal : List (List ℕ)) (n k : ℕ) (dest : Dest) (a b c : Holdings) → ((j : ℕ) → dest ≡ Level j → j ≢ k) → Acts unit journal (Copy n k dest) a b → Releases b.levels c.levels k n →
+    c.work ≡ b.work → c.tape ≡ b.tape → length c.levels.store ≡ length b.levels.store → ((j : ℕ) → j ≢ k → IsAsBefore b.levels c.levels j) → Acts unit journal (Move n k dest) a c
+moved unit journal n k Work a b c apart acts releases work tape count others =
     let P : MachineState → Type 0 = λ s. (got : List ℕ) × (IsFetched a.levels k n got × IsDecoded a.work s got) in
     record {
       count = count ∙ acts.count;
@@ -193,7 +194,7 @@ moved journal n k Work a b c apart acts releases work tape count others =
         λ j ne. as_before_twice a.levels b.levels c.levels j (acts.does.2 j) (others j ne),
       );
     }
-moved journal n k (Level j) a b c apart acts releases work tape count others =
+moved unit journal n k (Level j) a b c apart acts releases work tape count others =
     let ne = apart j refl in
     let got = acts.does.2 in
     record {
@@ -231,9 +232,9 @@ move_may_copy steps slots c n k (Level j) sound e =
     unbroken steps slots c (Copy n k (Level j)) (with_held c n j) sound.within (g.0, g.1, g.2, g.3, refl)
 
 -- the level that a Copy reads is as before
-pub copy_keeps_source : (journal : List (List ℕ)) (n k : ℕ) (dest : Dest) (a b : Holdings) → ((j : ℕ) → dest ≡ Level j → j ≢ k) → Acts journal (Copy n k dest) a b → IsAsBefore a.levels b.levels k
-copy_keeps_source journal n k Work a b apart acts = acts.does.2 k
-copy_keeps_source journal n k (Level j) a b apart acts = acts.does.3 k (λ e. apart j refl (sym e))
+pub copy_keeps_source : (unit : ℕ) (journal : List (List ℕ)) (n k : ℕ) (dest : Dest) (a b : Holdings) → ((j : ℕ) → dest ≡ Level j → j ≢ k) → Acts unit journal (Copy n k dest) a b → IsAsBefore a.levels b.levels k
+copy_keeps_source unit journal n k Work a b apart acts = acts.does.2 k
+copy_keeps_source unit journal n k (Level j) a b apart acts = acts.does.3 k (λ e. apart j refl (sym e))
 
 -- the calls of a Move are those of a Copy, and one free
 pub called_move_then : (n k : ℕ) (dest : Dest) (a b c : Calls) → Called (calls_of (Copy n k dest)) a b → Called (one_free k) b c → Called (calls_of (Move n k dest)) a c
@@ -261,25 +262,25 @@ uncaused faults a b r x is h = let P : Result Unit RunFault → Type 0 = λ o. I
 -- ---- what a Forward does
 
 -- it keeps nothing
-pub forward_kept_nothing : (journal : List (List ℕ)) (from to : ℕ) (keep : Keep) (old new : Holdings) → keep ≡ Nothing → new.work ≡ state_number old.work journal (to - from) → new.tape ≡ old.tape →
-    length new.levels.store ≡ length old.levels.store → ((k : ℕ) → IsAsBefore old.levels new.levels k) → Acts journal (Forward from to keep) old new
-forward_kept_nothing journal from to keep old new is work tape count same =
-    let P : Keep → Type 0 = λ k. Acts journal (Forward from to k) old new in
+pub forward_kept_nothing : (unit : ℕ) (journal : List (List ℕ)) (from to : ℕ) (keep : Keep) (old new : Holdings) → keep ≡ Nothing → new.work ≡ state_number old.work journal (unit * (to - from)) → new.tape ≡ old.tape →
+    length new.levels.store ≡ length old.levels.store → ((k : ℕ) → IsAsBefore old.levels new.levels k) → Acts unit journal (Forward from to keep) old new
+forward_kept_nothing unit journal from to keep old new is work tape count same =
+    let P : Keep → Type 0 = λ k. Acts unit journal (Forward from to k) old new in
     subst P (sym is) (record { count = count; does = (work, tape, same) })
 
 -- it keeps an image
-pub forward_stored : (journal : List (List ℕ)) (from to k : ℕ) (keep : Keep) (old new : Holdings) → keep ≡ Store k → new.work ≡ state_number old.work journal (to - from) → new.tape ≡ old.tape →
+pub forward_stored : (unit : ℕ) (journal : List (List ℕ)) (from to k : ℕ) (keep : Keep) (old new : Holdings) → keep ≡ Store k → new.work ≡ state_number old.work journal (unit * (to - from)) → new.tape ≡ old.tape →
     length new.levels.store ≡ length old.levels.store → Keeps old.levels new.levels k from (image old.work) → ((j : ℕ) → j ≢ k → IsAsBefore old.levels new.levels j) →
-    Acts journal (Forward from to keep) old new
-forward_stored journal from to k keep old new is work tape count keeps same =
-    let P : Keep → Type 0 = λ x. Acts journal (Forward from to x) old new in
+    Acts unit journal (Forward from to keep) old new
+forward_stored unit journal from to k keep old new is work tape count keeps same =
+    let P : Keep → Type 0 = λ x. Acts unit journal (Forward from to x) old new in
     subst P (sym is) (record { count = count; does = (work, tape, keeps, same) })
 
 -- it tapes the state in work
-pub forward_taped : (journal : List (List ℕ)) (from to : ℕ) (keep : Keep) (old new : Holdings) → keep ≡ Tape → new.work ≡ state_number old.work journal (to - from) → new.tape ≡ old.work →
-    length new.levels.store ≡ length old.levels.store → ((k : ℕ) → IsAsBefore old.levels new.levels k) → Acts journal (Forward from to keep) old new
-forward_taped journal from to keep old new is work tape count same =
-    let P : Keep → Type 0 = λ k. Acts journal (Forward from to k) old new in
+pub forward_taped : (unit : ℕ) (journal : List (List ℕ)) (from to : ℕ) (keep : Keep) (old new : Holdings) → keep ≡ Tape → new.work ≡ state_number old.work journal (unit * (to - from)) → new.tape ≡ record { states = states_below old.work journal (unit * (to - from)); after = new.work } →
+    length new.levels.store ≡ length old.levels.store → ((k : ℕ) → IsAsBefore old.levels new.levels k) → Acts unit journal (Forward from to keep) old new
+forward_taped unit journal from to keep old new is work tape count same =
+    let P : Keep → Type 0 = λ k. Acts unit journal (Forward from to k) old new in
     subst P (sym is) (record { count = count; does = (work, tape, same) })
 
 -- a Store names its level

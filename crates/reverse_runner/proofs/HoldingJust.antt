@@ -7,13 +7,13 @@ use Rattle.std.proofs.lemmas.Bool.{false≢true}
 use Rattle.level_book.specs.Configuration.{Configuration, held_on}
 use Rattle.keepers.specs.Told.{Images}
 use Rattle.rv_machine.specs.MachineState.{MachineState}
-use Rattle.rv_machine.specs.States.{state_number}
 use Rattle.state_image.specs.Image.{image}
 use Rattle.image_store.specs.declared.shelf.Kept.{Kept}
 use Rattle.image_store.specs.Pairs.{pair_at}
 use Rattle.image_store.specs.Shelves.{level_of}
 use Rattle.image_store.specs.Standing.{IsKeptAs, KeepsAs, IsToldAnd, Alone}
 use Rattle.image_store.proofs.Stands.{found}
+use Rattle.reverse_runner.specs.Units.{unit_states}
 use Rattle.reverse_runner.specs.Acts.{Holdings}
 use Rattle.reverse_runner.specs.LevelsStand.{Numbers, AreImages, HoldingsStandAt, AreAlone}
 use Rattle.reverse_runner.specs.HoldsJust.{HoldsJust}
@@ -33,13 +33,13 @@ is_number : (b : Bool) (bytes : List ℕ) → IsSome (cond b (Some bytes) None) 
 is_number true bytes h = refl
 is_number false bytes h = absurd (false≢true h)
 
-module _ (first : MachineState) (journal : List (List ℕ)) (numbers : Numbers) (pairs : List (Option Kept)) (bytes images : Images)
-    (are : AreImages first journal numbers bytes) (keeps : KeepsAs pairs bytes images) where
+module _ (states : ℕ → MachineState) (numbers : Numbers) (pairs : List (Option Kept)) (bytes images : Images)
+    (are : AreImages states numbers bytes) (keeps : KeepsAs pairs bytes images) where
   -- the pair of a number is held, and its slot has the image
-  number_kept : (n : ℕ) → set.contains numbers n ≡ true →
-      (kept : Kept) × (pair_at pairs n ≡ Some kept) × (finmap.get images kept.slot ≡ Some (image (state_number first journal n)))
+  pub number_kept : (n : ℕ) → set.contains numbers n ≡ true →
+      (kept : Kept) × (pair_at pairs n ≡ Some kept) × (finmap.get images kept.slot ≡ Some (image (states n)))
   number_kept n there =
-      let state = image (state_number first journal n) in
+      let state = image (states n) in
       let got = are n ∙ ap (λ b. cond b (Some state) None) there in
       kept_of images (pair_at pairs n) state (subst (IsKeptAs images (pair_at pairs n)) got (keeps.each n))
 
@@ -47,10 +47,10 @@ module _ (first : MachineState) (journal : List (List ℕ)) (numbers : Numbers) 
   kept_number : (n : ℕ) (kept : Kept) → pair_at pairs n ≡ Some kept → set.contains numbers n ≡ true
   kept_number n kept is =
       let there = found pairs bytes images n kept is keeps in
-      is_number (set.contains numbers n) (image (state_number first journal n)) (subst (λ (o : Option (List ℕ)). IsSome o) (sym there.1.0 ∙ are n) refl)
+      is_number (set.contains numbers n) (image (states n)) (subst (λ (o : Option (List ℕ)). IsSome o) (sym there.1.0 ∙ are n) refl)
 
   -- alone, it holds just the images of the numbers
-  just : Alone pairs images → HoldsJust first journal numbers images
+  pub just : Alone pairs images → HoldsJust states numbers images
   just alone = record {
     slot_of = slot_of pairs;
     own = λ m n there_m there_n same.
@@ -69,14 +69,14 @@ module _ (first : MachineState) (journal : List (List ℕ)) (numbers : Numbers) 
       at n kept is = ap (λ (o : Option Kept). option_map_or (λ (kept : Kept). kept.slot) o 0) is
 
 -- the same of what is told, where it is told
-just_told : (first : MachineState) (journal : List (List ℕ)) (numbers : Numbers) (pairs : List (Option Kept)) (bytes : Images) (told : Option Images) →
-    AreImages first journal numbers bytes → IsToldAnd told (KeepsAs pairs bytes) → IsToldAnd told (Alone pairs) → IsToldAnd told (HoldsJust first journal numbers)
-just_told first journal numbers pairs bytes None are keeps alone = keeps
-just_told first journal numbers pairs bytes (Some images) are keeps alone = just first journal numbers pairs bytes images are keeps alone
+just_told : (states : ℕ → MachineState) (numbers : Numbers) (pairs : List (Option Kept)) (bytes : Images) (told : Option Images) →
+    AreImages states numbers bytes → IsToldAnd told (KeepsAs pairs bytes) → IsToldAnd told (Alone pairs) → IsToldAnd told (HoldsJust states numbers)
+just_told states numbers pairs bytes None are keeps alone = keeps
+just_told states numbers pairs bytes (Some images) are keeps alone = just states numbers pairs bytes images are keeps alone
 
 -- where the levels of a session stand and are alone, each keeper holds just the images that its level holds
-pub holds_just : (first : MachineState) (journal : List (List ℕ)) (c : Configuration) (s : Holdings) → HoldingsStandAt first journal c s → AreAlone s.levels →
-    (k : ℕ) → k < length s.levels.store → IsToldAnd (s.levels.told k) (HoldsJust first journal (held_on c k))
-holds_just first journal c s stands alone k within =
+pub holds_just : (first : MachineState) (journal : List (List ℕ)) (unit : ℕ) (c : Configuration) (s : Holdings) → HoldingsStandAt first journal unit c s → AreAlone s.levels →
+    (k : ℕ) → k < length s.levels.store → IsToldAnd (s.levels.told k) (HoldsJust (unit_states first journal unit) (held_on c k))
+holds_just first journal unit c s stands alone k within =
     let level = stands.levels k within in
-    just_told first journal (held_on c k) (level_of s.levels.store k).pairs level.0 (s.levels.told k) level.1.0 level.1.1 (alone k within)
+    just_told (unit_states first journal unit) (held_on c k) (level_of s.levels.store k).pairs level.0 (s.levels.told k) level.1.0 level.1.1 (alone k within)

@@ -14,7 +14,6 @@ use Rattle.level_book.specs.declared.book.Slots.TheVariants.{Count}
 use Rattle.schedule_rules.proofs.BitsLemmas.{len_one_more, len_one_less}
 use Rattle.keepers.specs.Told.{Images}
 use Rattle.rv_machine.specs.MachineState.{MachineState}
-use Rattle.rv_machine.specs.States.{state_number}
 use Rattle.state_image.specs.Image.{image}
 use Rattle.image_store.specs.declared.shelf.Kept.{Kept}
 use Rattle.image_store.specs.Pairs.{pair_at}
@@ -106,41 +105,41 @@ laid_loses steps slots k s level level' before after n kept laid is gone freed =
     subst (IsLevelLaidOut steps (get_or slots k (Count 0)) (set.remove s n)) (sym gone) (laid_less steps (get_or slots k (Count 0)) s level n kept is laid)
 
 -- a level is laid out, and stands
-abbrev pub Stands : MachineState → List (List ℕ) → ℕ → List Slots → LevelFact
-Stands first journal steps slots k numbers level told = LaidOut steps slots k numbers level told × LevelStandsAt first journal numbers level told
+abbrev pub Stands : (ℕ → MachineState) → ℕ → List Slots → LevelFact
+Stands states steps slots k numbers level told = LaidOut steps slots k numbers level told × LevelStandsAt states numbers level told
 
 -- bytes are the image of the state with this number
-abbrev pub IsImage : MachineState → List (List ℕ) → ℕ → List ℕ → Type 0
-IsImage first journal n bytes = bytes ≡ image (state_number first journal n)
+abbrev pub IsImage : (ℕ → MachineState) → ℕ → List ℕ → Type 0
+IsImage states n bytes = bytes ≡ image (states n)
 
 -- one image more of a state of the run
-images_more : (first : MachineState) (journal : List (List ℕ)) (s : Numbers) (images : Images) (n : ℕ) (bytes : List ℕ) → IsImage first journal n bytes →
-    AreImages first journal s images → AreImages first journal (set.insert s n) (finmap.insert images n bytes)
-images_more first journal s images n bytes good are q = elim (cases_eq q n) [
-  | inl e ↦ inserted images n q bytes e ∙ ap Some (good ∙ ap (λ i. image (state_number first journal i)) (sym e))
-      ∙ sym (ap (λ b. cond b (Some (image (state_number first journal q))) None) (more_same s n q e))
-  | inr ne ↦ not_inserted images n q bytes ne ∙ are q ∙ sym (ap (λ b. cond b (Some (image (state_number first journal q))) None) (more_other s n q ne))
+images_more : (states : ℕ → MachineState) (s : Numbers) (images : Images) (n : ℕ) (bytes : List ℕ) → IsImage states n bytes →
+    AreImages states s images → AreImages states (set.insert s n) (finmap.insert images n bytes)
+images_more states s images n bytes good are q = elim (cases_eq q n) [
+  | inl e ↦ inserted images n q bytes e ∙ ap Some (good ∙ ap (λ i. image (states i)) (sym e))
+      ∙ sym (ap (λ b. cond b (Some (image (states q))) None) (more_same s n q e))
+  | inr ne ↦ not_inserted images n q bytes ne ∙ are q ∙ sym (ap (λ b. cond b (Some (image (states q))) None) (more_other s n q ne))
 ]
 
 -- one image less
-images_less : (first : MachineState) (journal : List (List ℕ)) (s : Numbers) (images : Images) (n : ℕ) → AreImages first journal s images →
-    AreImages first journal (set.remove s n) (finmap.remove images n)
-images_less first journal s images n are q = elim (cases_eq q n) [
-  | inl e ↦ removed images n q e ∙ sym (ap (λ b. cond b (Some (image (state_number first journal q))) None) (less_same s n q e))
-  | inr ne ↦ not_removed images n q ne ∙ are q ∙ sym (ap (λ b. cond b (Some (image (state_number first journal q))) None) (less_other s n q ne))
+pub images_less : (states : ℕ → MachineState) (s : Numbers) (images : Images) (n : ℕ) → AreImages states s images →
+    AreImages states (set.remove s n) (finmap.remove images n)
+images_less states s images n are q = elim (cases_eq q n) [
+  | inl e ↦ removed images n q e ∙ sym (ap (λ b. cond b (Some (image (states q))) None) (less_same s n q e))
+  | inr ne ↦ not_removed images n q ne ∙ are q ∙ sym (ap (λ b. cond b (Some (image (states q))) None) (less_other s n q ne))
 ]
 
 -- a level that gets the image of a state of the run stands
-pub stands_gains : (first : MachineState) (journal : List (List ℕ)) (steps : ℕ) (slots : List Slots) →
-    Gains (Stands first journal steps slots) (IsImage first journal) steps
-stands_gains first journal steps slots k s level level' before after n bytes stands most new good is =
+pub stands_gains : (states : ℕ → MachineState) (steps : ℕ) (slots : List Slots) →
+    Gains (Stands states steps slots) (IsImage states) steps
+stands_gains states steps slots k s level level' before after n bytes stands most new good is =
     let images = finmap.insert stands.1.0 n bytes in
     let within = has_place steps (get_or slots k (Count 0)) s level n stands.0 most in (
-      laid_gains (IsImage first journal) steps slots k s level level' before after n bytes stands.0 most new good is,
+      laid_gains (IsImage states) steps slots k s level level' before after n bytes stands.0 most new good is,
       (
         images,
         (
-          images_more first journal s stands.1.0 n bytes good stands.1.1.0,
+          images_more states s stands.1.0 n bytes good stands.1.1.0,
           subst (λ (x : ShelfState). LevelStands x after images) (sym is.pairs)
               (level_more level.pairs stands.1.0 before after n is.slot bytes within is.unused is.told stands.1.1.1),
         ),
@@ -148,14 +147,14 @@ stands_gains first journal steps slots k s level level' before after n bytes sta
     )
 
 -- a level that loses an image stands
-pub stands_loses : (first : MachineState) (journal : List (List ℕ)) (steps : ℕ) (slots : List Slots) → Loses (Stands first journal steps slots)
-stands_loses first journal steps slots k s level level' before after n kept stands is gone freed =
+pub stands_loses : (states : ℕ → MachineState) (steps : ℕ) (slots : List Slots) → Loses (Stands states steps slots)
+stands_loses states steps slots k s level level' before after n kept stands is gone freed =
     let images = finmap.remove stands.1.0 n in (
       laid_loses steps slots k s level level' before after n kept stands.0 is gone freed,
       (
         images,
         (
-          images_less first journal s stands.1.0 n stands.1.1.0,
+          images_less states s stands.1.0 n stands.1.1.0,
           subst (λ (x : ShelfState). LevelStands x after images) (sym gone) (level_less level.pairs stands.1.0 before after n kept is freed stands.1.1.1),
         ),
       ),
@@ -182,11 +181,11 @@ alone_loses steps slots k s level level' before after n kept alone is gone freed
 )
 
 -- the bytes that are fetched of a level that stands are the image
-pub fetched_is : (first : MachineState) (journal : List (List ℕ)) (numbers : Numbers) (s : Levels) (k n : ℕ) (got : List ℕ) →
-    LevelStandsAt first journal numbers (level_of s.store k) (s.told k) → set.contains numbers n ≡ true → IsFetched s k n got → IsImage first journal n got
-fetched_is first journal numbers s k n got stands there fetched =
+pub fetched_is : (states : ℕ → MachineState) (numbers : Numbers) (s : Levels) (k n : ℕ) (got : List ℕ) →
+    LevelStandsAt states numbers (level_of s.store k) (s.told k) → set.contains numbers n ≡ true → IsFetched s k n got → IsImage states n got
+fetched_is states numbers s k n got stands there fetched =
     let bytes = got_is (level_of s.store k).pairs stands.0 (s.told k) n fetched.0 got fetched.1 stands.1.1 fetched.2 in
-    same_Some _ _ (sym bytes.0 ∙ stands.1.0 n ∙ ap (λ b. cond b (Some (image (state_number first journal n))) None) there)
+    same_Some _ _ (sym bytes.0 ∙ stands.1.0 n ∙ ap (λ b. cond b (Some (image (states n))) None) there)
 
 -- a number that is fetched is one of the run, and not the last
 pub fetched_within : (steps : ℕ) (slots : Slots) (numbers : Numbers) (s : Levels) (k n : ℕ) (got : List ℕ) →

@@ -101,37 +101,37 @@ FetchedAreGood Good steps c old =
     (n k : ℕ) (got : List ℕ) → k < length old.levels.store → set.contains (held_on c k) n ≡ true → IsFetched old.levels k n got → Good n got × (n < steps)
 
 -- what holds of each level holds after an action
-pub levels_follow : (P : LevelFact) (Good : ℕ → List ℕ → Type 0) (journal : List (List ℕ)) (steps : ℕ) (slots : List Slots) (c : Configuration) (a : Action) (d : Configuration) (old new : Holdings) →
-    Gains P Good steps → Loses P → IsSound steps slots c → length old.levels.store ≡ length slots → Goes steps slots c a d → Acts journal a old new →
+pub levels_follow : (P : LevelFact) (Good : ℕ → List ℕ → Type 0) (journal : List (List ℕ)) (unit steps : ℕ) (slots : List Slots) (c : Configuration) (a : Action) (d : Configuration) (old new : Holdings) →
+    Gains P Good steps → Loses P → IsSound steps slots c → length old.levels.store ≡ length slots → Goes steps slots c a d → Acts unit journal a old new →
     StoredAreGood Good a old → FetchedAreGood Good steps c old → HoldsOf P c old.levels → HoldsOf P d new.levels
-levels_follow P Good journal steps slots c (Forward from to Nothing) d old new gains loses sound levels g acts stored fetched all =
+levels_follow P Good journal unit steps slots c (Forward from to Nothing) d old new gains loses sound levels g acts stored fetched all =
     none_changed P c d old.levels new.levels (ap (λ (x : Configuration). x.held) g.2) acts.count all acts.does.2
-levels_follow P Good journal steps slots c (Forward from to (Store k)) d old new gains loses sound levels g acts stored fetched all =
+levels_follow P Good journal unit steps slots c (Forward from to (Store k)) d old new gains loses sound levels g acts stored fetched all =
     let s = held_on c k in
     let here = all k (omega (arith, g.2.level, levels)) in
     one_changed P c d old.levels new.levels k (set.insert s from) (omega (arith, g.2.level, sound.level_count)) (ap (λ (x : Configuration). x.held) g.3) acts.count all
     (gains k s (level_of old.levels.store k) (level_of new.levels.store k) (old.levels.told k) (new.levels.told k) from (image old.work) here
     (omega (arith, g.1.ahead, g.1.within, sound.within)) g.2.new (stored from to k refl) acts.does.2) acts.does.3
-levels_follow P Good journal steps slots c (Forward from to Tape) d old new gains loses sound levels g acts stored fetched all =
+levels_follow P Good journal unit steps slots c (Forward from to Tape) d old new gains loses sound levels g acts stored fetched all =
     none_changed P c d old.levels new.levels (ap (λ (x : Configuration). x.held) g.5) acts.count all acts.does.2
-levels_follow P Good journal steps slots c (Reverse from to) d old new gains loses sound levels g acts stored fetched all =
+levels_follow P Good journal unit steps slots c (Reverse from to) d old new gains loses sound levels g acts stored fetched all =
     none_changed P c d old.levels new.levels (ap (λ (x : Configuration). x.held) g.5) acts.count all acts.does.2
-levels_follow P Good journal steps slots c (Copy n k Work) d old new gains loses sound levels g acts stored fetched all =
+levels_follow P Good journal unit steps slots c (Copy n k Work) d old new gains loses sound levels g acts stored fetched all =
     none_changed P c d old.levels new.levels (ap (λ (x : Configuration). x.held) g.2) acts.count all acts.does.2
-levels_follow P Good journal steps slots c (Copy n k (Level j)) d old new gains loses sound levels g acts stored fetched all =
+levels_follow P Good journal unit steps slots c (Copy n k (Level j)) d old new gains loses sound levels g acts stored fetched all =
     let s = held_on c j in
     let got = acts.does.2 in
     let good = fetched n k got.0 (omega (arith, g.1.level, levels)) g.1.there got.1.0 in
     one_changed P c d old.levels new.levels j (set.insert s n) (omega (arith, g.3.level, sound.level_count)) (ap (λ (x : Configuration). x.held) g.4) acts.count all
     (gains j s (level_of old.levels.store j) (level_of new.levels.store j) (old.levels.told j) (new.levels.told j) n got.0 (all j (omega (arith, g.3.level, levels)))
     good.1 g.3.new good.0 got.1.1) acts.does.3
-levels_follow P Good journal steps slots c (Move n k Work) d old new gains loses sound levels g acts stored fetched all =
+levels_follow P Good journal unit steps slots c (Move n k Work) d old new gains loses sound levels g acts stored fetched all =
     let s = held_on c k in
     let gone = acts.does.2 in
     one_changed P c d old.levels new.levels k (set.remove s n) (omega (arith, g.1.level, sound.level_count)) (ap (λ (x : Configuration). x.held) g.2) acts.count all
     (loses k s (level_of old.levels.store k) (level_of new.levels.store k) (old.levels.told k) (new.levels.told k) n gone.1.0 (all k (omega (arith, g.1.level, levels)))
     gone.1.1 gone.0 gone.1.2) acts.does.3
-levels_follow P Good journal steps slots c (Move n k (Level j)) d old new gains loses sound levels g acts stored fetched all =
+levels_follow P Good journal unit steps slots c (Move n k (Level j)) d old new gains loses sound levels g acts stored fetched all =
     let s = held_on c k in
     let t = held_on c j in
     let got = acts.does.2 in
@@ -147,7 +147,7 @@ levels_follow P Good journal steps slots c (Move n k (Level j)) d old new gains 
     (omega (arith, g.3.level, sound.level_count)) (ap (λ (x : Configuration). x.held) g.4) acts.count all less
     (carry P j (set.insert t n) (set.insert (held_on (without_held c n k) j) n) (level_of new.levels.store j) (level_of new.levels.store j) (new.levels.told j) (new.levels.told j)
     (ap (λ (x : Numbers). set.insert x n) same) refl refl more) acts.does.4
-levels_follow P Good journal steps slots c EndForward d old new gains loses sound levels g acts stored fetched all =
+levels_follow P Good journal unit steps slots c EndForward d old new gains loses sound levels g acts stored fetched all =
     none_changed P c d old.levels new.levels (ap (λ (x : Configuration). x.held) g.3) acts.count all acts.does.2
-levels_follow P Good journal steps slots c EndReverse d old new gains loses sound levels g acts stored fetched all =
+levels_follow P Good journal unit steps slots c EndReverse d old new gains loses sound levels g acts stored fetched all =
     none_changed P c d old.levels new.levels (ap (λ (x : Configuration). x.held) g.3) acts.count all acts.does.2

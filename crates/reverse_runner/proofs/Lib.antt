@@ -4,9 +4,12 @@ pub mod Getting
 pub mod Handing
 pub mod HoldingJust
 pub mod HoldingsAfter
+pub mod Leaving
+pub mod LeftHolding
 pub mod LevelsAfter
 pub mod LevelsFollow
 pub mod OneKeeper
 pub mod RoomLeft
 pub mod StandingAfter
+pub mod Taping
 pub mod Undamaged

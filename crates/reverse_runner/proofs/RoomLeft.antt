@@ -5,6 +5,7 @@ use Rattle.std.specs.Ordering.{nat_cmp}
 use Rattle.std.specs.FinSet as set
 use Rattle.std.specs.FinMap as finmap
 use Rattle.std.proofs.Math.ListN.{length-set}
+use Rattle.std.proofs.Math.Nat.{mul-zero}
 use Rattle.std.proofs.lemmas.Bool.{cases_lt}
 use Rattle.std.proofs.lemmas.List.{get_or-set_other, get_or-map, get_or_past, length-map, length-replicate}
 use Rattle.std.proofs.lemmas.List.Sums.{count_by-le-length}
@@ -23,6 +24,8 @@ use Rattle.image_store.specs.Shelves.{ShelfState, level_of, no_pairs, no_pairs_o
 use Rattle.image_store.specs.Standing.{LevelStands, LevelAlone}
 use Rattle.image_store.proofs.Sharing.{held_more, no_pair}
 use Rattle.image_store.proofs.Levels.{stands_empty, alone_empty}
+use Rattle.reverse_runner.specs.Units.{unit_states}
+use Rattle.reverse_runner.specs.Acts.{TapeState}
 use Rattle.reverse_runner.specs.LevelsStand.{Numbers, AreImages, HoldingsStandAt, AreAlone, IsLevelLaidOut, IsLaidOut}
 
 -- a pair that isn't held
@@ -147,24 +150,24 @@ stands_where_told level bytes None each some = absurd (true≢false (sym some))
 stands_where_told level bytes (Some images) each some = each images
 
 -- no images are those of no numbers
-no_images_are : (first : MachineState) (journal : List (List ℕ)) (numbers : Numbers) → numbers ≡ set.empty → AreImages first journal numbers finmap.empty
-no_images_are first journal numbers none n =
-    let bytes = image (state_number first journal n) in
+no_images_are : (states : ℕ → MachineState) (numbers : Numbers) → numbers ≡ set.empty → AreImages states numbers finmap.empty
+no_images_are states numbers none n =
+    let bytes = image (states n) in
     finmap.get-empty nat_cmp n ∙ sym (ap (λ b. cond b (Some bytes) None) (ap (λ (x : Numbers). set.contains x n) none ∙ set.contains-empty nat_cmp n))
 
 -- over keepers that tell, a session that begins stands at the start
-pub begun_stands : (first : MachineState) (journal : List (List ℕ)) (steps : ℕ) (slots : List Slots) (tape : MachineState) (told : ℕ → Option Images) →
+pub begun_stands : (first : MachineState) (journal : List (List ℕ)) (unit steps : ℕ) (slots : List Slots) (tape : TapeState) (told : ℕ → Option Images) →
     ((k : ℕ) → k < length slots → IsSome (told k)) →
-    HoldingsStandAt first journal (start steps slots) (record { work = first; tape = tape; levels = record { store = no_pairs_on slots steps; told = told } })
-begun_stands first journal steps slots tape told tells = record {
-  work = refl;
+    HoldingsStandAt first journal unit (start steps slots) (record { work = first; tape = tape; levels = record { store = no_pairs_on slots steps; told = told } })
+begun_stands first journal unit steps slots tape told tells = record {
+  work = ap (state_number first journal) (sym (mul-zero unit));
   tape = tt;
   levels = λ k within.
       let long = levels_of_none steps slots in
       let inside : k < length slots = omega (arith, within, long) in (
         finmap.empty,
         (
-          no_images_are first journal (held_on (start steps slots) k) (nothing_held steps slots k inside),
+          no_images_are (unit_states first journal unit) (held_on (start steps slots) k) (nothing_held steps slots k inside),
           stands_where_told (level_of (no_pairs_on slots steps) k) finmap.empty (told k) (stands_empty slots steps k) (tells k inside),
         ),
       );

@@ -1,6 +1,6 @@
 -- What an action does to the states of a session and to the levels of its store, by the bytes that were fetched. It says
 -- so also where nothing stands; what a keeper tells comes in only where it tells.
-use Rattle.std.specs.Prelude.{◌≡◌, ◌≢◌, ℕ, ◌-◌, ◌≤◌, List, length, Option, Some}
+use Rattle.std.specs.Prelude.{◌≡◌, ◌≢◌, ℕ, ◌-◌, ◌*◌, ◌≤◌, List, [], length, Option, Some}
 use Rattle.sha2.specs.Sha256.{sha256}
 use Rattle.keepers.specs.Told.{Images}
 use Rattle.plan_types.specs.declared.action.Keep.TheVariants.{Nothing, Store, Tape}
@@ -10,6 +10,7 @@ use Rattle.plan_types.specs.declared.action.Action.TheVariants.{Forward, Reverse
 use Rattle.rv_pages.specs.Memory.{page_numbers}
 use Rattle.rv_machine.specs.MachineState.{MachineState, IsMachineState}
 use Rattle.rv_machine.specs.States.{state_number}
+use Rattle.unit_undo.specs.Leading.{states_below}
 use Rattle.state_image.specs.Image.{image}
 use Rattle.image_store.specs.declared.shelf.Kept.{Kept}
 use Rattle.image_store.specs.Shelves.{ShelfState, level_of, kept_at}
@@ -20,10 +21,15 @@ pub record Levels : Type 0 where
   pub store : List ShelfState
   pub told : ℕ → Option Images
 
--- what a session holds: the states in work and on the tape, and its levels
+-- the tape: the states of a unit, the last one first, and the state after them
+pub record TapeState : Type 0 where
+  pub states : List MachineState
+  pub after : MachineState
+
+-- what a session holds: the state in work, the tape, and its levels
 pub record Holdings : Type 0 where
   pub work : MachineState
-  pub tape : MachineState
+  pub tape : TapeState
   pub levels : Levels
 
 -- nothing was done to a level
@@ -50,32 +56,33 @@ Releases old new k n =
 abbrev pub IsDecoded : MachineState → MachineState → List ℕ → Type 0
 IsDecoded before after bytes = IsMachineState after × (image after ≡ bytes) × (page_numbers after.memory ≡ page_numbers before.memory)
 
--- by the actions
-abbrev pub Does : List (List ℕ) → Action → Holdings → Holdings → Type 0
-Does journal (Forward from to Nothing) old new =
-    (new.work ≡ state_number old.work journal (to - from)) × (new.tape ≡ old.tape) × ((k : ℕ) → IsAsBefore old.levels new.levels k)
-Does journal (Forward from to (Store k)) old new =
-    (new.work ≡ state_number old.work journal (to - from)) × (new.tape ≡ old.tape)
+-- By the actions, where a step of the schedule is so many steps of the machine. An action that may be done has from < to at a
+-- Forward, so that to - from isn't cut.
+abbrev pub Does : ℕ → List (List ℕ) → Action → Holdings → Holdings → Type 0
+Does unit journal (Forward from to Nothing) old new =
+    (new.work ≡ state_number old.work journal (unit * (to - from))) × (new.tape ≡ old.tape) × ((k : ℕ) → IsAsBefore old.levels new.levels k)
+Does unit journal (Forward from to (Store k)) old new =
+    (new.work ≡ state_number old.work journal (unit * (to - from))) × (new.tape ≡ old.tape)
     × Keeps old.levels new.levels k from (image old.work) × ((j : ℕ) → j ≢ k → IsAsBefore old.levels new.levels j)
-Does journal (Forward from to Tape) old new =
-    (new.work ≡ state_number old.work journal (to - from)) × (new.tape ≡ old.work) × ((k : ℕ) → IsAsBefore old.levels new.levels k)
-Does journal (Reverse from to) old new = (new.work ≡ old.work) × (new.tape ≡ old.tape) × ((k : ℕ) → IsAsBefore old.levels new.levels k)
-Does journal (Copy n k Work) old new =
+Does unit journal (Forward from to Tape) old new =
+    (new.work ≡ state_number old.work journal (unit * (to - from))) × (new.tape ≡ record { states = states_below old.work journal (unit * (to - from)); after = new.work }) × ((k : ℕ) → IsAsBefore old.levels new.levels k)
+Does unit journal (Reverse from to) old new = (new.work ≡ old.work) × (new.tape.states ≡ []) × ((k : ℕ) → IsAsBefore old.levels new.levels k)
+Does unit journal (Copy n k Work) old new =
     ((got : List ℕ) × (IsFetched old.levels k n got × IsDecoded old.work new.work got)) × (new.tape ≡ old.tape) × ((j : ℕ) → IsAsBefore old.levels new.levels j)
-Does journal (Copy n k (Level j)) old new =
+Does unit journal (Copy n k (Level j)) old new =
     (new.work ≡ old.work) × (new.tape ≡ old.tape)
     × ((got : List ℕ) × (IsFetched old.levels k n got × Keeps old.levels new.levels j n got)) × ((i : ℕ) → i ≢ j → IsAsBefore old.levels new.levels i)
-Does journal (Move n k Work) old new =
+Does unit journal (Move n k Work) old new =
     ((got : List ℕ) × (IsFetched old.levels k n got × IsDecoded old.work new.work got)) × (new.tape ≡ old.tape)
     × Releases old.levels new.levels k n × ((j : ℕ) → j ≢ k → IsAsBefore old.levels new.levels j)
-Does journal (Move n k (Level j)) old new =
+Does unit journal (Move n k (Level j)) old new =
     (new.work ≡ old.work) × (new.tape ≡ old.tape)
     × ((got : List ℕ) × (IsFetched old.levels k n got × Keeps old.levels new.levels j n got)) × Releases old.levels new.levels k n
     × ((i : ℕ) → i ≢ j → i ≢ k → IsAsBefore old.levels new.levels i)
-Does journal EndForward old new = (new.work ≡ old.work) × (new.tape ≡ old.tape) × ((k : ℕ) → IsAsBefore old.levels new.levels k)
-Does journal EndReverse old new = (new.work ≡ old.work) × (new.tape ≡ old.tape) × ((k : ℕ) → IsAsBefore old.levels new.levels k)
+Does unit journal EndForward old new = (new.work ≡ old.work) × (new.tape ≡ old.tape) × ((k : ℕ) → IsAsBefore old.levels new.levels k)
+Does unit journal EndReverse old new = (new.work ≡ old.work) × (new.tape ≡ old.tape) × ((k : ℕ) → IsAsBefore old.levels new.levels k)
 
 -- what becomes of the holdings of a session where an action was performed
-pub record Acts (journal : List (List ℕ)) (action : Action) (old new : Holdings) : Type 0 where
+pub record Acts (unit : ℕ) (journal : List (List ℕ)) (action : Action) (old new : Holdings) : Type 0 where
   pub count : length new.levels.store ≡ length old.levels.store
-  pub does : Does journal action old new
+  pub does : Does unit journal action old new

@@ -10,30 +10,35 @@ use Rattle.level_book.specs.BookCosts.{least}
 use Rattle.level_book.specs.Configuration.{Configuration, held_on}
 use Rattle.keepers.specs.Told.{Images}
 use Rattle.rv_machine.specs.MachineState.{MachineState}
-use Rattle.rv_machine.specs.States.{state_number}
+use Rattle.unit_undo.specs.Leading.{states_below}
 use Rattle.state_image.specs.Image.{image}
 use Rattle.image_store.specs.Pairs.{pair_at, held}
 use Rattle.image_store.specs.Shelves.{ShelfState, level_of}
 use Rattle.image_store.specs.Standing.{LevelStands, LevelAlone}
-use Rattle.reverse_runner.specs.Acts.{Levels, Holdings}
+use Rattle.reverse_runner.specs.Units.{unit_states}
+use Rattle.reverse_runner.specs.Acts.{TapeState, Levels, Holdings}
 
 -- numbers of states
 abbrev pub Numbers : Type 0
 Numbers = set.FinSet nat_cmp
 
--- the images of the states of a run with these numbers, and no more
-abbrev pub AreImages : MachineState → List (List ℕ) → Numbers → Images → Type 0
-AreImages first journal numbers images =
-    (n : ℕ) → finmap.get images n ≡ cond (set.contains numbers n) (Some (image (state_number first journal n))) None
+-- the images of the states with these numbers, and no more
+abbrev pub AreImages : (ℕ → MachineState) → Numbers → Images → Type 0
+AreImages states numbers images = (n : ℕ) → finmap.get images n ≡ cond (set.contains numbers n) (Some (image (states n))) None
 
 -- a level that holds these numbers stands for their images
-abbrev pub LevelStandsAt : MachineState → List (List ℕ) → Numbers → ShelfState → Option Images → Type 0
-LevelStandsAt first journal numbers level told = (images : Images) × (AreImages first journal numbers images × LevelStands level told images)
+abbrev pub LevelStandsAt : (ℕ → MachineState) → Numbers → ShelfState → Option Images → Type 0
+LevelStandsAt states numbers level told = (images : Images) × (AreImages states numbers images × LevelStands level told images)
 
-pub record HoldingsStandAt (first : MachineState) (journal : List (List ℕ)) (c : Configuration) (s : Holdings) : Type 0 where
-  pub work : s.work ≡ state_number first journal c.work
-  pub tape : MatchOption c.tape (Unit {0}) (λ n. s.tape ≡ state_number first journal n)
-  pub levels : (k : ℕ) → k < length s.levels.store → LevelStandsAt first journal (held_on c k) (level_of s.levels.store k) (s.levels.told k)
+-- on the tape is the unit with a number: the states from which its steps are made, and the state after them
+pub record IsUnit (first : MachineState) (journal : List (List ℕ)) (unit n : ℕ) (tape : TapeState) : Type 0 where
+  pub states : tape.states ≡ states_below (unit_states first journal unit n) journal unit
+  pub after : tape.after ≡ unit_states first journal unit (n + 1)
+
+pub record HoldingsStandAt (first : MachineState) (journal : List (List ℕ)) (unit : ℕ) (c : Configuration) (s : Holdings) : Type 0 where
+  pub work : s.work ≡ unit_states first journal unit c.work
+  pub tape : MatchOption c.tape (Unit {0}) (λ n. IsUnit first journal unit n s.tape)
+  pub levels : (k : ℕ) → k < length s.levels.store → LevelStandsAt (unit_states first journal unit) (held_on c k) (level_of s.levels.store k) (s.levels.told k)
 
 -- no keeper has an image but those of the pairs
 abbrev pub AreAlone : Levels → Type 0

@@ -2,6 +2,7 @@ pub mod Acts
 pub mod Handed
 pub mod HoldsJust
 pub mod KeepersSeen
+pub mod Left
 pub mod LevelsStand
 pub mod Performed
 pub mod SessionFields
@@ -9,3 +10,4 @@ pub mod SessionState
 pub mod Standing
 pub mod Touching
 pub mod Workspaces
+pub mod Units

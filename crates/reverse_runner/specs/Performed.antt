@@ -1,5 +1,5 @@
 -- What the visitor of a session gets of an action, and which actions call keepers. The states are those of the session.
-use Rattle.std.specs.Prelude.{◌≡◌, ℕ, Bool, true, false, List}
+use Rattle.std.specs.Prelude.{◌≡◌, ◌⊎◌, ℕ, Bool, true, false, List, [], ◌∷◌}
 use Rattle.plan_types.specs.declared.action.Keep.TheVariants.{Store}
 use Rattle.plan_types.specs.declared.action.Action.{Action}
 use Rattle.plan_types.specs.declared.action.Action.TheVariants.{Forward, Reverse, Copy, Move, EndForward}
@@ -12,15 +12,20 @@ calls_keepers (Copy n k to) = true
 calls_keepers (Move n k to) = true
 calls_keepers _ = false
 
--- What the visitor gets, by its relation between before and after: at EndForward the state in work with the number of
--- the work position, at a Reverse the state on the tape with the number that is led back to, and else nothing.
-abbrev pub Gets : {V : Type 0} → (V → ℕ → MachineState → List (List ℕ) → V → Type 0) → List (List ℕ) → Action → ℕ → MachineState → MachineState → V → V → Type 0
-Gets got journal EndForward position work tape before after = got before position work journal after
-Gets got journal (Reverse from to) position work tape before after = got before to tape journal after
-Gets got journal _ position work tape before after = after ≡ before
+-- the states that an action hands out: EndForward the one in work, a Reverse those on the tape
+abbrev pub states_out : Action → MachineState → List MachineState → List MachineState
+states_out EndForward work tape = work ∷ []
+states_out (Reverse from to) work tape = tape
+states_out _ work tape = []
 
--- what it misses where it refuses; no other action calls it
-abbrev pub Misses : {V : Type 0} → (V → ℕ → MachineState → List (List ℕ) → V → Type 0) → List (List ℕ) → Action → ℕ → MachineState → MachineState → V → V → Type 0
-Misses missed journal EndForward position work tape before after = missed before position work journal after
-Misses missed journal (Reverse from to) position work tape before after = missed before to tape journal after
-Misses missed journal _ position work tape before after = ⊥
+-- the visitor got these states with these numbers, one after the other, by its relation between before and after
+abbrev pub GetsAll : {V : Type 0} → (V → ℕ → MachineState → List (List ℕ) → V → Type 0) → List (List ℕ) → List ℕ → List MachineState → V → V → Type 0
+GetsAll got journal [] [] before after = after ≡ before
+GetsAll {V} got journal (n ∷ numbers) (s ∷ states) before after = (between : V) × (got before n s journal between × GetsAll got journal numbers states between after)
+GetsAll got journal _ _ before after = ⊥
+
+-- it got some of them, and missed the next one
+abbrev pub MissesOne : {V : Type 0} → (V → ℕ → MachineState → List (List ℕ) → V → Type 0) → (V → ℕ → MachineState → List (List ℕ) → V → Type 0) → List (List ℕ) → List ℕ → List MachineState → V → V → Type 0
+MissesOne {V} got missed journal (n ∷ numbers) (s ∷ states) before after =
+    missed before n s journal after ⊎ ((between : V) × (got before n s journal between × MissesOne got missed journal numbers states between after))
+MissesOne got missed journal _ _ before after = ⊥

@@ -3,20 +3,23 @@ use Rattle.std.specs.Prelude.{◌≡◌, false}
 use Rattle.reverse_runner.specs.declared.session.Session.TheInside.{Inside}
 use Rattle.reverse_runner.specs.SessionState.{SessionState}
 use Rattle.reverse_runner.specs.LevelsStand.{IsLaidOut}
-use Rattle.reverse_runner.specs.Workspaces.{Fits}
+use Rattle.reverse_runner.specs.Workspaces.{Fits, tape_in, HasUnits}
 
 abbrev pub session_state : Inside → SessionState
 session_state s = record {
   situation = s.config;
+  unit = s.unit;
   work = s.space.work;
-  tape = s.space.tape;
+  tape = tape_in s.space;
   store = s.space.store;
   journal = s.journal;
   done = s.done;
   ended = s.ended;
 }
 
--- The levels hold the pairs that the configuration names, up to a refusal.
+-- The levels hold the pairs that the configuration names, up to a refusal, and a tape that isn't empty holds a unit. The
+-- undo list was made for the recorded input.
 pub record IsSession (s : Inside) : Type 0 where
   pub fits : Fits s.space
   pub laid : s.ended ≡ false → IsLaidOut s.config.steps s.config.slots s.config.at s.space.store
+  pub units : s.ended ≡ false → HasUnits s.unit s.journal s.config.steps s.config.at s.space

@@ -8,15 +8,17 @@ use Rattle.rv_machine.specs.MachineState.{MachineState}
 use Rattle.rv_machine.specs.StateCode.{state_code}
 use Rattle.image_store.specs.declared.shelf.Kept.{Kept}
 use Rattle.image_store.specs.Shelves.{ShelfState}
-use Rattle.reverse_runner.specs.Acts.{Levels, Holdings}
+use Rattle.reverse_runner.specs.Acts.{TapeState, Levels, Holdings}
 
 pub record SessionState : Type 0 where
   -- the steps, the slots of the book, and the configuration
   pub situation : Situation
+  -- how many steps of the machine a step of the schedule is
+  pub unit : ℕ
   -- the state in work
   pub work : MachineState
-  -- the state on the tape, where the tape isn't empty
-  pub tape : MachineState
+  -- the tape
+  pub tape : TapeState
   -- which images the levels keep
   pub store : List ShelfState
   -- the recorded input
@@ -48,10 +50,15 @@ shelf_code =
     code_by (List (Option Kept) × ℕ) (coded× (coded_list (coded_option kept_code)) coded_ℕ)
     (λ s. (s.pairs, s.room)) (λ p. record { pairs = p.0; room = p.1 }) (λ _. refl)
 
+abbrev pub tape_code : Coded TapeState
+tape_code =
+    code_by (List MachineState × MachineState) (coded× (coded_list state_code) state_code)
+    (λ t. (t.states, t.after)) (λ p. record { states = p.0; after = p.1 }) (λ _. refl)
+
 abbrev pub session_code : Coded SessionState
 session_code =
-    code_by (Situation × (MachineState × (MachineState × (List ShelfState × (List (List ℕ) × (ℕ × Bool))))))
-    (coded× situation_code (coded× state_code (coded× state_code (coded× (coded_list shelf_code) (coded× (coded_list (coded_list coded_ℕ)) (coded× coded_ℕ coded_bool))))))
-    (λ s. (s.situation, (s.work, (s.tape, (s.store, (s.journal, (s.done, s.ended)))))))
-    (λ p. record { situation = p.0; work = p.1.0; tape = p.1.1.0; store = p.1.1.1.0; journal = p.1.1.1.1.0; done = p.1.1.1.1.1.0; ended = p.1.1.1.1.1.1 })
+    code_by (Situation × (ℕ × (MachineState × (TapeState × (List ShelfState × (List (List ℕ) × (ℕ × Bool)))))))
+    (coded× situation_code (coded× coded_ℕ (coded× state_code (coded× tape_code (coded× (coded_list shelf_code) (coded× (coded_list (coded_list coded_ℕ)) (coded× coded_ℕ coded_bool)))))))
+    (λ s. (s.situation, (s.unit, (s.work, (s.tape, (s.store, (s.journal, (s.done, s.ended))))))))
+    (λ p. record { situation = p.0; unit = p.1.0; work = p.1.1.0; tape = p.1.1.1.0; store = p.1.1.1.1.0; journal = p.1.1.1.1.1.0; done = p.1.1.1.1.1.1.0; ended = p.1.1.1.1.1.1.1 })
     (λ _. refl)

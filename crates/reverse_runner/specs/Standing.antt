@@ -1,5 +1,5 @@
 -- At which configuration of a run a session stands, and what becomes of it as actions are performed.
-use Rattle.std.specs.Prelude.{◌≡◌, ◌≢◌, ◌⊎◌, ℕ, ◌+◌, ◌^◌, ◌-◌, true, false, min, List, Option, None, Some}
+use Rattle.std.specs.Prelude.{◌≡◌, ◌≢◌, ◌⊎◌, ℕ, ◌+◌, ◌^◌, ◌-◌, true, false, min, List, [], Option, None, Some}
 use Rattle.sha2.specs.Sha256.{sha256}
 use Rattle.keepers.specs.Told.{Images}
 use Rattle.plan_types.specs.declared.action.Action.{Action}
@@ -17,11 +17,12 @@ use Rattle.reverse_runner.specs.Acts.{Holdings}
 use Rattle.reverse_runner.specs.LevelsStand.{HoldingsStandAt}
 
 -- a session that has just begun
-abbrev pub begun : MachineState → List (List ℕ) → ℕ → List Slots → SessionState
-begun first journal steps slots = record {
+abbrev pub begun : MachineState → List (List ℕ) → ℕ → ℕ → List Slots → SessionState
+begun first journal unit steps slots = record {
   situation = record { steps = steps; slots = slots; at = start steps slots };
+  unit = unit;
   work = first;
-  tape = first;
+  tape = record { states = []; after = first };
   store = no_pairs_on slots steps;
   journal = journal;
   done = 0;
@@ -33,6 +34,7 @@ pub record Performs (old : SessionState) (action : Action) (new : SessionState) 
   pub goes : Goes old.situation.steps old.situation.slots old.situation.at action new.situation.at
   pub steps : new.situation.steps ≡ old.situation.steps
   pub slots : new.situation.slots ≡ old.situation.slots
+  pub unit : new.unit ≡ old.unit
   pub journal : new.journal ≡ old.journal
   pub done : new.done ≡ min (old.done + 1) (2 ^ 64 - 1)
   pub lasts : new.ended ≡ false
@@ -40,6 +42,7 @@ pub record Performs (old : SessionState) (action : Action) (new : SessionState) 
 -- an action was refused: the session has ended where it stood
 pub record Ends (old new : SessionState) : Type 0 where
   pub situation : new.situation ≡ old.situation
+  pub unit : new.unit ≡ old.unit
   pub journal : new.journal ≡ old.journal
   pub done : new.done ≡ old.done
   pub over : new.ended ≡ true
@@ -47,7 +50,7 @@ pub record Ends (old new : SessionState) : Type 0 where
 -- Over what its keepers tell, a session stands at its configuration of the run from `first`: its states are those of the
 -- run, and its levels stand for the images of the states that they hold.
 abbrev pub StandsAt : MachineState → SessionState → (ℕ → Option Images) → Type 0
-StandsAt first s told = HoldingsStandAt first s.journal s.situation.at (holdings_of s told)
+StandsAt first s told = HoldingsStandAt first s.journal s.unit s.situation.at (holdings_of s told)
 
 -- the pair that an action reads: the number of its state, and its level
 abbrev pub pair_read : Action → Option (ℕ × ℕ)

@@ -1,13 +1,14 @@
 -- No public clause cites this file. What a workspace holds, and what holds of it.
-use Rattle.std.specs.Prelude.{ℕ, ◌+◌, ◌*◌, ◌≤◌, List, length, Option}
+use Rattle.std.specs.Prelude.{◌≡◌, ℕ, ◌+◌, ◌*◌, ◌≤◌, List, length, Option, MatchOption}
 use Rattle.std.specs.Vec.{vec_capacity}
 use Rattle.keepers.specs.Told.{Images}
 use Rattle.level_book.specs.declared.book.Slots.{Slots}
 use Rattle.level_book.specs.Configuration.{Configuration}
 use Rattle.schedule_rules.specs.Reached.{IsSound}
 use Rattle.rv_pages.specs.Memory.{page_numbers}
+use Rattle.unit_undo.specs.Leading.{LeadsBack, led_back, IsMadeFor}
 use Rattle.reverse_runner.specs.declared.workspace.Workspace.{Workspace}
-use Rattle.reverse_runner.specs.Acts.{Levels, Holdings}
+use Rattle.reverse_runner.specs.Acts.{TapeState, Levels, Holdings}
 use Rattle.reverse_runner.specs.KeepersSeen.{HaveRoom}
 use Rattle.reverse_runner.specs.LevelsStand.{IsLaidOut}
 use Rattle.reverse_runner.specs.SessionState.{SamePages}
@@ -16,13 +17,22 @@ use Rattle.reverse_runner.specs.SessionState.{SamePages}
 abbrev pub levels_in : Workspace → (ℕ → Option Images) → Levels
 levels_in w told = record { store = w.store; told = told }
 
-abbrev pub holdings_in : Workspace → (ℕ → Option Images) → Holdings
-holdings_in w told = record { work = w.work; tape = w.tape; levels = levels_in w told }
+-- the tape: the states over which its undo list leads back from the state after them
+abbrev pub tape_in : Workspace → TapeState
+tape_in w = record { states = led_back w.undo.entries w.tape; after = w.tape }
 
--- its states map the same pages, and the buffer was reserved for the image of each
+-- where a configuration's tape isn't empty, there is an entry for each step of a unit
+abbrev pub IsTaped : ℕ → Configuration → Workspace → Type 0
+IsTaped unit c w = MatchOption c.tape (Unit {0}) (λ n. length w.undo.entries ≡ unit)
+
+abbrev pub holdings_in : Workspace → (ℕ → Option Images) → Holdings
+holdings_in w told = record { work = w.work; tape = tape_in w; levels = levels_in w told }
+
+-- its states map the same pages, the buffer was reserved for the image of each, and the undo list leads back from the tape
 pub record Fits (w : Workspace) : Type 0 where
   pub pages : SamePages w.tape w.work
   pub few : length (page_numbers w.work.memory) ≤ 4096
+  pub back : LeadsBack w.undo.entries w.tape (led_back w.undo.entries w.tape)
   pub buffer : 164 + 4100 * length (page_numbers w.work.memory) ≤ vec_capacity w.buffer
 
 -- An action may be done at a configuration: it is sound, the levels hold the pairs that it names, and there are keepers
@@ -32,3 +42,10 @@ pub record IsReady (steps : ℕ) (slots : List Slots) (c : Configuration) (w : W
   pub laid : IsLaidOut steps slots c w.store
   pub room : HaveRoom steps slots counts
   pub fits : Fits w
+
+-- The undo list is made for units of so many steps with this recorded input, and holds one where the tape isn't empty.
+pub record HasUnits (unit : ℕ) (journal : List (List ℕ)) (steps : ℕ) (c : Configuration) (w : Workspace) : Type 0 where
+  pub taped : IsTaped unit c w
+  pub made : IsMadeFor journal w.undo
+  pub same : w.undo.unit ≡ unit
+  pub small : unit * steps ≤ 1000000

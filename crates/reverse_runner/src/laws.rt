@@ -1,40 +1,63 @@
 // Laws of what lists hand out, and of levels. Each function does nothing; its contract is the law.
-ghost use Rattle.std.specs.Prelude.{◌≡◌, ℕ, ◌<◌, List, length};
+ghost use Rattle.std.specs.Prelude.{◌≡◌, ℕ, ◌*◌, ◌<◌, true, List, length, Option, Some};
+ghost use Rattle.std.specs.FinSet as set;
 ghost use Rattle.plan_types.specs.declared.action.Action.{Action};
 ghost use Rattle.level_book.specs.declared.book.Slots.{Slots};
 ghost use Rattle.level_book.specs.Configuration.{Configuration, held_on};
+ghost use Rattle.level_book.specs.CostFold.{is_write};
 ghost use Rattle.level_book.specs.Moves.{Goes};
 ghost use Rattle.level_book.specs.Valid.{Valid};
 ghost use Rattle.schedule_rules.specs.Reached.{IsSound};
 ghost use Rattle.input_journal.specs.Form.{IsRecorded};
 ghost use Rattle.rv_machine.specs.MachineState.{MachineState, IsMachineState};
+ghost use Rattle.keepers.specs.Told.{Images};
 ghost use Rattle.image_store.specs.Standing.{IsToldAnd};
 ghost use Rattle.reverse_runner.specs.Acts.{Holdings, Acts};
 ghost use Rattle.reverse_runner.specs.LevelsStand.{HoldingsStandAt, AreAlone, IsLaidOut};
 ghost use Rattle.reverse_runner.specs.HoldsJust.{HoldsJust};
+ghost use Rattle.reverse_runner.specs.KeepersSeen.{is_release};
+ghost use Rattle.reverse_runner.specs.Left.{Spares, MayLeave, HoldsBesides, HoldsAllBut};
+ghost use Rattle.reverse_runner.specs.Standing.{pair_read};
+ghost use Rattle.reverse_runner.specs.Units.{unit_states};
 ghost use Rattle.reverse_runner.specs.Handed.{handed, countdown};
 
 /// A valid list hands out the states from the last one to state 0, each once.
 pub fn valid_lists_hand_out_all()
-    ensures { (steps : ℕ) (slots : List Slots) (list : List Action) → Valid steps slots list → handed steps list ≡ countdown steps }
+    ensures { (unit steps : ℕ) (slots : List Slots) (list : List Action) → Valid steps slots list → handed unit steps list ≡ countdown (unit * steps) }
 {}
 
 /// Where the levels of a session hold what its configuration names, they do so after every action, by what the action does
 /// to them. Where they stand at the configuration of a run, they stand after it at the one that the action leads to, and
 /// where no keeper has another image than theirs, none has one after it.
 pub fn levels_follow_the_actions()
-    ensures laid_out { (journal : List (List ℕ)) (steps : ℕ) (slots : List Slots) (c : Configuration) (a : Action) (d : Configuration) (old new : Holdings) →
-        IsSound steps slots c → Goes steps slots c a d → Acts journal a old new → IsLaidOut steps slots c old.levels.store → IsLaidOut steps slots d new.levels.store }
-    ensures stands { (first : MachineState) (journal : List (List ℕ)) (steps : ℕ) (slots : List Slots) (c : Configuration) (a : Action) (d : Configuration) (old new : Holdings) →
-        IsMachineState first → IsRecorded journal → IsSound steps slots c → Goes steps slots c a d → Acts journal a old new → IsLaidOut steps slots c old.levels.store →
-        HoldingsStandAt first journal c old → HoldingsStandAt first journal d new }
-    ensures alone { (journal : List (List ℕ)) (steps : ℕ) (slots : List Slots) (c : Configuration) (a : Action) (d : Configuration) (old new : Holdings) →
-        IsSound steps slots c → Goes steps slots c a d → Acts journal a old new → IsLaidOut steps slots c old.levels.store → AreAlone old.levels → AreAlone new.levels }
+    ensures laid_out { (journal : List (List ℕ)) (unit steps : ℕ) (slots : List Slots) (c : Configuration) (a : Action) (d : Configuration) (old new : Holdings) →
+        IsSound steps slots c → Goes steps slots c a d → Acts unit journal a old new → IsLaidOut steps slots c old.levels.store → IsLaidOut steps slots d new.levels.store }
+    ensures stands { (first : MachineState) (journal : List (List ℕ)) (unit steps : ℕ) (slots : List Slots) (c : Configuration) (a : Action) (d : Configuration) (old new : Holdings) →
+        IsMachineState first → IsRecorded journal → IsSound steps slots c → Goes steps slots c a d → Acts unit journal a old new → IsLaidOut steps slots c old.levels.store →
+        HoldingsStandAt first journal unit c old → HoldingsStandAt first journal unit d new }
+    ensures alone { (journal : List (List ℕ)) (unit steps : ℕ) (slots : List Slots) (c : Configuration) (a : Action) (d : Configuration) (old new : Holdings) →
+        IsSound steps slots c → Goes steps slots c a d → Acts unit journal a old new → IsLaidOut steps slots c old.levels.store → AreAlone old.levels → AreAlone new.levels }
 {}
 
 /// Where the levels of a session stand and no keeper has another image than theirs, each keeper holds just the images of
 /// the states that its level holds.
 pub fn levels_hold_just_their_images()
-    ensures { (first : MachineState) (journal : List (List ℕ)) (c : Configuration) (s : Holdings) → HoldingsStandAt first journal c s → AreAlone s.levels →
-        (k : ℕ) → k < length s.levels.store → IsToldAnd (s.levels.told k) (HoldsJust first journal (held_on c k)) }
+    ensures { (first : MachineState) (journal : List (List ℕ)) (unit : ℕ) (c : Configuration) (s : Holdings) → HoldingsStandAt first journal unit c s → AreAlone s.levels →
+        (k : ℕ) → k < length s.levels.store → IsToldAnd (s.levels.told k) (HoldsJust (unit_states first journal unit) (held_on c k)) }
+{}
+
+/// Where they stand so and an action is refused, each keeper still holds the images of the states that its level holds: on a
+/// level to which the action puts an image one more slot may hold anything, and where it releases an image this one may be
+/// gone.
+pub fn refused_actions_leave_their_images()
+    ensures spared { (first : MachineState) (journal : List (List ℕ)) (unit : ℕ) (c : Configuration) (a : Action) (s : Holdings) (told : ℕ → Option Images) →
+        HoldingsStandAt first journal unit c s → AreAlone s.levels → MayLeave a s.levels told →
+        (k : ℕ) → k < length s.levels.store → Spares a k → IsToldAnd (told k) (HoldsJust (unit_states first journal unit) (held_on c k)) }
+    ensures put_to { (first : MachineState) (journal : List (List ℕ)) (unit : ℕ) (c : Configuration) (a : Action) (s : Holdings) (told : ℕ → Option Images) →
+        HoldingsStandAt first journal unit c s → AreAlone s.levels → MayLeave a s.levels told →
+        (k : ℕ) → k < length s.levels.store → is_write k a ≡ true → IsToldAnd (told k) (HoldsBesides (unit_states first journal unit) (held_on c k)) }
+    ensures released { (first : MachineState) (journal : List (List ℕ)) (unit : ℕ) (c : Configuration) (a : Action) (s : Holdings) (told : ℕ → Option Images) →
+        HoldingsStandAt first journal unit c s → AreAlone s.levels → MayLeave a s.levels told →
+        (k n : ℕ) → k < length s.levels.store → is_release k a ≡ true → pair_read a ≡ Some (n, k) → set.contains (held_on c k) n ≡ true →
+        IsToldAnd (told k) (HoldsAllBut (unit_states first journal unit) (held_on c k) n) }
 {}

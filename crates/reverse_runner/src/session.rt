@@ -1,5 +1,5 @@
 // A session: a run that is gone through by the actions of a schedule.
-ghost use Rattle.std.specs.Prelude.{◌≡◌, ◌≢◌, ◌+◌, ◌<◌, ◌≤◌, ◌↔◌, ℕ, List, true, false, length, map, slice_get, Option, Some, Err, IfOk, OnOk, OnErr, IsErrOf, IsSome, IsTrue, Contains};
+ghost use Rattle.std.specs.Prelude.{◌≡◌, ◌≢◌, ◌+◌, ◌*◌, ◌<◌, ◌≤◌, ◌↔◌, ℕ, List, true, false, length, map, slice_get, Option, Some, Err, IfOk, OnOk, OnErr, IsErrOf, IsSome, IsTrue, Contains};
 ghost use Rattle.std.specs.FinMap as finmap;
 ghost use Rattle.level_book.specs.BookCosts.{slots_of};
 ghost use Rattle.level_book.specs.Rules.{rule, levels_named};
@@ -10,7 +10,9 @@ ghost use Rattle.rv_machine.specs.MachineState.{MachineState, IsMachineState};
 ghost use Rattle.reverse_runner.specs.Acts.{Acts};
 ghost use Rattle.reverse_runner.specs.KeepersSeen.{by_number, told_by, calls_to, calls_of, HaveRoom, Called, CalledAtMost};
 ghost use Rattle.reverse_runner.specs.LevelsStand.{AreAlone};
-ghost use Rattle.reverse_runner.specs.Performed.{Gets, Misses, calls_keepers};
+ghost use Rattle.reverse_runner.specs.Left.{MayLeave};
+ghost use Rattle.reverse_runner.specs.Handed.{handed_by};
+ghost use Rattle.reverse_runner.specs.Performed.{states_out, GetsAll, MissesOne, calls_keepers};
 ghost use Rattle.reverse_runner.specs.SessionState.{levels_of, holdings_of};
 ghost use Rattle.reverse_runner.specs.Standing.{begun, Performs, Ends, StandsAt, IsDamage};
 
@@ -32,6 +34,8 @@ use std::sync::ledger::Ledger;
 #[derive(Drop)]
 pub struct Session {
     config: Config,
+    // How many steps of the machine a step of the schedule has.
+    unit: u32,
     space: Workspace,
     journal: Journal,
     done: u64,
@@ -60,18 +64,22 @@ impl Session {
         start: State,
         journal: Journal,
         steps: u32,
+        unit: u32,
         book: Book,
     ) -> Result<Session, AllocError>
-        requires { steps ≤ 1000000 }
-        ensures begun { IfOk result (λ session. session ≡ begun start journal steps (slots_of book)) }
+        requires steps { steps ≤ 1000000 }
+        requires unit { (1 ≤ unit) × (unit ≤ 1024) }
+        requires few { unit * steps ≤ 1000000 }
+        ensures begun { IfOk result (λ session. session ≡ begun start journal unit steps (slots_of book)) }
         // It stands at its start over all keepers that tell, and no keeper has another image where they are empty.
         ensures stands { IfOk result (λ session. (told : ℕ → Option Images) → ((k : ℕ) → k < length (slots_of book) → IsSome (told k)) → StandsAt start session told) }
         ensures alone { IfOk result (λ session. (told : ℕ → Option Images) → ((k : ℕ) → k < length (slots_of book) → told k ≡ Some finmap.empty) → AreAlone (levels_of session told)) }
     {
         let config = Config::new(alloc, steps, &book)?;
-        let space = Workspace::begin(alloc, start, &book, steps)?;
+        let space = Workspace::begin(alloc, start, &journal, &book, steps, unit)?;
         Ok(Session {
             config,
+            unit,
             space,
             journal,
             done: 0,
@@ -84,6 +92,14 @@ impl Session {
         ensures { result.now ≡ self.now.situation }
     {
         &self.config
+    }
+
+    /// How many steps of the machine a step of the schedule has. The last state of the run fits a count of steps.
+    pub fn unit(&self) -> u32
+        ensures value { result ≡ self.now.unit }
+        ensures few { self.now.ended ≡ false → result * self.now.situation.steps ≤ 1000000 }
+    {
+        self.unit
     }
 
     /// How many actions were performed. At the end of its type the count stands still.
@@ -111,10 +127,10 @@ impl Session {
 
         // What was done: where the session goes, and what becomes of its states and levels, by the bytes that were fetched.
         ensures performs { OnOk result (Performs self.old action.now self.new) }
-        ensures acts { OnOk result (Acts self.old.journal action.now (holdings_of self.old (told_by K.told keepers.old.items)) (holdings_of self.new (told_by K.told keepers.new.items))) }
-        ensures counted { OnOk result (steps.new ≡ steps.old + steps_of action.now) }
+        ensures acts { OnOk result (Acts self.old.unit self.old.journal action.now (holdings_of self.old (told_by K.told keepers.old.items)) (holdings_of self.new (told_by K.told keepers.new.items))) }
+        ensures counted { OnOk result (steps.new ≡ steps.old + self.old.unit * steps_of action.now) }
         ensures called { OnOk result (Called (calls_of action.now) (calls_to K.put_count K.get_count K.free_count keepers.old.items) (calls_to K.put_count K.get_count K.free_count keepers.new.items)) }
-        ensures gets { OnOk result (Gets V.got self.old.journal action.now self.old.situation.at.work self.old.work self.old.tape visitor.old visitor.new) }
+        ensures gets { OnOk result (GetsAll V.got self.old.journal (handed_by self.old.unit self.old.situation.steps action.now) (states_out action.now self.old.work self.old.tape.states) visitor.old visitor.new) }
 
         // Where the session stood before, it stands where it went.
         ensures stands { (first : MachineState) → IsMachineState first → StandsAt first self.old (told_by K.told keepers.old.items) → OnOk result (StandsAt first self.new (told_by K.told keepers.new.items)) }
@@ -123,8 +139,10 @@ impl Session {
         // A refusal ends the session.
         ensures refused { OnErr result (Ends self.old self.new) }
         ensures uncounted { OnErr result (steps.new ≡ steps.old) }
+        ensures left { self.old.ended ≡ false → OnErr result (MayLeave action.now (levels_of self.old (told_by K.told keepers.old.items)) (told_by K.told keepers.new.items)) }
+        ensures whole { (k : ℕ) (put got : List ℕ) → result ≡ Err (RunFault.Damaged k put got) → (j : ℕ) → told_by K.told keepers.new.items j ≡ told_by K.told keepers.old.items j }
         ensures called_at_most { OnErr result (CalledAtMost (calls_of action.now) (calls_to K.put_count K.get_count K.free_count keepers.old.items) (calls_to K.put_count K.get_count K.free_count keepers.new.items)) }
-        ensures misses { result ≡ Err RunFault.Visitor → Misses V.missed self.old.journal action.now self.old.situation.at.work self.old.work self.old.tape visitor.old visitor.new }
+        ensures misses { result ≡ Err RunFault.Visitor → MissesOne V.got V.missed self.old.journal (handed_by self.old.unit self.old.situation.steps action.now) (states_out action.now self.old.work self.old.tape.states) visitor.old visitor.new }
         ensures unseen { OnErr result (result ≢ Err RunFault.Visitor → visitor.new ≡ visitor.old) }
 
         // The cause of each refusal.
@@ -150,6 +168,7 @@ impl Session {
         let outcome = act(
             &mut self.space,
             &self.config,
+            self.unit,
             &self.journal,
             action,
             keepers,

@@ -1,5 +1,5 @@
 // Lists performed over four words, by keepers and writers that work and by some that fail.
-ghost use Rattle.std.specs.Prelude.{◌≡◌, ◌<◌, ◌≤◌, map};
+ghost use Rattle.std.specs.Prelude.{◌≡◌, ◌*◌, ◌<◌, ◌≤◌, map};
 ghost use Rattle.std.specs.Bool.{OnTrue};
 ghost use Rattle.level_book.specs.BookCosts.{slots_of};
 ghost use Rattle.reverse_runner.specs.KeepersSeen.{HaveRoom};
@@ -78,6 +78,50 @@ const LIST: [Action; 16] = [
         to: 3,
         keep: Keep::Tape,
     },
+    Action::Reverse { from: 3, to: 2 },
+    Action::Move {
+        n: 1,
+        from: 0,
+        dest: Dest::Work,
+    },
+    Action::Forward {
+        from: 1,
+        to: 2,
+        keep: Keep::Tape,
+    },
+    Action::Reverse { from: 2, to: 1 },
+    Action::Move {
+        n: 0,
+        from: 0,
+        dest: Dest::Work,
+    },
+    Action::Forward {
+        from: 0,
+        to: 1,
+        keep: Keep::Tape,
+    },
+    Action::Reverse { from: 1, to: 0 },
+    Action::EndReverse,
+];
+
+// It reverses three steps over two slots.
+const THREE: [Action; 12] = [
+    Action::Forward {
+        from: 0,
+        to: 1,
+        keep: Keep::Store(0),
+    },
+    Action::Forward {
+        from: 1,
+        to: 2,
+        keep: Keep::Store(0),
+    },
+    Action::Forward {
+        from: 2,
+        to: 3,
+        keep: Keep::Tape,
+    },
+    Action::EndForward,
     Action::Reverse { from: 3, to: 2 },
     Action::Move {
         n: 1,
@@ -204,12 +248,15 @@ fn performed<K: Keeper, L: Ledger>(
     alloc: Global,
     list: &[Action],
     count: u32,
+    unit: u32,
     book: Book,
     keepers: &mut Vec<K>,
     out: &mut MemorySink,
     blank: Blank,
 ) -> Result<Seen, AllocError>
     requires count { count ≤ 1000000 }
+    requires unit { (1 ≤ unit) × (unit ≤ 1024) }
+    requires few { unit * count ≤ 1000000 }
     requires name { blank.name ≡ L.name }
     requires parts { blank.parts ≡ L.parts }
     requires some { 0 < blank.parts }
@@ -220,7 +267,14 @@ fn performed<K: Keeper, L: Ledger>(
     );
     let mut steps = Steps::<L>::new(blank);
     let mut writer = LineWriter::new(out);
-    let mut session = Session::begin(alloc, start(alloc)?, Journal::none(alloc), count, book)?;
+    let mut session = Session::begin(
+        alloc,
+        start(alloc)?,
+        Journal::none(alloc),
+        count,
+        unit,
+        book,
+    )?;
     let faults = go_through(alloc, &mut session, list, keepers, &mut writer, &mut steps)?;
     Ok(Seen {
         done: session.done(),
@@ -241,6 +295,30 @@ fn four_steps<K: Keeper>(
         alloc,
         list,
         4,
+        1,
+        Book::plain(2),
+        keepers,
+        out,
+        Blank::new(1),
+    )
+}
+
+// Goes through the list for three steps, each a unit of so many instructions.
+fn three_units<K: Keeper>(
+    rt: &impl Abort,
+    alloc: Global,
+    unit: u32,
+    keepers: &mut Vec<K>,
+    out: &mut MemorySink,
+) -> Result<Seen, AllocError>
+    requires { (1 ≤ unit) × (unit ≤ 1024) }
+{
+    performed::<K, Brand>(
+        rt,
+        alloc,
+        &THREE,
+        3,
+        unit,
         Book::plain(2),
         keepers,
         out,
@@ -297,16 +375,15 @@ fn line_ends(bytes: &[u8]) -> usize {
     count
 }
 
-#[test]
-fn a_list_is_performed_to_its_end(rt: HostRuntime) -> Result<(), Fail> {
-    let mut keepers = vec![in rt.alloc(); MemoryKeeper::new(rt.alloc(), 2)]?;
-    let mut out = MemorySink::new(rt.alloc(), 4096)?;
-    let seen = four_steps(&rt, rt.alloc(), &LIST, &mut keepers, &mut out)?;
-    assert_eq!(rt; seen.done, 16);
-    assert!(rt; seen.faults.is_empty(), "nothing is refused");
-    assert_eq!(rt; line_ends(out.bytes()), 5);
-    assert_eq!(rt; out.bytes().len(), 5 * LINE);
-    assert_eq!(rt; keepers.first().map(calls), Some((2, 3, 2, 0)));
+// Goes through the list over a keeper whose first get gives a wrong bit: the Copy is refused, and what follows it too.
+fn damaged(rt: &impl Abort, alloc: Global) -> Result<(), Fail> {
+    let mut keepers = vec![in alloc; FlipKeeper::new(alloc, 2, 1, 40)]?;
+    let mut out = MemorySink::new(alloc, 4096)?;
+    let seen = four_steps(rt, alloc, &LIST, &mut keepers, &mut out)?;
+    assert_eq!(rt; seen.done, 5);
+    let (first, later) = seen.faults.split_first().ok_or("nothing was refused")?;
+    assert!(rt; is_damage(first), "the Copy is refused");
+    assert_eq!(rt; later, [RunFault::Ended, RunFault::Ended].as_slice());
     Ok(())
 }
 
@@ -343,19 +420,7 @@ fn a_session_whose_keeper_failed_has_ended(rt: HostRuntime) -> Result<(), Fail> 
     assert_eq!(rt; at_get, (9, Some((2, 2, 0, 2))));
     let at_free = refused(&rt, rt.alloc(), &LIST, Op::Free, 1)?;
     assert_eq!(rt; at_free, (9, Some((2, 2, 1, 2))));
-    Ok(())
-}
-
-#[test]
-fn an_image_that_came_back_wrong_is_damaged(rt: HostRuntime) -> Result<(), Fail> {
-    let mut keepers = vec![in rt.alloc(); FlipKeeper::new(rt.alloc(), 2, 1, 40)]?;
-    let mut out = MemorySink::new(rt.alloc(), 4096)?;
-    let seen = four_steps(&rt, rt.alloc(), &LIST, &mut keepers, &mut out)?;
-    assert_eq!(rt; seen.done, 5);
-    let (first, later) = seen.faults.split_first().ok_or("nothing was refused")?;
-    assert!(rt; is_damage(first), "the Copy is refused");
-    assert_eq!(rt; later, [RunFault::Ended, RunFault::Ended].as_slice());
-    Ok(())
+    damaged(&rt, rt.alloc())
 }
 
 #[test]
@@ -371,6 +436,7 @@ fn images_travel_between_levels(rt: HostRuntime) -> Result<(), Fail> {
         rt.alloc(),
         &TRAVELS,
         2,
+        1,
         book,
         &mut keepers,
         &mut out,
@@ -383,7 +449,30 @@ fn images_travel_between_levels(rt: HostRuntime) -> Result<(), Fail> {
     // The states are the last three that a list of four steps hands out over one level.
     let mut keepers = vec![in rt.alloc(); MemoryKeeper::new(rt.alloc(), 2)]?;
     let mut all = MemorySink::new(rt.alloc(), 4096)?;
-    four_steps(&rt, rt.alloc(), &LIST, &mut keepers, &mut all)?;
+    let seen = four_steps(&rt, rt.alloc(), &LIST, &mut keepers, &mut all)?;
+    assert_eq!(rt;
+        (seen.done, line_ends(all.bytes()), all.bytes().len()),
+        (16, 5, 5 * LINE)
+    );
+    assert_eq!(rt; keepers.first().map(calls), Some((2, 3, 2, 0)));
     assert_eq!(rt; all.bytes().get(2 * LINE..), Some(out.bytes()));
+    Ok(())
+}
+
+#[test]
+fn a_unit_hands_out_each_state(rt: HostRuntime) -> Result<(), Fail> {
+    let mut keepers = vec![in rt.alloc(); MemoryKeeper::new(rt.alloc(), 2)]?;
+    let mut out = MemorySink::new(rt.alloc(), 8192)?;
+    let seen = three_units(&rt, rt.alloc(), 3, &mut keepers, &mut out)?;
+    assert_eq!(rt; seen.done, 12);
+    assert!(rt; seen.faults.is_empty(), "nothing is refused");
+    assert_eq!(rt; line_ends(out.bytes()), 10);
+    let mut keepers = vec![in rt.alloc(); MemoryKeeper::new(rt.alloc(), 2)]?;
+    let mut few = MemorySink::new(rt.alloc(), 8192)?;
+    three_units(&rt, rt.alloc(), 1, &mut keepers, &mut few)?;
+    assert_eq!(rt; line_ends(few.bytes()), 4);
+    // the lines of states 3 to 0 are the last four of those of states 9 to 0
+    let start = out.bytes().len().saturating_sub(few.bytes().len());
+    assert_eq!(rt; out.bytes().get(start..), Some(few.bytes()));
     Ok(())
 }

@@ -1,8 +1,9 @@
 // What gets the states that a session hands out.
-ghost use Rattle.std.specs.Prelude.{◌≡◌, ℕ, ◌≤◌, List, OnOk, OnErr};
+ghost use Rattle.std.specs.Prelude.{◌≡◌, ℕ, ◌≤◌, List, Err, OnOk, OnErr};
 ghost use Rattle.keepers.specs.Counts.{Rose};
 ghost use Rattle.rv_machine.specs.MachineState.{MachineState};
 
+use crate::fault::RunFault;
 use input_journal::Journal;
 use rv_machine::State;
 use thiserror::Error;
@@ -31,4 +32,24 @@ pub trait Visitor {
         ensures quiet { OnOk result (fault_count self.new ≡ fault_count self.old) }
         ensures later { fault_count self.old ≤ fault_count self.new }
         ensures cause { OnErr result (Rose (fault_count self.old) (fault_count self.new)) };
+}
+
+// Hands a state out.
+pub(crate) fn hand_out<V: Visitor>(
+    visitor: &mut V,
+    n: u32,
+    state: &State,
+    journal: &Journal,
+) -> Result<(), RunFault>
+    ensures got { OnOk result (V.got visitor.old n state.now journal.now visitor.new) }
+    ensures missed { OnErr result (V.missed visitor.old n state.now journal.now visitor.new) }
+    ensures fault { OnErr result (result ≡ Err RunFault.Visitor) }
+    ensures quiet { OnOk result (V.fault_count visitor.new ≡ V.fault_count visitor.old) }
+    ensures later { V.fault_count visitor.old ≤ V.fault_count visitor.new }
+    ensures cause { OnErr result (Rose (V.fault_count visitor.old) (V.fault_count visitor.new)) }
+{
+    match visitor.state(n, state, journal) {
+        Ok(()) => Ok(()),
+        Err(_) => Err(RunFault::Visitor),
+    }
 }

@@ -1,22 +1,30 @@
 // What a session works with: its states, and the images that its levels keep.
-ghost use Rattle.std.specs.Prelude.{◌≡◌, ◌≢◌, ◌+◌, ◌*◌, ◌<◌, ◌≤◌, ◌^◌, ℕ, List, length, map, Err, IfOk, IfErr, OnOk, OnErr, IsSome, None};
+ghost use Rattle.std.specs.Prelude.{◌≡◌, ◌≢◌, ◌+◌, ◌*◌, ◌<◌, ◌≤◌, ◌^◌, ℕ, List, [], length, map, Err, IfOk, IfErr, OnOk, OnErr, IsSome, None, Some};
 ghost use Rattle.std.specs.Vec.{vec_len, vec_capacity};
 ghost use Rattle.level_book.specs.BookCosts.{slots_of};
 ghost use Rattle.rv_machine.specs.MachineState.{MachineState, IsMachineState};
 ghost use Rattle.rv_machine.specs.States.{state_number};
+ghost use Rattle.unit_undo.specs.UndoState.{begun as begun_undo};
+ghost use Rattle.unit_undo.specs.Leading.{IsMadeFor, LeadsBack, led_back, states_below};
 ghost use Rattle.state_image.specs.Image.{image};
+ghost use Rattle.image_store.specs.declared.shelf.Kept.{Kept};
+ghost use Rattle.image_store.specs.Calls.{IsNotKept, IsNotFreed};
 ghost use Rattle.image_store.specs.Pairs.{held};
 ghost use Rattle.image_store.specs.Shelves.{level_of, kept_at, no_pairs_on};
 ghost use Rattle.image_store.specs.Standing.{LevelStands};
+ghost use Rattle.keepers.specs.Counts.{Rose};
 ghost use Rattle.keepers.specs.Told.{Images};
 ghost use Rattle.reverse_runner.specs.Acts.{IsAsBefore, IsFetched, IsDecoded, Keeps, Releases};
 ghost use Rattle.reverse_runner.specs.KeepersSeen.{by_number, told_by, calls_to, Called};
+ghost use Rattle.reverse_runner.specs.Handed.{numbers_from};
+ghost use Rattle.reverse_runner.specs.Performed.{GetsAll, MissesOne};
 ghost use Rattle.reverse_runner.specs.SessionState.{SamePages};
 ghost use Rattle.reverse_runner.specs.Standing.{IsNoImage};
 ghost use Rattle.reverse_runner.specs.Touching.{one_put, one_get, one_free, Remain, OthersRemain, IsCaused, IsKeeping, IsFetching, IsOther};
 ghost use Rattle.sha2.specs.Sha256.{sha256};
 
 use crate::fault::RunFault;
+use crate::visitor::{Visitor, hand_out};
 use image_store::Store;
 use input_journal::Journal;
 use keepers::Keeper;
@@ -26,26 +34,33 @@ use sha2::{Digest, Sha256};
 use state_image::{decode_image, encode_image, max_image};
 use std::alloc::{AllocError, Global};
 use std::sync::ledger::Ledger;
+use unit_undo::Undo;
 
-/// The state in work, the state on the tape, which images the levels keep, and a buffer for the bytes of one image.
+/// The state in work, the tape, which images the levels keep, and a buffer for the bytes of one image. On the tape are the
+/// states of a unit: the state after them, and the undo list that leads back over them.
 #[derive(Drop)]
 pub(crate) struct Workspace {
     pub work: State,
     pub tape: State,
+    pub undo: Undo,
     pub store: Store,
     pub buffer: Vec<u8>,
 }
 
 impl Workspace {
-    ghost use Rattle.reverse_runner.specs.Workspaces.{Fits, levels_in};
+    ghost use Rattle.reverse_runner.specs.Workspaces.{Fits, tape_in, levels_in};
 
     /// A workspace with a state in work, and no images. It takes all the memory that it ever needs.
     pub fn begin(
         alloc: Global,
         start: State,
+        journal: &Journal,
         book: &Book,
         steps: u32,
+        unit: u32,
     ) -> Result<Workspace, AllocError>
+        requires { (1 ≤ unit) × (unit ≤ 1024) }
+        ensures undo { IfOk result (λ w. w.undo ≡ begun_undo unit journal.now) }
         ensures work { IfOk result (λ w. w.work ≡ start) }
         ensures tape { IfOk result (λ w. w.tape ≡ start) }
         ensures store { IfOk result (λ w. w.store ≡ no_pairs_on (slots_of book.now) steps) }
@@ -54,9 +69,11 @@ impl Workspace {
         let store = Store::begin(alloc, book, steps)?;
         let buffer = Vec::with_capacity(alloc, max_image(&start) as usize)?;
         let tape = start.clone()?;
+        let undo = Undo::begin(alloc, unit, journal)?;
         Ok(Workspace {
             work: start,
             tape,
+            undo,
             store,
             buffer,
         })
@@ -67,6 +84,7 @@ impl Workspace {
         ensures work { self.new.work ≡ state_number self.old.work journal.now count }
         ensures pages { SamePages self.old.work self.new.work }
         ensures tape { self.new.tape ≡ self.old.tape }
+        ensures undo { self.new.undo ≡ self.old.undo }
         ensures store { self.new.store ≡ self.old.store }
         ensures buffer { self.new.buffer ≡ self.old.buffer }
         ensures counted { steps.new ≡ steps.old + count }
@@ -76,12 +94,61 @@ impl Workspace {
         }
     }
 
-    /// Copies the state in work to the tape.
-    pub fn put_on_tape(&mut self)
-        requires { SamePages self.old.tape self.old.work }
-        ensures { self.new ≡ record self.old { tape = self.old.work } }
+    /// Takes the steps of a unit of the machine, and puts the states before them on the tape.
+    pub fn advance_on_tape<L: Ledger>(
+        &mut self,
+        journal: &Journal,
+        count: u32,
+        steps: &mut Steps<L>,
+    )
+        requires pages { SamePages self.old.tape self.old.work }
+        requires made { IsMadeFor journal.now self.old.undo }
+        requires few { count ≤ self.old.undo.unit }
+        ensures work { self.new.work ≡ state_number self.old.work journal.now count }
+        ensures pages { SamePages self.old.work self.new.work }
+        ensures tape { self.new.tape ≡ self.new.work }
+        ensures back { LeadsBack self.new.undo.entries self.new.tape (states_below self.old.work journal.now count) }
+        ensures undo { (self.new.undo.unit ≡ self.old.undo.unit) × (self.new.undo.room ≡ self.old.undo.room) }
+        ensures store { self.new.store ≡ self.old.store }
+        ensures buffer { self.new.buffer ≡ self.old.buffer }
+        ensures counted { steps.new ≡ steps.old + count }
     {
+        self.undo.clear();
+        for _ in 0..count {
+            self.undo.push(&self.work, journal);
+            step(&mut self.work, journal, steps);
+        }
         self.tape.copy_from(&self.work);
+    }
+
+    /// Hands out the states on the tape, from the last to the first, and leaves none. The first has this number.
+    pub fn hand_back<V: Visitor>(
+        &mut self,
+        first: u32,
+        visitor: &mut V,
+        journal: &Journal,
+    ) -> Result<(), RunFault>
+        requires few { first + length self.old.undo.entries < 2 ^ 32 }
+        requires back { LeadsBack self.old.undo.entries self.old.tape (led_back self.old.undo.entries self.old.tape) }
+        ensures gets { OnOk result (GetsAll V.got journal.now (numbers_from first (length self.old.undo.entries)) (tape_in self.old).states visitor.old visitor.new) }
+        ensures misses { OnErr result (MissesOne V.got V.missed journal.now (numbers_from first (length self.old.undo.entries)) (tape_in self.old).states visitor.old visitor.new) }
+        ensures empty { OnOk result (self.new.undo.entries ≡ []) }
+        ensures back { LeadsBack self.new.undo.entries self.new.tape (led_back self.new.undo.entries self.new.tape) }
+        ensures undo { (self.new.undo.unit ≡ self.old.undo.unit) × (self.new.undo.room ≡ self.old.undo.room) }
+        ensures pages { SamePages self.new.tape self.old.tape }
+        ensures work { self.new.work ≡ self.old.work }
+        ensures store { self.new.store ≡ self.old.store }
+        ensures buffer { self.new.buffer ≡ self.old.buffer }
+        ensures fault { OnErr result (result ≡ Err RunFault.Visitor) }
+        ensures quiet { OnOk result (V.fault_count visitor.new ≡ V.fault_count visitor.old) }
+        ensures later { V.fault_count visitor.old ≤ V.fault_count visitor.new }
+        ensures cause { OnErr result (Rose (V.fault_count visitor.old) (V.fault_count visitor.new)) }
+    {
+        while self.undo.count() > 0 {
+            self.undo.back(&mut self.tape);
+            hand_out(visitor, first + self.undo.count(), &self.tape, journal)?;
+        }
+        Ok(())
     }
 
     /// Writes the image of the state in work into the buffer.
@@ -91,6 +158,7 @@ impl Workspace {
         ensures short { vec_len self.new.buffer < 2 ^ 32 }
         ensures work { self.new.work ≡ self.old.work }
         ensures tape { self.new.tape ≡ self.old.tape }
+        ensures undo { self.new.undo ≡ self.old.undo }
         ensures store { self.new.store ≡ self.old.store }
         ensures fits { Fits self.new }
     {
@@ -103,6 +171,7 @@ impl Workspace {
         ensures decoded { OnOk result (IsDecoded self.old.work self.new.work self.old.buffer.items) }
         ensures damaged { IfErr result (λ fault. (fault ≡ RunFault.Damaged level (sha256 self.old.buffer.items) (sha256 self.old.buffer.items)) × IsNoImage self.old.work self.old.buffer.items) }
         ensures tape { self.new.tape ≡ self.old.tape }
+        ensures undo { self.new.undo ≡ self.old.undo }
         ensures store { self.new.store ≡ self.old.store }
         ensures fits { Fits self.new }
     {
@@ -137,9 +206,10 @@ impl Workspace {
         requires size { vec_len self.old.buffer < 2 ^ 32 }
         requires slots { (level_of self.old.store level).room ≤ by_number 0 K.slot_count keepers.old.items level }
         ensures keeps { OnOk result (Keeps (levels_in self.old (told_by K.told keepers.old.items)) (levels_in self.new (told_by K.told keepers.new.items)) level n self.old.buffer.items) }
+        ensures left { OnErr result (IsNotKept (level_of self.old.store level) (told_by K.told keepers.old.items level) (told_by K.told keepers.new.items level)) }
         ensures others { (j : ℕ) → j ≢ level → IsAsBefore (levels_in self.old (told_by K.told keepers.old.items)) (levels_in self.new (told_by K.told keepers.new.items)) j }
         ensures count { length self.new.store ≡ length self.old.store }
-        ensures states { (self.new.work ≡ self.old.work) × (self.new.tape ≡ self.old.tape) × (self.new.buffer ≡ self.old.buffer) }
+        ensures states { (self.new.work ≡ self.old.work) × (self.new.tape ≡ self.old.tape) × (self.new.buffer ≡ self.old.buffer) × (self.new.undo ≡ self.old.undo) }
         ensures called { Called (one_put level) (calls_to K.put_count K.get_count K.free_count keepers.old.items) (calls_to K.put_count K.get_count K.free_count keepers.new.items) }
         ensures remain { Remain K.slot_count K.fault_count keepers.old.items keepers.new.items }
         ensures keepers { OthersRemain level keepers.old.items keepers.new.items }
@@ -171,7 +241,7 @@ impl Workspace {
         ensures same { (j : ℕ) → IsAsBefore (levels_in self.old (told_by K.told keepers.old.items)) (levels_in self.new (told_by K.told keepers.new.items)) j }
         ensures short { OnOk result (vec_len self.new.buffer < 2 ^ 32) }
         ensures reserved { vec_capacity self.old.buffer ≤ vec_capacity self.new.buffer }
-        ensures states { (self.new.work ≡ self.old.work) × (self.new.tape ≡ self.old.tape) × (self.new.store ≡ self.old.store) }
+        ensures states { (self.new.work ≡ self.old.work) × (self.new.tape ≡ self.old.tape) × (self.new.store ≡ self.old.store) × (self.new.undo ≡ self.old.undo) }
         ensures called { Called (one_get level) (calls_to K.put_count K.get_count K.free_count keepers.old.items) (calls_to K.put_count K.get_count K.free_count keepers.new.items) }
         ensures remain { Remain K.slot_count K.fault_count keepers.old.items keepers.new.items }
         ensures keepers { OthersRemain level keepers.old.items keepers.new.items }
@@ -196,9 +266,10 @@ impl Workspace {
         requires held { IsSome (kept_at self.old.store level n) }
         requires slots { (level_of self.old.store level).room ≤ by_number 0 K.slot_count keepers.old.items level }
         ensures releases { OnOk result (Releases (levels_in self.old (told_by K.told keepers.old.items)) (levels_in self.new (told_by K.told keepers.new.items)) level n) }
+        ensures left { OnErr result ((kept : Kept) → kept_at self.old.store level n ≡ Some kept → IsNotFreed kept (told_by K.told keepers.old.items level) (told_by K.told keepers.new.items level)) }
         ensures others { (j : ℕ) → j ≢ level → IsAsBefore (levels_in self.old (told_by K.told keepers.old.items)) (levels_in self.new (told_by K.told keepers.new.items)) j }
         ensures count { length self.new.store ≡ length self.old.store }
-        ensures states { (self.new.work ≡ self.old.work) × (self.new.tape ≡ self.old.tape) × (self.new.buffer ≡ self.old.buffer) }
+        ensures states { (self.new.work ≡ self.old.work) × (self.new.tape ≡ self.old.tape) × (self.new.buffer ≡ self.old.buffer) × (self.new.undo ≡ self.old.undo) }
         ensures called { Called (one_free level) (calls_to K.put_count K.get_count K.free_count keepers.old.items) (calls_to K.put_count K.get_count K.free_count keepers.new.items) }
         ensures remain { Remain K.slot_count K.fault_count keepers.old.items keepers.new.items }
         ensures keepers { OthersRemain level keepers.old.items keepers.new.items }

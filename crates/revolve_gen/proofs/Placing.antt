@@ -29,10 +29,10 @@ room_is : (steps : ℕ) (book : BookCosts) → total_room book steps ≡ min ste
 room_is steps book = omega (arith, room_from steps 0 (slots_of book))
 
 -- the level of a place below the slots of the first level, and past them
-at_first : (s : ℕ) (slots : List Slots) (p : ℕ) → p < s → level_at (Count s ∷ slots) p ≡ 0
+pub at_first : (s : ℕ) (slots : List Slots) (p : ℕ) → p < s → level_at (Count s ∷ slots) p ≡ 0
 at_first s slots p h = let e : nat_lt p s ≡ true = grind (arith, nat_tests) in ap (λ t. cond t 0 (suc (level_at slots (p - s)))) e
 
-at_later : (s : ℕ) (slots : List Slots) (p : ℕ) → s ≤ p → level_at (Count s ∷ slots) p ≡ suc (level_at slots (p - s))
+pub at_later : (s : ℕ) (slots : List Slots) (p : ℕ) → s ≤ p → level_at (Count s ∷ slots) p ≡ suc (level_at slots (p - s))
 at_later s slots p h = let e : nat_lt p s ≡ false = grind (arith, nat_tests) in ap (λ t. cond t 0 (suc (level_at slots (p - s)))) e
 
 known_at : (steps : ℕ) (slots : List Slots) (p : ℕ) → p < sum_by (room_for steps) slots → level_at slots p < length slots

@@ -1,5 +1,5 @@
 -- What holds of the written lists.
-use Rattle.std.specs.Prelude.{◌≡◌, ℕ, ◌+◌, ◌-◌, ◌*◌, ◌≤◌, Bool, false, List, ◌∷◌, ◌++◌, length}
+use Rattle.std.specs.Prelude.{◌≡◌, ℕ, suc, ◌+◌, ◌-◌, ◌*◌, ◌<◌, ◌≤◌, Bool, false, List, ◌∷◌, ◌++◌, length}
 use Rattle.plan_types.specs.declared.action.Keep.TheVariants.{Nothing, Store}
 use Rattle.plan_types.specs.declared.action.Dest.TheVariants.{Work}
 use Rattle.plan_types.specs.declared.action.Action.{Action}
@@ -10,12 +10,12 @@ use Rattle.level_book.specs.Valid.{Valid}
 use Rattle.level_book.specs.CostFold.{forward}
 use Rattle.binomials.specs.Advances.{split, least_advances}
 use Rattle.binomials.specs.Laws.{IsStretch}
-use Rattle.revolve_gen.specs.Places.{level_at, IsRoomy}
+use Rattle.revolve_gen.specs.Places.{level_at, first_slots, HasMore, IsRoomy}
 use Rattle.revolve_gen.specs.Plans.{HasPlan}
 use Rattle.revolve_gen.specs.Written.{one_step, fresh, held, revolve, revolve_list}
 
 -- The two rules for a stretch of l steps from b: where it has one step, and where it has more and is split. The bounds on
--- the recursion are the steps.
+-- the recursion are the steps. A stretch is split after fewer than l steps, and has a slot then.
 pub record AreTheRules (level : ℕ → ℕ) (first : Bool) (b l c p : ℕ) : Type 0 where
   pub fresh_one : l ≡ 1 → fresh l level first b l c p ≡ one_step first b
   pub held_one : l ≡ 1 → held l level b l c p ≡ Move b (level p) Work ∷ one_step false b
@@ -30,6 +30,16 @@ WrittenByRules l c = IsStretch l c → (level : ℕ → ℕ) (first : Bool) (b p
 -- the list is valid for every book whose levels have room for the places, whichever way these stand on the levels
 abbrev pub RevolveIsValid : ℕ → List Slots → Type 0
 RevolveIsValid steps slots = (level : ℕ → ℕ) (c : ℕ) → IsRoomy slots level c → HasPlan steps c → Valid steps slots (revolve level steps c)
+
+-- the level is the first whose slots, together with those of the levels before it, are more than the place
+pub record IsFirstLevel (slots : List Slots) (p level : ℕ) : Type 0 where
+  pub known : level < length slots
+  pub enough : HasMore (first_slots slots (suc level)) p
+  pub none : (k : ℕ) → k ≤ level → HasMore (first_slots slots k) p → ⊥
+
+-- so is the level of each place that there is a slot for
+abbrev pub LevelAtIsFirst : List Slots → ℕ → Type 0
+LevelAtIsFirst slots p = HasMore (first_slots slots (length slots)) p → IsFirstLevel slots p (level_at slots p)
 
 -- the places of a book's slots in their order, so many as it has room for
 abbrev pub BookIsRoomy : ℕ → BookCosts → Type 0

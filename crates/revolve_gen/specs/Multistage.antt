@@ -33,7 +33,8 @@ pub record IsMultistage (steps : ℕ) (book : BookCosts) (list : List Action) : 
   pub level : ℕ → ℕ
   pub levels : HasLevels steps book level list
 
--- what the writes and reads of a place cost on a level, and how much less they cost on a faster one
+-- What the writes and reads of a place cost on a level, and how much less they cost on a faster one. In a book no level costs less
+-- than a faster one.
 abbrev pub place_cost : List Action → Level → ℕ → ℕ
 place_cost list level p = times p (written 0 list) * level.write + times p (read 0 list) * level.read
 

@@ -10,7 +10,7 @@ use Rattle.revolve_gen.specs.declared.stretch.Phase.{Phase}
 use Rattle.revolve_gen.specs.declared.stretch.Phase.TheVariants.{Empty, Fresh, Ahead, Last, Taped, Back}
 use Rattle.revolve_gen.specs.Written.{fresh, held}
 
--- what the held stretches owe, the newest first, which stands last; p places lie below them
+-- What the held stretches owe, the newest first, which stands last; p places lie below them. There are no more places than room.
 abbrev pub owed_held : (ℕ → ℕ) → ℕ → ℕ → List Stretch → List Action → List Action
 owed_held level room p [] rest = rest
 owed_held level room p (s ∷ stack) rest = owed_held level room (suc p) stack (held s.steps level s.start s.steps (room - p) p ++ rest)

@@ -1,13 +1,19 @@
 -- On which level of a book the image at each place of a stack stands. Places are counted from 0.
-use Rattle.std.specs.Prelude.{ℕ, zero, suc, ◌+◌, ◌-◌, ◌<◌, ◌==◌, cond, nat_lt, List, [], ◌∷◌, length, slice_index_or}
+use Rattle.std.specs.Prelude.{ℕ, zero, suc, ◌+◌, ◌-◌, ◌<◌, ◌==◌, cond, nat_lt, List, [], ◌∷◌, length, take, fold, slice_index_or}
 use Rattle.level_book.specs.declared.book.Slots.{Slots}
 use Rattle.level_book.specs.declared.book.Slots.TheVariants.{Count, Unlimited}
+use Rattle.level_book.specs.BookCosts.{both}
 
--- the first level whose slots, together with those of the levels before it, are more than the place
+-- The first level whose slots, together with those of the levels before it, are more than the place. Where a level's slots are no more
+-- than the place, the place is counted on from them.
 abbrev pub level_at : List Slots → ℕ → ℕ
 level_at [] p = 0
 level_at (Count s ∷ slots) p = cond (nat_lt p s) 0 (suc (level_at slots (p - s)))
 level_at (Unlimited ∷ slots) p = 0
+
+-- the slots of the first k levels together
+abbrev pub first_slots : List Slots → ℕ → Slots
+first_slots slots k = fold both (Count 0) (take k slots)
 
 -- how many of the first p places stand on level k, where `level` says on which level each place stands
 abbrev pub places_on : (ℕ → ℕ) → ℕ → ℕ → ℕ

@@ -15,7 +15,8 @@ stack_step (Copy n from to) = Read
 stack_step (Move n from to) = Pop
 stack_step _ = Stay
 
--- how many images are held after it, where so many are held before it, and after a list
+-- How many images are held after it, where so many are held before it, and after a list. A Copy or a Move is only where one is held,
+-- so held - 1 is one less, here and below.
 abbrev pub held_after : ℕ → StackStep → ℕ
 held_after held Push = held + 1
 held_after held Read = held

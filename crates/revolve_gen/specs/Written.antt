@@ -15,7 +15,8 @@ one_step first b = Forward b (b + 1) Tape ∷ cond first (EndForward ∷ Reverse
 
 -- Fresh: the stretch of l steps from b, with b in work, c slots free and p images held; `first` where no step was taped yet.
 -- Held: the same with the image of b held at place p, and c slots free or holding b.
--- The first argument is no less than l, and only bounds the recursion: that the rules hold without it is a law.
+-- The first argument is no less than l, and only bounds the recursion: that the rules hold without it is a law. The split of a stretch
+-- that has a slot is after fewer than l steps; where there is no slot there is no plan.
 unfoldable mutual
   pub fresh : ℕ → (ℕ → ℕ) → Bool → ℕ → ℕ → ℕ → ℕ → List Action
   fresh zero level first b l c p = one_step first b

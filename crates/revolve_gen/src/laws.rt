@@ -2,7 +2,7 @@
 ghost use Rattle.std.specs.Prelude.{ℕ, List};
 ghost use Rattle.level_book.specs.declared.book.Slots.{Slots};
 ghost use Rattle.level_book.specs.BookCosts.{BookCosts};
-ghost use Rattle.revolve_gen.specs.Laws.{WrittenByRules, RevolveIsValid, BookIsRoomy, RevolveIsCounted, BookListIsRight};
+ghost use Rattle.revolve_gen.specs.Laws.{WrittenByRules, RevolveIsValid, LevelAtIsFirst, BookIsRoomy, RevolveIsCounted, BookListIsRight};
 ghost use Rattle.revolve_gen.specs.Multistage.{LevelsAreFree, UsesItsSlots, MultistageIsValid, CostIsByPlaces};
 
 /// The list is written by the two rules.
@@ -13,6 +13,11 @@ pub fn revolve_is_by_the_rules()
 /// The list is valid, on whichever levels its places stand.
 pub fn revolve_is_valid()
     ensures { (steps : ℕ) (slots : List Slots) → RevolveIsValid steps slots }
+{}
+
+/// The level of a place is the first whose slots, together with those of the levels before it, are more than the place.
+pub fn levels_are_the_first()
+    ensures { (slots : List Slots) (p : ℕ) → LevelAtIsFirst slots p }
 {}
 
 /// The places of a book's slots in their order are as many as the book has room for.

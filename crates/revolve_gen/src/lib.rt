@@ -14,8 +14,6 @@ mod places;
 mod stack;
 mod stream;
 mod stretch;
-#[cfg(test)]
-mod tests;
 
 pub use crate::fault::GenFault;
 pub use crate::part::StretchStream;

@@ -3,7 +3,7 @@ use Rattle.std.proofs.Common.{◌≡◌, ℕ, ◌+◌, ◌*◌, ◌/◌, ◌%◌
 use Rattle.std.proofs.lemmas.Bool.{eqb-true}
 use Rattle.std.specs.List.{AllByRecursion}
 use Rattle.rv_decode.specs.declared.instruction.Inst.{Inst}
-use Rattle.rv_decode.specs.declared.instruction.Inst.TheVariants.{Lui, Auipc, Jal, Jalr, Beq, Bne, Blt, Bge, Bltu, Bgeu, Lb, Lh, Lw, Lbu, Lhu, Sb, Sh, Sw, Addi, Slti, Sltiu, Xori, Ori, Andi, Slli, Srli, Srai, Add, Sub, Sll, Slt, Sltu, Xor, Srl, Sra, Or, And, Fence, Ecall, Ebreak}
+use Rattle.rv_decode.specs.declared.instruction.Inst.TheVariants.{Lui, Auipc, Jal, Jalr, Beq, Bne, Blt, Bge, Bltu, Bgeu, Lb, Lh, Lw, Lbu, Lhu, Sb, Sh, Sw, Addi, Slti, Sltiu, Xori, Ori, Andi, Slli, Srli, Srai, Add, Sub, Sll, Slt, Sltu, Xor, Srl, Sra, Or, And, Mul, Mulh, Mulhsu, Mulhu, Div, Divu, Rem, Remu, Fence, Ecall, Ebreak}
 use Rattle.rv_decode.specs.Formats.{opcode, rd, funct3, rs1, rs2, sign_extended, imm_i, imm_s, imm_b, imm_u, imm_j}
 use Rattle.rv_decode.specs.Rows.{Row, u_row, j_row, i_row, s_row, b_row, r_row, shift_row, fence_row, word_row, rows, first_of, decoded}
 use Rattle.rv_decode.specs.Ranges.{HasRanges, IsSigned, RangesU, RangesJ, RangesI, RangesS, RangesB, RangesR}
@@ -148,12 +148,36 @@ all_in_range = (
                                                                         (
                                                                           r_range 0b0110011 0b111 0b0000000 (λ d a b. And d a b) (λ d a b h. h),
                                                                           (
-                                                                            fence_range,
+                                                                            r_range 0b0110011 0b000 0b0000001 (λ d a b. Mul d a b) (λ d a b h. h),
                                                                             (
-                                                                              word_range 0x00000073 Ecall tt,
+                                                                              r_range 0b0110011 0b001 0b0000001 (λ d a b. Mulh d a b) (λ d a b h. h),
                                                                               (
-                                                                                word_range 0x00100073 Ebreak tt,
-                                                                                tt,
+                                                                                r_range 0b0110011 0b010 0b0000001 (λ d a b. Mulhsu d a b) (λ d a b h. h),
+                                                                                (
+                                                                                  r_range 0b0110011 0b011 0b0000001 (λ d a b. Mulhu d a b) (λ d a b h. h),
+                                                                                  (
+                                                                                    r_range 0b0110011 0b100 0b0000001 (λ d a b. Div d a b) (λ d a b h. h),
+                                                                                    (
+                                                                                      r_range 0b0110011 0b101 0b0000001 (λ d a b. Divu d a b) (λ d a b h. h),
+                                                                                      (
+                                                                                        r_range 0b0110011 0b110 0b0000001 (λ d a b. Rem d a b) (λ d a b h. h),
+                                                                                        (
+                                                                                          r_range 0b0110011 0b111 0b0000001 (λ d a b. Remu d a b) (λ d a b h. h),
+                                                                                          (
+                                                                                            fence_range,
+                                                                                            (
+                                                                                              word_range 0x00000073 Ecall tt,
+                                                                                              (
+                                                                                                word_range 0x00100073 Ebreak tt,
+                                                                                                tt,
+                                                                                              ),
+                                                                                            ),
+                                                                                          ),
+                                                                                        ),
+                                                                                      ),
+                                                                                    ),
+                                                                                  ),
+                                                                                ),
                                                                               ),
                                                                             ),
                                                                           ),

@@ -3,7 +3,7 @@ use Rattle.std.proofs.Common.{◌≡◌, ℕ, ◌+◌, ◌*◌, ◌/◌, ◌%◌
 use Rattle.std.specs.Prelude.{nat_lt}
 use borrow.Author.Tests.{ltb-true}
 use Rattle.rv_decode.specs.declared.instruction.Inst.{Inst}
-use Rattle.rv_decode.specs.declared.instruction.Inst.TheVariants.{Lui, Auipc, Jal, Jalr, Beq, Bne, Blt, Bge, Bltu, Bgeu, Lb, Lh, Lw, Lbu, Lhu, Sb, Sh, Sw, Addi, Slti, Sltiu, Xori, Ori, Andi, Slli, Srli, Srai, Add, Sub, Sll, Slt, Sltu, Xor, Srl, Sra, Or, And, Fence, Ecall, Ebreak}
+use Rattle.rv_decode.specs.declared.instruction.Inst.TheVariants.{Lui, Auipc, Jal, Jalr, Beq, Bne, Blt, Bge, Bltu, Bgeu, Lb, Lh, Lw, Lbu, Lhu, Sb, Sh, Sw, Addi, Slti, Sltiu, Xori, Ori, Andi, Slli, Srli, Srai, Add, Sub, Sll, Slt, Sltu, Xor, Srl, Sra, Or, And, Mul, Mulh, Mulhsu, Mulhu, Div, Divu, Rem, Remu, Fence, Ecall, Ebreak}
 use Rattle.rv_decode.specs.Formats.{opcode, rd, funct3, rs1, rs2, funct7, imm_i, imm_s, imm_b, imm_u, imm_j}
 use Rattle.rv_decode.specs.Rows.{decoded}
 use Rattle.rv_decode.specs.Ranges.{HasRanges, RangesU, RangesJ, RangesI, RangesS, RangesB, RangesR}
@@ -130,6 +130,14 @@ read (Srl d a b) h = read_r 0b0110011 0b101 0b0000000 (λ d a b. Srl d a b) (sma
 read (Sra d a b) h = read_r 0b0110011 0b101 0b0100000 (λ d a b. Sra d a b) (small refl) (λ w e f g. decoded_on_register w e ∙ rw (e, f, g) refl) d a b h
 read (Or d a b) h = read_r 0b0110011 0b110 0b0000000 (λ d a b. Or d a b) (small refl) (λ w e f g. decoded_on_register w e ∙ rw (e, f, g) refl) d a b h
 read (And d a b) h = read_r 0b0110011 0b111 0b0000000 (λ d a b. And d a b) (small refl) (λ w e f g. decoded_on_register w e ∙ rw (e, f, g) refl) d a b h
+read (Mul d a b) h = read_r 0b0110011 0b000 0b0000001 (λ d a b. Mul d a b) (small refl) (λ w e f g. decoded_on_register w e ∙ rw (e, f, g) refl) d a b h
+read (Mulh d a b) h = read_r 0b0110011 0b001 0b0000001 (λ d a b. Mulh d a b) (small refl) (λ w e f g. decoded_on_register w e ∙ rw (e, f, g) refl) d a b h
+read (Mulhsu d a b) h = read_r 0b0110011 0b010 0b0000001 (λ d a b. Mulhsu d a b) (small refl) (λ w e f g. decoded_on_register w e ∙ rw (e, f, g) refl) d a b h
+read (Mulhu d a b) h = read_r 0b0110011 0b011 0b0000001 (λ d a b. Mulhu d a b) (small refl) (λ w e f g. decoded_on_register w e ∙ rw (e, f, g) refl) d a b h
+read (Div d a b) h = read_r 0b0110011 0b100 0b0000001 (λ d a b. Div d a b) (small refl) (λ w e f g. decoded_on_register w e ∙ rw (e, f, g) refl) d a b h
+read (Divu d a b) h = read_r 0b0110011 0b101 0b0000001 (λ d a b. Divu d a b) (small refl) (λ w e f g. decoded_on_register w e ∙ rw (e, f, g) refl) d a b h
+read (Rem d a b) h = read_r 0b0110011 0b110 0b0000001 (λ d a b. Rem d a b) (small refl) (λ w e f g. decoded_on_register w e ∙ rw (e, f, g) refl) d a b h
+read (Remu d a b) h = read_r 0b0110011 0b111 0b0000001 (λ d a b. Remu d a b) (small refl) (λ w e f g. decoded_on_register w e ∙ rw (e, f, g) refl) d a b h
 read (Fence w) h = decoded_fence w h.1 ∙ (let e = h.1 in let f = h.2 in rw (e, f) refl)
 read Ecall h = decoded_system 0x00000073 refl
 read Ebreak h = decoded_system 0x00100073 refl

@@ -3,7 +3,7 @@ use Rattle.std.proofs.Common.{◌≡◌, ℕ, ◌==◌, ◌^◌, ◌<◌, Bool, 
 use Rattle.std.proofs.lemmas.Bool.{eqb-true}
 use Rattle.std.specs.List.{AllByRecursion}
 use Rattle.rv_decode.specs.declared.instruction.Inst.{Inst}
-use Rattle.rv_decode.specs.declared.instruction.Inst.TheVariants.{Lui, Auipc, Jal, Jalr, Beq, Bne, Blt, Bge, Bltu, Bgeu, Lb, Lh, Lw, Lbu, Lhu, Sb, Sh, Sw, Addi, Slti, Sltiu, Xori, Ori, Andi, Slli, Srli, Srai, Add, Sub, Sll, Slt, Sltu, Xor, Srl, Sra, Or, And, Fence, Ecall, Ebreak}
+use Rattle.rv_decode.specs.declared.instruction.Inst.TheVariants.{Lui, Auipc, Jal, Jalr, Beq, Bne, Blt, Bge, Bltu, Bgeu, Lb, Lh, Lw, Lbu, Lhu, Sb, Sh, Sw, Addi, Slti, Sltiu, Xori, Ori, Andi, Slli, Srli, Srai, Add, Sub, Sll, Slt, Sltu, Xor, Srl, Sra, Or, And, Mul, Mulh, Mulhsu, Mulhu, Div, Divu, Rem, Remu, Fence, Ecall, Ebreak}
 use Rattle.rv_decode.specs.Formats.{opcode, rd, funct3, rs1, rs2, funct7, imm_i, imm_s, imm_b, imm_u, imm_j}
 use Rattle.rv_decode.specs.Rows.{Row, u_row, j_row, i_row, s_row, b_row, r_row, shift_row, fence_row, word_row, rows, first_of, decoded}
 use Rattle.rv_decode.specs.Words.{word_of, word_r, word_i, word_s, word_b, word_u, word_j}
@@ -139,12 +139,36 @@ all_tell = (
                                                                         (
                                                                           r_tells 0b0110011 0b111 0b0000000 (λ d a b. And d a b) (λ d a b. refl),
                                                                           (
-                                                                            fence_tells 0b0001111 0b000 (λ w. Fence w) (λ w. refl),
+                                                                            r_tells 0b0110011 0b000 0b0000001 (λ d a b. Mul d a b) (λ d a b. refl),
                                                                             (
-                                                                              word_tells 0x00000073 Ecall refl,
+                                                                              r_tells 0b0110011 0b001 0b0000001 (λ d a b. Mulh d a b) (λ d a b. refl),
                                                                               (
-                                                                                word_tells 0x00100073 Ebreak refl,
-                                                                                tt,
+                                                                                r_tells 0b0110011 0b010 0b0000001 (λ d a b. Mulhsu d a b) (λ d a b. refl),
+                                                                                (
+                                                                                  r_tells 0b0110011 0b011 0b0000001 (λ d a b. Mulhu d a b) (λ d a b. refl),
+                                                                                  (
+                                                                                    r_tells 0b0110011 0b100 0b0000001 (λ d a b. Div d a b) (λ d a b. refl),
+                                                                                    (
+                                                                                      r_tells 0b0110011 0b101 0b0000001 (λ d a b. Divu d a b) (λ d a b. refl),
+                                                                                      (
+                                                                                        r_tells 0b0110011 0b110 0b0000001 (λ d a b. Rem d a b) (λ d a b. refl),
+                                                                                        (
+                                                                                          r_tells 0b0110011 0b111 0b0000001 (λ d a b. Remu d a b) (λ d a b. refl),
+                                                                                          (
+                                                                                            fence_tells 0b0001111 0b000 (λ w. Fence w) (λ w. refl),
+                                                                                            (
+                                                                                              word_tells 0x00000073 Ecall refl,
+                                                                                              (
+                                                                                                word_tells 0x00100073 Ebreak refl,
+                                                                                                tt,
+                                                                                              ),
+                                                                                            ),
+                                                                                          ),
+                                                                                        ),
+                                                                                      ),
+                                                                                    ),
+                                                                                  ),
+                                                                                ),
                                                                               ),
                                                                             ),
                                                                           ),

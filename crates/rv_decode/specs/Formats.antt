@@ -3,7 +3,7 @@
 -- number below 2 ^ 32.
 use Rattle.std.specs.Prelude.{ℕ, ◌+◌, ◌-◌, ◌*◌, ◌/◌, ◌%◌, ◌^◌, cond, nat_lt}
 
--- the bits of a word from a high one down to a low one, as a number
+-- the bits of a word from a high one down to a low one, as a number. The high one is never below the low one.
 abbrev pub bits : ℕ → ℕ → ℕ → ℕ
 bits high low w = w / 2 ^ low % 2 ^ (high + 1 - low)
 
@@ -25,7 +25,7 @@ rs2 w = bits 24 20 w
 abbrev pub funct7 : ℕ → ℕ
 funct7 w = bits 31 25 w
 
--- a number of so many bits in two's complement, as one of 32 bits
+-- a number of so many bits in two's complement, as one of 32 bits. There are 1 to 32 bits, so neither difference is cut.
 abbrev pub sign_extended : ℕ → ℕ → ℕ
 sign_extended width n = cond (nat_lt n (2 ^ (width - 1))) n (n + 2 ^ 32 - 2 ^ width)
 

@@ -1,10 +1,11 @@
 -- Which fields an instruction may have: a register is one of x0 to x31, and an immediate is one that its format can say.
 use Rattle.std.specs.Prelude.{◌≡◌, ℕ, ◌-◌, ◌%◌, ◌^◌, ◌<◌, ◌≤◌, ◌⊎◌}
 use Rattle.rv_decode.specs.declared.instruction.Inst.{Inst}
-use Rattle.rv_decode.specs.declared.instruction.Inst.TheVariants.{Lui, Auipc, Jal, Jalr, Beq, Bne, Blt, Bge, Bltu, Bgeu, Lb, Lh, Lw, Lbu, Lhu, Sb, Sh, Sw, Addi, Slti, Sltiu, Xori, Ori, Andi, Slli, Srli, Srai, Add, Sub, Sll, Slt, Sltu, Xor, Srl, Sra, Or, And, Fence, Ecall, Ebreak}
+use Rattle.rv_decode.specs.declared.instruction.Inst.TheVariants.{Lui, Auipc, Jal, Jalr, Beq, Bne, Blt, Bge, Bltu, Bgeu, Lb, Lh, Lw, Lbu, Lhu, Sb, Sh, Sw, Addi, Slti, Sltiu, Xori, Ori, Andi, Slli, Srli, Srai, Add, Sub, Sll, Slt, Sltu, Xor, Srl, Sra, Or, And, Mul, Mulh, Mulhsu, Mulhu, Div, Divu, Rem, Remu, Fence, Ecall, Ebreak}
 use Rattle.rv_decode.specs.Formats.{opcode, funct3}
 
--- a number of 32 bits that is one of so many bits in two's complement: near 0, or near 2 ^ 32
+-- A number of 32 bits that is one of so many bits in two's complement: near 0, or near 2 ^ 32. There are 1 to 32 bits, so
+-- no difference is cut.
 abbrev pub IsSigned : ℕ → ℕ → Type 0
 IsSigned width n = (n < 2 ^ (width - 1)) ⊎ ((2 ^ 32 - 2 ^ (width - 1) ≤ n) × (n < 2 ^ 32))
 
@@ -66,6 +67,14 @@ HasRanges (Srl rd rs1 rs2) = RangesR rd rs1 rs2
 HasRanges (Sra rd rs1 rs2) = RangesR rd rs1 rs2
 HasRanges (Or rd rs1 rs2) = RangesR rd rs1 rs2
 HasRanges (And rd rs1 rs2) = RangesR rd rs1 rs2
+HasRanges (Mul rd rs1 rs2) = RangesR rd rs1 rs2
+HasRanges (Mulh rd rs1 rs2) = RangesR rd rs1 rs2
+HasRanges (Mulhsu rd rs1 rs2) = RangesR rd rs1 rs2
+HasRanges (Mulhu rd rs1 rs2) = RangesR rd rs1 rs2
+HasRanges (Div rd rs1 rs2) = RangesR rd rs1 rs2
+HasRanges (Divu rd rs1 rs2) = RangesR rd rs1 rs2
+HasRanges (Rem rd rs1 rs2) = RangesR rd rs1 rs2
+HasRanges (Remu rd rs1 rs2) = RangesR rd rs1 rs2
 HasRanges (Fence word) = (word < 2 ^ 32) × (opcode word ≡ 0b0001111) × (funct3 word ≡ 0b000)
 HasRanges Ecall = Unit {0}
 HasRanges Ebreak = Unit {0}

@@ -1,9 +1,9 @@
--- The table of the instructions of RV32I, a row each: which words say the instruction, and with which fields (RISC-V
--- unprivileged manual, chapter "RV32/64G Instruction Set Listings", table "RV32I Base Instruction Set"). What an
--- instruction does is not said here.
+-- The table of the instructions of RV32IM, a row each: which words say the instruction, and with which fields (RISC-V
+-- unprivileged manual, chapter "RV32/64G Instruction Set Listings", tables "RV32I Base Instruction Set" and "RV32M Standard
+-- Extension"). What an instruction does is not said here.
 use Rattle.std.specs.Prelude.{ℕ, ◌==◌, Bool, ◌&&◌, cond, List, [], ◌∷◌, ◌++◌, Option, Some, None}
 use Rattle.rv_decode.specs.declared.instruction.Inst.{Inst}
-use Rattle.rv_decode.specs.declared.instruction.Inst.TheVariants.{Lui, Auipc, Jal, Jalr, Beq, Bne, Blt, Bge, Bltu, Bgeu, Lb, Lh, Lw, Lbu, Lhu, Sb, Sh, Sw, Addi, Slti, Sltiu, Xori, Ori, Andi, Slli, Srli, Srai, Add, Sub, Sll, Slt, Sltu, Xor, Srl, Sra, Or, And, Fence, Ecall, Ebreak}
+use Rattle.rv_decode.specs.declared.instruction.Inst.TheVariants.{Lui, Auipc, Jal, Jalr, Beq, Bne, Blt, Bge, Bltu, Bgeu, Lb, Lh, Lw, Lbu, Lhu, Sb, Sh, Sw, Addi, Slti, Sltiu, Xori, Ori, Andi, Slli, Srli, Srai, Add, Sub, Sll, Slt, Sltu, Xor, Srl, Sra, Or, And, Mul, Mulh, Mulhsu, Mulhu, Div, Divu, Rem, Remu, Fence, Ecall, Ebreak}
 use Rattle.rv_decode.specs.Formats.{opcode, rd, funct3, rs1, rs2, funct7, imm_i, imm_s, imm_b, imm_u, imm_j, shift_amount}
 
 pub record Row : Type 0 where
@@ -98,7 +98,7 @@ on_immediates =
     ∷ shift_row 0b0010011 0b101 0b0100000 Srai
     ∷ []
 
--- computations on two registers
+-- computations on two registers; with 1 as funct7 those of the extension M, products and divisions
 abbrev pub on_registers : List Row
 on_registers =
     r_row 0b0110011 0b000 0b0000000 Add
@@ -111,6 +111,14 @@ on_registers =
     ∷ r_row 0b0110011 0b101 0b0100000 Sra
     ∷ r_row 0b0110011 0b110 0b0000000 Or
     ∷ r_row 0b0110011 0b111 0b0000000 And
+    ∷ r_row 0b0110011 0b000 0b0000001 Mul
+    ∷ r_row 0b0110011 0b001 0b0000001 Mulh
+    ∷ r_row 0b0110011 0b010 0b0000001 Mulhsu
+    ∷ r_row 0b0110011 0b011 0b0000001 Mulhu
+    ∷ r_row 0b0110011 0b100 0b0000001 Div
+    ∷ r_row 0b0110011 0b101 0b0000001 Divu
+    ∷ r_row 0b0110011 0b110 0b0000001 Rem
+    ∷ r_row 0b0110011 0b111 0b0000001 Remu
     ∷ []
 
 -- memory ordering, environment call and breakpoint

@@ -1,7 +1,7 @@
 -- The words of the formats with given fields: what an encoder writes. The table of rows knows nothing of it.
 use Rattle.std.specs.Prelude.{ℕ, ◌+◌, ◌*◌, ◌/◌, ◌%◌, ◌^◌}
 use Rattle.rv_decode.specs.declared.instruction.Inst.{Inst}
-use Rattle.rv_decode.specs.declared.instruction.Inst.TheVariants.{Lui, Auipc, Jal, Jalr, Beq, Bne, Blt, Bge, Bltu, Bgeu, Lb, Lh, Lw, Lbu, Lhu, Sb, Sh, Sw, Addi, Slti, Sltiu, Xori, Ori, Andi, Slli, Srli, Srai, Add, Sub, Sll, Slt, Sltu, Xor, Srl, Sra, Or, And, Fence, Ecall, Ebreak}
+use Rattle.rv_decode.specs.declared.instruction.Inst.TheVariants.{Lui, Auipc, Jal, Jalr, Beq, Bne, Blt, Bge, Bltu, Bgeu, Lb, Lh, Lw, Lbu, Lhu, Sb, Sh, Sw, Addi, Slti, Sltiu, Xori, Ori, Andi, Slli, Srli, Srai, Add, Sub, Sll, Slt, Sltu, Xor, Srl, Sra, Or, And, Mul, Mulh, Mulhsu, Mulhu, Div, Divu, Rem, Remu, Fence, Ecall, Ebreak}
 
 -- an opcode, funct3 and funct7, and registers at their places
 abbrev pub word_r : ℕ → ℕ → ℕ → ℕ → ℕ → ℕ → ℕ
@@ -62,6 +62,14 @@ word_of (Srl rd rs1 rs2) = word_r 0b0110011 0b101 0b0000000 rd rs1 rs2
 word_of (Sra rd rs1 rs2) = word_r 0b0110011 0b101 0b0100000 rd rs1 rs2
 word_of (Or rd rs1 rs2) = word_r 0b0110011 0b110 0b0000000 rd rs1 rs2
 word_of (And rd rs1 rs2) = word_r 0b0110011 0b111 0b0000000 rd rs1 rs2
+word_of (Mul rd rs1 rs2) = word_r 0b0110011 0b000 0b0000001 rd rs1 rs2
+word_of (Mulh rd rs1 rs2) = word_r 0b0110011 0b001 0b0000001 rd rs1 rs2
+word_of (Mulhsu rd rs1 rs2) = word_r 0b0110011 0b010 0b0000001 rd rs1 rs2
+word_of (Mulhu rd rs1 rs2) = word_r 0b0110011 0b011 0b0000001 rd rs1 rs2
+word_of (Div rd rs1 rs2) = word_r 0b0110011 0b100 0b0000001 rd rs1 rs2
+word_of (Divu rd rs1 rs2) = word_r 0b0110011 0b101 0b0000001 rd rs1 rs2
+word_of (Rem rd rs1 rs2) = word_r 0b0110011 0b110 0b0000001 rd rs1 rs2
+word_of (Remu rd rs1 rs2) = word_r 0b0110011 0b111 0b0000001 rd rs1 rs2
 word_of (Fence word) = word
 word_of Ecall = 0x00000073
 word_of Ebreak = 0x00100073
@@ -87,4 +95,12 @@ IsOperation (Srl _ _ _) = Unit {0}
 IsOperation (Sra _ _ _) = Unit {0}
 IsOperation (Or _ _ _) = Unit {0}
 IsOperation (And _ _ _) = Unit {0}
+IsOperation (Mul _ _ _) = Unit {0}
+IsOperation (Mulh _ _ _) = Unit {0}
+IsOperation (Mulhsu _ _ _) = Unit {0}
+IsOperation (Mulhu _ _ _) = Unit {0}
+IsOperation (Div _ _ _) = Unit {0}
+IsOperation (Divu _ _ _) = Unit {0}
+IsOperation (Rem _ _ _) = Unit {0}
+IsOperation (Remu _ _ _) = Unit {0}
 IsOperation _ = ⊥

@@ -9,9 +9,9 @@ use crate::fields::{
 };
 use crate::instruction::Inst;
 use Inst::{
-    Add, Addi, And, Andi, Auipc, Beq, Bge, Bgeu, Blt, Bltu, Bne, Ebreak, Ecall, Fence, Jal, Jalr,
-    Lb, Lbu, Lh, Lhu, Lui, Lw, Or, Ori, Sb, Sh, Sll, Slli, Slt, Slti, Sltiu, Sltu, Sra, Srai, Srl,
-    Srli, Sub, Sw, Xor, Xori,
+    Add, Addi, And, Andi, Auipc, Beq, Bge, Bgeu, Blt, Bltu, Bne, Div, Divu, Ebreak, Ecall, Fence,
+    Jal, Jalr, Lb, Lbu, Lh, Lhu, Lui, Lw, Mul, Mulh, Mulhsu, Mulhu, Or, Ori, Rem, Remu, Sb, Sh,
+    Sll, Slli, Slt, Slti, Sltiu, Sltu, Sra, Srai, Srl, Srli, Sub, Sw, Xor, Xori,
 };
 
 // The words that are an instruction as a whole.
@@ -158,6 +158,14 @@ fn on_register(word: u32) -> Option<Inst>
         (0b101, 0b0100000) => Some(Sra { rd, rs1, rs2 }),
         (0b110, 0b0000000) => Some(Or { rd, rs1, rs2 }),
         (0b111, 0b0000000) => Some(And { rd, rs1, rs2 }),
+        (0b000, 0b0000001) => Some(Mul { rd, rs1, rs2 }),
+        (0b001, 0b0000001) => Some(Mulh { rd, rs1, rs2 }),
+        (0b010, 0b0000001) => Some(Mulhsu { rd, rs1, rs2 }),
+        (0b011, 0b0000001) => Some(Mulhu { rd, rs1, rs2 }),
+        (0b100, 0b0000001) => Some(Div { rd, rs1, rs2 }),
+        (0b101, 0b0000001) => Some(Divu { rd, rs1, rs2 }),
+        (0b110, 0b0000001) => Some(Rem { rd, rs1, rs2 }),
+        (0b111, 0b0000001) => Some(Remu { rd, rs1, rs2 }),
         _ => None,
     }
 }

@@ -6,9 +6,9 @@ ghost use Rattle.rv_decode.specs.Words.{word_of, IsOperation, word_r, word_i, wo
 
 use crate::instruction::Inst;
 use Inst::{
-    Add, Addi, And, Andi, Auipc, Beq, Bge, Bgeu, Blt, Bltu, Bne, Ebreak, Ecall, Fence, Jal, Jalr,
-    Lb, Lbu, Lh, Lhu, Lui, Lw, Or, Ori, Sb, Sh, Sll, Slli, Slt, Slti, Sltiu, Sltu, Sra, Srai, Srl,
-    Srli, Sub, Sw, Xor, Xori,
+    Add, Addi, And, Andi, Auipc, Beq, Bge, Bgeu, Blt, Bltu, Bne, Div, Divu, Ebreak, Ecall, Fence,
+    Jal, Jalr, Lb, Lbu, Lh, Lhu, Lui, Lw, Mul, Mulh, Mulhsu, Mulhu, Or, Ori, Rem, Remu, Sb, Sh,
+    Sll, Slli, Slt, Slti, Sltiu, Sltu, Sra, Srai, Srl, Srli, Sub, Sw, Xor, Xori,
 };
 
 // The opcodes of the instructions that share one.
@@ -88,6 +88,14 @@ fn operation(inst: &Inst) -> u32
         Sra { rd, rs1, rs2 } => r_word(OP, 0b101, 0b0100000, rd, rs1, rs2 as u32),
         Or { rd, rs1, rs2 } => r_word(OP, 0b110, 0b0000000, rd, rs1, rs2 as u32),
         And { rd, rs1, rs2 } => r_word(OP, 0b111, 0b0000000, rd, rs1, rs2 as u32),
+        Mul { rd, rs1, rs2 } => r_word(OP, 0b000, 0b0000001, rd, rs1, rs2 as u32),
+        Mulh { rd, rs1, rs2 } => r_word(OP, 0b001, 0b0000001, rd, rs1, rs2 as u32),
+        Mulhsu { rd, rs1, rs2 } => r_word(OP, 0b010, 0b0000001, rd, rs1, rs2 as u32),
+        Mulhu { rd, rs1, rs2 } => r_word(OP, 0b011, 0b0000001, rd, rs1, rs2 as u32),
+        Div { rd, rs1, rs2 } => r_word(OP, 0b100, 0b0000001, rd, rs1, rs2 as u32),
+        Divu { rd, rs1, rs2 } => r_word(OP, 0b101, 0b0000001, rd, rs1, rs2 as u32),
+        Rem { rd, rs1, rs2 } => r_word(OP, 0b110, 0b0000001, rd, rs1, rs2 as u32),
+        Remu { rd, rs1, rs2 } => r_word(OP, 0b111, 0b0000001, rd, rs1, rs2 as u32),
         _ => unreachable!(),
     }
 }

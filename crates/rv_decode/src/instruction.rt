@@ -1,6 +1,6 @@
-// The instructions of RV32I.
+// The instructions of RV32IM.
 
-/// An instruction of RV32I with its registers. An immediate is sign-extended to 32 bits; of SLLI, SRLI and SRAI it is the
+/// An instruction of RV32IM with its registers. An immediate is sign-extended to 32 bits; of SLLI, SRLI and SRAI it is the
 /// number of places.
 #[derive(Clone, Copy, Debug, PartialEq, Eq)]
 pub enum Inst {
@@ -41,6 +41,14 @@ pub enum Inst {
     Sra { rd: u8, rs1: u8, rs2: u8 },
     Or { rd: u8, rs1: u8, rs2: u8 },
     And { rd: u8, rs1: u8, rs2: u8 },
+    Mul { rd: u8, rs1: u8, rs2: u8 },
+    Mulh { rd: u8, rs1: u8, rs2: u8 },
+    Mulhsu { rd: u8, rs1: u8, rs2: u8 },
+    Mulhu { rd: u8, rs1: u8, rs2: u8 },
+    Div { rd: u8, rs1: u8, rs2: u8 },
+    Divu { rd: u8, rs1: u8, rs2: u8 },
+    Rem { rd: u8, rs1: u8, rs2: u8 },
+    Remu { rd: u8, rs1: u8, rs2: u8 },
     /// A FENCE keeps its whole word, of which only the opcode and funct3 are looked at.
     Fence { word: u32 },
     Ecall,

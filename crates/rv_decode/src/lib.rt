@@ -1,4 +1,4 @@
-//! The instruction words of RV32I: from a word to the instruction that it says, and back. It stands on nothing, and the
+//! The instruction words of RV32IM: from a word to the instruction that it says, and back. It stands on nothing, and the
 //! machine stands on it. `specs/Formats.antt` has the fields and immediates of the formats, and `specs/Rows.antt` the
 //! table of the instructions, to be laid beside the manual; what an instruction does is the machine's.
 #![tactic(auto)]
@@ -12,6 +12,3 @@ pub mod laws;
 pub use crate::decoding::decode;
 pub use crate::encoding::encode;
 pub use crate::instruction::Inst;
-
-#[cfg(test)]
-mod tests;

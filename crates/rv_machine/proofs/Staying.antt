@@ -7,7 +7,7 @@ use Rattle.std.proofs.lemmas.List.{length-set, length-take, get_or-set_other}
 use Rattle.std.proofs.lemmas.List.Elements.{All-set, All-take, All-drop}
 use Rattle.std.proofs.lemmas.Option.{slice_get_cases, get_or_from_slice_get}
 use Rattle.std.proofs.lemmas.Nat.{xor_lt, or_lt}
-use Rattle.std.proofs.Math.Nat.{div-le_self}
+use Rattle.std.proofs.Math.Nat.{div-le_self, mod-le}
 use Rattle.std.specs.Int.{w32, cast_unsigned}
 use lib.Signed.{shr_z}
 use Rattle.std.specs.Int.Bits.{and_lt}
@@ -18,7 +18,7 @@ use Rattle.rv_pages.proofs.Reading.{some_mapped}
 use Rattle.rv_pages.proofs.Stores.{with_bytes_memory}
 use Rattle.rv_pages.proofs.Whole.{word_below, number_below}
 use Rattle.rv_decode.specs.declared.instruction.Inst.{Inst}
-use Rattle.rv_decode.specs.declared.instruction.Inst.TheVariants.{Lui, Auipc, Jal, Jalr, Beq, Bne, Blt, Bge, Bltu, Bgeu, Lb, Lh, Lw, Lbu, Lhu, Sb, Sh, Sw, Addi, Slti, Sltiu, Xori, Ori, Andi, Slli, Srli, Srai, Add, Sub, Sll, Slt, Sltu, Xor, Srl, Sra, Or, And, Fence, Ecall, Ebreak}
+use Rattle.rv_decode.specs.declared.instruction.Inst.TheVariants.{Lui, Auipc, Jal, Jalr, Beq, Bne, Blt, Bge, Bltu, Bgeu, Lb, Lh, Lw, Lbu, Lhu, Sb, Sh, Sw, Addi, Slti, Sltiu, Xori, Ori, Andi, Slli, Srli, Srai, Add, Sub, Sll, Slt, Sltu, Xor, Srl, Sra, Or, And, Mul, Mulh, Mulhsu, Mulhu, Div, Divu, Rem, Remu, Fence, Ecall, Ebreak}
 use Rattle.rv_decode.specs.Formats.{sign_extended}
 use Rattle.rv_decode.specs.Ranges.{HasRanges, IsSigned}
 use Rattle.rv_decode.specs.Rows.{decoded}
@@ -36,6 +36,7 @@ use Rattle.rv_machine.specs.StateChanges.{with_register, trapped, gone_on, put}
 use Rattle.rv_machine.specs.SystemCalls.{argument, not_mapped, no_such_call, bytes_read, moved, received, read_from, sent, exited, called}
 use Rattle.rv_machine.specs.StepTable.{jumped, loaded, happened, effect_in, said, executed, is_running, next}
 use Rattle.rv_machine.specs.States.{state_number}
+use Rattle.rv_machine.proofs.UpperWords.{as_word_small, high_unsigned_small}
 use Rattle.rv_machine.proofs.Stores.{with_number_memory}
 
 -- the register with a number is a word; past the end there is a 0
@@ -58,6 +59,11 @@ shifted_z (negsuc n) p some h = omega arith
 
 shifted_word : (a places : ℕ) → a < 2 ^ 32 → shifted_right_signed a places < 2 ^ 32
 shifted_word a places h = shifted_z (signed a) (2 ^ places) (pow_pos places) (subst (λ n. n < 2 ^ 32) (sym (of_z-to_z w32 a h)) h)
+
+-- one of two words
+one_of_two : (b : Bool) (m n : ℕ) → m < 2 ^ 32 → n < 2 ^ 32 → cond b m n < 2 ^ 32
+one_of_two true m n p q = p
+one_of_two false m n p q = q
 
 -- what an effect puts somewhere is a word
 abbrev HasWords : Effect → Type 0
@@ -104,6 +110,14 @@ words x pc small (Srl rd rs1 rs2) h = omega (arith, div-le_self (x rs1) (2 ^ (x 
 words x pc small (Sra rd rs1 rs2) h = shifted_word (x rs1) (x rs2 % 32) (small rs1)
 words x pc small (Or rd rs1 rs2) h = or_lt 32 (x rs1) (x rs2) (small rs1) (small rs2)
 words x pc small (And rd rs1 rs2) h = and_lt 32 (x rs1) (x rs2) (small rs1) (small rs2)
+words x pc small (Mul rd rs1 rs2) h = omega arith
+words x pc small (Mulh rd rs1 rs2) h = as_word_small _
+words x pc small (Mulhsu rd rs1 rs2) h = as_word_small _
+words x pc small (Mulhu rd rs1 rs2) h = high_unsigned_small (x rs1) (x rs2)
+words x pc small (Div rd rs1 rs2) h = one_of_two (x rs2 == 0) _ _ (omega arith) (as_word_small _)
+words x pc small (Divu rd rs1 rs2) h = one_of_two (x rs2 == 0) _ _ (omega arith) (omega (arith, div-le_self (x rs1) (x rs2), small rs1))
+words x pc small (Rem rd rs1 rs2) h = one_of_two (x rs2 == 0) _ _ (small rs1) (as_word_small _)
+words x pc small (Remu rd rs1 rs2) h = one_of_two (x rs2 == 0) _ _ (small rs1) (omega (arith, mod-le (x rs1) (x rs2), small rs1))
 words x pc small (Fence word) h = tt
 words x pc small Ecall h = tt
 words x pc small Ebreak h = tt
@@ -165,15 +179,11 @@ extended Byte n h = (extended_word 8 n (omega arith) (omega arith) h, omega arit
 extended Half n h = (extended_word 16 n (omega arith) (omega arith) h, omega arith)
 extended Word n h = (extended_word 32 n (omega arith) (omega arith) h, omega arith)
 
-sign_or_not : (b : Bool) (m n : ℕ) → m < 2 ^ 32 → n < 2 ^ 32 → cond b m n < 2 ^ 32
-sign_or_not true m n p q = p
-sign_or_not false m n p q = q
-
 loads : (s : MachineState) (rd : ℕ) (width : Width) (with_sign : Bool) (o : Option ℕ) → IfSome o (λ n. n < 2 ^ (8 * bytes_of width)) → IsMachineState s → IsMachineState (loaded s rd width with_sign o)
 loads s rd width with_sign None small h = traps s 5 refl h
 loads s rd width with_sign (Some n) small h =
     let p = extended width n small in
-    puts s rd _ (sign_or_not with_sign (sign_extended (8 * bytes_of width) n) n p.0 p.1) h
+    puts s rd _ (one_of_two with_sign (sign_extended (8 * bytes_of width) n) n p.0 p.1) h
 
 stores_by : (s : MachineState) (at : ℕ) (width : Width) (value : ℕ) (b : Bool) → is_some (number_at s.memory at (bytes_of width)) ≡ b → IsMachineState s → IsMachineState (cond b (record s { pc = wrapped (s.pc + 4); memory = with_number s.memory at (bytes_of width) value }) (trapped s 7))
 stores_by s at width value true e h =

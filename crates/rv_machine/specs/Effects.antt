@@ -1,14 +1,16 @@
--- The effects of the instructions, a line each (RISC-V unprivileged manual, chapter "RV32I Base Integer Instruction Set"). x
--- gives the registers by their numbers, and pc is the address of the instruction. Sums are modulo 2 ^ 32.
+-- The effects of the instructions, a line each (RISC-V unprivileged manual, chapters "RV32I Base Integer Instruction Set" and
+-- "M" Extension for Integer Multiplication and Division). x gives the registers by their numbers, and pc is the address of
+-- the instruction. Sums are modulo 2 ^ 32. In SUB nothing is cut, since a register is below 2 ^ 32.
 use Rattle.std.specs.Prelude.{ℕ, ◌+◌, ◌-◌, ◌*◌, ◌/◌, ◌%◌, ◌^◌, ◌==◌, ◌<◌, true, false, not, nat_lt, bit_and, bit_or, bit_xor}
 use Rattle.rv_pages.specs.Memory.{wrapped}
 use Rattle.rv_decode.specs.declared.instruction.Inst.{Inst}
-use Rattle.rv_decode.specs.declared.instruction.Inst.TheVariants.{Lui, Auipc, Jal, Jalr, Beq, Bne, Blt, Bge, Bltu, Bgeu, Lb, Lh, Lw, Lbu, Lhu, Sb, Sh, Sw, Addi, Slti, Sltiu, Xori, Ori, Andi, Slli, Srli, Srai, Add, Sub, Sll, Slt, Sltu, Xor, Srl, Sra, Or, And, Fence, Ecall, Ebreak}
+use Rattle.rv_decode.specs.declared.instruction.Inst.TheVariants.{Lui, Auipc, Jal, Jalr, Beq, Bne, Blt, Bge, Bltu, Bgeu, Lb, Lh, Lw, Lbu, Lhu, Sb, Sh, Sw, Addi, Slti, Sltiu, Xori, Ori, Andi, Slli, Srli, Srai, Add, Sub, Sll, Slt, Sltu, Xor, Srl, Sra, Or, And, Mul, Mulh, Mulhsu, Mulhu, Div, Divu, Rem, Remu, Fence, Ecall, Ebreak}
 use Rattle.rv_machine.specs.declared.effect.Effect.{Effect}
 use Rattle.rv_machine.specs.declared.effect.Effect.TheVariants.{Put, Jump, Branch, Load, Store, Nothing, Call, Break}
 use Rattle.rv_machine.specs.declared.effect.Width.{Width}
 use Rattle.rv_machine.specs.declared.effect.Width.TheVariants.{Byte, Half, Word}
 use Rattle.rv_machine.specs.Numbers.{signed_lt, shifted_left, shifted_right, shifted_right_signed, one_if}
+use Rattle.rv_machine.specs.Products.{high_signed, high_signed_unsigned, high_unsigned, quotient_signed, quotient_unsigned, remainder_signed, remainder_unsigned}
 
 -- An effect is one of these: Put rd value; Jump rd target; Branch taken target; Load rd address width with_sign; Store
 -- address width value; Nothing; Call; Break.
@@ -56,6 +58,15 @@ effect_of x pc (Srl rd rs1 rs2) = Put rd (shifted_right (x rs1) (x rs2 % 32))
 effect_of x pc (Sra rd rs1 rs2) = Put rd (shifted_right_signed (x rs1) (x rs2 % 32))
 effect_of x pc (Or rd rs1 rs2) = Put rd (bit_or (x rs1) (x rs2))
 effect_of x pc (And rd rs1 rs2) = Put rd (bit_and (x rs1) (x rs2))
+-- products, quotients and remainders of two registers
+effect_of x pc (Mul rd rs1 rs2) = Put rd (wrapped (x rs1 * x rs2))
+effect_of x pc (Mulh rd rs1 rs2) = Put rd (high_signed (x rs1) (x rs2))
+effect_of x pc (Mulhsu rd rs1 rs2) = Put rd (high_signed_unsigned (x rs1) (x rs2))
+effect_of x pc (Mulhu rd rs1 rs2) = Put rd (high_unsigned (x rs1) (x rs2))
+effect_of x pc (Div rd rs1 rs2) = Put rd (quotient_signed (x rs1) (x rs2))
+effect_of x pc (Divu rd rs1 rs2) = Put rd (quotient_unsigned (x rs1) (x rs2))
+effect_of x pc (Rem rd rs1 rs2) = Put rd (remainder_signed (x rs1) (x rs2))
+effect_of x pc (Remu rd rs1 rs2) = Put rd (remainder_unsigned (x rs1) (x rs2))
 -- the rest
 effect_of x pc (Fence word) = Nothing
 effect_of x pc Ecall = Call

@@ -1,9 +1,12 @@
 pub mod MachineState
 pub mod StateCode
 pub mod Numbers
+pub mod Products
+pub mod ProductLaws
 pub mod Effects
 pub mod StateChanges
 pub mod SystemCalls
 pub mod StepTable
 pub mod States
 pub mod StateFields
+pub mod StepChanges

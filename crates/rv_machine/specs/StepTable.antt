@@ -1,7 +1,7 @@
 -- One step of the machine: what the effect of an instruction does to a state, and the traps, which are our own choice
 -- where the manual leaves them to the execution environment. Memory is a map of single bytes.
 use Rattle.std.specs.Prelude.{ℕ, ◌+◌, ◌*◌, ◌%◌, ◌==◌, Bool, true, false, cond, List, [], slice_index, Option, Some, None, is_some}
-use Rattle.std.specs.Option.{option_and_then}
+use Rattle.std.specs.Option.{option_and_then, option_map_or}
 use Rattle.rv_pages.specs.Memory.{wrapped, number_at, word_at, with_number}
 use Rattle.rv_decode.specs.declared.instruction.Inst.{Inst}
 use Rattle.rv_decode.specs.Formats.{sign_extended}
@@ -73,6 +73,18 @@ written_by s journal _ = []
 -- the effect of the word at pc, if it is mapped and an instruction
 abbrev pub effect_at_pc : MachineState → Option Effect
 effect_at_pc s = option_and_then (λ w. option_and_then (λ inst. Some (effect_in s inst)) (decoded w)) (word_at s.memory s.pc)
+
+-- the register that an effect gives a value, where it doesn't trap; that of x0 stands for none
+abbrev pub register_of : Effect → ℕ
+register_of (Put rd value) = rd
+register_of (Jump rd target) = rd
+register_of (Load rd at width with_sign) = rd
+register_of Call = 10
+register_of _ = 0
+
+-- the one register that the next step may change
+abbrev pub register_changed : MachineState → ℕ
+register_changed s = cond (is_running s.status) (option_map_or register_of (effect_at_pc s) 0) 0
 
 -- the addresses that the next step writes, also where it writes the byte that is there
 abbrev pub written : MachineState → List (List ℕ) → List ℕ

@@ -29,7 +29,7 @@ const A2: usize = 12;
 
 const A7: usize = 17;
 
-const ANSWER: u8 = 10;
+pub(crate) const ANSWER: u8 = 10;
 
 // The answers -14, "bad address", and -38, "function not implemented".
 const NOT_MAPPED: u32 = 0xffff_fff2;

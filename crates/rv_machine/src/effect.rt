@@ -6,13 +6,17 @@ ghost use Rattle.rv_decode.specs.Words.{IsOperation};
 ghost use Rattle.rv_machine.specs.Numbers.{signed_lt, shifted_right_signed as shifted_right_signed_of};
 ghost use Rattle.rv_machine.specs.Effects.{effect_of as effect_table, NamesRegister};
 
+use crate::products::{
+    high_signed, high_signed_unsigned, high_unsigned, quotient_signed, quotient_unsigned,
+    remainder_signed, remainder_unsigned,
+};
 use Effect::{Branch, Break, Call, Jump, Load, Nothing, Put, Store};
 use Width::{Byte, Half, Word};
 use rv_decode::Inst;
 use rv_decode::Inst::{
-    Add, Addi, And, Andi, Auipc, Beq, Bge, Bgeu, Blt, Bltu, Bne, Ebreak, Ecall, Fence, Jal, Jalr,
-    Lb, Lbu, Lh, Lhu, Lui, Lw, Or, Ori, Sb, Sh, Sll, Slli, Slt, Slti, Sltiu, Sltu, Sra, Srai, Srl,
-    Srli, Sub, Sw, Xor, Xori,
+    Add, Addi, And, Andi, Auipc, Beq, Bge, Bgeu, Blt, Bltu, Bne, Div, Divu, Ebreak, Ecall, Fence,
+    Jal, Jalr, Lb, Lbu, Lh, Lhu, Lui, Lw, Mul, Mulh, Mulhsu, Mulhu, Or, Ori, Rem, Remu, Sb, Sh,
+    Sll, Slli, Slt, Slti, Sltiu, Sltu, Sra, Srai, Srl, Srli, Sub, Sw, Xor, Xori,
 };
 
 /// How many bytes a load or a store moves: one, two or four.
@@ -139,6 +143,14 @@ fn operation(inst: Inst, x: &[u32; 32]) -> Effect
         Sra { rd, rs1, rs2 } => Put(rd, shifted_right_signed(get(x, rs1), get(x, rs2) % 32)),
         Or { rd, rs1, rs2 } => Put(rd, get(x, rs1) | get(x, rs2)),
         And { rd, rs1, rs2 } => Put(rd, get(x, rs1) & get(x, rs2)),
+        Mul { rd, rs1, rs2 } => Put(rd, get(x, rs1).wrapping_mul(get(x, rs2))),
+        Mulh { rd, rs1, rs2 } => Put(rd, high_signed(get(x, rs1), get(x, rs2))),
+        Mulhsu { rd, rs1, rs2 } => Put(rd, high_signed_unsigned(get(x, rs1), get(x, rs2))),
+        Mulhu { rd, rs1, rs2 } => Put(rd, high_unsigned(get(x, rs1), get(x, rs2))),
+        Div { rd, rs1, rs2 } => Put(rd, quotient_signed(get(x, rs1), get(x, rs2))),
+        Divu { rd, rs1, rs2 } => Put(rd, quotient_unsigned(get(x, rs1), get(x, rs2))),
+        Rem { rd, rs1, rs2 } => Put(rd, remainder_signed(get(x, rs1), get(x, rs2))),
+        Remu { rd, rs1, rs2 } => Put(rd, remainder_unsigned(get(x, rs1), get(x, rs2))),
         _ => unreachable!(),
     }
 }

@@ -6,17 +6,22 @@
 //! counted then.
 #![tactic(auto)]
 
+#[cfg(test)]
+mod below_tests;
 mod calls;
 mod changes;
 mod effect;
 mod happening;
 pub mod laws;
+mod next;
+mod products;
 mod state;
 mod status;
 mod stepping;
 mod steps;
 
+pub use crate::next::Changes;
 pub use crate::state::State;
 pub use crate::status::Status;
-pub use crate::stepping::{step, wrote};
+pub use crate::stepping::{next_changes, step, wrote};
 pub use crate::steps::Steps;

@@ -1,17 +1,18 @@
 // One step of the machine.
-ghost use Rattle.std.specs.Prelude.{◌≡◌, ◌+◌, ◌≤◌, ◌<◌, ◌↔◌, cond, [], is_some, Any, IsTrue};
+ghost use Rattle.std.specs.Prelude.{◌≡◌, ◌+◌, ◌≤◌, ◌<◌, ◌↔◌, cond, [], is_some, Some, IfSome, Any, IsTrue};
 ghost use Rattle.std.specs.Option.{option_map_or};
 ghost use Rattle.rv_pages.specs.Memory.{number_at, page_numbers};
 ghost use Rattle.rv_decode.specs.Rows.{decoded};
-ghost use Rattle.rv_machine.specs.Effects.{bytes_of};
+ghost use Rattle.rv_machine.specs.Effects.{bytes_of, NamesRegister};
 ghost use Rattle.rv_machine.specs.StateChanges.{addresses};
-ghost use Rattle.rv_machine.specs.StepTable.{next, said, effect_at_pc, written};
+ghost use Rattle.rv_machine.specs.StepTable.{next, said, effect_at_pc, register_of, register_changed, written_by, written};
 
-use crate::calls::part_written;
-use crate::effect::Effect::{self, Call, Store};
+use crate::calls::{ANSWER, part_written};
+use crate::effect::Effect::{self, Call, Jump, Load, Put, Store};
 use crate::effect::Width::{self, Byte, Half, Word};
 use crate::effect::effect_of;
 use crate::happening::happen;
+use crate::next::Changes;
 use crate::state::State;
 use crate::status::Status;
 use crate::steps::Steps;
@@ -62,23 +63,37 @@ pub fn wrote(state: &State, journal: &Journal, word: u32) -> bool
     requires { word ≤ 0xFFFFFFFC }
     ensures { IsTrue result ↔ Any (λ at. (word ≤ at) × (at < word + 4)) (written state.now journal.now) }
 {
-    match next_part_written(state, journal) {
-        Some((at, count)) => meets(at, count, word),
-        None => false,
+    let changes = next_changes(state, journal);
+    meets(changes.at, changes.count, word)
+}
+
+/// Which register the next step may change, and which bytes it writes. It takes no memory.
+pub fn next_changes(state: &State, journal: &Journal) -> Changes
+    ensures register { result.register ≡ register_changed state.now }
+    ensures few { result.register < 32 }
+    ensures bytes { addresses result.at result.count ≡ written state.now journal.now }
+{
+    if state.status != Status::Running {
+        return Changes::none();
+    }
+    match effect_at(state) {
+        Some(effect) => changes_by(state, journal, effect),
+        None => Changes::none(),
     }
 }
 
-// Where the next step writes, and how many bytes, if it writes.
-fn next_part_written(state: &State, journal: &Journal) -> Option<(u32, u32)>
-    ensures { written state.now journal.now ≡ option_map_or (λ part. addresses part.0 part.1) result [] }
+// Which register an effect may change, and which bytes it writes.
+fn changes_by(state: &State, journal: &Journal, effect: Effect) -> Changes
+    requires { NamesRegister effect }
+    ensures register { result.register ≡ register_of effect }
+    ensures few { result.register < 32 }
+    ensures bytes { addresses result.at result.count ≡ written_by state.now journal.now (Some effect) }
 {
-    if state.status != Status::Running {
-        return None;
-    }
-    match effect_at(state)? {
-        Store(at, width, _) => part_stored(state, at, width),
-        Call => part_written(state, journal),
-        _ => None,
+    match effect {
+        Put(rd, _) | Jump(rd, _) | Load(rd, _, _, _) => Changes::of(rd, None),
+        Store(at, width, _) => Changes::of(0, part_stored(state, at, width)),
+        Call => Changes::of(ANSWER, part_written(state, journal)),
+        _ => Changes::none(),
     }
 }
 
@@ -96,7 +111,8 @@ fn part_stored(state: &State, at: u32, width: Width) -> Option<(u32, u32)>
 
 // The effect of the word at pc, if it is mapped and an instruction.
 fn effect_at(state: &State) -> Option<Effect>
-    ensures { result ≡ effect_at_pc state.now }
+    ensures effect { result ≡ effect_at_pc state.now }
+    ensures register { IfSome result NamesRegister }
 {
     let word = state.pages.load32(state.pc)?;
     let inst = decode(word)?;

@@ -14,7 +14,8 @@ pub record AreTables (tops lows : List ℕ) : Type 0 where
   pub none : (place : ℕ) → place < 1024 → slice_index lows place ≡ 0
   pub apart : (a b : ℕ) → a ≢ b → slice_index tops a ≡ slice_index tops b → slice_index tops a ≡ 0
 
--- the tables find these page numbers, and no others
+-- The tables find these page numbers, and no others. An entry that is above 0 is one more than the place of a number, so that
+-- nothing is cut.
 pub record Finds (tops lows numbers : List ℕ) : Type 0 where
   pub each : (k : ℕ) → k < length numbers → entry_of tops lows (slice_index numbers k) ≡ k + 1
   pub only : (number : ℕ) → 0 < entry_of tops lows number → (entry_of tops lows number ≤ length numbers) × (slice_index numbers (entry_of tops lows number - 1) ≡ number)

@@ -405,6 +405,3 @@ fn copy_marked(bytes: &mut [u8], from: &[u8], marks: &Marks)
 fn are_bytes(bytes: &[u8])
     ensures { All (λ b. b < 256) bytes.now }
 {}
-
-#[cfg(test)]
-mod tests;

@@ -1,5 +1,5 @@
 -- The laws over moves, rules and valid lists.
-use Rattle.std.proofs.Common.{◌≡◌, ℕ, zero, suc, ◌-◌, ◌<◌, ◌≤◌, true, false, List, [], ◌∷◌, length, take, refl, sym, ◌∙◌, ap, subst, inl, inr, arith, Option, Some, None, true≢false}
+use Rattle.std.proofs.Common.{◌≡◌, ◌↔◌, ℕ, zero, suc, ◌-◌, ◌<◌, ◌≤◌, true, false, List, [], ◌∷◌, length, take, refl, sym, ◌∙◌, ap, subst, inl, inr, arith, Option, Some, None, true≢false}
 use Rattle.std.specs.List.{slice_get}
 use Rattle.std.proofs.lemmas.Bool.{cases_order}
 use Rattle.plan_types.specs.declared.action.Keep.TheVariants.{Nothing, Store, Tape}
@@ -9,19 +9,23 @@ use Rattle.plan_types.specs.declared.action.Action.TheVariants.{Forward, Reverse
 use Rattle.level_book.specs.declared.book.Slots.{Slots}
 use Rattle.level_book.specs.Configuration.{Configuration, start}
 use Rattle.level_book.specs.Moves.{Goes}
-use Rattle.level_book.specs.Rules.{level_refused}
+use Rattle.level_book.specs.Rules.{rule, level_refused}
 use Rattle.level_book.specs.Valid.{Leads, Valid, BreaksRule, BrokenAt}
 use Rattle.schedule_rules.specs.After.{after}
+use Rattle.schedule_rules.specs.Reached.{IsReached}
 use Rattle.schedule_rules.specs.Laws.{RulesAreMoves, EndReverseIsLast, FirstBrokenIsUnique, ValidIsUnbroken}
 use Rattle.schedule_rules.proofs.Moving.{goes, goes_after, unbroken}
 use Rattle.schedule_rules.proofs.Reaching.{leads_unique, sound_on, sound_start}
 use Rattle.schedule_rules.proofs.Judging.{kept_on_the_way}
 
-pub rules_moves : (steps : ℕ) (slots : List Slots) (c : Configuration) (a : Action) → RulesAreMoves steps slots c a
-rules_moves steps slots c a reached = (
-  λ e. (after c a, goes steps slots c a e),
-  λ g. unbroken steps slots c a g.0 (sound_on steps slots (start steps slots) reached.0 c (sound_start steps slots) reached.1).within g.1,
-)
+pub rules_moves_within : (steps : ℕ) (slots : List Slots) (c : Configuration) (a : Action) → RulesAreMoves steps slots c a
+rules_moves_within steps slots c a within = (λ e. (after c a, goes steps slots c a e), λ g. unbroken steps slots c a g.0 within g.1)
+
+-- so it is at each configuration that is reached
+pub rules_moves : (steps : ℕ) (slots : List Slots) (c : Configuration) (a : Action) → IsReached steps slots c →
+    (rule steps slots c a ≡ 0) ↔ ((d : Configuration) × Goes steps slots c a d)
+rules_moves steps slots c a reached =
+    rules_moves_within steps slots c a (sound_on steps slots (start steps slots) reached.0 c (sound_start steps slots) reached.1).within
 
 -- nothing is done after the end
 not_ended : (steps : ℕ) (slots : List Slots) (c : Configuration) (a : Action) (d : Configuration) → Goes steps slots c a d → c.ended ≡ false

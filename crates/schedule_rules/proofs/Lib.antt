@@ -6,3 +6,4 @@ pub mod Reaching
 pub mod Judging
 pub mod Lawful
 pub mod Standing
+pub mod Breaking

@@ -1,5 +1,5 @@
 -- What the definitions of moves, rules and valid lists imply.
-use Rattle.std.specs.Prelude.{◌≡◌, ◌↔◌, ℕ, ◌+◌, ◌<◌, List, length, slice_get, Some}
+use Rattle.std.specs.Prelude.{◌≡◌, ◌↔◌, ◌⊎◌, ℕ, ◌+◌, ◌<◌, ◌≤◌, List, length, slice_get, Some}
 use Rattle.plan_types.specs.declared.action.Action.{Action}
 use Rattle.plan_types.specs.declared.action.Action.TheVariants.{EndReverse}
 use Rattle.level_book.specs.declared.book.Slots.{Slots}
@@ -9,9 +9,10 @@ use Rattle.level_book.specs.Rules.{rule}
 use Rattle.level_book.specs.Valid.{Valid, BrokenAt}
 use Rattle.schedule_rules.specs.Reached.{IsReached, IsSound}
 
--- at a configuration that is reached, no rule is broken exactly where the action leads somewhere
+-- Where no more is to be reversed than there are steps, no rule is broken exactly where the action leads somewhere. So it is
+-- at every configuration that is reached, since that is sound.
 abbrev pub RulesAreMoves : ℕ → List Slots → Configuration → Action → Type 0
-RulesAreMoves steps slots c a = IsReached steps slots c → (rule steps slots c a ≡ 0) ↔ ((d : Configuration) × Goes steps slots c a d)
+RulesAreMoves steps slots c a = c.reverse ≤ steps → (rule steps slots c a ≡ 0) ↔ ((d : Configuration) × Goes steps slots c a d)
 
 -- an action leads to at most one configuration
 abbrev pub MovesAreUnique : ℕ → List Slots → Configuration → Action → Type 0
@@ -34,3 +35,7 @@ FirstBrokenIsUnique steps slots list =
 -- no list is both valid and broken
 abbrev pub ValidIsUnbroken : ℕ → List Slots → List Action → Type 0
 ValidIsUnbroken steps slots list = Valid steps slots list → (place number level : ℕ) → BrokenAt steps slots list place number level → ⊥
+
+-- a list is valid, or there is a place at which it is broken
+abbrev pub IsValidOrBroken : ℕ → List Slots → List Action → Type 0
+IsValidOrBroken steps slots list = Valid steps slots list ⊎ ((place : ℕ) × (number : ℕ) × (level : ℕ) × BrokenAt steps slots list place number level)

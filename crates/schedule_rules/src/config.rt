@@ -429,34 +429,3 @@ fn target(action: &Action) -> u8
         _ => 0,
     }
 }
-
-#[cfg(test)]
-impl Config {
-    // The start for two levels with these slots, since a book of more than one level can't be made yet.
-    pub(crate) fn of_two_levels(
-        alloc: Global,
-        steps: u32,
-        near: Slots,
-        far: Slots,
-    ) -> Result<Config, AllocError>
-        requires { steps ≤ 1000000 }
-    {
-        let near = LevelHeld {
-            slots: near,
-            images: Positions::new(alloc, steps)?,
-        };
-        let far = LevelHeld {
-            slots: far,
-            images: Positions::new(alloc, steps)?,
-        };
-        Ok(Config {
-            steps,
-            levels: vec![in alloc; near, far]?,
-            work: 0,
-            tape: None,
-            reverse: steps,
-            forward_ended: false,
-            ended: false,
-        })
-    }
-}

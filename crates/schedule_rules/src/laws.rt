@@ -4,9 +4,9 @@ ghost use Rattle.plan_types.specs.declared.action.Action.{Action};
 ghost use Rattle.level_book.specs.declared.book.Slots.{Slots};
 ghost use Rattle.level_book.specs.Configuration.{Configuration};
 ghost use Rattle.level_book.specs.Valid.{Valid};
-ghost use Rattle.schedule_rules.specs.Laws.{RulesAreMoves, MovesAreUnique, ReachedIsSound, EndReverseIsLast, FirstBrokenIsUnique, ValidIsUnbroken};
+ghost use Rattle.schedule_rules.specs.Laws.{RulesAreMoves, MovesAreUnique, ReachedIsSound, EndReverseIsLast, FirstBrokenIsUnique, ValidIsUnbroken, IsValidOrBroken};
 
-/// At a configuration that is reached, an action breaks no rule exactly where it leads somewhere.
+/// Where no more is to be reversed than there are steps, an action breaks no rule exactly where it leads somewhere.
 pub fn rules_are_moves()
     ensures { (steps : ℕ) (slots : List Slots) (c : Configuration) (a : Action) → RulesAreMoves steps slots c a }
 {}
@@ -36,4 +36,9 @@ pub fn first_broken_is_unique()
 /// No list is both valid and broken.
 pub fn valid_lists_are_unbroken()
     ensures { (steps : ℕ) (slots : List Slots) (list : List Action) → ValidIsUnbroken steps slots list }
+{}
+
+/// Every list is valid, or there is a place at which it is first broken.
+pub fn lists_are_valid_or_broken()
+    ensures { (steps : ℕ) (slots : List Slots) (list : List Action) → IsValidOrBroken steps slots list }
 {}

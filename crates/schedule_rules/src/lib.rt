@@ -7,8 +7,6 @@
 mod config;
 pub mod laws;
 mod positions;
-#[cfg(test)]
-mod tests;
 mod whole_list;
 
 pub use crate::config::{Broken, Config};

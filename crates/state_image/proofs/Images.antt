@@ -21,7 +21,7 @@ use Rattle.state_image.proofs.Members.{Mem, mem_at, place_of}
 
 -- ---- numbers in joined lists
 
-part_front : (xs ys : List ℕ) (at n : ℕ) → at + n ≤ length xs → part (xs ++ ys) at n ≡ part xs at n
+pub part_front : (xs ys : List ℕ) (at n : ℕ) → at + n ≤ length xs → part (xs ++ ys) at n ≡ part xs at n
 part_front xs ys at n fits =
     ap (take n) (drop-append-le at xs ys (omega (arith, fits))) ∙ take-append-le n (drop at xs) ys (omega (arith, fits, length-drop at xs))
 
@@ -31,7 +31,7 @@ number_front xs ys at fits = ap (from_le_bytes w32) (part_front xs ys at 4 fits)
 number_end : (xs : List ℕ) (at w : ℕ) → length xs ≡ at → w < 2 ^ 32 → number_at (xs ++ to_le_bytes w32 w) at ≡ w
 number_end xs at w long fits = ap (λ ys. from_le_bytes w32 (take 4 ys)) (drop_at xs (to_le_bytes w32 w) at long) ∙ from_le_bytes-to_le_bytes_4 w fits
 
-part_past : (xs ys : List ℕ) (at d n : ℕ) → length xs ≡ at → part (xs ++ ys) (at + d) n ≡ part ys d n
+pub part_past : (xs ys : List ℕ) (at d n : ℕ) → length xs ≡ at → part (xs ++ ys) (at + d) n ≡ part ys d n
 part_past xs ys at d n long = ap (take n) (sym (drop-drop d at (xs ++ ys)) ∙ ap (drop d) (drop_at xs ys at long))
 
 words_length : (xs : List ℕ) → length (flat_map (to_le_bytes w32) xs) ≡ 4 * length xs

@@ -8,3 +8,6 @@ pub mod Spelled
 pub mod Images
 pub mod Made
 pub mod Telling
+pub mod Filling
+pub mod Before
+pub mod Beginning

@@ -24,10 +24,10 @@ negated false h = refl
 negated true h = absurd (cc)
 
 -- a field that isn't wrong is all there, and is right
-there : (bytes : List ℕ) (f : Field) → is_wrong bytes f ≡ false → f.start + f.size ≤ length bytes
+pub there : (bytes : List ℕ) (f : Field) → is_wrong bytes f ≡ false → f.start + f.size ≤ length bytes
 there bytes f h = ltb-false (length bytes) (f.start + f.size) (parted (nat_lt (length bytes) (f.start + f.size)) (f.right bytes) h).0
 
-right : (bytes : List ℕ) (f : Field) → is_wrong bytes f ≡ false → f.right bytes ≡ true
+pub right : (bytes : List ℕ) (f : Field) → is_wrong bytes f ≡ false → f.right bytes ≡ true
 right bytes f h = (parted (nat_lt (length bytes) (f.start + f.size)) (f.right bytes) h).1
 
 not_wrong : (bytes : List ℕ) (f : Field) → f.start + f.size ≤ length bytes → f.right bytes ≡ true → is_wrong bytes f ≡ false
@@ -48,7 +48,7 @@ none_found : (o : Option Field) (t : Option ℕ) → start_or o t ≡ None → (
 none_found None t h = (refl, h)
 none_found (Some f) t h = absurd (some_none f.start h)
 
-right_page : (bytes : List ℕ) (k : ℕ) → is_wrong bytes (page k) ≡ false → IsRightPage bytes k
+pub right_page : (bytes : List ℕ) (k : ℕ) → is_wrong bytes (page k) ≡ false → IsRightPage bytes k
 right_page bytes k h =
     let tests = both (rises bytes k && nat_lt (page_number bytes k) 1048576) (not (list_all (λ b. b == 0) (page_part bytes k))) (right bytes (page k) h) in
     let front = both (rises bytes k) (nat_lt (page_number bytes k) 1048576) tests.0 in
@@ -67,7 +67,7 @@ ends : (bytes : List ℕ) (n : ℕ) → 164 ≤ length bytes → ((k : ℕ) → 
 ends bytes zero whole pages = omega (arith, whole)
 ends bytes (suc n) whole pages = let last = (pages n (omega arith)).there in omega (arith, last)
 
-at_most : (a b : ℕ) → nat_le a b ≡ true → a ≤ b
+pub at_most : (a b : ℕ) → nat_le a b ≡ true → a ≤ b
 at_most a b h = search (h, arith)
 
 pub is_right : (bytes : List ℕ) → first_wrong bytes ≡ None → IsRight bytes

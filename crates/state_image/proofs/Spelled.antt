@@ -7,7 +7,7 @@ use Rattle.std.proofs.lemmas.Slice.Eq.{bytes_eq-Decides}
 use Rattle.std.proofs.Math.Seq.{take-add}
 use Rattle.std.proofs.lemmas.Nat.{le_bytes_4, le_bytes_8}
 use Rattle.std.specs.Int.{to_le_bytes, from_le_bytes, w32, w64}
-use Rattle.std.specs.List.{flat_map, list_all, range_with_len}
+use Rattle.std.specs.List.{All, flat_map, list_all, range_with_len}
 use Rattle.rv_pages.specs.Memory.{Memory, page_numbers, page_bytes, IsMemory, IsZeroPage}
 use Rattle.rv_machine.specs.MachineState.{MachineState}
 use Rattle.state_image.specs.Image.{image, header, pages_stored, page_field, is_stored, status_kind, status_value}
@@ -19,6 +19,12 @@ use Rattle.state_image.proofs.Members.{Mem, filter_is, up_increasing, mem_contai
 
 abbrev pub IsBytes : List ℕ → Type 0
 IsBytes bytes = (i : ℕ) → get_or bytes i 0 < 256
+
+pub bytes_of : (bytes : List ℕ) → All (λ b. b < 256) bytes → IsBytes bytes
+bytes_of bytes h i = elim (cases_lt i (length bytes)) [
+  | inl low ↦ h i 0 low
+  | inr past ↦ subst (λ b. b < 256) (sym (get_or_past bytes i 0 past)) (omega arith)
+]
 
 module _ (bytes : List ℕ) (small : IsBytes bytes) where
   pub part_small : (at n i : ℕ) → get_or (part bytes at n) i 0 < 256

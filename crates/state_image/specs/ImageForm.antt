@@ -1,5 +1,5 @@
 -- The form of an image, as a table of its fields in their order. The form is our own; its numbers are little-endian.
-use Rattle.std.specs.Prelude.{ℕ, zero, suc, ◌+◌, ◌-◌, ◌*◌, ◌%◌, ◌==◌, ◌&&◌, ◌||◌, Bool, true, not, nat_lt, nat_le, nat_eq, if◌then◌else◌, List, [], ◌∷◌, ◌++◌, map, find, length, take, drop, Option, None, Some, codes}
+use Rattle.std.specs.Prelude.{◌≡◌, ◌<◌, ◌≤◌, ℕ, zero, suc, ◌+◌, ◌-◌, ◌*◌, ◌%◌, ◌==◌, ◌&&◌, ◌||◌, Bool, true, not, nat_lt, nat_le, nat_eq, if◌then◌else◌, List, [], ◌∷◌, ◌++◌, map, find, length, take, drop, Option, None, Some, codes}
 use Rattle.std.specs.List.{list_all, list_any, range_with_len, starts_with}
 use Rattle.std.specs.Int.{from_le_bytes, w32}
 use Rattle.rv_machine.specs.MachineState.{trap_causes}
@@ -71,7 +71,7 @@ page_number bytes k = number_at bytes (page_start k)
 abbrev pub page_part : List ℕ → ℕ → List ℕ
 page_part bytes k = part bytes (page_start k + 4) 4096
 
--- the number of page k is above that of the page before
+-- the number of page k is above that of the page before; before page 0 there is none
 abbrev pub rises : List ℕ → ℕ → Bool
 rises bytes k = k == 0 || nat_lt (page_number bytes (k - 1)) (page_number bytes k)
 
@@ -106,6 +106,11 @@ trailing bytes = if nat_lt (page_start (page_count bytes)) (length bytes) then S
 -- where the first field starts that is wrong, or else the bytes that follow the last page; None says that bytes are an image
 abbrev pub first_wrong : List ℕ → Option ℕ
 first_wrong bytes = start_or (find (is_wrong bytes) (fields bytes)) (trailing bytes)
+
+-- Behind the pages before this place there are numbers, below 2^20, for those that the count says still have to follow. A page
+-- whose number is so great that there are not isn't found wrong itself; one of those after it is.
+abbrev pub HasNumbersLeft : List ℕ → ℕ → Type 0
+HasNumbersLeft bytes at = (k : ℕ) → k + 1 < page_count bytes → at ≡ page_start (k + 1) → page_number bytes k + page_count bytes ≤ k + 1048576
 
 -- the numbers of the pages in their order
 abbrev pub numbers_in : List ℕ → List ℕ

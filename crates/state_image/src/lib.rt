@@ -8,8 +8,6 @@ mod fault;
 mod form;
 mod image;
 pub mod image_laws;
-#[cfg(test)]
-mod image_tests;
 pub mod laws;
 mod text;
 

@@ -5,3 +5,4 @@ pub mod Unbroken
 pub mod Meanings
 pub mod DiskUnbroken
 pub mod DiskMeanings
+pub mod Deciding

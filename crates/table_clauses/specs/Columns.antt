@@ -107,11 +107,11 @@ pub record IsPair (t : TableRows) (k m : ℕ) (pair : Pair) : Type 0 where
   pub fresh : IsColumn t.steps (λ l. (tables_in t).fresh k l m) pair.fresh.items
   pub held : IsColumn t.steps (λ l. (tables_in t).held k l m) pair.held.items
 
--- those for a free slot less
+-- those for a free slot less, where there is one at least
 abbrev pub IsPairBefore : TableRows → ℕ → ℕ → Option Pair → Type 0
 IsPairBefore t k m o = MatchOption o (m ≡ 0) (λ pair. (1 ≤ m) × IsPair t k (m - 1) pair)
 
--- the column of the faster level with all its slots
+-- the column of the faster level with all its slots, where there is one
 abbrev pub IsFaster : TableRows → ℕ → Option (Vec Cost Global) → Type 0
 IsFaster t k o = MatchOption o (k ≡ 0) (λ column. (1 ≤ k) × IsColumn t.steps (λ l. (tables_in t).fresh (k - 1) l (slice_index t.rooms (k - 1))) column.items)
 

@@ -6,7 +6,7 @@ use Rattle.cost_tables.specs.declared.cost.Cost.TheVariants.{Number}
 use Rattle.cost_tables.specs.TableRows.{value_of}
 use Rattle.table_clauses.specs.Broken.{IsAbove}
 
--- the entry of a column for so many steps, of which the first is 1
+-- the entry of a column for so many steps, of which the first is for 1; none is asked for 0 steps
 abbrev pub at_step : List Cost → ℕ → Entry
 at_step column l = value_of (slice_index_or column (l - 1) (Number 0))
 

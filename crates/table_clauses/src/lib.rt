@@ -7,15 +7,11 @@
 mod column;
 mod compare;
 mod disk;
-#[cfg(test)]
-mod disk_tests;
 mod entry;
 pub mod laws;
 mod nested;
 mod search;
 mod splits;
-#[cfg(test)]
-mod tests;
 
 pub use crate::disk::first_broken_disk;
 pub use crate::entry::Entry;

@@ -1,7 +1,7 @@
 use Rattle.std.proofs.Common.{◌≡◌, ℕ, ◌++◌, Bool, cond, List, [], ◌∷◌, append_assoc, Option, None, Some, Result, Ok, Err, OnOk, sym, ◌∙◌, ap}
 use Rattle.std.specs.Io.KnownBytes.{Appends}
 use Rattle.std.proofs.lemmas.Bool.{ne_eqb}
-use Rattle.reversal.specs.Ending.{text_of_ended}
+use Rattle.requests.specs.Ending.{text_of_ended}
 use Rattle.reversal_cli.specs.Report.{report_of}
 use Rattle.reversal_cli.proofs.report.Goals as goal
 

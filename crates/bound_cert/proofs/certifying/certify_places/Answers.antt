@@ -1,44 +1,38 @@
-use Rattle.std.proofs.Common.{length, subst, sym, ap, ◌∙◌}
-use Rattle.class_rules.specs.PlaceLevels.{HasPlaceLevels}
-use Rattle.class_rules.proofs.Classing.{at_some}
-use Rattle.multistage_gen.specs.Threshold.{AreSavings}
-use Rattle.revolve_gen.proofs.Extending.{multistage_valid}
-use Rattle.bound_cert.specs.Thresholds.{IsThresholdOf}
-use Rattle.bound_cert.proofs.Fitting.{two_levels, planned_fits}
+use Rattle.std.proofs.Common.{ℕ, ◌/◌, length, refl, subst, sym, arith}
+use Rattle.std.proofs.lemmas.Result.{IfOk-weaker}
+use Rattle.revolve_gen.specs.Multistage.{IsMultistage}
+use Rattle.bound_cert.proofs.Fitting.{at_length, few_actions, threshold_at, accepted_at}
 use Rattle.bound_cert.proofs.certifying.certify_places.Goals as goal
 
-pub greatest_slow-requires : goal.greatest_slow-requires
-greatest_slow-requires c =
-    let has = at_some c.in_ok-levels.field-0 c.in-Some.levels _ _ c.in-Some.is c.in_ok-levels.ensures in
-    let two = two_levels c.args.book.now.levels has.two in
-    let saved = c.in_ok-savings.ensures two.0 two.1 two.2 in
-    record { each = ap length c.deref-2.ensures.value ∙ saved.count ∙ sym has.count ∙ sym (ap length c.deref.ensures.value) }
+pub overflow_cast-steps : goal.overflow_cast-steps
+overflow_cast-steps c =
+    let r = c.requires in
+    let same = at_length (length c.args.list.now / 4) r.0 c.args.book.now c.args.list.now refl r.2 in
+    let short = r.1 in
+    record { fits = omega arith }
+
+pub certify_for-requires-clause-short : goal.certify_for-requires-clause-short
+certify_for-requires-clause-short c =
+    let r = c.requires in
+    let same = at_length (length c.args.list.now / 4) r.0 c.args.book.now c.args.list.now refl r.2 in
+    let short = r.1 in
+    omega arith
+
+pub certify_for-requires-clause-few : goal.certify_for-requires-clause-few
+certify_for-requires-clause-few c = let r = c.requires in few_actions r.0 c.args.book.now c.args.list.now r.1 r.2
+
+pub certify_for-requires-clause-class : goal.certify_for-requires-clause-class
+certify_for-requires-clause-class c =
+    let r = c.requires in
+    let same = at_length (length c.args.list.now / 4) r.0 c.args.book.now c.args.list.now refl r.2 in
+    subst (λ (n : ℕ). IsMultistage n c.args.book.now c.args.list.now) (sym same) r.2
 
 pub returns-clause-threshold : goal.returns-clause-threshold
 returns-clause-threshold c =
-    let list = c.args.list.now in
-    let has = at_some c.in_ok-levels.field-0 c.in-Some.levels _ _ c.in-Some.is c.in_ok-levels.ensures in
-    let two = two_levels c.args.book.now.levels has.two in
-    let saved = subst (AreSavings list two.0 two.1) (sym c.deref-2.ensures.value) (c.in_ok-savings.ensures two.0 two.1 two.2) in
-    record {
-      fast = two.0;
-      slow = two.1;
-      levels = c.deref.result.now;
-      are_on = record { two = two.2; has = subst (HasPlaceLevels c.args.steps c.args.book.now list) (sym c.deref.ensures.value) has };
-      greatest = c.greatest_slow.ensures list two.0 two.1 saved;
-    }
+    IfOk-weaker c.certify_for.result _ _
+    (λ k is steps member. threshold_at (length c.args.list.now / 4) steps c.args.book.now c.args.list.now k refl member is) c.certify_for.ensures.threshold
 
 pub returns-clause-accepted : goal.returns-clause-accepted
-returns-clause-accepted c planned =
-    let list = c.args.list.now in
-    let has = at_some c.in_ok-levels.field-0 c.in-Some.levels _ _ c.in-Some.is c.in_ok-levels.ensures in
-    let two = two_levels c.args.book.now.levels has.two in
-    let saved = subst (AreSavings list two.0 two.1) (sym c.deref-2.ensures.value) (c.in_ok-savings.ensures two.0 two.1 two.2) in
-    let of : IsThresholdOf c.greatest_slow.result c.args.steps c.args.book.now list = record {
-      fast = two.0;
-      slow = two.1;
-      levels = c.deref.result.now;
-      are_on = record { two = two.2; has = subst (HasPlaceLevels c.args.steps c.args.book.now list) (sym c.deref.ensures.value) has };
-      greatest = c.greatest_slow.ensures list two.0 two.1 saved;
-    } in
-    (multistage_valid c.args.steps c.args.book.now list c.requires.class, planned_fits c.greatest_slow.result c.args.steps c.args.book.now list of planned)
+returns-clause-accepted c =
+    IfOk-weaker c.certify_for.result _ _
+    (λ k is steps planned. accepted_at (length c.args.list.now / 4) steps c.args.book.now c.args.list.now k refl is planned) c.certify_for.ensures.accepted

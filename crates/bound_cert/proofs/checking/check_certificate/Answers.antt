@@ -22,7 +22,7 @@ returns-in-Valid-clause-least c =
 pub returns-in-Valid-clause-least_multistage : goal.returns-in-Valid-clause-least_multistage
 returns-in-Valid-clause-least_multistage c =
     IfOk-weaker c.weigh.result (IsVerdict c.args.list.now c.args.steps c.args.book.now c.args.certificate.now) _
-    (λ v is. least_is_cheapest c.args.list.now c.args.steps c.args.book.now c.args.certificate.now v is) c.weigh.ensures
+    (λ v is. least_is_cheapest c.args.list.now c.args.steps c.args.book.now c.args.certificate.now v is (omega (arith, c.levels-levels.ensures.value, c.levels-levels.ensures.range)) c.costs_rise.ensures) c.weigh.ensures
 
 pub returns-in-Valid-clause-least_nested : goal.returns-in-Valid-clause-least_nested
 returns-in-Valid-clause-least_nested c =

@@ -10,16 +10,16 @@ loop-k-preserved c =
     (omega (arith, c.loop-k.invariant, price_more c.args.counts.now c.args.book.now c.loop-k.k c.level-level.result.now c.level-level.ensures))
 
 pub overflow_mul-sum-in-loop-k : goal.overflow_mul-sum-in-loop-k
-overflow_mul-sum-in-loop-k c = rw c.from-in-loop-k.ensures (omega (arith, level_fits c.args.counts.now c.args.book.now c.loop-k.k c.level-level.result.now c.requires c.is_within_limits.ensures c.level-level.ensures))
+overflow_mul-sum-in-loop-k c = rw c.from-in-loop-k.ensures (omega (arith, level_fits c.args.counts.now c.args.book.now c.loop-k.k c.level-level.result.now c.args.counts.now.payable c.is_within_limits.ensures c.level-level.ensures))
 
 pub overflow_mul-sum-in-loop-k-2 : goal.overflow_mul-sum-in-loop-k-2
-overflow_mul-sum-in-loop-k-2 c = rw c.from-in-loop-k-2.ensures (omega (arith, level_fits c.args.counts.now c.args.book.now c.loop-k.k c.level-level.result.now c.requires c.is_within_limits.ensures c.level-level.ensures))
+overflow_mul-sum-in-loop-k-2 c = rw c.from-in-loop-k-2.ensures (omega (arith, level_fits c.args.counts.now c.args.book.now c.loop-k.k c.level-level.result.now c.args.counts.now.payable c.is_within_limits.ensures c.level-level.ensures))
 
 pub overflow_add-sum-in-loop-k : goal.overflow_add-sum-in-loop-k
-overflow_add-sum-in-loop-k c = rw (c.from-in-loop-k-2.ensures, c.from-in-loop-k.ensures) (omega (arith, level_fits c.args.counts.now c.args.book.now c.loop-k.k c.level-level.result.now c.requires c.is_within_limits.ensures c.level-level.ensures))
+overflow_add-sum-in-loop-k c = rw (c.from-in-loop-k-2.ensures, c.from-in-loop-k.ensures) (omega (arith, level_fits c.args.counts.now c.args.book.now c.loop-k.k c.level-level.result.now c.args.counts.now.payable c.is_within_limits.ensures c.level-level.ensures))
 
 pub overflow_add-sum-in-loop-k-2 : goal.overflow_add-sum-in-loop-k-2
-overflow_add-sum-in-loop-k-2 c = rw (c.from-in-loop-k-2.ensures, c.from-in-loop-k.ensures) (omega (arith, level_fits c.args.counts.now c.args.book.now c.loop-k.k c.level-level.result.now c.requires c.is_within_limits.ensures c.level-level.ensures))
+overflow_add-sum-in-loop-k-2 c = rw (c.from-in-loop-k-2.ensures, c.from-in-loop-k.ensures) (omega (arith, level_fits c.args.counts.now c.args.book.now c.loop-k.k c.level-level.result.now c.args.counts.now.payable c.is_within_limits.ensures c.level-level.ensures))
 
 -- the sum of all levels is the price
 all_levels : (c : goal.After-loop-k) → c.loop-k.sum ≡ price c.args.counts.now c.args.book.now

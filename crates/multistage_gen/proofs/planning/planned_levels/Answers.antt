@@ -1,10 +1,7 @@
-use Rattle.std.proofs.Common.{◌≡◌, List, [], ◌∷◌, All, subst, sym, ap, ◌∙◌}
+use Rattle.std.proofs.Common.{All, subst, sym, ◌∙◌}
 use Rattle.std.proofs.lemmas.Result.{IfOk-weaker}
-use Rattle.level_book.specs.declared.book.Level.{Level}
 use Rattle.level_book.specs.BookCosts.{room}
-use Rattle.multistage_gen.specs.declared.ranking.Rank.{Rank}
-use Rattle.multistage_gen.specs.declared.traffic.PlaceTraffic.{PlaceTraffic}
-use Rattle.multistage_gen.specs.Ranks.{IsCounted, StandByPlace, AreLevels, ArePlanned, ranks_from}
+use Rattle.multistage_gen.specs.Ranks.{IsCounted, StandByPlace, AreLevels, ranks_from}
 use Rattle.multistage_gen.proofs.Savings.{traffic_counted, by_place, levels_planned, level_at_first, level_at_second}
 use Rattle.multistage_gen.proofs.planning.planned_levels.Goals as goal
 

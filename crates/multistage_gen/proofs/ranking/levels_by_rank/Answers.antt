@@ -1,4 +1,4 @@
-use Rattle.std.proofs.Common.{◌≡◌, List, ℕ, subst, sym, map, cond, length, get_or, replicate, IsOk, IfOk, ap, ◌∙◌, arith}
+use Rattle.std.proofs.Common.{List, subst, sym}
 use Rattle.std.specs.List.Sorted.{IsPermutation}
 use Rattle.std.proofs.lemmas.Result.{IfOk-weaker}
 use Rattle.multistage_gen.specs.declared.ranking.Rank.{Rank}

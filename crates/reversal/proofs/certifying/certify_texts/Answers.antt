@@ -5,9 +5,9 @@ use Rattle.level_book.specs.Valid.{Valid}
 use Rattle.action_text.specs.Faults.{HasFirstFault}
 use Rattle.cert_text.specs.Faults.{HasFirstFault as CertificateFirst}
 use Rattle.bound_cert.specs.Accepted.{IsAccepted}
-use Rattle.reversal.specs.declared.ended.Ended.{Ended}
+use Rattle.requests.specs.declared.ended.Ended.{Ended}
 use Rattle.reversal.specs.Deeds.{write}
-use Rattle.reversal.specs.Ending.{bad_book, bad_text, bad_certificate}
+use Rattle.requests.specs.Ending.{bad_book, bad_text, bad_certificate}
 use Rattle.reversal.specs.Decision.{HasBookFault, DecidesCertify, accept, least_line}
 use Rattle.reversal.specs.JobReading.{IsRefusal, IsUnweighed}
 use Rattle.reversal.proofs.Deciding.{on_error, IsBroken, certify_by_book, certify_by_text, certify_by_rules, certify_by_certificate, certify_by_weight, certify_accepted}

@@ -1,12 +1,12 @@
 use Rattle.std.proofs.Common.{◌≡◌, ◌⊎◌, inl, inr, ◌∙◌, ℕ, List, [], ◌∷◌, map, Vec, Global, IfOk, IfErr, sym, subst, arith}
-use Rattle.reversal.specs.Request.{Choice}
+use Rattle.requests.specs.Request.{Choice}
 use Rattle.reversal.specs.Decision.{accept, refuse, DecidesBytes}
-use Rattle.reversal.specs.Ending.{no_memory}
+use Rattle.requests.specs.Ending.{no_memory}
 use Rattle.reversal.specs.JobReading.{job_of}
-use Rattle.reversal.specs.Request.{certify}
-use Rattle.reversal.specs.RequestReading.{as_certify}
+use Rattle.requests.specs.Request.{certify}
+use Rattle.requests.specs.RequestReading.{as_certify}
 use Rattle.reversal.proofs.Answering.{if_okay, if_error}
-use Rattle.reversal.proofs.Taking.{three_texts}
+use Rattle.requests.proofs.Taking.{three_texts}
 use Rattle.reversal.proofs.certifying.decide_certify.Goals as goal
 
 pub returns-clause-accepted : goal.returns-clause-accepted

@@ -1,17 +1,17 @@
 use Rattle.std.proofs.Common.{◌≡◌, ◌⊎◌, inl, inr, List, [], ◌∷◌, map, subst, refl, sym, IfOk, IfErr, ℕ, arith}
 use Rattle.std.specs.List.{AllByRecursion}
-use Rattle.reversal.specs.declared.request.Command.{Command}
-use Rattle.reversal.specs.Bounds.{command_numbers, IsWithin}
+use Rattle.requests.specs.declared.request.Command.{Command}
+use Rattle.requests.specs.Bounds.{command_numbers, IsWithin}
 use Rattle.reversal.specs.Decision.{accept, refuse, DecidesBytes}
-use Rattle.reversal.specs.Ending.{no_memory}
+use Rattle.requests.specs.Ending.{no_memory}
 use Rattle.reversal.specs.JobReading.{job_of}
-use Rattle.reversal.specs.Inputs.{inputs_of}
-use Rattle.reversal.specs.InputReading.{AreWithinLimits}
-use Rattle.reversal.specs.Request.{demo}
-use Rattle.reversal.specs.RequestReading.{as_demo}
-use Rattle.reversal.specs.RequestReading.{as_command}
+use Rattle.requests.specs.Inputs.{inputs_of}
+use Rattle.requests.specs.InputReading.{AreWithinLimits}
+use Rattle.requests.specs.Request.{demo}
+use Rattle.requests.specs.RequestReading.{as_demo}
+use Rattle.requests.specs.RequestReading.{as_command}
 use Rattle.reversal.proofs.Answering.{if_okay, if_error}
-use Rattle.reversal.proofs.Refusing.{all_front, all_after, stack_within, workers_within}
+use Rattle.requests.proofs.Refusing.{all_front, all_after, stack_within, workers_within}
 use Rattle.reversal.proofs.decision.decide.Goals as goal
 
 -- a demonstration has no input

@@ -1,8 +1,8 @@
 use Rattle.std.proofs.Common.{◌≡◌, ◌⊎◌, ◌∙◌, ℕ, List, [], ◌∷◌, map, Vec, Global, IfOk, IfErr, sym, subst, arith}
 use Rattle.level_book.specs.BookCosts.{slots_of}
 use Rattle.reversal.specs.Decision.{accept, refuse, Maker, DecidesOverBytes}
-use Rattle.reversal.specs.Ending.{no_memory}
-use Rattle.reversal.proofs.Taking.{three_texts, four_texts}
+use Rattle.requests.specs.Ending.{no_memory}
+use Rattle.requests.proofs.Taking.{three_texts, four_texts}
 use Rattle.reversal.proofs.decision.decide_over.Goals as goal
 
 pub returns-in-len3-clause-accepted : goal.returns-in-len3-clause-accepted

@@ -1,10 +1,10 @@
 use Rattle.std.proofs.Common.{◌≡◌, ◌⊎◌, ℕ, map, sym, subst}
 use Rattle.level_book.specs.BookCosts.{slots_of}
-use Rattle.reversal.specs.declared.ended.Ended.{Ended}
+use Rattle.requests.specs.declared.ended.Ended.{Ended}
 use Rattle.reversal.specs.Deeds.{Job, perform}
 use Rattle.reversal.specs.Decision.{accept, refuse, performed, DecidesOverBytes}
-use Rattle.reversal.specs.Ending.{no_memory}
-use Rattle.reversal.specs.RequestReading.{as_run}
+use Rattle.requests.specs.Ending.{no_memory}
+use Rattle.requests.specs.RequestReading.{as_run}
 use Rattle.reversal.proofs.Deciding.{on_error}
 use Rattle.reversal.proofs.decision.decide_run.Goals as goal
 

@@ -4,9 +4,9 @@ use Rattle.plan_types.specs.declared.action.Action.{Action}
 use Rattle.level_book.specs.BookCosts.{slots_of, names_of}
 use Rattle.level_book.specs.Valid.{Valid}
 use Rattle.action_text.specs.Faults.{HasFirstFault}
-use Rattle.reversal.specs.declared.ended.Ended.{Ended}
-use Rattle.reversal.specs.Ending.{bad_program, bad_journal, bad_book, bad_text}
-use Rattle.reversal.specs.Request.{says_raw, stack_pages}
+use Rattle.requests.specs.declared.ended.Ended.{Ended}
+use Rattle.requests.specs.Ending.{bad_program, bad_journal, bad_book, bad_text}
+use Rattle.requests.specs.Request.{says_raw, stack_pages}
 use Rattle.reversal.specs.Decision.{refuse, Keep, HasBookFault, HasProgramFault, HasJournalFault}
 use Rattle.reversal.specs.JobReading.{IsRefusal}
 use Rattle.reversal.proofs.Deciding.{on_error, IsBroken, over_by_book, over_by_keepers, over_by_program, over_by_journal, over_by_text, over_by_rules, over_accepted}

@@ -1,8 +1,8 @@
 use Rattle.std.proofs.Common.{◌≡◌, ℕ, Bool, true, false, subst}
 use Rattle.elf_load.specs.Elf.{IsProgram}
 use Rattle.elf_load.specs.Raw.{IsRawProgram}
-use Rattle.reversal.specs.Ending.{bad_program}
-use Rattle.reversal.specs.Request.{says_raw, stack_pages}
+use Rattle.requests.specs.Ending.{bad_program}
+use Rattle.requests.specs.Request.{says_raw, stack_pages}
 use Rattle.reversal.specs.Decision.{IsStartOf, HasProgramFault}
 use Rattle.reversal.specs.JobReading.{IsRefusal}
 use Rattle.reversal.proofs.Deciding.{on_error}

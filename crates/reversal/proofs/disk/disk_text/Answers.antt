@@ -4,6 +4,7 @@ use Rattle.plan_types.specs.declared.action.Action.{Action}
 use Rattle.level_book.specs.BookCosts.{slots_of, names_of, room}
 use Rattle.action_text.specs.Canonical.{HasSpelling}
 use Rattle.cost_tables.specs.TableRows.{FitsFastest}
+use Rattle.disk_gen.specs.DiskShapes.{AreDiskShaped}
 use Rattle.cert_text.specs.declared.certificate.Certificate.TheVariants.{Disk}
 use Rattle.cert_text.specs.Canonical as certificate_text
 use Rattle.cert_text.specs.Meaning.{HasText}
@@ -32,5 +33,7 @@ returns-clause-accepted g c =
     let plan = c.in_ok-tables.ensures.sizes.plan in
     let has : HasText c.args.steps b (Disk t) =
     subst (HasText c.args.steps b) is (c.certify_disk-certificate.ensures.text c.args.steps b c.is_within_limits.ensures fits c.in_ok-tables.ensures.sizes c.in_ok-tables.ensures.greatest) in
+    let steps_are = has.fast.sized.steps_are in
+    let shaped : AreDiskShaped t = record { fast = has.fast.shaped; fresh_long = has.fresh_long ∙ sym steps_are; held_long = has.held_long ∙ sym steps_are } in
     subst D (sym (c.in_ok-job.ensures.job ∙ (λ i. write (list_pieces (names_of b) (c.new.ensures i) ++ certificate_text.pieces (is i)))))
-    (disk_accepted c.args.steps c.args.book.now b t c.in_ok-list.list.items c.in_ok-book.ensures.found narrow plan.two plan.unlimited has c.in_ok-tables.ensures.greatest c.in_ok-list.ensures.list)
+    (disk_accepted c.args.steps c.args.book.now b t c.in_ok-list.list.items c.in_ok-book.ensures.found narrow plan.two plan.unlimited (has.fast.sized, shaped) c.in_ok-tables.ensures.greatest c.in_ok-list.ensures.list)

@@ -7,9 +7,9 @@ use Rattle.cost_tables.specs.TableRows.{Fits}
 use Rattle.cert_text.specs.declared.certificate.Certificate.TheVariants.{Nested}
 use Rattle.cert_text.specs.Canonical as certificate_text
 use Rattle.cert_text.specs.Meaning.{HasText}
-use Rattle.reversal.specs.declared.ended.Ended.{Ended}
+use Rattle.requests.specs.declared.ended.Ended.{Ended}
 use Rattle.reversal.specs.Deeds.{Job, write}
-use Rattle.reversal.specs.Ending.{bad_book, no_memory, out_of_range}
+use Rattle.requests.specs.Ending.{bad_book, no_memory, out_of_range}
 use Rattle.reversal.specs.Plans.{list_pieces}
 use Rattle.reversal.specs.NoPlans.{IsUnnested}
 use Rattle.reversal.specs.Decision.{HasBookFault, DecidesPlanHrevolve, accept}
@@ -58,4 +58,4 @@ returns-clause-accepted g c =
     let has : HasText c.args.steps b (Nested t) =
     subst (HasText c.args.steps b) is (c.certify_nested-certificate.ensures.text c.args.steps b c.is_within_limits.ensures fits c.in_ok-tables.ensures.sizes c.in_ok-tables.ensures.greatest) in
     subst D (sym (c.in_ok-job.ensures.job ∙ (λ i. write (list_pieces (names_of b) (c.new.ensures i) ++ certificate_text.pieces (is i)))))
-    (hrevolve_accepted c.args.steps c.args.book.now b t c.in_ok-list.list.items c.in_ok-book.ensures.found c.in_default.ensures c.in_ok-list.ensures.plan has c.in_ok-tables.ensures.greatest c.in_ok-list.ensures.list)
+    (hrevolve_accepted c.args.steps c.args.book.now b t c.in_ok-list.list.items c.in_ok-book.ensures.found c.in_default.ensures c.in_ok-list.ensures.plan (has.tables.sized, has.tables.shaped) c.in_ok-tables.ensures.greatest c.in_ok-list.ensures.list)

@@ -3,10 +3,11 @@ use Rattle.std.specs.List.{AllByRecursion}
 use Rattle.plan_types.specs.declared.action.Action.{Action}
 use Rattle.level_book.specs.BookCosts.{slots_of, names_of}
 use Rattle.action_text.specs.Canonical.{HasSpelling}
+use Rattle.revolve_gen.specs.Multistage.{IsMultistage}
 use Rattle.revolve_gen.proofs.Extending.{multistage_valid}
-use Rattle.reversal.specs.declared.ended.Ended.{Ended}
+use Rattle.requests.specs.declared.ended.Ended.{Ended}
 use Rattle.reversal.specs.Deeds.{Job, write}
-use Rattle.reversal.specs.Ending.{bad_book}
+use Rattle.requests.specs.Ending.{bad_book}
 use Rattle.reversal.specs.Plans.{list_pieces}
 use Rattle.reversal.specs.Decision.{HasBookFault, DecidesPlanMultistage, accept}
 use Rattle.reversal.specs.JobReading.{IsRefusal}
@@ -16,7 +17,6 @@ use Rattle.reversal.proofs.Deciding.{on_error, IsUnstaged, multistage_by_book, m
 use Rattle.cert_text.specs.declared.certificate.Certificate.{Certificate}
 use Rattle.cert_text.specs.declared.certificate.Certificate.TheVariants.{Revolve, Places, Nested, Disk}
 use Rattle.cert_text.specs.Canonical as certificate_text
-use Rattle.cert_text.specs.Meaning.{HasText}
 use Rattle.bound_cert.specs.Thresholds.{IsThresholdOf}
 use Rattle.bound_cert.specs.Accepted.{IsPlaces}
 use Rattle.reversal.proofs.multistage.multistage_text.Goals as goal
@@ -42,6 +42,12 @@ returns-in_err-list-clause-refused c =
     let P : Ended → Type 0 = λ x. IsUnstaged c.args.steps c.in_ok-book.book x in
     multistage_by_plan c.args.steps c.args.book.now e c.in_ok-book.book c.in_ok-book.ensures.found (subst P same c.in_err-list.ensures.refused))
 
+pub certify_places-requires : goal.certify_places-requires
+certify_places-requires c =
+    let b = c.in_ok-book.book in
+    let M : List Action → Type 0 = λ l. IsMultistage c.args.steps b l in
+    (c.args.steps, c.requires.steps, subst M (sym c.deref.ensures.value) c.in_ok-list.ensures.class)
+
 pub certified_text-requires : goal.certified_text-requires
 certified_text-requires c =
     let b = c.in_ok-book.book in
@@ -53,7 +59,7 @@ returns-clause-accepted c =
     let b = c.in_ok-book.book in
     let list = c.in_ok-list.list.items in
     let D : Job → Type 0 = λ j. DecidesPlanMultistage c.args.steps c.args.book.now (accept j) in
-    let T : List Action → Type 0 = λ l. IsPlaces (λ threshold. IsThresholdOf threshold c.args.steps b l) c.in_ok-certificate.certificate in
-    let of = threshold_in _ c.in_ok-certificate.certificate (subst T c.deref.ensures.value c.in_ok-certificate.ensures.threshold) in
+    let T : List Action → Type 0 = λ l. IsMultistage c.args.steps b l → IsPlaces (λ threshold. IsThresholdOf threshold c.args.steps b l) c.in_ok-certificate.certificate in
+    let of = threshold_in _ c.in_ok-certificate.certificate (subst T c.deref.ensures.value (c.in_ok-certificate.ensures.threshold c.args.steps) c.in_ok-list.ensures.class) in
     subst D (sym (c.in_ok-job.ensures.job ∙ (λ i. write (list_pieces (names_of b) (c.new.ensures i) ++ certificate_text.pieces (of.1 i)))))
-    (multistage_accepted c.args.steps c.args.book.now b list of.0 c.in_ok-book.ensures.found c.in_ok-list.ensures.list of.2 (subst (HasText c.args.steps b) of.1 c.in_ok-certificate.ensures.text))
+    (multistage_accepted c.args.steps c.args.book.now b list of.0 c.in_ok-book.ensures.found c.in_ok-list.ensures.list of.2)

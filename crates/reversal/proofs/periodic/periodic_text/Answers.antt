@@ -5,9 +5,9 @@ use Rattle.level_book.specs.BookCosts.{slots_of, names_of}
 use Rattle.action_text.specs.Canonical.{HasSpelling}
 use Rattle.disk_gen.specs.Periodic.{periodic_list}
 use Rattle.disk_gen.proofs.Leading.{periodic_valid}
-use Rattle.reversal.specs.declared.ended.Ended.{Ended}
+use Rattle.requests.specs.declared.ended.Ended.{Ended}
 use Rattle.reversal.specs.Deeds.{Job, write}
-use Rattle.reversal.specs.Ending.{bad_book, no_memory}
+use Rattle.requests.specs.Ending.{bad_book, no_memory}
 use Rattle.reversal.specs.Plans.{list_pieces}
 use Rattle.reversal.specs.NoPlans.{IsUnperiodic}
 use Rattle.reversal.specs.Decision.{HasBookFault, DecidesPlanPeriodic, accept}

@@ -1,10 +1,10 @@
 use Rattle.std.proofs.Common.{◌≡◌, ◌⊎◌, ◌∙◌, ℕ, List, [], ◌∷◌, map, Vec, Global, IfOk, IfErr, sym, subst, arith}
 use Rattle.reversal.specs.Decision.{accept, refuse, DecidesBytes}
-use Rattle.reversal.specs.Ending.{no_memory}
+use Rattle.requests.specs.Ending.{no_memory}
 use Rattle.reversal.specs.JobReading.{job_of}
-use Rattle.reversal.specs.Request.{run_revolve}
-use Rattle.reversal.specs.RequestReading.{as_run_revolve}
-use Rattle.reversal.proofs.Taking.{two_texts, three_texts}
+use Rattle.requests.specs.Request.{run_revolve}
+use Rattle.requests.specs.RequestReading.{as_run_revolve}
+use Rattle.requests.proofs.Taking.{two_texts, three_texts}
 use Rattle.reversal.proofs.planning.decide_run_revolve.Goals as goal
 
 pub returns-in-len2-clause-accepted : goal.returns-in-len2-clause-accepted

@@ -2,10 +2,10 @@ use Rattle.std.proofs.Common.{◌≡◌, ◌≤◌, sym, subst, List, length}
 use Rattle.std.specs.Option.{option_copied}
 use Rattle.plan_types.specs.declared.action.Action.{Action}
 use Rattle.level_book.specs.BookCosts.{slots_of}
-use Rattle.reversal.specs.declared.ended.Ended.{Ended}
+use Rattle.requests.specs.declared.ended.Ended.{Ended}
 use Rattle.reversal.specs.Deeds.{perform}
-use Rattle.reversal.specs.Ending.{bad_book, bad_program, bad_journal}
-use Rattle.reversal.specs.Request.{says_raw, stack_pages}
+use Rattle.requests.specs.Ending.{bad_book, bad_program, bad_journal}
+use Rattle.requests.specs.Request.{says_raw, stack_pages}
 use Rattle.reversal.specs.Decision.{Keep, refuse, accept, HasBookFault, HasProgramFault, HasJournalFault, DecidesRunRevolve}
 use Rattle.reversal.specs.JobReading.{IsRefusal}
 use Rattle.level_book.specs.Valid.{Valid}

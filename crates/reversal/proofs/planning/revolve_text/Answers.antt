@@ -4,9 +4,9 @@ use Rattle.plan_types.specs.declared.action.Action.{Action}
 use Rattle.level_book.specs.BookCosts.{names_of}
 use Rattle.action_text.specs.Canonical.{HasSpelling}
 use Rattle.cert_text.specs.Canonical as certificate
-use Rattle.reversal.specs.declared.ended.Ended.{Ended}
+use Rattle.requests.specs.declared.ended.Ended.{Ended}
 use Rattle.reversal.specs.Deeds.{Job, write}
-use Rattle.reversal.specs.Ending.{bad_book}
+use Rattle.requests.specs.Ending.{bad_book}
 use Rattle.reversal.specs.Plans.{list_pieces}
 use Rattle.reversal.specs.Decision.{HasBookFault, DecidesPlanRevolve, accept}
 use Rattle.reversal.specs.JobReading.{IsRefusal}

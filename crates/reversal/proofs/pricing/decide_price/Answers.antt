@@ -1,11 +1,11 @@
 use Rattle.std.proofs.Common.{◌≡◌, ◌⊎◌, inl, inr, ◌∙◌, ℕ, List, [], ◌∷◌, map, Vec, Global, IfOk, IfErr, sym, subst, arith}
-use Rattle.reversal.specs.Request.{Choice, price}
+use Rattle.requests.specs.Request.{Choice, price}
 use Rattle.reversal.specs.Decision.{accept, refuse, DecidesBytes}
-use Rattle.reversal.specs.Ending.{no_memory}
+use Rattle.requests.specs.Ending.{no_memory}
 use Rattle.reversal.specs.JobReading.{job_of}
-use Rattle.reversal.specs.RequestReading.{as_price}
+use Rattle.requests.specs.RequestReading.{as_price}
 use Rattle.reversal.proofs.Answering.{if_okay, if_error}
-use Rattle.reversal.proofs.Taking.{two_texts}
+use Rattle.requests.proofs.Taking.{two_texts}
 use Rattle.reversal.proofs.pricing.decide_price.Goals as goal
 
 pub returns-clause-accepted : goal.returns-clause-accepted

@@ -3,7 +3,7 @@ use Rattle.plan_types.specs.declared.action.Action.{Action}
 use Rattle.level_book.specs.BookCosts.{slots_of}
 use Rattle.level_book.specs.Valid.{Valid}
 use Rattle.cost_report.specs.Report.{report_lines}
-use Rattle.reversal.specs.declared.ended.Ended.{Ended}
+use Rattle.requests.specs.declared.ended.Ended.{Ended}
 use Rattle.reversal.specs.Pricing.{list_report}
 use Rattle.reversal.proofs.Deciding.{on_error, IsBroken, price_by_rules, price_accepted}
 use Rattle.reversal.proofs.pricing.price_texts.Goals as goal

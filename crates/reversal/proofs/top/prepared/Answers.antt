@@ -1,10 +1,10 @@
 use Rattle.std.proofs.Common.{◌≡◌, ℕ, List, map, Vec, Global, IfOk, sym, ◌∙◌, subst}
-use Rattle.reversal.specs.declared.ended.Ended.{Ended}
-use Rattle.reversal.specs.InputReading.{all, Reads, Stops}
-use Rattle.reversal.specs.Inputs.{inputs_of}
+use Rattle.requests.specs.declared.ended.Ended.{Ended}
+use Rattle.requests.specs.InputReading.{all, Reads, Stops}
+use Rattle.requests.specs.Inputs.{inputs_of}
 use Rattle.reversal.specs.Decision.{accept, Comes}
 use Rattle.reversal.specs.JobReading.{job_of, KeepersHaveRoom}
-use Rattle.reversal.specs.RequestReading.{request_of}
+use Rattle.requests.specs.RequestReading.{request_of}
 use Rattle.reversal.proofs.Answering.{Refused, comes_by, stops_refused, decides_refused, no_input_fault, if_error, if_okay}
 use Rattle.reversal.proofs.Deciding.{on_error}
 use Rattle.reversal.proofs.top.prepared.Goals as goal

@@ -1,4 +1,4 @@
-use Rattle.std.proofs.Common.{◌≡◌, ◌∙◌, ℕ, ◌+◌, ◌<◌, List, length, take, slice_get, slice_index_or, Some, false, true≢false, refl, sym, ap, subst, arith}
+use Rattle.std.proofs.Common.{◌≡◌, ◌∙◌, ℕ, ◌+◌, ◌*◌, ◌<◌, List, length, take, slice_get, slice_index_or, Some, true≢false, refl, sym, ap, subst, arith}
 use Rattle.std.proofs.lemmas.Option.{slice_get-get_or}
 use Rattle.std.proofs.lemmas.Result.{err_from_is_err_and}
 use Rattle.plan_types.specs.declared.action.Action.{Action}
@@ -12,18 +12,18 @@ use Rattle.schedule_rules.specs.Situation.{Situation}
 use Rattle.reverse_runner.specs.declared.fault.RunFault.TheVariants.{Keeper, Damaged, Visitor, Ended}
 use Rattle.reverse_runner.specs.KeepersSeen.{calls_to, by_number, told_by, Called}
 use Rattle.reverse_queries.specs.Performing.{calls_of_all, PerformsAll}
-use Rattle.reverse_queries.specs.Queries.{up_to}
+use Rattle.reverse_queries.specs.Queries.{IsLast, up_to}
+use Rattle.reverse_queries.specs.Finding.{Does, Got}
 use Rattle.reverse_queries.proofs.Fronts.{front_past, front_ends}
 use Rattle.std.proofs.lemmas.List.{take_all}
 use Rattle.rv_machine.specs.States.{state_number}
-use Rattle.reverse_runner.specs.Acts.{Holdings, Acts}
 use Rattle.reverse_runner.specs.SessionState.{holdings_of}
-use Rattle.reverse_runner.specs.Performed.{Gets}
-use Rattle.reverse_queries.specs.Finding.{Got}
-use Rattle.reverse_queries.proofs.Going.{gone_start, going_on, found_on, through}
-use Rattle.reverse_queries.proofs.Looking.{finder_on, finder_ends, found_none}
-use Rattle.reverse_queries.proofs.Turning.{AreOfRun, out_of_run, hands_of, left_before}
-use Rattle.reverse_queries.proofs.Ways.{way_start, way_on, may_perform, has_room, refused_in, damaged_of, at_end, is_sound, goes_from, past_levels, same_fault, not_both}
+use Rattle.reverse_runner.specs.Performed.{states_out}
+use Rattle.reverse_queries.proofs.Going.{gone_start, going_on, found_on, got_even, through}
+use Rattle.reverse_queries.proofs.Looking.{found_none}
+use Rattle.reverse_queries.proofs.Running.{ran_at}
+use Rattle.reverse_queries.proofs.Turning.{hands_of, left_before, left_at_start, left_at_end}
+use Rattle.reverse_queries.proofs.Ways.{way_start, way_on, may_perform, has_room, refused_in, at_end, goes_from, past_levels, same_fault, not_both, acts_there, gets_there, run_has}
 use Rattle.reverse_queries.proofs.Fitting.{fault_fits, if_err_at}
 use Rattle.reverse_queries.proofs.finding.find_last.Goals as goal
 
@@ -35,32 +35,33 @@ at_place list i within = slice_get-get_or list i (Forward 0 0 Nothing) within
 last_is : (last : ℕ) (now was : Situation) (steps : ℕ) (slots : List Slots) → last ≡ now.at.reverse → now ≡ was → was.at ≡ start steps slots → last ≡ steps
 last_is last now was steps slots e f at = e ∙ ap (λ (s : Situation). s.at.reverse) f ∙ ap (λ (c : Configuration). c.reverse) at
 
--- what an action does, by a journal that is the same
-acts_of : (was journal : List (List ℕ)) (a : Action) (old new : Holdings) → was ≡ journal → Acts was a old new → Acts journal a old new
-acts_of was journal a old new same acts = let P : List (List ℕ) → Type 0 = λ j. Acts j a old new in subst P same acts
+-- the number of the last state is that of the steps of the machine
+last_number : (last unit count units steps : ℕ) → last ≡ unit * count → unit ≡ units → count ≡ steps → last ≡ units * steps
+last_number last unit count units steps is one two = is ∙ (λ i. one i * two i)
 
 pub loop-action-init : goal.loop-action-init
 loop-action-init g c =
     let old = c.args.session.now in
     let finder = c.new-finder.ensures in
     let at = c.requires.start in
+    let all = left_at_start old.unit old.situation.steps old.situation.slots old.situation.at at in
     record {
       way = way_start _ _ _ _ _ _ c.args.list.now c.args.session.now c.args.keepers.now.items c.args.steps.now at c.requires.lasts;
       asked = record {
         question_is = finder.question;
         word_is = finder.word;
-        last_is = finder.last ∙ last_is c.reverse-last.result c.config.result.now old.situation old.situation.steps old.situation.slots c.reverse-last.ensures c.config.ensures at;
+        last_is = last_number c.new-finder.result.last c.unit.result c.reverse.result old.unit old.situation.steps finder.last c.unit.ensures.value (last_is c.reverse.result c.config.result.now old.situation old.situation.steps old.situation.slots c.reverse.ensures c.config.ensures at);
         unanswered = finder.answer;
       };
       going = record {
-        gone = gone_start old.situation.steps old.journal c.args.list.now (holdings_of old (told_by g.K.Keeper.told c.args.keepers.now.items)) old.situation.at;
+        gone = gone_start old.unit old.situation.steps old.journal c.args.list.now (holdings_of old (told_by g.K.Keeper.told c.args.keepers.now.items)) old.situation.at;
         unfound = λ states have. record {
-          none = λ m from lt does. (let all = ap (λ (x : Configuration). x.reverse) at in absurd (omega (arith, from, lt, all)));
-          later = λ ended. absurd (true≢false (sym ended ∙ ap (λ (x : Configuration). x.forward_ended) at));
+          none = λ m from lt does. absurd (omega (arith, from, lt, all));
+          later = λ le. absurd (omega (arith, le, all));
         };
-        of_run = λ first is i a n lt. absurd (omega (arith, lt));
+        of_run = λ first is i a lt. absurd (omega (arith, lt));
       };
-      front = λ n left. refl;
+      front = λ n lt. refl;
     }
 
 pub perform-requires-clause-allowed : goal.perform-requires-clause-allowed
@@ -99,11 +100,11 @@ returns-in_err-perform-clause-refused g c =
     let at = at_place list i within in
     let p = err_from_is_err_and c.from_residual.result c.from_residual.ensures.1 in
     let is = same_fault c.perform.result c.from_residual.result _ _ p.0 c.in_err-perform.was p.1 p.2 p.1 in
-    let fits = fault_fits (λ action. false) a _ c.perform.result p.0 is (λ k e. (c.perform.ensures.keeper_cause k e).0) c.perform.ensures.damaged c.perform.ensures.wants
+    let fits = fault_fits (λ action held. ⊥) a _ c.perform.result p.0 is (λ k e. (c.perform.ensures.keeper_cause k e).0) c.perform.ensures.damaged c.perform.ensures.wants
     (λ e. (let rose = c.perform.ensures.cause e in absurd (omega (arith, rose))))
     (λ e. true≢false (sym (c.perform.ensures.ended.0 e) ∙ so_far.way.performs.lasts)) in
     if_err_at _ c.from_residual.result p.0 p.1
-    (refused_in _ _ _ _ _ _ list list i old mid c.perform.new.self _ _ c.perform.new.keepers.items _ _ _ a (λ action. false) p.0 at refl refl within so_far.way
+    (refused_in _ _ _ _ _ _ list list i old mid c.perform.new.self _ _ c.perform.new.keepers.items _ _ _ a (λ action held. ⊥) p.0 at refl refl within so_far.way so_far.going.gone
     c.in_err-perform.ensures.refused c.in_err-perform.ensures.uncounted c.in_err-perform.ensures.called_at_most fits)
 
 pub returns-in_err-perform-clause-not_visitor : goal.returns-in_err-perform-clause-not_visitor
@@ -136,20 +137,6 @@ returns-in_err-perform-clause-keepers_later g c k =
     let quiet = c.loop-action.invariant.way.quiet k in
     let later = c.perform.ensures.keepers_later k in
     omega (arith, quiet, later)
-
-pub returns-in_err-perform-clause-damaged : goal.returns-in_err-perform-clause-damaged
-returns-in_err-perform-clause-damaged g c k put got e =
-    let so_far = c.loop-action.invariant in
-    let old = c.args.session.now in
-    let mid = c.loop-action.session in
-    let list = c.args.list.now in
-    let i = c.loop-action.action-index in
-    let a = slice_index_or list i (Forward 0 0 Nothing) in
-    let within : i < length list = omega arith in
-    let at = at_place list i within in
-    let p = err_from_is_err_and c.from_residual.result c.from_residual.ensures.1 in
-    let same = same_fault c.perform.result c.from_residual.result _ _ (Damaged k put got) c.in_err-perform.was p.1 p.2 e in
-    damaged_of old.work a _ k put got so_far.way.pages (c.perform.ensures.damaged k put got same)
 
 pub returns-in_err-perform-clause-undamaged : goal.returns-in_err-perform-clause-undamaged
 returns-in_err-perform-clause-undamaged g c first is stands k put got e =
@@ -186,18 +173,17 @@ returns-in-Some-clause-answer g c first is stands =
     let at = at_place list i within in
     let new = c.perform.new.self in
     let done = c.in_ok-perform.ensures in
+    let unit = old.unit in
     let steps = old.situation.steps in
     let slots = old.situation.slots in
     let goes = goes_from old mid new (take i list) a so_far.way.performs done.performs in
-    let sound = is_sound old mid (take i list) c.requires.start so_far.way.performs in
-    let J : List (List ℕ) → Type 0 = λ j. Gets Got j a mid.situation.at.work mid.work mid.tape c.loop-action.finder c.perform.new.visitor in
-    let gets = subst J so_far.way.performs.journal done.gets in
-    let ends = finder_ends c.args.question c.args.word steps slots old.journal mid.situation.at a new.situation.at mid.work mid.tape c.loop-action.finder c.perform.new.visitor c.in-Some.place goes so_far.way.turns gets so_far.asked c.in-Some.is in
-    let there = so_far.way.stands first is stands in
-    let A : List (List ℕ) → Type 0 = λ j. AreOfRun first j mid.situation.at mid.work mid.tape in
-    let are = subst A so_far.way.performs.journal (there.work, there.tape) in
+    let held = holdings_of mid (told_by g.K.Keeper.told c.loop-action.keepers.items) in
+    let gets = gets_there Got old mid (take i list) a (states_out a mid.work mid.tape.states) c.loop-action.finder c.perform.new.visitor so_far.way.performs done.gets in
+    let ran = ran_at c.args.question c.args.word unit steps slots old.journal mid.situation.at a new.situation.at held c.loop-action.finder c.perform.new.visitor goes so_far.way.turns so_far.asked gets in
+    let ends = ran.answered c.in-Some.place c.in-Some.is in
     let states = state_number first old.journal in
-    ends.2 states (λ n hands. out_of_run first steps slots old.journal mid.situation.at a new.situation.at n mid.work mid.tape goes sound hands are) (so_far.going.unfound states (so_far.going.of_run first (is, stands)))
+    let has = run_has first old mid (told_by g.K.Keeper.told c.loop-action.keepers.items) (take i list) a new.situation.at c.requires.start so_far.way.performs goes (so_far.way.stands first is stands) in
+    ends.2 states has (so_far.going.unfound states (so_far.going.of_run first (is, stands)))
 
 pub returns-in-Some-clause-found : goal.returns-in-Some-clause-found
 returns-in-Some-clause-found g c =
@@ -211,17 +197,21 @@ returns-in-Some-clause-found g c =
     let at = at_place list i within in
     let new = c.perform.new.self in
     let done = c.in_ok-perform.ensures in
+    let unit = old.unit in
     let steps = old.situation.steps in
     let slots = old.situation.slots in
     let goes = goes_from old mid new (take i list) a so_far.way.performs done.performs in
-    let J : List (List ℕ) → Type 0 = λ j. Gets Got j a mid.situation.at.work mid.work mid.tape c.loop-action.finder c.perform.new.visitor in
-    let gets = subst J so_far.way.performs.journal done.gets in
-    let ends = finder_ends c.args.question c.args.word steps slots old.journal mid.situation.at a new.situation.at mid.work mid.tape c.loop-action.finder c.perform.new.visitor c.in-Some.place goes so_far.way.turns gets so_far.asked c.in-Some.is in
-    let front = front_ends steps c.in-Some.place list i a at ends.0 (so_far.front c.in-Some.place ends.1) in
+    let held = holdings_of mid (told_by g.K.Keeper.told c.loop-action.keepers.items) in
+    let gets = gets_there Got old mid (take i list) a (states_out a mid.work mid.tape.states) c.loop-action.finder c.perform.new.visitor so_far.way.performs done.gets in
+    let ran = ran_at c.args.question c.args.word unit steps slots old.journal mid.situation.at a new.situation.at held c.loop-action.finder c.perform.new.visitor goes so_far.way.turns so_far.asked gets in
+    let ends = ran.answered c.in-Some.place c.in-Some.is in
+    let front = front_ends unit steps c.in-Some.place list i a at ends.0 (so_far.front c.in-Some.place ends.1) in
     let told = told_by g.K.Keeper.told in
-    let acts = acts_of mid.journal old.journal a _ _ so_far.way.performs.journal done.acts in
-    found_on c.args.question c.args.word steps slots old.journal list (up_to steps (Some c.in-Some.place) list) i (holdings_of old (told c.args.keepers.now.items)) (holdings_of mid (told c.loop-action.keepers.items))
-    (holdings_of new (told c.perform.new.keepers.items)) mid.situation.at a new.situation.at c.loop-action.finder (Some c.in-Some.place) _ (omega (arith, within)) front goes so_far.way.turns at acts ends.2 so_far.going
+    let acts = acts_there old mid (take i list) a _ _ so_far.way.performs done.acts in
+    let even = got_even Got old.journal unit steps a held c.loop-action.finder c.perform.new.visitor gets in
+    found_on (λ states. IsLast (Does c.args.question old.journal c.args.word states) (unit * steps) (Some c.in-Some.place)) unit steps slots old.journal list (up_to unit steps (Some c.in-Some.place) list) i
+    (holdings_of old (told c.args.keepers.now.items)) held (holdings_of new (told c.perform.new.keepers.items)) mid.situation.at a new.situation.at (omega (arith, within)) front goes so_far.way.turns at acts even so_far.going.gone
+    (λ states have all. ends.2 states have (so_far.going.unfound states all))
 
 pub returns-in-Some-clause-performs : goal.returns-in-Some-clause-performs
 returns-in-Some-clause-performs g c =
@@ -235,13 +225,15 @@ returns-in-Some-clause-performs g c =
     let at = at_place list i within in
     let new = c.perform.new.self in
     let done = c.in_ok-perform.ensures in
+    let unit = old.unit in
     let steps = old.situation.steps in
     let slots = old.situation.slots in
     let goes = goes_from old mid new (take i list) a so_far.way.performs done.performs in
-    let J : List (List ℕ) → Type 0 = λ j. Gets Got j a mid.situation.at.work mid.work mid.tape c.loop-action.finder c.perform.new.visitor in
-    let gets = subst J so_far.way.performs.journal done.gets in
-    let ends = finder_ends c.args.question c.args.word steps slots old.journal mid.situation.at a new.situation.at mid.work mid.tape c.loop-action.finder c.perform.new.visitor c.in-Some.place goes so_far.way.turns gets so_far.asked c.in-Some.is in
-    let front = front_ends steps c.in-Some.place list i a at ends.0 (so_far.front c.in-Some.place ends.1) in
+    let held = holdings_of mid (told_by g.K.Keeper.told c.loop-action.keepers.items) in
+    let gets = gets_there Got old mid (take i list) a (states_out a mid.work mid.tape.states) c.loop-action.finder c.perform.new.visitor so_far.way.performs done.gets in
+    let ran = ran_at c.args.question c.args.word unit steps slots old.journal mid.situation.at a new.situation.at held c.loop-action.finder c.perform.new.visitor goes so_far.way.turns so_far.asked gets in
+    let ends = ran.answered c.in-Some.place c.in-Some.is in
+    let front = front_ends unit steps c.in-Some.place list i a at ends.0 (so_far.front c.in-Some.place ends.1) in
     let on = way_on _ _ _ _ _ _ list i old mid new _ _ c.perform.new.keepers.items _ _ _ a c.requires.start at so_far.way (record {
       performs = done.performs;
       acts = done.acts;
@@ -268,13 +260,15 @@ returns-in-Some-clause-counted g c =
     let at = at_place list i within in
     let new = c.perform.new.self in
     let done = c.in_ok-perform.ensures in
+    let unit = old.unit in
     let steps = old.situation.steps in
     let slots = old.situation.slots in
     let goes = goes_from old mid new (take i list) a so_far.way.performs done.performs in
-    let J : List (List ℕ) → Type 0 = λ j. Gets Got j a mid.situation.at.work mid.work mid.tape c.loop-action.finder c.perform.new.visitor in
-    let gets = subst J so_far.way.performs.journal done.gets in
-    let ends = finder_ends c.args.question c.args.word steps slots old.journal mid.situation.at a new.situation.at mid.work mid.tape c.loop-action.finder c.perform.new.visitor c.in-Some.place goes so_far.way.turns gets so_far.asked c.in-Some.is in
-    let front = front_ends steps c.in-Some.place list i a at ends.0 (so_far.front c.in-Some.place ends.1) in
+    let held = holdings_of mid (told_by g.K.Keeper.told c.loop-action.keepers.items) in
+    let gets = gets_there Got old mid (take i list) a (states_out a mid.work mid.tape.states) c.loop-action.finder c.perform.new.visitor so_far.way.performs done.gets in
+    let ran = ran_at c.args.question c.args.word unit steps slots old.journal mid.situation.at a new.situation.at held c.loop-action.finder c.perform.new.visitor goes so_far.way.turns so_far.asked gets in
+    let ends = ran.answered c.in-Some.place c.in-Some.is in
+    let front = front_ends unit steps c.in-Some.place list i a at ends.0 (so_far.front c.in-Some.place ends.1) in
     let on = way_on _ _ _ _ _ _ list i old mid new _ _ c.perform.new.keepers.items _ _ _ a c.requires.start at so_far.way (record {
       performs = done.performs;
       acts = done.acts;
@@ -286,7 +280,7 @@ returns-in-Some-clause-counted g c =
       stands = done.stands;
       alone = done.alone;
     }) in
-    let P : List Action → Type 0 = λ l. c.perform.new.steps ≡ c.args.steps.now + forward l in
+    let P : List Action → Type 0 = λ l. c.perform.new.steps ≡ c.args.steps.now + old.unit * forward l in
     subst P (sym front) on.counted
 
 pub returns-in-Some-clause-called : goal.returns-in-Some-clause-called
@@ -301,13 +295,15 @@ returns-in-Some-clause-called g c =
     let at = at_place list i within in
     let new = c.perform.new.self in
     let done = c.in_ok-perform.ensures in
+    let unit = old.unit in
     let steps = old.situation.steps in
     let slots = old.situation.slots in
     let goes = goes_from old mid new (take i list) a so_far.way.performs done.performs in
-    let J : List (List ℕ) → Type 0 = λ j. Gets Got j a mid.situation.at.work mid.work mid.tape c.loop-action.finder c.perform.new.visitor in
-    let gets = subst J so_far.way.performs.journal done.gets in
-    let ends = finder_ends c.args.question c.args.word steps slots old.journal mid.situation.at a new.situation.at mid.work mid.tape c.loop-action.finder c.perform.new.visitor c.in-Some.place goes so_far.way.turns gets so_far.asked c.in-Some.is in
-    let front = front_ends steps c.in-Some.place list i a at ends.0 (so_far.front c.in-Some.place ends.1) in
+    let held = holdings_of mid (told_by g.K.Keeper.told c.loop-action.keepers.items) in
+    let gets = gets_there Got old mid (take i list) a (states_out a mid.work mid.tape.states) c.loop-action.finder c.perform.new.visitor so_far.way.performs done.gets in
+    let ran = ran_at c.args.question c.args.word unit steps slots old.journal mid.situation.at a new.situation.at held c.loop-action.finder c.perform.new.visitor goes so_far.way.turns so_far.asked gets in
+    let ends = ran.answered c.in-Some.place c.in-Some.is in
+    let front = front_ends unit steps c.in-Some.place list i a at ends.0 (so_far.front c.in-Some.place ends.1) in
     let on = way_on _ _ _ _ _ _ list i old mid new _ _ c.perform.new.keepers.items _ _ _ a c.requires.start at so_far.way (record {
       performs = done.performs;
       acts = done.acts;
@@ -370,12 +366,13 @@ loop-action-preserved g c =
     let at = at_place list i within in
     let new = c.perform.new.self in
     let done = c.in_ok-perform.ensures in
+    let unit = old.unit in
     let steps = old.situation.steps in
     let slots = old.situation.slots in
     let goes = goes_from old mid new (take i list) a so_far.way.performs done.performs in
-    let sound = is_sound old mid (take i list) c.requires.start so_far.way.performs in
-    let J : List (List ℕ) → Type 0 = λ j. Gets Got j a mid.situation.at.work mid.work mid.tape c.loop-action.finder c.perform.new.visitor in
-    let gets = subst J so_far.way.performs.journal done.gets in
+    let held = holdings_of mid (told_by g.K.Keeper.told c.loop-action.keepers.items) in
+    let gets = gets_there Got old mid (take i list) a (states_out a mid.work mid.tape.states) c.loop-action.finder c.perform.new.visitor so_far.way.performs done.gets in
+    let ran = ran_at c.args.question c.args.word unit steps slots old.journal mid.situation.at a new.situation.at held c.loop-action.finder c.perform.new.visitor goes so_far.way.turns so_far.asked gets in
     let on = way_on _ _ _ _ _ _ list i old mid new _ _ c.perform.new.keepers.items _ _ _ a c.requires.start at so_far.way (record {
       performs = done.performs;
       acts = done.acts;
@@ -387,24 +384,21 @@ loop-action-preserved g c =
       stands = done.stands;
       alone = done.alone;
     }) in
-    let next = finder_on c.args.question c.args.word steps slots old.journal mid.situation.at a new.situation.at mid.work mid.tape c.loop-action.finder c.perform.new.visitor goes so_far.way.turns gets so_far.asked c.in_default.is in
+    let next = ran.unanswered c.in_default.is in
     let told = told_by g.K.Keeper.told in
-    let acts = acts_of mid.journal old.journal a _ _ so_far.way.performs.journal done.acts in
+    let acts = acts_there old mid (take i list) a _ _ so_far.way.performs done.acts in
+    let even = got_even Got old.journal unit steps a held c.loop-action.finder c.perform.new.visitor gets in
     record {
       way = on;
       asked = next.0;
       going =
-          going_on c.args.question c.args.word steps slots old.journal list i (holdings_of old (told c.args.keepers.now.items)) (holdings_of mid (told c.loop-action.keepers.items)) (holdings_of new (told c.perform.new.keepers.items))
-          mid.situation.at a new.situation.at c.loop-action.finder c.perform.new.visitor _ goes so_far.way.turns at acts next.1
-          (λ first is n hands.
-          (let there = so_far.way.stands first is.0 is.1 in
-          let A : List (List ℕ) → Type 0 = λ j. AreOfRun first j mid.situation.at mid.work mid.tape in
-          let are = subst A so_far.way.performs.journal (there.work, there.tape) in
-          out_of_run first steps slots old.journal mid.situation.at a new.situation.at n mid.work mid.tape goes sound hands are))
+          going_on c.args.question c.args.word unit steps slots old.journal list i (holdings_of old (told c.args.keepers.now.items)) held (holdings_of new (told c.perform.new.keepers.items))
+          mid.situation.at a new.situation.at c.loop-action.finder c.perform.new.visitor _ goes so_far.way.turns at acts even next.1
+          (λ first is. run_has first old mid (told c.loop-action.keepers.items) (take i list) a new.situation.at c.requires.start so_far.way.performs goes (so_far.way.stands first is.0 is.1))
           so_far.going;
-      front = λ n left.
-          (let before = left_before steps mid.situation.at a new.situation.at n (hands_of steps slots mid.situation.at a new.situation.at goes so_far.way.turns) left in
-          front_past steps n list i a at before.1 (so_far.front n before.0));
+      front = λ n lt.
+          (let before = left_before unit steps mid.situation.at a new.situation.at n (hands_of unit steps slots mid.situation.at a new.situation.at goes so_far.way.turns) lt in
+          front_past unit steps n list i a at before.1 (so_far.front n before.0));
     }
 
 pub returns-clause-answer : goal.returns-clause-answer
@@ -414,7 +408,8 @@ returns-clause-answer g c first is stands =
     let list = c.args.list.now in
     let over = at_end _ _ _ _ _ _ list c.loop-action.action-index old c.loop-action.session _ _ _ _ c.requires.start c.requires.valid (omega arith) so_far.way in
     let states = state_number first old.journal in
-    found_none c.args.question states old.journal c.args.word old.situation.steps c.loop-action.session.situation.at c.loop-action.finder (so_far.way.turns.over over).1 (so_far.going.unfound states (so_far.going.of_run first (is, stands)))
+    found_none c.args.question states old.journal c.args.word (old.unit * old.situation.steps) _ c.loop-action.finder (left_at_end old.unit old.situation.steps c.loop-action.session.situation.at so_far.way.turns over)
+    (so_far.going.unfound states (so_far.going.of_run first (is, stands)))
 
 pub returns-clause-found : goal.returns-clause-found
 returns-clause-found g c =
@@ -426,8 +421,10 @@ returns-clause-found g c =
     let over = at_end _ _ _ _ _ _ list i old c.loop-action.session _ _ _ _ c.requires.start c.requires.valid (omega arith) so_far.way in
     record {
       states = gone.states;
-      through = through old.situation.steps old.journal list list i _ _ c.loop-action.session.situation.at (omega arith) (sym (take_all i list (omega arith))) gone;
-      last = found_none c.args.question gone.states old.journal c.args.word old.situation.steps c.loop-action.session.situation.at c.loop-action.finder (so_far.way.turns.over over).1 (so_far.going.unfound gone.states gone.have);
+      through = through old.unit old.situation.steps old.journal list list i _ _ c.loop-action.session.situation.at (omega arith) (sym (take_all i list (omega arith))) gone;
+      holds =
+          found_none c.args.question gone.states old.journal c.args.word (old.unit * old.situation.steps) _ c.loop-action.finder (left_at_end old.unit old.situation.steps c.loop-action.session.situation.at so_far.way.turns over)
+          (so_far.going.unfound gone.states gone.have);
     }
 
 pub returns-clause-performs : goal.returns-clause-performs
@@ -445,7 +442,7 @@ returns-clause-counted g c =
     let old = c.args.session.now in
     let list = c.args.list.now in
     let whole : take c.loop-action.action-index list ≡ list = take_all c.loop-action.action-index list (omega arith) in
-    let P : List Action → Type 0 = λ l. c.loop-action.steps ≡ c.args.steps.now + forward l in
+    let P : List Action → Type 0 = λ l. c.loop-action.steps ≡ c.args.steps.now + old.unit * forward l in
     subst P whole so_far.way.counted
 
 pub returns-clause-called : goal.returns-clause-called

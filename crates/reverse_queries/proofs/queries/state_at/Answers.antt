@@ -1,40 +1,51 @@
-use Rattle.std.proofs.Common.{◌≡◌, ◌∙◌, ℕ, ◌+◌, ◌<◌, List, length, take, slice_get, slice_index_or, Some, true, false, true≢false, refl, sym, ap, subst, arith}
+use Rattle.std.proofs.Common.{◌≡◌, ◌∙◌, ℕ, ◌+◌, ◌*◌, ◌<◌, inl, inr, List, length, take, slice_get, slice_index_or, Some, Err, Result, true≢false, refl, sym, ap, subst, arith}
 use Rattle.std.proofs.lemmas.Option.{slice_get-get_or}
-use Rattle.std.proofs.lemmas.Result.{err_from_is_err_and, on_ok_weaker, on_err_weaker}
+use Rattle.std.proofs.lemmas.Result.{err_from_is_err_and}
 use Rattle.plan_types.specs.declared.action.Action.{Action}
 use Rattle.plan_types.specs.declared.action.Action.TheVariants.{Forward}
 use Rattle.plan_types.specs.declared.action.Keep.TheVariants.{Nothing}
-use Rattle.level_book.specs.declared.book.Slots.{Slots}
-use Rattle.level_book.specs.Configuration.{Configuration, start}
 use Rattle.level_book.specs.CostFold.{forward}
 use Rattle.keepers.specs.Counts.{Rose}
-use Rattle.schedule_rules.specs.Situation.{Situation}
-use Rattle.reverse_runner.specs.declared.fault.RunFault.TheVariants.{Keeper, Damaged, Visitor, Ended}
-use Rattle.reverse_runner.specs.KeepersSeen.{calls_to, by_number, Called}
+use Rattle.rv_machine.specs.MachineState.{MachineState}
 use Rattle.rv_machine.specs.States.{state_number}
+use Rattle.reverse_runner.specs.declared.fault.RunFault.TheVariants.{Keeper, Damaged, Visitor, Ended}
+use Rattle.reverse_runner.specs.KeepersSeen.{calls_to, by_number, told_by, Called}
+use Rattle.reverse_runner.specs.Performed.{states_out}
+use Rattle.reverse_runner.specs.SessionState.{holdings_of}
 use Rattle.reverse_queries.specs.Queries.{hands_out, front_to}
-use Rattle.reverse_queries.specs.Performing.{calls_of_all, PerformsAll}
+use Rattle.reverse_queries.specs.Performing.{calls_of_all, PerformsAll, GetsState, MissesState}
+use Rattle.reverse_queries.specs.Picking.{PassesOn}
+use Rattle.reverse_queries.proofs.Fitting.{fault_fits, if_err_at}
 use Rattle.reverse_queries.proofs.Fronts.{front_past, front_ends, front_takes}
-use Rattle.reverse_queries.proofs.Turning.{hands_of, left_after, none_left_at_end, gets_hands, misses_gets}
-use Rattle.reverse_queries.proofs.Ways.{way_start, way_on, may_perform, may_go, has_room, refused_in, damaged_of, at_end, is_sound, goes_from, performs_more, counted_more, called_more, past_levels, on_err_always, same_fault, not_both}
-use Rattle.reverse_queries.proofs.Fitting.{fault_fits, if_err_at, if_err_three}
+use Rattle.reverse_queries.proofs.Going.{gone_start, gone_on, found_on, got_even}
+use Rattle.reverse_queries.proofs.Picking.{MissesPicked, MissedAt, picks_at, missed_at, shown_at, unshown_at, misses_state, of_visitor}
+use Rattle.reverse_queries.proofs.Turning.{left, left_at_start, left_at_end}
+use Rattle.reverse_queries.proofs.Ways.{way_start, way_on, may_perform, may_go, has_room, refused_in, at_end, goes_from, past_levels, on_err_always, same_fault, not_both, acts_there, gets_there, misses_there, run_has}
 use Rattle.reverse_queries.proofs.queries.state_at.Goals as goal
 
 -- the action at a place of the list
 at_place : (list : List Action) (i : ℕ) → i < length list → slice_get list i ≡ Some (slice_index_or list i (Forward 0 0 Nothing))
 at_place list i within = slice_get-get_or list i (Forward 0 0 Nothing) within
 
--- the number of the last state is that of the steps
-last_is : (last : ℕ) (now was : Situation) (steps : ℕ) (slots : List Slots) → last ≡ now.at.reverse → now ≡ was → was.at ≡ start steps slots → last ≡ steps
-last_is last now was steps slots e f at = e ∙ ap (λ (s : Situation). s.at.reverse) f ∙ ap (λ (c : Configuration). c.reverse) at
+-- a result has one fault
+same_err : {T E : Type 0} (r : Result T E) (x y : E) → r ≡ Err x → r ≡ Err y → x ≡ y
+same_err r x y first second = cc
 
 pub loop-action-init : goal.loop-action-init
 loop-action-init g c =
+    let old = c.args.session.now in
+    let picked = c.new-picked.ensures in
+    let all = left_at_start old.unit old.situation.steps old.situation.slots old.situation.at c.requires.start in
+    let place = c.requires.place in
     record {
-      way = way_start _ _ _ _ _ _ c.args.list.now c.args.session.now c.args.keepers.now.items c.args.steps.now c.requires.start c.requires.lasts;
-      left = λ ended. absurd (true≢false (sym ended ∙ ap (λ (x : Configuration). x.forward_ended) c.requires.start));
+      way = way_start _ _ _ _ _ _ c.args.list.now old c.args.keepers.now.items c.args.steps.now c.requires.start c.requires.lasts;
+      gone = gone_start old.unit old.situation.steps old.journal c.args.list.now (holdings_of old (told_by g.K.Keeper.told c.args.keepers.now.items)) old.situation.at;
+      still = omega (arith, place, all);
       front = refl;
-      visitor = refl;
+      place = picked.place;
+      reference = refl;
+      visitor = picked.same;
+      passed = picked.nothing;
     }
 
 pub perform-requires-clause-allowed : goal.perform-requires-clause-allowed
@@ -61,8 +72,8 @@ perform-requires-clause-room g c lasts =
     let at = at_place list i within in
     has_room _ _ _ _ _ _ list i old mid _ _ _ _ c.requires.room so_far.way
 
-pub perform-requires-in-loop-action-clause-allowed : goal.perform-requires-in-loop-action-clause-allowed
-perform-requires-in-loop-action-clause-allowed g c lasts =
+pub returns-then-picked-clause-gets : goal.returns-then-picked-clause-gets
+returns-then-picked-clause-gets g c =
     let so_far = c.loop-action.invariant in
     let old = c.args.session.now in
     let mid = c.loop-action.session in
@@ -71,10 +82,35 @@ perform-requires-in-loop-action-clause-allowed g c lasts =
     let a = slice_index_or list i (Forward 0 0 Nothing) in
     let within : i < length list = omega arith in
     let at = at_place list i within in
-    may_perform _ _ _ _ _ _ list i old mid _ _ _ _ a c.requires.start c.requires.valid at so_far.way
+    let new = c.perform.new.self in
+    let done = c.in_ok-perform.ensures in
+    let unit = old.unit in
+    let steps = old.situation.steps in
+    let slots = old.situation.slots in
+    let goes = goes_from old mid new (take i list) a so_far.way.performs done.performs in
+    let told = told_by g.K.Keeper.told in
+    let held = holdings_of mid (told c.loop-action.keepers.items) in
+    let gets = gets_there (PassesOn g.V.Visitor.got) old mid (take i list) a (states_out a mid.work mid.tape.states) c.loop-action.picked c.perform.new.visitor so_far.way.performs done.gets in
+    let it = picks_at g.V.Visitor.got unit steps slots old.journal a mid.situation.at new.situation.at held c.loop-action.picked c.perform.new.visitor goes so_far.way.turns gets in
+    let shown = shown_at g.V.Visitor.got unit steps old.journal a mid.situation.at new.situation.at held c.loop-action.picked c.perform.new.visitor c.args.place c.args.visitor.now so_far.place so_far.visitor so_far.passed c.if-picked.true it in
+    let front = front_ends unit steps c.args.place list i a at shown.hands so_far.front in
+    let last = c.visitor-then-picked-1.given.1 (sym (it.reference ∙ so_far.reference ∙ c.new-picked.ensures.same_reference)) in
+    let acts = acts_there old mid (take i list) a _ _ so_far.way.performs done.acts in
+    let even = got_even (PassesOn g.V.Visitor.got) old.journal unit steps a held c.loop-action.picked c.perform.new.visitor gets in
+    found_on (GetsState g.V.Visitor.got old (told c.args.keepers.now.items) c.args.place c.args.visitor.now _) unit steps slots old.journal list (front_to unit steps c.args.place list) i
+    (holdings_of old (told c.args.keepers.now.items)) held (holdings_of new (told c.perform.new.keepers.items)) mid.situation.at a new.situation.at (omega (arith, within)) front goes so_far.way.turns at acts even so_far.gone
+    (λ states have all. record {
+      gets =
+          (let S : MachineState → Type 0 = λ s. g.V.Visitor.got c.args.visitor.now c.args.place s old.journal c.perform.new.visitor.visitor.now in
+          let W : g.row.V.Denot → Type 0 = λ w. g.V.Visitor.got c.args.visitor.now c.args.place (states c.args.place) old.journal w in
+          subst W (sym last) (subst S (shown.is states have) shown.gets));
+      of_run = λ first is stands.
+          sym (shown.is states have)
+          ∙ shown.is (state_number first old.journal) (run_has first old mid (told c.loop-action.keepers.items) (take i list) a new.situation.at c.requires.start so_far.way.performs goes (so_far.way.stands first is stands));
+    })
 
-pub perform-requires-in-loop-action-clause-room : goal.perform-requires-in-loop-action-clause-room
-perform-requires-in-loop-action-clause-room g c lasts =
+pub returns-then-picked-clause-performs : goal.returns-then-picked-clause-performs
+returns-then-picked-clause-performs g c =
     let so_far = c.loop-action.invariant in
     let old = c.args.session.now in
     let mid = c.loop-action.session in
@@ -83,10 +119,35 @@ perform-requires-in-loop-action-clause-room g c lasts =
     let a = slice_index_or list i (Forward 0 0 Nothing) in
     let within : i < length list = omega arith in
     let at = at_place list i within in
-    has_room _ _ _ _ _ _ list i old mid _ _ _ _ c.requires.room so_far.way
+    let new = c.perform.new.self in
+    let done = c.in_ok-perform.ensures in
+    let unit = old.unit in
+    let steps = old.situation.steps in
+    let slots = old.situation.slots in
+    let goes = goes_from old mid new (take i list) a so_far.way.performs done.performs in
+    let told = told_by g.K.Keeper.told in
+    let held = holdings_of mid (told c.loop-action.keepers.items) in
+    let gets = gets_there (PassesOn g.V.Visitor.got) old mid (take i list) a (states_out a mid.work mid.tape.states) c.loop-action.picked c.perform.new.visitor so_far.way.performs done.gets in
+    let it = picks_at g.V.Visitor.got unit steps slots old.journal a mid.situation.at new.situation.at held c.loop-action.picked c.perform.new.visitor goes so_far.way.turns gets in
+    let shown = shown_at g.V.Visitor.got unit steps old.journal a mid.situation.at new.situation.at held c.loop-action.picked c.perform.new.visitor c.args.place c.args.visitor.now so_far.place so_far.visitor so_far.passed c.if-picked.true it in
+    let front = front_ends unit steps c.args.place list i a at shown.hands so_far.front in
+    let last = c.visitor-then-picked-1.given.1 (sym (it.reference ∙ so_far.reference ∙ c.new-picked.ensures.same_reference)) in
+    let on = way_on _ _ _ _ _ _ list i old mid new _ _ c.perform.new.keepers.items _ _ _ a c.requires.start at so_far.way (record {
+      performs = done.performs;
+      acts = done.acts;
+      counted = done.counted;
+      called = done.called;
+      room = c.perform.ensures.slots;
+      quiet = c.perform.ensures.keepers_quiet (λ k e. not_both c.perform.result _ (Keeper k) c.in_ok-perform.was e);
+      others = c.perform.ensures.others;
+      stands = done.stands;
+      alone = done.alone;
+    }) in
+    let P : List Action → Type 0 = λ l. PerformsAll old l new in
+    subst P (sym front) on.performs
 
-pub returns-then-is_handed_out-clause-gets : goal.returns-then-is_handed_out-clause-gets
-returns-then-is_handed_out-clause-gets g c =
+pub returns-then-picked-clause-counted : goal.returns-then-picked-clause-counted
+returns-then-picked-clause-counted g c =
     let so_far = c.loop-action.invariant in
     let old = c.args.session.now in
     let mid = c.loop-action.session in
@@ -95,24 +156,35 @@ returns-then-is_handed_out-clause-gets g c =
     let a = slice_index_or list i (Forward 0 0 Nothing) in
     let within : i < length list = omega arith in
     let at = at_place list i within in
-    let steps_are = last_is c.reverse-last.result c.config.result.now old.situation old.situation.steps old.situation.slots c.reverse-last.ensures c.config.ensures c.requires.start in
-    let hands : hands_out old.situation.steps c.args.place a ≡ true = ap (λ n. hands_out n c.args.place a) (sym steps_are) ∙ sym c.is_handed_out.ensures ∙ c.if-is_handed_out.true in
-    let go = may_go _ _ _ _ _ _ list i old mid _ _ _ _ a c.requires.start c.requires.valid at so_far.way in
-    let sound = is_sound old mid (take i list) c.requires.start so_far.way.performs in
-    on_ok_weaker c.perform.result (λ gets.
-    let it = gets_hands g.V.Visitor.got old.situation.steps old.situation.slots mid.journal mid.situation.at a _ c.args.place mid.work mid.tape c.loop-action.visitor c.perform.new.visitor go sound hands gets in
-    let J : List (List ℕ) → Type 0 = λ j. g.V.Visitor.got c.loop-action.visitor c.args.place it.state j c.perform.new.visitor in
-    let P : g.row.V.Denot → Type 0 = λ v. g.V.Visitor.got v c.args.place it.state old.journal c.perform.new.visitor in (
-      it.state,
-      (
-        subst P so_far.visitor (subst J so_far.way.performs.journal it.got_it),
-        λ first is stands. let there = so_far.way.stands first is stands in it.is first (there.work, there.tape) ∙ ap (λ j. state_number first j c.args.place) so_far.way.performs.journal,
-      ),
-    ))
-    c.perform.ensures.gets
+    let new = c.perform.new.self in
+    let done = c.in_ok-perform.ensures in
+    let unit = old.unit in
+    let steps = old.situation.steps in
+    let slots = old.situation.slots in
+    let goes = goes_from old mid new (take i list) a so_far.way.performs done.performs in
+    let told = told_by g.K.Keeper.told in
+    let held = holdings_of mid (told c.loop-action.keepers.items) in
+    let gets = gets_there (PassesOn g.V.Visitor.got) old mid (take i list) a (states_out a mid.work mid.tape.states) c.loop-action.picked c.perform.new.visitor so_far.way.performs done.gets in
+    let it = picks_at g.V.Visitor.got unit steps slots old.journal a mid.situation.at new.situation.at held c.loop-action.picked c.perform.new.visitor goes so_far.way.turns gets in
+    let shown = shown_at g.V.Visitor.got unit steps old.journal a mid.situation.at new.situation.at held c.loop-action.picked c.perform.new.visitor c.args.place c.args.visitor.now so_far.place so_far.visitor so_far.passed c.if-picked.true it in
+    let front = front_ends unit steps c.args.place list i a at shown.hands so_far.front in
+    let last = c.visitor-then-picked-1.given.1 (sym (it.reference ∙ so_far.reference ∙ c.new-picked.ensures.same_reference)) in
+    let on = way_on _ _ _ _ _ _ list i old mid new _ _ c.perform.new.keepers.items _ _ _ a c.requires.start at so_far.way (record {
+      performs = done.performs;
+      acts = done.acts;
+      counted = done.counted;
+      called = done.called;
+      room = c.perform.ensures.slots;
+      quiet = c.perform.ensures.keepers_quiet (λ k e. not_both c.perform.result _ (Keeper k) c.in_ok-perform.was e);
+      others = c.perform.ensures.others;
+      stands = done.stands;
+      alone = done.alone;
+    }) in
+    let P : List Action → Type 0 = λ l. c.perform.new.steps ≡ c.args.steps.now + old.unit * forward l in
+    subst P (sym front) on.counted
 
-pub returns-then-is_handed_out-clause-performs : goal.returns-then-is_handed_out-clause-performs
-returns-then-is_handed_out-clause-performs g c =
+pub returns-then-picked-clause-called : goal.returns-then-picked-clause-called
+returns-then-picked-clause-called g c =
     let so_far = c.loop-action.invariant in
     let old = c.args.session.now in
     let mid = c.loop-action.session in
@@ -121,55 +193,44 @@ returns-then-is_handed_out-clause-performs g c =
     let a = slice_index_or list i (Forward 0 0 Nothing) in
     let within : i < length list = omega arith in
     let at = at_place list i within in
-    let steps_are = last_is c.reverse-last.result c.config.result.now old.situation old.situation.steps old.situation.slots c.reverse-last.ensures c.config.ensures c.requires.start in
-    let hands : hands_out old.situation.steps c.args.place a ≡ true = ap (λ n. hands_out n c.args.place a) (sym steps_are) ∙ sym c.is_handed_out.ensures ∙ c.if-is_handed_out.true in
-    let ends = front_ends old.situation.steps c.args.place list i a at hands so_far.front in
-    let P : List Action → Type 0 = λ l. PerformsAll old l c.perform.new.self in
-    on_ok_weaker c.perform.result (λ performs. subst P (sym ends) (performs_more old mid c.perform.new.self list i a c.requires.start at so_far.way.performs performs)) c.perform.ensures.performs
-
-pub returns-then-is_handed_out-clause-counted : goal.returns-then-is_handed_out-clause-counted
-returns-then-is_handed_out-clause-counted g c =
-    let so_far = c.loop-action.invariant in
-    let old = c.args.session.now in
-    let mid = c.loop-action.session in
-    let list = c.args.list.now in
-    let i = c.loop-action.action-index in
-    let a = slice_index_or list i (Forward 0 0 Nothing) in
-    let within : i < length list = omega arith in
-    let at = at_place list i within in
-    let steps_are = last_is c.reverse-last.result c.config.result.now old.situation old.situation.steps old.situation.slots c.reverse-last.ensures c.config.ensures c.requires.start in
-    let hands : hands_out old.situation.steps c.args.place a ≡ true = ap (λ n. hands_out n c.args.place a) (sym steps_are) ∙ sym c.is_handed_out.ensures ∙ c.if-is_handed_out.true in
-    let ends = front_ends old.situation.steps c.args.place list i a at hands so_far.front in
-    let P : List Action → Type 0 = λ l. c.perform.new.steps ≡ c.args.steps.now + forward l in
-    on_ok_weaker c.perform.result (λ counted. subst P (sym ends) (counted_more list i a c.args.steps.now c.loop-action.steps c.perform.new.steps at so_far.way.counted counted)) c.perform.ensures.counted
-
-pub returns-then-is_handed_out-clause-called : goal.returns-then-is_handed_out-clause-called
-returns-then-is_handed_out-clause-called g c =
-    let so_far = c.loop-action.invariant in
-    let old = c.args.session.now in
-    let mid = c.loop-action.session in
-    let list = c.args.list.now in
-    let i = c.loop-action.action-index in
-    let a = slice_index_or list i (Forward 0 0 Nothing) in
-    let within : i < length list = omega arith in
-    let at = at_place list i within in
-    let steps_are = last_is c.reverse-last.result c.config.result.now old.situation old.situation.steps old.situation.slots c.reverse-last.ensures c.config.ensures c.requires.start in
-    let hands : hands_out old.situation.steps c.args.place a ≡ true = ap (λ n. hands_out n c.args.place a) (sym steps_are) ∙ sym c.is_handed_out.ensures ∙ c.if-is_handed_out.true in
-    let ends = front_ends old.situation.steps c.args.place list i a at hands so_far.front in
+    let new = c.perform.new.self in
+    let done = c.in_ok-perform.ensures in
+    let unit = old.unit in
+    let steps = old.situation.steps in
+    let slots = old.situation.slots in
+    let goes = goes_from old mid new (take i list) a so_far.way.performs done.performs in
+    let told = told_by g.K.Keeper.told in
+    let held = holdings_of mid (told c.loop-action.keepers.items) in
+    let gets = gets_there (PassesOn g.V.Visitor.got) old mid (take i list) a (states_out a mid.work mid.tape.states) c.loop-action.picked c.perform.new.visitor so_far.way.performs done.gets in
+    let it = picks_at g.V.Visitor.got unit steps slots old.journal a mid.situation.at new.situation.at held c.loop-action.picked c.perform.new.visitor goes so_far.way.turns gets in
+    let shown = shown_at g.V.Visitor.got unit steps old.journal a mid.situation.at new.situation.at held c.loop-action.picked c.perform.new.visitor c.args.place c.args.visitor.now so_far.place so_far.visitor so_far.passed c.if-picked.true it in
+    let front = front_ends unit steps c.args.place list i a at shown.hands so_far.front in
+    let last = c.visitor-then-picked-1.given.1 (sym (it.reference ∙ so_far.reference ∙ c.new-picked.ensures.same_reference)) in
+    let on = way_on _ _ _ _ _ _ list i old mid new _ _ c.perform.new.keepers.items _ _ _ a c.requires.start at so_far.way (record {
+      performs = done.performs;
+      acts = done.acts;
+      counted = done.counted;
+      called = done.called;
+      room = c.perform.ensures.slots;
+      quiet = c.perform.ensures.keepers_quiet (λ k e. not_both c.perform.result _ (Keeper k) c.in_ok-perform.was e);
+      others = c.perform.ensures.others;
+      stands = done.stands;
+      alone = done.alone;
+    }) in
     let calls = calls_to g.K.Keeper.put_count g.K.Keeper.get_count g.K.Keeper.free_count in
     let P : List Action → Type 0 = λ l. Called (calls_of_all l) (calls c.args.keepers.now.items) (calls c.perform.new.keepers.items) in
-    on_ok_weaker c.perform.result (λ called. subst P (sym ends) (called_more list i a _ _ _ at so_far.way.called called)) c.perform.ensures.called
+    subst P (sym front) on.called
 
-pub returns-then-is_handed_out-clause-stands : goal.returns-then-is_handed_out-clause-stands
-returns-then-is_handed_out-clause-stands g c first is stands =
-    c.perform.ensures.stands first is (c.loop-action.invariant.way.stands first is stands)
+pub returns-then-picked-clause-stands : goal.returns-then-picked-clause-stands
+returns-then-picked-clause-stands g c first is stands =
+    c.in_ok-perform.ensures.stands first is (c.loop-action.invariant.way.stands first is stands)
 
-pub returns-then-is_handed_out-clause-alone : goal.returns-then-is_handed_out-clause-alone
-returns-then-is_handed_out-clause-alone g c alone =
-    c.perform.ensures.alone (c.loop-action.invariant.way.alone alone)
+pub returns-then-picked-clause-alone : goal.returns-then-picked-clause-alone
+returns-then-picked-clause-alone g c alone =
+    c.in_ok-perform.ensures.alone (c.loop-action.invariant.way.alone alone)
 
-pub returns-then-is_handed_out-clause-refused : goal.returns-then-is_handed_out-clause-refused
-returns-then-is_handed_out-clause-refused g c =
+pub returns-then-picked-clause-quiet : goal.returns-then-picked-clause-quiet
+returns-then-picked-clause-quiet g c never =
     let so_far = c.loop-action.invariant in
     let old = c.args.session.now in
     let mid = c.loop-action.session in
@@ -178,17 +239,21 @@ returns-then-is_handed_out-clause-refused g c =
     let a = slice_index_or list i (Forward 0 0 Nothing) in
     let within : i < length list = omega arith in
     let at = at_place list i within in
-    let takes = front_takes old.situation.steps c.args.place list i a at so_far.front in
-    let steps_are = last_is c.reverse-last.result c.config.result.now old.situation old.situation.steps old.situation.slots c.reverse-last.ensures c.config.ensures c.requires.start in
-    let hands : hands_out old.situation.steps c.args.place a ≡ true = ap (λ n. hands_out n c.args.place a) (sym steps_are) ∙ sym c.is_handed_out.ensures ∙ c.if-is_handed_out.true in
-    let gives = hands_out old.situation.steps c.args.place in
-    if_err_three c.perform.result (λ fault is ends still most. refused_in _ _ _ _ _ _ list (front_to old.situation.steps c.args.place list) i old mid c.perform.new.self _ _ c.perform.new.keepers.items _ _ _ a gives fault at takes.0 takes.1 takes.2 so_far.way ends still most
-    (fault_fits gives a _ c.perform.result fault is (λ k e. (c.perform.ensures.keeper_cause k e).0) c.perform.ensures.damaged c.perform.ensures.wants (λ e. hands)
-    (λ e. true≢false (sym (c.perform.ensures.ended.0 e) ∙ so_far.way.performs.lasts))))
-    c.perform.ensures.refused c.perform.ensures.uncounted c.perform.ensures.called_at_most
+    let new = c.perform.new.self in
+    let done = c.in_ok-perform.ensures in
+    let unit = old.unit in
+    let steps = old.situation.steps in
+    let slots = old.situation.slots in
+    let goes = goes_from old mid new (take i list) a so_far.way.performs done.performs in
+    let told = told_by g.K.Keeper.told in
+    let held = holdings_of mid (told c.loop-action.keepers.items) in
+    let gets = gets_there (PassesOn g.V.Visitor.got) old mid (take i list) a (states_out a mid.work mid.tape.states) c.loop-action.picked c.perform.new.visitor so_far.way.performs done.gets in
+    let it = picks_at g.V.Visitor.got unit steps slots old.journal a mid.situation.at new.situation.at held c.loop-action.picked c.perform.new.visitor goes so_far.way.turns gets in
+    let last = c.visitor-then-picked-1.given.1 (sym (it.reference ∙ so_far.reference ∙ c.new-picked.ensures.same_reference)) in
+    ap g.V.Visitor.fault_count last ∙ c.perform.ensures.quiet (λ e. not_both c.perform.result _ Visitor c.in_ok-perform.was e) ∙ ap g.V.Visitor.fault_count so_far.visitor
 
-pub returns-then-is_handed_out-clause-misses : goal.returns-then-is_handed_out-clause-misses
-returns-then-is_handed_out-clause-misses g c e =
+pub returns-then-picked-clause-later : goal.returns-then-picked-clause-later
+returns-then-picked-clause-later g c =
     let so_far = c.loop-action.invariant in
     let old = c.args.session.now in
     let mid = c.loop-action.session in
@@ -197,90 +262,37 @@ returns-then-is_handed_out-clause-misses g c e =
     let a = slice_index_or list i (Forward 0 0 Nothing) in
     let within : i < length list = omega arith in
     let at = at_place list i within in
-    let steps_are = last_is c.reverse-last.result c.config.result.now old.situation old.situation.steps old.situation.slots c.reverse-last.ensures c.config.ensures c.requires.start in
-    let hands : hands_out old.situation.steps c.args.place a ≡ true = ap (λ n. hands_out n c.args.place a) (sym steps_are) ∙ sym c.is_handed_out.ensures ∙ c.if-is_handed_out.true in
-    let go = may_go _ _ _ _ _ _ list i old mid _ _ _ _ a c.requires.start c.requires.valid at so_far.way in
-    let sound = is_sound old mid (take i list) c.requires.start so_far.way.performs in
-    let missed = misses_gets g.V.Visitor.missed mid.journal a mid.situation.at.work mid.work mid.tape c.loop-action.visitor c.perform.new.visitor (c.perform.ensures.misses e) in
-    let it = gets_hands g.V.Visitor.missed old.situation.steps old.situation.slots mid.journal mid.situation.at a _ c.args.place mid.work mid.tape c.loop-action.visitor c.perform.new.visitor go sound hands missed in
-    let J : List (List ℕ) → Type 0 = λ j. g.V.Visitor.missed c.loop-action.visitor c.args.place it.state j c.perform.new.visitor in
-    let P : g.row.V.Denot → Type 0 = λ v. g.V.Visitor.missed v c.args.place it.state old.journal c.perform.new.visitor in (
-      it.state,
-      (
-        subst P so_far.visitor (subst J so_far.way.performs.journal it.got_it),
-        λ first is stands. let there = so_far.way.stands first is stands in it.is first (there.work, there.tape) ∙ ap (λ j. state_number first j c.args.place) so_far.way.performs.journal,
-      ),
-    )
+    let new = c.perform.new.self in
+    let done = c.in_ok-perform.ensures in
+    let unit = old.unit in
+    let steps = old.situation.steps in
+    let slots = old.situation.slots in
+    let goes = goes_from old mid new (take i list) a so_far.way.performs done.performs in
+    let told = told_by g.K.Keeper.told in
+    let held = holdings_of mid (told c.loop-action.keepers.items) in
+    let gets = gets_there (PassesOn g.V.Visitor.got) old mid (take i list) a (states_out a mid.work mid.tape.states) c.loop-action.picked c.perform.new.visitor so_far.way.performs done.gets in
+    let it = picks_at g.V.Visitor.got unit steps slots old.journal a mid.situation.at new.situation.at held c.loop-action.picked c.perform.new.visitor goes so_far.way.turns gets in
+    let last = ap g.V.Visitor.fault_count (c.visitor-then-picked-1.given.1 (sym (it.reference ∙ so_far.reference ∙ c.new-picked.ensures.same_reference))) in
+    let same = c.perform.ensures.quiet (λ e. not_both c.perform.result _ Visitor c.in_ok-perform.was e) in
+    let first = ap g.V.Visitor.fault_count so_far.visitor in
+    omega (arith, last, same, first)
 
-pub returns-then-is_handed_out-clause-unseen : goal.returns-then-is_handed_out-clause-unseen
-returns-then-is_handed_out-clause-unseen g c =
-    on_err_weaker c.perform.result (λ same never. same never ∙ c.loop-action.invariant.visitor) c.perform.ensures.unseen
+pub returns-then-picked-clause-keepers_quiet : goal.returns-then-picked-clause-keepers_quiet
+returns-then-picked-clause-keepers_quiet g c never j =
+    c.perform.ensures.keepers_quiet (λ k e. not_both c.perform.result _ (Keeper k) c.in_ok-perform.was e) j ∙ c.loop-action.invariant.way.quiet j
 
-pub returns-then-is_handed_out-clause-cause : goal.returns-then-is_handed_out-clause-cause
-returns-then-is_handed_out-clause-cause g c e =
-    let P : ℕ → Type 0 = λ n. Rose n (g.V.Visitor.fault_count c.perform.new.visitor) in
-    subst P (ap g.V.Visitor.fault_count c.loop-action.invariant.visitor) (c.perform.ensures.cause e)
-
-pub returns-then-is_handed_out-clause-quiet : goal.returns-then-is_handed_out-clause-quiet
-returns-then-is_handed_out-clause-quiet g c never =
-    c.perform.ensures.quiet never ∙ ap g.V.Visitor.fault_count c.loop-action.invariant.visitor
-
-pub returns-then-is_handed_out-clause-later : goal.returns-then-is_handed_out-clause-later
-returns-then-is_handed_out-clause-later g c =
-    let same = ap g.V.Visitor.fault_count c.loop-action.invariant.visitor in
-    let later = c.perform.ensures.later in
-    omega (arith, same, later)
-
-pub returns-in_err-perform-clause-quiet : goal.returns-in_err-perform-clause-quiet
-returns-in_err-perform-clause-quiet g c never =
-    ap g.V.Visitor.fault_count c.loop-action.invariant.visitor
-
-pub returns-in_err-perform-clause-later : goal.returns-in_err-perform-clause-later
-returns-in_err-perform-clause-later g c =
-    let same = ap g.V.Visitor.fault_count c.loop-action.invariant.visitor in
-    omega (arith, same)
-
-pub returns-then-is_handed_out-clause-not_ended : goal.returns-then-is_handed_out-clause-not_ended
-returns-then-is_handed_out-clause-not_ended g c e =
-    let same = e in
-    true≢false (sym (c.perform.ensures.ended.0 same) ∙ c.loop-action.invariant.way.performs.lasts)
-
-pub returns-then-is_handed_out-clause-keeper_cause : goal.returns-then-is_handed_out-clause-keeper_cause
-returns-then-is_handed_out-clause-keeper_cause g c k e =
-    let same = e in
-    let Q : ℕ → Type 0 = λ n. Rose n (by_number 0 g.K.Keeper.fault_count c.perform.new.keepers.items k) in
-    subst Q (c.loop-action.invariant.way.quiet k) (c.perform.ensures.keeper_cause k same).1
-
-pub returns-then-is_handed_out-clause-keepers_later : goal.returns-then-is_handed_out-clause-keepers_later
-returns-then-is_handed_out-clause-keepers_later g c k =
+pub returns-then-picked-clause-keepers_later : goal.returns-then-picked-clause-keepers_later
+returns-then-picked-clause-keepers_later g c k =
     let quiet = c.loop-action.invariant.way.quiet k in
     let later = c.perform.ensures.keepers_later k in
     omega (arith, quiet, later)
 
-pub returns-then-is_handed_out-clause-damaged : goal.returns-then-is_handed_out-clause-damaged
-returns-then-is_handed_out-clause-damaged g c k put got e =
-    let so_far = c.loop-action.invariant in
-    let old = c.args.session.now in
-    let mid = c.loop-action.session in
-    let list = c.args.list.now in
-    let i = c.loop-action.action-index in
-    let a = slice_index_or list i (Forward 0 0 Nothing) in
-    let within : i < length list = omega arith in
-    let at = at_place list i within in
-    let same = e in
-    damaged_of old.work a _ k put got so_far.way.pages (c.perform.ensures.damaged k put got same)
-
-pub returns-then-is_handed_out-clause-undamaged : goal.returns-then-is_handed_out-clause-undamaged
-returns-then-is_handed_out-clause-undamaged g c first is stands k put got e =
-    let same = e in
-    c.perform.ensures.undamaged first is (c.loop-action.invariant.way.stands first is stands) k put got same
-
-pub returns-then-is_handed_out-clause-slots : goal.returns-then-is_handed_out-clause-slots
-returns-then-is_handed_out-clause-slots g c =
+pub returns-then-picked-clause-slots : goal.returns-then-picked-clause-slots
+returns-then-picked-clause-slots g c =
     c.perform.ensures.slots ∙ c.loop-action.invariant.way.room
 
-pub returns-then-is_handed_out-clause-others : goal.returns-then-is_handed_out-clause-others
-returns-then-is_handed_out-clause-others g c k past =
+pub returns-then-picked-clause-others : goal.returns-then-picked-clause-others
+returns-then-picked-clause-others g c k past =
     let so_far = c.loop-action.invariant in
     let old = c.args.session.now in
     let mid = c.loop-action.session in
@@ -292,91 +304,15 @@ returns-then-is_handed_out-clause-others g c k past =
     let rule_is = may_perform _ _ _ _ _ _ list i old mid _ _ _ _ a c.requires.start c.requires.valid at so_far.way in
     c.perform.ensures.others k (past_levels old mid (take i list) a k so_far.way.performs rule_is past) ∙ so_far.way.others k past
 
-pub returns-then-is_handed_out-clause-keepers_quiet : goal.returns-then-is_handed_out-clause-keepers_quiet
-returns-then-is_handed_out-clause-keepers_quiet g c never j =
-    c.perform.ensures.keepers_quiet never j ∙ c.loop-action.invariant.way.quiet j
-
-pub returns-in_err-perform-clause-refused : goal.returns-in_err-perform-clause-refused
-returns-in_err-perform-clause-refused g c =
-    let so_far = c.loop-action.invariant in
-    let old = c.args.session.now in
-    let mid = c.loop-action.session in
-    let list = c.args.list.now in
-    let i = c.loop-action.action-index in
-    let a = slice_index_or list i (Forward 0 0 Nothing) in
-    let within : i < length list = omega arith in
-    let at = at_place list i within in
-    let takes = front_takes old.situation.steps c.args.place list i a at so_far.front in
-    let p = err_from_is_err_and c.from_residual.result c.from_residual.ensures.1 in
-    let is = same_fault c.perform-in-loop-action.result c.from_residual.result _ _ p.0 c.in_err-perform.was p.1 p.2 p.1 in
-    let gives = hands_out old.situation.steps c.args.place in
-    let fits = fault_fits gives a _ c.perform-in-loop-action.result p.0 is (λ k e. (c.perform-in-loop-action.ensures.keeper_cause k e).0) c.perform-in-loop-action.ensures.damaged c.perform-in-loop-action.ensures.wants
-    (λ e. (let rose = c.perform-in-loop-action.ensures.cause e in absurd (omega (arith, rose))))
-    (λ e. true≢false (sym (c.perform-in-loop-action.ensures.ended.0 e) ∙ so_far.way.performs.lasts)) in
-    if_err_at _ c.from_residual.result p.0 p.1
-    (refused_in _ _ _ _ _ _ list (front_to old.situation.steps c.args.place list) i old mid c.perform-in-loop-action.new.self _ _ c.perform-in-loop-action.new.keepers.items _ _ _ a gives p.0 at takes.0 takes.1 takes.2 so_far.way
-    c.in_err-perform.ensures.refused c.in_err-perform.ensures.uncounted c.in_err-perform.ensures.called_at_most fits)
-
-pub returns-in_err-perform-clause-misses : goal.returns-in_err-perform-clause-misses
-returns-in_err-perform-clause-misses g c e =
-    let p = err_from_is_err_and c.from_residual.result c.from_residual.ensures.1 in
-    let same = same_fault c.perform-in-loop-action.result c.from_residual.result _ _ Visitor c.in_err-perform.was p.1 p.2 e in
-    let rose = c.perform-in-loop-action.ensures.cause same in
-    absurd (omega (arith, rose))
-
-pub returns-in_err-perform-clause-cause : goal.returns-in_err-perform-clause-cause
-returns-in_err-perform-clause-cause g c e =
-    let p = err_from_is_err_and c.from_residual.result c.from_residual.ensures.1 in
-    let same = same_fault c.perform-in-loop-action.result c.from_residual.result _ _ Visitor c.in_err-perform.was p.1 p.2 e in
-    let rose = c.perform-in-loop-action.ensures.cause same in
-    absurd (omega (arith, rose))
-
-pub returns-in_err-perform-clause-unseen : goal.returns-in_err-perform-clause-unseen
-returns-in_err-perform-clause-unseen g c =
-    on_err_always c.from_residual.result (λ never. c.loop-action.invariant.visitor)
-
-pub returns-in_err-perform-clause-not_ended : goal.returns-in_err-perform-clause-not_ended
-returns-in_err-perform-clause-not_ended g c e =
-    let p = err_from_is_err_and c.from_residual.result c.from_residual.ensures.1 in
-    let same = same_fault c.perform-in-loop-action.result c.from_residual.result _ _ Ended c.in_err-perform.was p.1 p.2 e in
-    true≢false (sym (c.perform-in-loop-action.ensures.ended.0 same) ∙ c.loop-action.invariant.way.performs.lasts)
-
-pub returns-in_err-perform-clause-keeper_cause : goal.returns-in_err-perform-clause-keeper_cause
-returns-in_err-perform-clause-keeper_cause g c k e =
-    let p = err_from_is_err_and c.from_residual.result c.from_residual.ensures.1 in
-    let same = same_fault c.perform-in-loop-action.result c.from_residual.result _ _ (Keeper k) c.in_err-perform.was p.1 p.2 e in
-    let Q : ℕ → Type 0 = λ n. Rose n (by_number 0 g.K.Keeper.fault_count c.perform-in-loop-action.new.keepers.items k) in
-    subst Q (c.loop-action.invariant.way.quiet k) (c.perform-in-loop-action.ensures.keeper_cause k same).1
-
 pub returns-in_err-perform-clause-keepers_later : goal.returns-in_err-perform-clause-keepers_later
 returns-in_err-perform-clause-keepers_later g c k =
     let quiet = c.loop-action.invariant.way.quiet k in
-    let later = c.perform-in-loop-action.ensures.keepers_later k in
+    let later = c.perform.ensures.keepers_later k in
     omega (arith, quiet, later)
-
-pub returns-in_err-perform-clause-damaged : goal.returns-in_err-perform-clause-damaged
-returns-in_err-perform-clause-damaged g c k put got e =
-    let so_far = c.loop-action.invariant in
-    let old = c.args.session.now in
-    let mid = c.loop-action.session in
-    let list = c.args.list.now in
-    let i = c.loop-action.action-index in
-    let a = slice_index_or list i (Forward 0 0 Nothing) in
-    let within : i < length list = omega arith in
-    let at = at_place list i within in
-    let p = err_from_is_err_and c.from_residual.result c.from_residual.ensures.1 in
-    let same = same_fault c.perform-in-loop-action.result c.from_residual.result _ _ (Damaged k put got) c.in_err-perform.was p.1 p.2 e in
-    damaged_of old.work a _ k put got so_far.way.pages (c.perform-in-loop-action.ensures.damaged k put got same)
-
-pub returns-in_err-perform-clause-undamaged : goal.returns-in_err-perform-clause-undamaged
-returns-in_err-perform-clause-undamaged g c first is stands k put got e =
-    let p = err_from_is_err_and c.from_residual.result c.from_residual.ensures.1 in
-    let same = same_fault c.perform-in-loop-action.result c.from_residual.result _ _ (Damaged k put got) c.in_err-perform.was p.1 p.2 e in
-    c.perform-in-loop-action.ensures.undamaged first is (c.loop-action.invariant.way.stands first is stands) k put got same
 
 pub returns-in_err-perform-clause-slots : goal.returns-in_err-perform-clause-slots
 returns-in_err-perform-clause-slots g c =
-    c.perform-in-loop-action.ensures.slots ∙ c.loop-action.invariant.way.room
+    c.perform.ensures.slots ∙ c.loop-action.invariant.way.room
 
 pub returns-in_err-perform-clause-others : goal.returns-in_err-perform-clause-others
 returns-in_err-perform-clause-others g c k past =
@@ -389,12 +325,173 @@ returns-in_err-perform-clause-others g c k past =
     let within : i < length list = omega arith in
     let at = at_place list i within in
     let rule_is = may_perform _ _ _ _ _ _ list i old mid _ _ _ _ a c.requires.start c.requires.valid at so_far.way in
-    c.perform-in-loop-action.ensures.others k (past_levels old mid (take i list) a k so_far.way.performs rule_is past) ∙ so_far.way.others k past
+    c.perform.ensures.others k (past_levels old mid (take i list) a k so_far.way.performs rule_is past) ∙ so_far.way.others k past
+
+pub returns-in_err-perform-clause-refused : goal.returns-in_err-perform-clause-refused
+returns-in_err-perform-clause-refused g c =
+    let so_far = c.loop-action.invariant in
+    let old = c.args.session.now in
+    let mid = c.loop-action.session in
+    let list = c.args.list.now in
+    let i = c.loop-action.action-index in
+    let a = slice_index_or list i (Forward 0 0 Nothing) in
+    let within : i < length list = omega arith in
+    let at = at_place list i within in
+    let p = err_from_is_err_and c.from_residual.result c.from_residual.ensures.1 in
+    let told = told_by g.K.Keeper.told in
+    let held = holdings_of mid (told c.loop-action.keepers.items) in
+    let goes = may_go _ _ _ _ _ _ list i old mid _ _ _ _ a c.requires.start c.requires.valid at so_far.way in
+    let missed : c.perform.result ≡ Err Visitor → MissedAt g.V.Visitor.missed old.unit old.situation.steps old.journal a held c.loop-action.picked c.perform.new.visitor = λ e.
+    missed_at g.V.Visitor.got g.V.Visitor.missed old.unit old.situation.steps old.situation.slots old.journal a mid.situation.at _ held c.loop-action.picked c.perform.new.visitor goes so_far.way.turns
+    (misses_there (PassesOn g.V.Visitor.got) (MissesPicked g.V.Visitor.missed) old mid (take i list) a (states_out a mid.work mid.tape.states) c.loop-action.picked c.perform.new.visitor so_far.way.performs (c.perform.ensures.misses e)) in
+    let takes = front_takes old.unit old.situation.steps c.args.place list i a at so_far.front in
+    let is = same_fault c.perform.result c.from_residual.result _ _ p.0 c.in_err-perform.was p.1 p.2 p.1 in
+    let Misses = MissesState g.V.Visitor.missed old (told c.args.keepers.now.items) c.args.place c.args.visitor.now _ in
+    let fits = fault_fits Misses a held c.perform.result p.0 is (λ k e. (c.perform.ensures.keeper_cause k e).0) c.perform.ensures.damaged c.perform.ensures.wants
+    (λ e. misses_state g.V.Visitor.missed old (told c.args.keepers.now.items) a held c.loop-action.picked c.perform.new.visitor c.args.place c.args.visitor.now _ so_far.place so_far.visitor
+    (c.in_err-perform.visitor-in-Break-1-own.given.1 (sym ((missed e).reference ∙ so_far.reference ∙ c.new-picked.ensures.same_reference)))
+    (λ first is stands. run_has first old mid (told c.loop-action.keepers.items) (take i list) a _ c.requires.start so_far.way.performs goes (so_far.way.stands first is stands)) (missed e))
+    (λ e. true≢false (sym (c.perform.ensures.ended.0 e) ∙ so_far.way.performs.lasts)) in
+    if_err_at _ c.from_residual.result p.0 p.1
+    (refused_in _ _ _ _ _ _ list (front_to old.unit old.situation.steps c.args.place list) i old mid c.perform.new.self _ _ c.perform.new.keepers.items _ _ _ a Misses p.0 at takes.0 takes.1 takes.2 so_far.way so_far.gone
+    c.in_err-perform.ensures.refused c.in_err-perform.ensures.uncounted c.in_err-perform.ensures.called_at_most fits)
+
+pub returns-in_err-perform-clause-unseen : goal.returns-in_err-perform-clause-unseen
+returns-in_err-perform-clause-unseen g c =
+    let so_far = c.loop-action.invariant in
+    let old = c.args.session.now in
+    let mid = c.loop-action.session in
+    let list = c.args.list.now in
+    let i = c.loop-action.action-index in
+    let a = slice_index_or list i (Forward 0 0 Nothing) in
+    let within : i < length list = omega arith in
+    let at = at_place list i within in
+    let p = err_from_is_err_and c.from_residual.result c.from_residual.ensures.1 in
+    on_err_always c.from_residual.result (λ never.
+    let still = c.in_err-perform.ensures.unseen (λ e. never (same_fault c.from_residual.result c.perform.result _ _ Visitor p.1 c.in_err-perform.was (sym p.2) (c.in_err-perform.was ∙ e))) in
+    let last = c.in_err-perform.visitor-in-Break-1-own.given.1 (sym (ap (λ v. v.visitor.ghost_name) still ∙ so_far.reference ∙ c.new-picked.ensures.same_reference)) in
+    last ∙ ap (λ v. v.visitor.now) still ∙ so_far.visitor)
+
+pub returns-in_err-perform-clause-not_ended : goal.returns-in_err-perform-clause-not_ended
+returns-in_err-perform-clause-not_ended g c e =
+    let so_far = c.loop-action.invariant in
+    let old = c.args.session.now in
+    let mid = c.loop-action.session in
+    let list = c.args.list.now in
+    let i = c.loop-action.action-index in
+    let a = slice_index_or list i (Forward 0 0 Nothing) in
+    let within : i < length list = omega arith in
+    let at = at_place list i within in
+    let p = err_from_is_err_and c.from_residual.result c.from_residual.ensures.1 in
+    let same = same_fault c.perform.result c.from_residual.result _ _ Ended c.in_err-perform.was p.1 p.2 e in
+    true≢false (sym (c.perform.ensures.ended.0 same) ∙ c.loop-action.invariant.way.performs.lasts)
+
+pub returns-in_err-perform-clause-cause : goal.returns-in_err-perform-clause-cause
+returns-in_err-perform-clause-cause g c e =
+    let so_far = c.loop-action.invariant in
+    let old = c.args.session.now in
+    let mid = c.loop-action.session in
+    let list = c.args.list.now in
+    let i = c.loop-action.action-index in
+    let a = slice_index_or list i (Forward 0 0 Nothing) in
+    let within : i < length list = omega arith in
+    let at = at_place list i within in
+    let p = err_from_is_err_and c.from_residual.result c.from_residual.ensures.1 in
+    let same = same_fault c.perform.result c.from_residual.result _ _ Visitor c.in_err-perform.was p.1 p.2 e in
+    let told = told_by g.K.Keeper.told in
+    let held = holdings_of mid (told c.loop-action.keepers.items) in
+    let goes = may_go _ _ _ _ _ _ list i old mid _ _ _ _ a c.requires.start c.requires.valid at so_far.way in
+    let missed : c.perform.result ≡ Err Visitor → MissedAt g.V.Visitor.missed old.unit old.situation.steps old.journal a held c.loop-action.picked c.perform.new.visitor = λ e.
+    missed_at g.V.Visitor.got g.V.Visitor.missed old.unit old.situation.steps old.situation.slots old.journal a mid.situation.at _ held c.loop-action.picked c.perform.new.visitor goes so_far.way.turns
+    (misses_there (PassesOn g.V.Visitor.got) (MissesPicked g.V.Visitor.missed) old mid (take i list) a (states_out a mid.work mid.tape.states) c.loop-action.picked c.perform.new.visitor so_far.way.performs (c.perform.ensures.misses e)) in
+    let last = c.in_err-perform.visitor-in-Break-1-own.given.1 (sym ((missed same).reference ∙ so_far.reference ∙ c.new-picked.ensures.same_reference)) in
+    let P : ℕ → Type 0 = λ n. Rose n (g.V.Visitor.fault_count c.perform.new.visitor.visitor.now) in
+    let Q : g.row.V.Denot → Type 0 = λ w. Rose (g.V.Visitor.fault_count c.args.visitor.now) (g.V.Visitor.fault_count w) in
+    subst Q (sym last) (subst P (ap g.V.Visitor.fault_count so_far.visitor) (c.perform.ensures.cause same))
+
+pub returns-in_err-perform-clause-quiet : goal.returns-in_err-perform-clause-quiet
+returns-in_err-perform-clause-quiet g c never =
+    let so_far = c.loop-action.invariant in
+    let old = c.args.session.now in
+    let mid = c.loop-action.session in
+    let list = c.args.list.now in
+    let i = c.loop-action.action-index in
+    let a = slice_index_or list i (Forward 0 0 Nothing) in
+    let within : i < length list = omega arith in
+    let at = at_place list i within in
+    let p = err_from_is_err_and c.from_residual.result c.from_residual.ensures.1 in
+    let still = c.in_err-perform.ensures.unseen (λ e. never (same_fault c.from_residual.result c.perform.result _ _ Visitor p.1 c.in_err-perform.was (sym p.2) (c.in_err-perform.was ∙ e))) in
+    let last = c.in_err-perform.visitor-in-Break-1-own.given.1 (sym (ap (λ v. v.visitor.ghost_name) still ∙ so_far.reference ∙ c.new-picked.ensures.same_reference)) in
+    ap g.V.Visitor.fault_count (last ∙ ap (λ v. v.visitor.now) still ∙ so_far.visitor)
+
+pub returns-in_err-perform-clause-later : goal.returns-in_err-perform-clause-later
+returns-in_err-perform-clause-later g c =
+    let so_far = c.loop-action.invariant in
+    let old = c.args.session.now in
+    let mid = c.loop-action.session in
+    let list = c.args.list.now in
+    let i = c.loop-action.action-index in
+    let a = slice_index_or list i (Forward 0 0 Nothing) in
+    let within : i < length list = omega arith in
+    let at = at_place list i within in
+    let p = err_from_is_err_and c.from_residual.result c.from_residual.ensures.1 in
+    let told = told_by g.K.Keeper.told in
+    let held = holdings_of mid (told c.loop-action.keepers.items) in
+    let goes = may_go _ _ _ _ _ _ list i old mid _ _ _ _ a c.requires.start c.requires.valid at so_far.way in
+    let missed : c.perform.result ≡ Err Visitor → MissedAt g.V.Visitor.missed old.unit old.situation.steps old.journal a held c.loop-action.picked c.perform.new.visitor = λ e.
+    missed_at g.V.Visitor.got g.V.Visitor.missed old.unit old.situation.steps old.situation.slots old.journal a mid.situation.at _ held c.loop-action.picked c.perform.new.visitor goes so_far.way.turns
+    (misses_there (PassesOn g.V.Visitor.got) (MissesPicked g.V.Visitor.missed) old mid (take i list) a (states_out a mid.work mid.tape.states) c.loop-action.picked c.perform.new.visitor so_far.way.performs (c.perform.ensures.misses e)) in
+    let is = same_fault c.perform.result c.from_residual.result _ _ p.0 c.in_err-perform.was p.1 p.2 p.1 in
+    let reference : c.perform.new.visitor.visitor.ghost_name ≡ c.loop-action.picked.visitor.ghost_name = elim (of_visitor p.0) [
+      | inl e ↦ (missed (is ∙ ap (λ f. Err f) e)).reference
+      | inr ne ↦ ap (λ v. v.visitor.ghost_name) (c.in_err-perform.ensures.unseen (λ e. ne (same_err c.perform.result _ _ is (c.in_err-perform.was ∙ e))))
+    ] in
+    let last = ap g.V.Visitor.fault_count (c.in_err-perform.visitor-in-Break-1-own.given.1 (sym (reference ∙ so_far.reference ∙ c.new-picked.ensures.same_reference))) in
+    let first = ap g.V.Visitor.fault_count so_far.visitor in
+    let later = c.perform.ensures.later in
+    omega (arith, last, first, later)
+
+pub returns-in_err-perform-clause-keeper_cause : goal.returns-in_err-perform-clause-keeper_cause
+returns-in_err-perform-clause-keeper_cause g c k e =
+    let so_far = c.loop-action.invariant in
+    let old = c.args.session.now in
+    let mid = c.loop-action.session in
+    let list = c.args.list.now in
+    let i = c.loop-action.action-index in
+    let a = slice_index_or list i (Forward 0 0 Nothing) in
+    let within : i < length list = omega arith in
+    let at = at_place list i within in
+    let p = err_from_is_err_and c.from_residual.result c.from_residual.ensures.1 in
+    let same = same_fault c.perform.result c.from_residual.result _ _ (Keeper k) c.in_err-perform.was p.1 p.2 e in
+    let Q : ℕ → Type 0 = λ n. Rose n (by_number 0 g.K.Keeper.fault_count c.perform.new.keepers.items k) in
+    subst Q (c.loop-action.invariant.way.quiet k) (c.perform.ensures.keeper_cause k same).1
 
 pub returns-in_err-perform-clause-keepers_quiet : goal.returns-in_err-perform-clause-keepers_quiet
 returns-in_err-perform-clause-keepers_quiet g c never j =
+    let so_far = c.loop-action.invariant in
+    let old = c.args.session.now in
+    let mid = c.loop-action.session in
+    let list = c.args.list.now in
+    let i = c.loop-action.action-index in
+    let a = slice_index_or list i (Forward 0 0 Nothing) in
+    let within : i < length list = omega arith in
+    let at = at_place list i within in
     let p = err_from_is_err_and c.from_residual.result c.from_residual.ensures.1 in
-    c.perform-in-loop-action.ensures.keepers_quiet (λ k e. never k (same_fault c.from_residual.result c.perform-in-loop-action.result _ _ (Keeper k) p.1 c.in_err-perform.was (sym p.2) e)) j ∙ c.loop-action.invariant.way.quiet j
+    c.perform.ensures.keepers_quiet (λ k e. never k (same_fault c.from_residual.result c.perform.result _ _ (Keeper k) p.1 c.in_err-perform.was (sym p.2) e)) j ∙ c.loop-action.invariant.way.quiet j
+
+pub returns-in_err-perform-clause-undamaged : goal.returns-in_err-perform-clause-undamaged
+returns-in_err-perform-clause-undamaged g c first is stands k put got e =
+    let so_far = c.loop-action.invariant in
+    let old = c.args.session.now in
+    let mid = c.loop-action.session in
+    let list = c.args.list.now in
+    let i = c.loop-action.action-index in
+    let a = slice_index_or list i (Forward 0 0 Nothing) in
+    let within : i < length list = omega arith in
+    let at = at_place list i within in
+    let p = err_from_is_err_and c.from_residual.result c.from_residual.ensures.1 in
+    let same = same_fault c.perform.result c.from_residual.result _ _ (Damaged k put got) c.in_err-perform.was p.1 p.2 e in
+    c.perform.ensures.undamaged first is (c.loop-action.invariant.way.stands first is stands) k put got same
 
 pub loop-action-preserved : goal.loop-action-preserved
 loop-action-preserved g c =
@@ -406,26 +503,40 @@ loop-action-preserved g c =
     let a = slice_index_or list i (Forward 0 0 Nothing) in
     let within : i < length list = omega arith in
     let at = at_place list i within in
-    let steps_are = last_is c.reverse-last.result c.config.result.now old.situation old.situation.steps old.situation.slots c.reverse-last.ensures c.config.ensures c.requires.start in
-    let none : hands_out old.situation.steps c.args.place a ≡ false = ap (λ n. hands_out n c.args.place a) (sym steps_are) ∙ sym c.is_handed_out.ensures ∙ c.if-is_handed_out.false in
-    let new = c.perform-in-loop-action.new.self in
+    let new = c.perform.new.self in
     let done = c.in_ok-perform.ensures in
+    let unit = old.unit in
+    let steps = old.situation.steps in
+    let slots = old.situation.slots in
     let goes = goes_from old mid new (take i list) a so_far.way.performs done.performs in
+    let told = told_by g.K.Keeper.told in
+    let held = holdings_of mid (told c.loop-action.keepers.items) in
+    let gets = gets_there (PassesOn g.V.Visitor.got) old mid (take i list) a (states_out a mid.work mid.tape.states) c.loop-action.picked c.perform.new.visitor so_far.way.performs done.gets in
+    let it = picks_at g.V.Visitor.got unit steps slots old.journal a mid.situation.at new.situation.at held c.loop-action.picked c.perform.new.visitor goes so_far.way.turns gets in
+    let on = way_on _ _ _ _ _ _ list i old mid new _ _ c.perform.new.keepers.items _ _ _ a c.requires.start at so_far.way (record {
+      performs = done.performs;
+      acts = done.acts;
+      counted = done.counted;
+      called = done.called;
+      room = c.perform.ensures.slots;
+      quiet = c.perform.ensures.keepers_quiet (λ k e. not_both c.perform.result _ (Keeper k) c.in_ok-perform.was e);
+      others = c.perform.ensures.others;
+      stands = done.stands;
+      alone = done.alone;
+    }) in
+    let none = unshown_at g.V.Visitor.got unit steps old.journal a mid.situation.at new.situation.at held c.loop-action.picked c.perform.new.visitor c.if-picked.false it in
+    let acts = acts_there old mid (take i list) a _ _ so_far.way.performs done.acts in
+    let even = got_even (PassesOn g.V.Visitor.got) old.journal unit steps a held c.loop-action.picked c.perform.new.visitor gets in
+    let P : ℕ → Type 0 = λ n. n < left unit steps mid.situation.at → n < left unit steps new.situation.at in
     record {
-      way = way_on _ _ _ _ _ _ list i old mid new _ _ c.perform-in-loop-action.new.keepers.items _ _ _ a c.requires.start at so_far.way (record {
-        performs = done.performs;
-        acts = done.acts;
-        counted = done.counted;
-        called = done.called;
-        room = c.perform-in-loop-action.ensures.slots;
-        quiet = c.perform-in-loop-action.ensures.keepers_quiet (λ k e. not_both c.perform-in-loop-action.result _ (Keeper k) c.in_ok-perform.was e);
-        others = c.perform-in-loop-action.ensures.others;
-        stands = done.stands;
-        alone = done.alone;
-      });
-      left = left_after old.situation.steps mid.situation.at a new.situation.at c.args.place (hands_of old.situation.steps old.situation.slots mid.situation.at a new.situation.at goes so_far.way.turns) c.requires.place so_far.left none;
-      front = front_past old.situation.steps c.args.place list i a at none so_far.front;
-      visitor = so_far.visitor;
+      way = on;
+      gone = gone_on unit steps slots old.journal list i (holdings_of old (told c.args.keepers.now.items)) held (holdings_of new (told c.perform.new.keepers.items)) mid.situation.at a new.situation.at goes so_far.way.turns at acts even so_far.gone;
+      still = subst P so_far.place none.left_still so_far.still;
+      front = front_past unit steps c.args.place list i a at (ap (λ m. hands_out unit steps m a) (sym so_far.place) ∙ none.none) so_far.front;
+      place = it.same_place ∙ so_far.place;
+      reference = it.reference ∙ so_far.reference;
+      visitor = none.visitor ∙ so_far.visitor;
+      passed = c.if-picked.false;
     }
 
 pub unreachable-requires : goal.unreachable-requires
@@ -433,4 +544,6 @@ unreachable-requires g c =
     let so_far = c.loop-action.invariant in
     let old = c.args.session.now in
     let over = at_end _ _ _ _ _ _ c.args.list.now c.loop-action.action-index old c.loop-action.session _ _ _ _ c.requires.start c.requires.valid (omega arith) so_far.way in
-    absurd (none_left_at_end old.situation.steps c.loop-action.session.situation.at c.args.place so_far.way.turns over so_far.left)
+    let none = left_at_end old.unit old.situation.steps c.loop-action.session.situation.at so_far.way.turns over in
+    let still = so_far.still in
+    absurd (omega (arith, none, still))

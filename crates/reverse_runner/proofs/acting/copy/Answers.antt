@@ -1,5 +1,5 @@
 use Rattle.std.proofs.Common.{◌≡◌, ◌<◌, ◌∙◌, ℕ, List, length, Err, Contains, refl, ap, sym, subst}
-use Rattle.std.proofs.lemmas.Result.{IfErr-at_err, err_from_is_err_and, on_ok_weaker}
+use Rattle.std.proofs.lemmas.Result.{IfErr-at_err, err_from_is_err_and, on_ok_weaker, on_err_weaker}
 use Rattle.plan_types.specs.declared.action.Dest.{Dest}
 use Rattle.plan_types.specs.declared.action.Dest.TheVariants.{Level}
 use Rattle.plan_types.specs.declared.action.Action.TheVariants.{Copy}
@@ -7,7 +7,7 @@ use Rattle.level_book.specs.Rules.{levels_named}
 use Rattle.sha2.specs.Sha256.{sha256}
 use Rattle.rv_pages.specs.Memory.{page_numbers}
 use Rattle.rv_machine.specs.MachineState.{MachineState}
-use Rattle.rv_machine.specs.States.{state_number}
+use Rattle.reverse_runner.specs.Units.{unit_states}
 use Rattle.reverse_runner.specs.Standing.{IsNoImage}
 use Rattle.image_store.specs.Shelves.{ShelfState, level_of}
 use Rattle.image_store.specs.Pairs.{held}
@@ -15,10 +15,12 @@ use Rattle.reverse_runner.specs.declared.fault.RunFault.TheVariants.{Keeper, Dam
 use Rattle.reverse_runner.specs.Acts.{IsDecoded}
 use Rattle.reverse_runner.specs.KeepersSeen.{told_by, calls_of, calls_to, CalledAtMost}
 use Rattle.reverse_runner.specs.Touching.{IsKeeping}
-use Rattle.reverse_runner.specs.Workspaces.{holdings_in}
+use Rattle.reverse_runner.specs.Workspaces.{levels_in, holdings_in}
 use Rattle.reverse_runner.proofs.Asking.{may_get, may_give, copies_held, copies_free, damage_of, copied_to_work, copy_names_source, copy_names_target, not_named, keeping_is_on, has_keeper_still}
 use Rattle.reverse_runner.proofs.AllCalls.{called_copy, at_most}
+use Rattle.reverse_runner.proofs.Taping.{same_tape}
 use Rattle.reverse_runner.proofs.Undamaged.{held_stands, fetched_image, state_of_run}
+use Rattle.reverse_runner.proofs.Leaving.{on_err, leaves_not_got, leaves_copied}
 use Rattle.reverse_runner.proofs.acting.copy.Goals as goal
 
 pub returns-in_err-fetch-clause-damaged : goal.returns-in_err-fetch-clause-damaged
@@ -29,13 +31,13 @@ returns-in_err-fetch-clause-damaged g c k put got e =
     damage_of (Copy c.args.n c.args.from c.args.dest) (holdings_in c.args.space.now (told_by g.K.Keeper.told c.args.keepers.now.items)) c.args.n c.args.from k put got refl other.0 other.1
 
 pub returns-in_err-fetch-clause-undamaged : goal.returns-in_err-fetch-clause-undamaged
-returns-in_err-fetch-clause-undamaged g c first journal is recorded stands k put got e =
+returns-in_err-fetch-clause-undamaged g c first journal unit is recorded stands k put got e =
     let p = err_from_is_err_and c.from_residual.result c.from_residual.ensures.1 in
     let same : c.fetch.result ≡ Err (Damaged k put got) = cc in
     let now = c.args.config.now in
     let is_held = copies_held now.steps now.slots now.at c.args.n c.args.from c.args.dest c.requires.allowed in
     let s = holdings_in c.args.space.now (told_by g.K.Keeper.told c.args.keepers.now.items) in
-    let there = held_stands first journal now.steps now.slots now.at s c.args.from c.args.n stands c.requires.ready.laid is_held.level is_held.there in
+    let there = held_stands first journal unit now.steps now.slots now.at s c.args.from c.args.n stands c.requires.ready.laid is_held.level is_held.there in
     IfErr-at_err (IsKeeping c.args.from) same (c.fetch.ensures.sound there.0 there.1)
 
 pub returns-in_err-fetch-clause-others : goal.returns-in_err-fetch-clause-others
@@ -60,29 +62,29 @@ keep-requires-clause-slots g c =
     c.requires.ready.laid c.requires.ready.room free.1.level c.fetch.ensures.remain.slots_same c.fetch.ensures.states.2).1
 
 pub returns-in-Work-clause-acts : goal.returns-in-Work-clause-acts
-returns-in-Work-clause-acts g c journal =
+returns-in-Work-clause-acts g c unit journal =
     let told = g.K.Keeper.told in
     let old = holdings_in c.args.space.now (told_by told c.args.keepers.now.items) in
     let new = holdings_in c.decode.new.self (told_by told c.fetch.new.keepers.items) in
     let stays = c.fetch.ensures.states in
     let P : MachineState → Type 0 = λ s. IsDecoded s c.decode.new.self.work c.fetch.new.self.buffer.items in
     on_ok_weaker c.decode.result (λ decoded.
-    copied_to_work journal c.args.n c.args.from c.args.dest old new c.fetch.new.self.buffer.items c.in-Work.is c.in_ok-fetch.ensures.fetched (subst P stays.0 decoded)
-    (c.decode.ensures.tape ∙ stays.1) (ap length (c.decode.ensures.store ∙ stays.2))
+    copied_to_work unit journal c.args.n c.args.from c.args.dest old new c.fetch.new.self.buffer.items c.in-Work.is c.in_ok-fetch.ensures.fetched (subst P stays.0 decoded)
+    (same_tape c.decode.new.self c.args.space.now (c.decode.ensures.tape ∙ stays.1) (c.decode.ensures.undo ∙ stays.3)) (ap length (c.decode.ensures.store ∙ stays.2))
     (λ j. let same = c.fetch.ensures.same j in (ap (λ (s : List ShelfState). level_of s j) (c.decode.ensures.store ∙ stays.2), same.1)))
     c.decode.ensures.decoded
 
 pub returns-in-Work-clause-undamaged : goal.returns-in-Work-clause-undamaged
-returns-in-Work-clause-undamaged g c first journal is recorded stands k put got e =
+returns-in-Work-clause-undamaged g c first journal unit is recorded stands k put got e =
     let now = c.args.config.now in
     let is_held = copies_held now.steps now.slots now.at c.args.n c.args.from c.args.dest c.requires.allowed in
     let s = holdings_in c.args.space.now (told_by g.K.Keeper.told c.args.keepers.now.items) in
-    let got_is = fetched_image first journal now.steps now.slots now.at s c.args.from c.args.n c.fetch.new.self.buffer.items stands c.requires.ready.laid is_held.level is_held.there
+    let got_is = fetched_image first journal unit now.steps now.slots now.at s c.args.from c.args.n c.fetch.new.self.buffer.items stands c.requires.ready.laid is_held.level is_held.there
     c.in_ok-fetch.ensures.fetched in
-    let state = state_of_run first journal now.at s c.args.n is recorded stands in
+    let state = state_of_run first journal unit now.at s c.args.n is recorded stands in
     let none = IfErr-at_err (λ fault. (fault ≡ Damaged c.args.from (sha256 c.fetch.new.self.buffer.items) (sha256 c.fetch.new.self.buffer.items)) × IsNoImage c.fetch.new.self.work c.fetch.new.self.buffer.items) e
     c.decode.ensures.damaged in
-    none.1 (state_number first journal c.args.n) state.0 (state.1 ∙ sym (ap (λ (x : MachineState). page_numbers x.memory) c.fetch.ensures.states.0)) (sym got_is)
+    none.1 (unit_states first journal unit c.args.n) state.0 (state.1 ∙ sym (ap (λ (x : MachineState). page_numbers x.memory) c.fetch.ensures.states.0)) (sym got_is)
 
 pub returns-in-Work-clause-others : goal.returns-in-Work-clause-others
 returns-in-Work-clause-others g c k free =
@@ -109,3 +111,27 @@ returns-in-Level-clause-named g c k e =
     let on = keeping_is_on c.in-Level.to k (Keeper k) (IfErr-at_err (IsKeeping c.in-Level.to) e c.keep.ensures.fault) refl in
     let P : ℕ → Type 0 = λ j. Contains (levels_named (Copy c.args.n c.args.from c.args.dest)) j in
     subst P (sym on) (copy_names_target c.args.n c.args.from c.in-Level.to c.args.dest c.in-Level.is)
+
+pub returns-in_err-fetch-clause-left : goal.returns-in_err-fetch-clause-left
+returns-in_err-fetch-clause-left g c =
+    let told = g.K.Keeper.told in
+    let now = c.args.config.now in
+    let old = levels_in c.args.space.now (told_by told c.args.keepers.now.items) in
+    let is_held = copies_held now.steps now.slots now.at c.args.n c.args.from c.args.dest c.requires.allowed in
+    let give = may_give now.steps now.slots now.at c.args.space.now.store c.args.n c.args.from c.requires.ready.laid is_held in
+    let left = leaves_not_got c.args.n c.args.from c.args.dest old (told_by told c.fetch.new.keepers.items) (λ k. (c.fetch.ensures.same k).1)
+    (λ k e.
+    let free = copies_free now.steps now.slots now.at c.args.n c.args.from k c.args.dest c.requires.allowed e in
+    (may_get now.steps now.slots now.at c.args.space.now.store c.args.n k c.requires.ready.laid free.1 give.1).0) in
+    on_err c.from_residual.result left
+
+pub returns-in-Level-clause-left : goal.returns-in-Level-clause-left
+returns-in-Level-clause-left g c =
+    let told = g.K.Keeper.told in
+    let old = levels_in c.args.space.now (told_by told c.args.keepers.now.items) in
+    let mid = levels_in c.fetch.new.self (told_by told c.fetch.new.keepers.items) in
+    let to = c.in-Level.to in
+    on_err_weaker c.keep.result (λ left.
+    leaves_copied c.args.n c.args.from to c.args.dest old mid (told_by told c.keep.new.keepers.items) c.in-Level.is (c.fetch.ensures.same to).0 (λ k. (c.fetch.ensures.same k).1) left
+    (λ k ne. (c.keep.ensures.others k ne).1))
+    c.keep.ensures.left

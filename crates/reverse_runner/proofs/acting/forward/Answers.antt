@@ -1,20 +1,24 @@
-use Rattle.std.proofs.Common.{◌≡◌, ◌<◌, ◌∙◌, ◌-◌, ℕ, List, slice_get, vec_items, length, Option, refl, ap, sym, subst}
+use Rattle.std.proofs.Common.{◌≡◌, ◌<◌, ◌∙◌, ◌-◌, ◌*◌, ℕ, List, length, refl, ap, sym, subst, arith}
 use Rattle.plan_types.specs.declared.action.Keep.{Keep}
 use Rattle.plan_types.specs.declared.action.Action.TheVariants.{Forward}
 use Rattle.level_book.specs.Rules.{rule, levels_named}
 use Rattle.image_store.specs.Shelves.{ShelfState, level_of}
 use Rattle.image_store.specs.Pairs.{held}
 use Rattle.reverse_runner.specs.KeepersSeen.{told_by}
-use Rattle.keepers.specs.Told.{Images}
 use Rattle.rv_machine.specs.MachineState.{MachineState}
 use Rattle.rv_machine.specs.States.{state_number}
 use Rattle.state_image.specs.Image.{image}
 use Rattle.image_store.specs.Calls.{IsKept}
-use Rattle.reverse_runner.specs.declared.workspace.Workspace.{Workspace}
-use Rattle.reverse_runner.specs.Workspaces.{holdings_in}
-use Rattle.reverse_runner.proofs.Asking.{forward_kept_nothing, forward_stored, forward_taped, store_names, not_named, has_keeper_still, may_get, stores_free}
+use Rattle.reverse_runner.specs.Workspaces.{levels_in, holdings_in}
+use Rattle.reverse_runner.proofs.Asking.{forward_stored, forward_taped, store_names, not_named, has_keeper_still, may_get, stores_free}
+use Rattle.level_book.specs.Configuration.{Configuration}
+use Rattle.level_book.specs.Moves.{Goes}
+use Rattle.std.specs.Vec.{vec_capacity}
+use Rattle.rv_pages.specs.Memory.{page_numbers}
+use Rattle.unit_undo.proofs.Leading.{led, leads_there}
+use Rattle.reverse_runner.proofs.Taping.{same_tape, units_kept, units_put}
+use Rattle.reverse_runner.proofs.Leaving.{on_err, leaves_stored}
 use Rattle.reverse_runner.proofs.acting.forward.Goals as goal
-use Rattle.reverse_runner.proofs.acting.forward.Goals.{in-Nothing, in-Store+in_ok-keep-in-Store, in-Tape}
 
 pub keep-requires-clause-room : goal.keep-requires-clause-room
 keep-requires-clause-room g c =
@@ -33,56 +37,93 @@ keep-requires-clause-slots g c =
     (has_keeper_still g.K.Keeper.slot_count c.args.keepers.now.items c.args.keepers.now.items now.steps now.slots now.at c.args.space.now.store c.encode.new.self.store c.in-Store.level
     c.requires.ready.laid c.requires.ready.room free.0.level refl c.encode.ensures.store).1
 
-pub returns-clause-acts : goal.returns-clause-acts
-returns-clause-acts g c =
+pub returns-in_ok-keep-in-Store-clause-acts : goal.returns-in_ok-keep-in-Store-clause-acts
+returns-in_ok-keep-in-Store-clause-acts g c =
     let told = g.K.Keeper.told in
     let old = holdings_in c.args.space.now (told_by told c.args.keepers.now.items) in
-    let new = holdings_in c.advance.new.self (told_by told c.match-keep.keepers.items) in
+    let new = holdings_in c.advance-in-Store.new.self (told_by told c.keep.new.keepers.items) in
     let journal = c.args.journal.now in
-    let count = c.args.to - c.args.from in
-    let work = λ (x : Workspace) (e : c.match-keep.space ≡ x). c.advance.ensures.work ∙ ap (λ (y : Workspace). state_number y.work journal count) e in
-    let tape = λ (x : Workspace) (e : c.match-keep.space ≡ x). c.advance.ensures.tape ∙ ap (λ (y : Workspace). y.tape) e in
-    let store = λ (x : Workspace) (e : c.match-keep.space ≡ x). c.advance.ensures.store ∙ ap (λ (y : Workspace). y.store) e in
-    elim c.match-keep.branch [
-      | in-Nothing w ↦
-          forward_kept_nothing journal c.args.from c.args.to c.args.keep old new w.in-Nothing.is (work _ w.space-is) (tape _ w.space-is) (ap length (store _ w.space-is))
-          (λ k. (ap (λ (s : List ShelfState). level_of s k) (store _ w.space-is), ap (λ ks. told_by told (vec_items ks) k) w.keepers-is))
-      | in-Store+in_ok-keep-in-Store w ↦
-          let stays = w.keep.ensures.states in
-          let level = w.in-Store.level in
-          let stored = store _ w.space-is in
-          let K : List ShelfState → Type 0 = λ s. IsKept (level_of s level) (level_of w.keep.new.self.store level) c.args.from w.encode.new.self.buffer.items (told_by told c.args.keepers.now.items level)
-          (told_by told w.keep.new.keepers.items level) in
-          let B : List ℕ → Type 0 = λ b. IsKept (level_of c.args.space.now.store level) (level_of w.keep.new.self.store level) c.args.from b (told_by told c.args.keepers.now.items level)
-          (told_by told w.keep.new.keepers.items level) in
-          let S : List ShelfState → Type 0 = λ s. IsKept (level_of c.args.space.now.store level) (level_of s level) c.args.from (image c.args.space.now.work)
-          (told_by told c.args.keepers.now.items level) (told_by told w.keep.new.keepers.items level) in
-          let T : Option Images → Type 0 = λ o. IsKept (level_of c.args.space.now.store level) (level_of c.advance.new.self.store level) c.args.from (image c.args.space.now.work)
-          (told_by told c.args.keepers.now.items level) o in
-          let keeps = subst S (sym stored) (subst B w.encode.ensures.image (subst K w.encode.ensures.store w.in_ok-keep-in-Store.ensures.keeps)) in
-          forward_stored journal c.args.from c.args.to level c.args.keep old new w.in-Store.is
-          (work _ w.space-is ∙ ap (λ (s : MachineState). state_number s journal count) (stays.0 ∙ w.encode.ensures.work))
-          (tape _ w.space-is ∙ stays.1 ∙ w.encode.ensures.tape)
-          (ap length stored ∙ w.keep.ensures.count ∙ ap length w.encode.ensures.store)
-          (subst T (sym (ap (λ ks. told_by told (vec_items ks) level) w.keepers-is)) keeps)
-          (λ j ne. (
-            ap (λ (s : List ShelfState). level_of s j) stored ∙ (w.keep.ensures.others j ne).0 ∙ ap (λ (s : List ShelfState). level_of s j) w.encode.ensures.store,
-            ap (λ ks. told_by told (vec_items ks) j) w.keepers-is ∙ (w.keep.ensures.others j ne).1,
-          ))
-      | in-Tape w ↦
-          let taped = w.put_on_tape.ensures in
-          forward_taped journal c.args.from c.args.to c.args.keep old new w.in-Tape.is
-          (work _ w.space-is ∙ ap (λ (y : Workspace). state_number y.work journal count) taped)
-          (tape _ w.space-is ∙ ap (λ (y : Workspace). y.tape) taped)
-          (ap length (store _ w.space-is ∙ ap (λ (y : Workspace). y.store) taped))
-          (λ k. (ap (λ (s : List ShelfState). level_of s k) (store _ w.space-is ∙ ap (λ (y : Workspace). y.store) taped), ap (λ ks. told_by told (vec_items ks) k) w.keepers-is))
-    ]
+    let count = c.args.unit * (c.args.to - c.args.from) in
+    let stays = c.keep.ensures.states in
+    let level = c.in-Store.level in
+    let stored = c.advance-in-Store.ensures.store in
+    let K : List ShelfState → Type 0 = λ s. IsKept (level_of s level) (level_of c.keep.new.self.store level) c.args.from c.encode.new.self.buffer.items (told_by told c.args.keepers.now.items level)
+    (told_by told c.keep.new.keepers.items level) in
+    let B : List ℕ → Type 0 = λ b. IsKept (level_of c.args.space.now.store level) (level_of c.keep.new.self.store level) c.args.from b (told_by told c.args.keepers.now.items level)
+    (told_by told c.keep.new.keepers.items level) in
+    let S : List ShelfState → Type 0 = λ s. IsKept (level_of c.args.space.now.store level) (level_of s level) c.args.from (image c.args.space.now.work)
+    (told_by told c.args.keepers.now.items level) (told_by told c.keep.new.keepers.items level) in
+    let keeps = subst S (sym stored) (subst B c.encode.ensures.image (subst K c.encode.ensures.store c.in_ok-keep-in-Store.ensures.keeps)) in
+    forward_stored c.args.unit journal c.args.from c.args.to level c.args.keep old new c.in-Store.is
+    (c.advance-in-Store.ensures.work ∙ ap (λ (s : MachineState). state_number s journal count) (stays.0 ∙ c.encode.ensures.work))
+    (same_tape c.advance-in-Store.new.self c.args.space.now (c.advance-in-Store.ensures.tape ∙ stays.1 ∙ c.encode.ensures.tape) (c.advance-in-Store.ensures.undo ∙ stays.3 ∙ c.encode.ensures.undo))
+    (ap length stored ∙ c.keep.ensures.count ∙ ap length c.encode.ensures.store)
+    keeps
+    (λ j ne. (
+      ap (λ (s : List ShelfState). level_of s j) stored ∙ (c.keep.ensures.others j ne).0 ∙ ap (λ (s : List ShelfState). level_of s j) c.encode.ensures.store,
+      (c.keep.ensures.others j ne).1,
+    ))
 
-pub returns-clause-others : goal.returns-clause-others
-returns-clause-others g c k free = elim c.match-keep.branch [
-  | in-Nothing w ↦ ap (λ ks. slice_get (vec_items ks) k) w.keepers-is
-  | in-Store+in_ok-keep-in-Store w ↦
-      ap (λ ks. slice_get (vec_items ks) k) w.keepers-is
-      ∙ w.keep.ensures.keepers k (not_named (levels_named (Forward c.args.from c.args.to c.args.keep)) k w.in-Store.level (store_names c.args.from c.args.to w.in-Store.level c.args.keep w.in-Store.is) free)
-  | in-Tape w ↦ ap (λ ks. slice_get (vec_items ks) k) w.keepers-is
-]
+pub returns-in_ok-keep-in-Store-clause-others : goal.returns-in_ok-keep-in-Store-clause-others
+returns-in_ok-keep-in-Store-clause-others g c k free =
+    c.keep.ensures.keepers k (not_named (levels_named (Forward c.args.from c.args.to c.args.keep)) k c.in-Store.level (store_names c.args.from c.args.to c.in-Store.level c.args.keep c.in-Store.is) free)
+
+pub returns-in_ok-keep-in-Store-clause-units : goal.returns-in_ok-keep-in-Store-clause-units
+returns-in_ok-keep-in-Store-clause-units g c d goes =
+    let now = c.args.config.now in
+    let G : Keep → Type 0 = λ k. Goes now.steps now.slots now.at (Forward c.args.from c.args.to k) d in
+    let at = subst G c.in-Store.is goes in
+    units_kept c.args.unit now.steps c.args.journal.now now.at d c.args.space.now c.advance-in-Store.new.self
+    (c.advance-in-Store.ensures.undo ∙ c.keep.ensures.states.3 ∙ c.encode.ensures.undo) (ap (λ (x : Configuration). x.tape) at.3) c.requires.units
+
+pub returns-in-Nothing-clause-units : goal.returns-in-Nothing-clause-units
+returns-in-Nothing-clause-units g c d goes =
+    let now = c.args.config.now in
+    let G : Keep → Type 0 = λ k. Goes now.steps now.slots now.at (Forward c.args.from c.args.to k) d in
+    let at = subst G c.in-Nothing.is goes in
+    units_kept c.args.unit now.steps c.args.journal.now now.at d c.args.space.now c.advance.new.self c.advance.ensures.undo (ap (λ (x : Configuration). x.tape) at.2) c.requires.units
+
+pub returns-in-Tape-clause-acts : goal.returns-in-Tape-clause-acts
+returns-in-Tape-clause-acts g c =
+    let told = g.K.Keeper.told in
+    let x = c.advance_on_tape in
+    let old = holdings_in c.args.space.now (told_by told c.args.keepers.now.items) in
+    let new = holdings_in c.advance_on_tape.new.self (told_by told c.args.keepers.now.items) in
+    forward_taped c.args.unit c.args.journal.now c.args.from c.args.to c.args.keep old new c.in-Tape.is c.advance_on_tape.ensures.work
+    (λ i. record { states = led c.advance_on_tape.new.self.undo.entries c.advance_on_tape.new.self.tape _ c.advance_on_tape.ensures.back i; after = c.advance_on_tape.ensures.tape i })
+    (ap length c.advance_on_tape.ensures.store)
+    (λ k. (ap (λ (s : List ShelfState). level_of s k) c.advance_on_tape.ensures.store, refl))
+
+pub returns-in-Tape-clause-fits : goal.returns-in-Tape-clause-fits
+returns-in-Tape-clause-fits g c =
+    let fits = c.requires.ready.fits in
+    let pages = c.advance_on_tape.ensures.pages in
+    let count : length (page_numbers c.args.space.now.work.memory) ≡ length (page_numbers c.advance_on_tape.new.self.work.memory) = ap length pages in
+    let reserved : vec_capacity c.advance_on_tape.new.self.buffer ≡ vec_capacity c.args.space.now.buffer = ap (λ b. vec_capacity b) c.advance_on_tape.ensures.buffer in
+    record {
+      pages = ap (λ (s : MachineState). page_numbers s.memory) c.advance_on_tape.ensures.tape;
+      few = omega (arith, count, fits.few);
+      back = leads_there c.advance_on_tape.new.self.undo.entries c.advance_on_tape.new.self.tape _ c.advance_on_tape.ensures.back;
+      buffer = omega (arith, count, reserved, fits.buffer);
+    }
+
+pub returns-in-Tape-clause-units : goal.returns-in-Tape-clause-units
+returns-in-Tape-clause-units g c d goes =
+    let now = c.args.config.now in
+    let G : Keep → Type 0 = λ k. Goes now.steps now.slots now.at (Forward c.args.from c.args.to k) d in
+    units_put c.args.unit now.steps c.args.from c.args.to c.args.journal.now now.slots now.at d c.args.space.now c.advance_on_tape.new.self c.args.space.now.work (subst G c.in-Tape.is goes)
+    c.advance_on_tape.ensures.back c.advance_on_tape.ensures.undo.0 c.advance_on_tape.ensures.undo.1 c.requires.units
+
+pub returns-in_err-keep-in-Store-clause-left : goal.returns-in_err-keep-in-Store-clause-left
+returns-in_err-keep-in-Store-clause-left g c =
+    let told = g.K.Keeper.told in
+    let old = levels_in c.args.space.now (told_by told c.args.keepers.now.items) in
+    let mid = levels_in c.encode.new.self (told_by told c.args.keepers.now.items) in
+    let level = c.in-Store.level in
+    let left = leaves_stored c.args.from c.args.to level c.args.keep old mid (told_by told c.keep.new.keepers.items) c.in-Store.is
+    (ap (λ (s : List ShelfState). level_of s level) c.encode.ensures.store) (λ k. refl) c.in_err-keep-in-Store.ensures.left (λ k ne. (c.keep.ensures.others k ne).1) in
+    on_err c.from_residual.result left
+
+pub returns-in_err-keep-in-Store-clause-others : goal.returns-in_err-keep-in-Store-clause-others
+returns-in_err-keep-in-Store-clause-others g c k free =
+    c.keep.ensures.keepers k (not_named (levels_named (Forward c.args.from c.args.to c.args.keep)) k c.in-Store.level (store_names c.args.from c.args.to c.in-Store.level c.args.keep c.in-Store.is) free)

@@ -1,5 +1,5 @@
 use Rattle.std.proofs.Common.{◌≡◌, ◌∙◌, ℕ, [], Err, Ok, Result, OnOk, Contains, IsSome, refl, sym, subst, arith}
-use Rattle.std.proofs.lemmas.Result.{IfErr-at_err, err_from_is_err_and, on_ok_weaker}
+use Rattle.std.proofs.lemmas.Result.{IfErr-at_err, err_from_is_err_and, on_ok_weaker, on_err_weaker}
 use Rattle.plan_types.specs.declared.action.Dest.TheVariants.{Level}
 use Rattle.plan_types.specs.declared.action.Action.TheVariants.{Move}
 use Rattle.level_book.specs.Rules.{levels_named}
@@ -8,8 +8,10 @@ use Rattle.image_store.specs.Shelves.{ShelfState}
 use Rattle.reverse_runner.specs.declared.fault.RunFault.TheVariants.{Keeper, Damaged}
 use Rattle.reverse_runner.specs.KeepersSeen.{told_by, calls_to}
 use Rattle.reverse_runner.specs.Touching.{IsKeeping}
-use Rattle.reverse_runner.specs.Workspaces.{holdings_in}
+use Rattle.reverse_runner.specs.Workspaces.{levels_in, holdings_in}
 use Rattle.reverse_runner.proofs.Asking.{has_keeper_same, may_give, copy_keeps_source, called_move_then, caused_then, uncaused, moves_held, moves_apart, move_may_copy, move_names_copied, copy_names_source, not_named, keeping_is_on, damage_moves, moved}
+use Rattle.reverse_runner.proofs.Taping.{same_tape}
+use Rattle.reverse_runner.proofs.Leaving.{on_err, leaves_uncopied, leaves_moved}
 use Rattle.reverse_runner.proofs.acting.move_.Goals as goal
 
 -- a fact holds at Ok
@@ -28,6 +30,12 @@ returns-in_err-copy-clause-damaged g c k put got e =
     let same : c.copy.result ≡ Err (Damaged k put got) = cc in
     damage_moves c.args.n c.args.from c.args.dest (holdings_in c.args.space.now (told_by g.K.Keeper.told c.args.keepers.now.items)) k put got (c.copy.ensures.damaged k put got same)
 
+pub returns-in_err-copy-clause-undamaged : goal.returns-in_err-copy-clause-undamaged
+returns-in_err-copy-clause-undamaged g c first journal unit is recorded stands k put got e =
+    let p = err_from_is_err_and c.from_residual.result c.from_residual.ensures.1 in
+    let same : c.copy.result ≡ Err (Damaged k put got) = cc in
+    c.copy.ensures.undamaged first journal unit is recorded stands k put got same
+
 pub release-requires-clause-there : goal.release-requires-clause-there
 release-requires-clause-there g c =
     let now = c.args.config.now in
@@ -36,7 +44,7 @@ release-requires-clause-there g c =
     let mid = holdings_in c.copy.new.space (told_by told c.copy.new.keepers.items) in
     let is_held = moves_held now.steps now.slots now.at c.args.n c.args.from c.args.dest c.requires.allowed in
     let apart = λ (j : ℕ) (e : c.args.dest ≡ Level j). moves_apart now.steps now.slots now.at c.args.n c.args.from j c.args.dest c.requires.allowed e in
-    let same = copy_keeps_source [] c.args.n c.args.from c.args.dest old mid apart (c.in_ok-copy.ensures.acts []) in
+    let same = copy_keeps_source 0 [] c.args.n c.args.from c.args.dest old mid apart (c.in_ok-copy.ensures.acts 0 []) in
     let has = has_keeper_same g.K.Keeper.slot_count c.args.keepers.now.items c.copy.new.keepers.items now.steps now.slots now.at c.args.space.now.store c.copy.new.space.store c.args.from
     c.requires.ready.laid c.requires.ready.room is_held.level c.copy.ensures.remain.slots_same same.0 in
     omega (arith, has.0, c.copy.new.keepers.ok.0)
@@ -49,8 +57,8 @@ release-requires-clause-level g c =
     let mid = holdings_in c.copy.new.space (told_by told c.copy.new.keepers.items) in
     let is_held = moves_held now.steps now.slots now.at c.args.n c.args.from c.args.dest c.requires.allowed in
     let apart = λ (j : ℕ) (e : c.args.dest ≡ Level j). moves_apart now.steps now.slots now.at c.args.n c.args.from j c.args.dest c.requires.allowed e in
-    let same = copy_keeps_source [] c.args.n c.args.from c.args.dest old mid apart (c.in_ok-copy.ensures.acts []) in
-    omega (arith, is_held.level, c.requires.ready.laid.levels, (c.in_ok-copy.ensures.acts []).count)
+    let same = copy_keeps_source 0 [] c.args.n c.args.from c.args.dest old mid apart (c.in_ok-copy.ensures.acts 0 []) in
+    omega (arith, is_held.level, c.requires.ready.laid.levels, (c.in_ok-copy.ensures.acts 0 []).count)
 
 pub release-requires-clause-held : goal.release-requires-clause-held
 release-requires-clause-held g c =
@@ -60,7 +68,7 @@ release-requires-clause-held g c =
     let mid = holdings_in c.copy.new.space (told_by told c.copy.new.keepers.items) in
     let is_held = moves_held now.steps now.slots now.at c.args.n c.args.from c.args.dest c.requires.allowed in
     let apart = λ (j : ℕ) (e : c.args.dest ≡ Level j). moves_apart now.steps now.slots now.at c.args.n c.args.from j c.args.dest c.requires.allowed e in
-    let same = copy_keeps_source [] c.args.n c.args.from c.args.dest old mid apart (c.in_ok-copy.ensures.acts []) in
+    let same = copy_keeps_source 0 [] c.args.n c.args.from c.args.dest old mid apart (c.in_ok-copy.ensures.acts 0 []) in
     let P : ShelfState → Type 0 = λ s. IsSome (pair_at s.pairs c.args.n) in
     subst P (sym same.0) (may_give now.steps now.slots now.at c.args.space.now.store c.args.n c.args.from c.requires.ready.laid is_held).0
 
@@ -72,24 +80,24 @@ release-requires-clause-slots g c =
     let mid = holdings_in c.copy.new.space (told_by told c.copy.new.keepers.items) in
     let is_held = moves_held now.steps now.slots now.at c.args.n c.args.from c.args.dest c.requires.allowed in
     let apart = λ (j : ℕ) (e : c.args.dest ≡ Level j). moves_apart now.steps now.slots now.at c.args.n c.args.from j c.args.dest c.requires.allowed e in
-    let same = copy_keeps_source [] c.args.n c.args.from c.args.dest old mid apart (c.in_ok-copy.ensures.acts []) in
+    let same = copy_keeps_source 0 [] c.args.n c.args.from c.args.dest old mid apart (c.in_ok-copy.ensures.acts 0 []) in
     let has = has_keeper_same g.K.Keeper.slot_count c.args.keepers.now.items c.copy.new.keepers.items now.steps now.slots now.at c.args.space.now.store c.copy.new.space.store c.args.from
     c.requires.ready.laid c.requires.ready.room is_held.level c.copy.ensures.remain.slots_same same.0 in
     has.1
 
 pub returns-clause-acts : goal.returns-clause-acts
-returns-clause-acts g c journal =
+returns-clause-acts g c unit journal =
     let now = c.args.config.now in
     let told = g.K.Keeper.told in
     let old = holdings_in c.args.space.now (told_by told c.args.keepers.now.items) in
     let mid = holdings_in c.copy.new.space (told_by told c.copy.new.keepers.items) in
     let is_held = moves_held now.steps now.slots now.at c.args.n c.args.from c.args.dest c.requires.allowed in
     let apart = λ (j : ℕ) (e : c.args.dest ≡ Level j). moves_apart now.steps now.slots now.at c.args.n c.args.from j c.args.dest c.requires.allowed e in
-    let same = copy_keeps_source [] c.args.n c.args.from c.args.dest old mid apart (c.in_ok-copy.ensures.acts []) in
+    let same = copy_keeps_source 0 [] c.args.n c.args.from c.args.dest old mid apart (c.in_ok-copy.ensures.acts 0 []) in
     let new = holdings_in c.release.new.self (told_by told c.release.new.keepers.items) in
     let stays = c.release.ensures.states in
     on_ok_weaker c.release.result (λ releases.
-    moved journal c.args.n c.args.from c.args.dest old mid new apart (c.in_ok-copy.ensures.acts journal) releases stays.0 stays.1 c.release.ensures.count c.release.ensures.others)
+    moved unit journal c.args.n c.args.from c.args.dest old mid new apart (c.in_ok-copy.ensures.acts unit journal) releases stays.0 (same_tape c.release.new.self c.copy.new.space stays.1 stays.3) c.release.ensures.count c.release.ensures.others)
     c.release.ensures.releases
 
 pub returns-clause-called : goal.returns-clause-called
@@ -115,3 +123,23 @@ returns-clause-named g c k e =
     let on = keeping_is_on c.args.from k (Keeper k) (IfErr-at_err (IsKeeping c.args.from) e c.release.ensures.fault) refl in
     let P : ℕ → Type 0 = λ j. Contains (levels_named (Move c.args.n c.args.from c.args.dest)) j in
     subst P (sym on) (move_names_copied c.args.n c.args.from c.args.dest c.args.from (copy_names_source c.args.n c.args.from c.args.dest))
+
+pub returns-in_err-copy-clause-left : goal.returns-in_err-copy-clause-left
+returns-in_err-copy-clause-left g c =
+    let now = c.args.config.now in
+    let told = g.K.Keeper.told in
+    let old = levels_in c.args.space.now (told_by told c.args.keepers.now.items) in
+    let apart = λ (j : ℕ) (e : c.args.dest ≡ Level j). moves_apart now.steps now.slots now.at c.args.n c.args.from j c.args.dest c.requires.allowed e in
+    let left = leaves_uncopied c.args.n c.args.from c.args.dest old (told_by told c.copy.new.keepers.items) apart c.in_err-copy.ensures.left in
+    on_err c.from_residual.result left
+
+pub returns-clause-left : goal.returns-clause-left
+returns-clause-left g c =
+    let now = c.args.config.now in
+    let told = g.K.Keeper.told in
+    let old = holdings_in c.args.space.now (told_by told c.args.keepers.now.items) in
+    let mid = holdings_in c.copy.new.space (told_by told c.copy.new.keepers.items) in
+    let apart = λ (j : ℕ) (e : c.args.dest ≡ Level j). moves_apart now.steps now.slots now.at c.args.n c.args.from j c.args.dest c.requires.allowed e in
+    on_err_weaker c.release.result (λ left.
+    leaves_moved 0 [] c.args.n c.args.from c.args.dest old mid (told_by told c.release.new.keepers.items) apart (c.in_ok-copy.ensures.acts 0 []) left (λ k ne. (c.release.ensures.others k ne).1))
+    c.release.ensures.left

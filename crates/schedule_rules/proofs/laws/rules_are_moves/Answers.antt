@@ -1,5 +1,5 @@
-use Rattle.schedule_rules.proofs.Lawful.{rules_moves}
+use Rattle.schedule_rules.proofs.Lawful.{rules_moves_within}
 use Rattle.schedule_rules.proofs.laws.rules_are_moves.Goals as goal
 
 pub returns : goal.returns
-returns c = rules_moves
+returns c = rules_moves_within

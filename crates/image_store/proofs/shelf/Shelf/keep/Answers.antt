@@ -8,7 +8,8 @@ use Rattle.image_store.specs.Sharing.{SharesOut, IsShelf, pairs_in}
 use Rattle.image_store.specs.Shelves.{ShelfState}
 use Rattle.image_store.specs.Standing.{LevelStands, LevelAlone, KeepsAs, Alone, IsToldAnd}
 use Rattle.sha2.specs.Sha256.{sha256}
-use Rattle.image_store.specs.Calls.{kept_in, with_pair}
+use Rattle.image_store.specs.Calls.{kept_in, with_pair, IsNotKept}
+use Rattle.keepers.specs.Told.{Images, Tells, SameButAt}
 use Rattle.image_store.proofs.Sharing.{shares_more, last_free}
 use Rattle.image_store.proofs.Places.{pairs_more}
 use Rattle.image_store.proofs.Stands.{level_more, level_alone_more}
@@ -97,3 +98,30 @@ returns-clause-alone g c = λ alone.
     let before = subst (λ (s : ShelfState). LevelAlone s (g.K.Keeper.told c.args.keeper.now)) (sym c.self.view_is) alone in
     let after = level_alone_more (pairs_in c.self.inside.fingerprints.items c.self.inside.places.items) (g.K.Keeper.told c.args.keeper.now) (g.K.Keeper.told c.put.new.self) c.args.n slot c.args.image.now t.within t.none c.in-Ok.ensures.ok before in
     subst (λ (ps : List (Option Kept)). IsToldAnd (g.K.Keeper.told c.put.new.self) (Alone ps)) (sym e) after
+
+-- the slot that was tried, where the keeper refused
+not_kept : (prints : List Fingerprint) (places free : List ℕ) (count n slot : ℕ) (s : ShelfState) (before after : Option Images) → Taken prints places free count n slot →
+    (record { pairs = pairs_in prints places; room = length free }) ≡ s → Tells before after (SameButAt slot) → IsNotKept s before after
+not_kept prints places free count n slot s before after t is told = record {
+  slot = slot;
+  within = subst (λ (s : ShelfState). slot < s.room) is t.low;
+  unused = subst (λ (s : ShelfState). IsFreeSlot s.pairs slot) is t.unused;
+  told = told;
+}
+
+pub returns-in-Err-Failed-clause-left : goal.returns-in-Err-Failed-clause-left
+returns-in-Err-Failed-clause-left g c =
+    let t = taken _ _ _ _ c.args.n c.index-slot.result.now c.args.self.now c.self.invariant c.self.view_is c.requires.number c.requires.new c.requires.room c.index-slot.ensures in
+    not_kept _ _ _ _ c.args.n c.index-slot.result.now c.args.self.now _ _ t c.self.view_is c.in-Err-Failed.ensures.refused
+
+pub returns-in-Err-Memory-clause-left : goal.returns-in-Err-Memory-clause-left
+returns-in-Err-Memory-clause-left g c =
+    let t = taken _ _ _ _ c.args.n c.index-slot.result.now c.args.self.now c.self.invariant c.self.view_is c.requires.number c.requires.new c.requires.room c.index-slot.ensures in
+    not_kept _ _ _ _ c.args.n c.index-slot.result.now c.args.self.now _ _ t c.self.view_is c.in-Err-Memory.ensures.refused
+
+pub overflow_add-slot : goal.overflow_add-slot
+overflow_add-slot g c =
+    let t = taken _ _ _ _ c.args.n c.index-slot.result.now c.args.self.now c.self.invariant c.self.view_is c.requires.number c.requires.new c.requires.room c.index-slot.ensures in
+    let low = t.low in
+    let small = c.self.invariant.small in
+    omega (arith, low, small)

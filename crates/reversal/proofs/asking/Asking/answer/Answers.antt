@@ -5,8 +5,8 @@ use Rattle.rv_machine.specs.MachineState.{MachineState}
 use Rattle.reverse_runner.specs.KeepersSeen.{HaveRoom}
 use Rattle.reverse_runner.specs.SessionState.{SessionState}
 use Rattle.reverse_runner.specs.Standing.{StandsAt}
-use Rattle.reversal.specs.declared.question.Question.{Question}
-use Rattle.reversal.specs.declared.question.Question.TheVariants.{State, LastWrite, LastChange}
+use Rattle.requests.specs.declared.question.Question.{Question}
+use Rattle.requests.specs.declared.question.Question.TheVariants.{State, LastWrite, LastChange}
 use Rattle.reversal.specs.Deeds.{ask, moment}
 use Rattle.reversal.specs.JobReading.{Works}
 use Rattle.reversal.proofs.asking.Asking.answer.Goals as goal

@@ -1,7 +1,7 @@
 use Rattle.std.proofs.Common.{◌≡◌, ◌⊎◌, inl, inr, refl, sym, subst}
 use Rattle.reverse_runner.specs.KeepersSeen.{calls_to, told_by}
 use Rattle.reversal.specs.declared.job.Job.{Job}
-use Rattle.reversal.specs.Ending.{no_memory}
+use Rattle.requests.specs.Ending.{no_memory}
 use Rattle.reversal.specs.Deeds.{moment}
 use Rattle.reversal.specs.JobReading.{job_of, Works}
 use Rattle.reversal.proofs.job.Job.work.Goals as goal

@@ -7,7 +7,7 @@ use Rattle.reversal.specs.declared.planning.Plan.{Plan}
 use Rattle.reversal.specs.ActionsLeft.{left_of}
 use Rattle.reversal.specs.Plans.{line_of_action}
 use Rattle.reversal.specs.Deeds.{bytes_of}
-use Rattle.reversal.proofs.Lists.{at_front}
+use Rattle.requests.proofs.Lists.{at_front}
 use Rattle.reversal.proofs.Pieces.{piece_more, all_taken, drop_map}
 use Rattle.reversal.proofs.planning.Plan.next_piece.Goals.{then-loop-count-test+else-push_line, else-loop-count-test}
 use Rattle.reversal.proofs.planning.Plan.next_piece.Goals as goal

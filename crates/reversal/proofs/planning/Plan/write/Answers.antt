@@ -3,6 +3,7 @@ use Rattle.std.specs.List.{AllByRecursion}
 use Rattle.level_book.specs.BookCosts.{BookCosts, names_of}
 use Rattle.action_text.specs.Canonical.{HasSpelling}
 use Rattle.cert_text.specs.Canonical as certificate
+use Rattle.cert_text.proofs.Spelled.{joined}
 use Rattle.keepers.specs.Told.{Tells, AddsPrefix}
 use Rattle.reversal.specs.Output.{Adds}
 use Rattle.reversal.specs.ActionsLeft.{left_of}
@@ -69,8 +70,9 @@ returns-in-Ok-print_certificate-clause-works g c steps calls images =
     let f = line_of_action (names_of c.args.self.book) in
     let none = none_behind (left_of c.loop-out.self.actions) (λ some. c.loop-out-test.ensures.some.1 some) in
     let same : c.args.self.certificate ≡ Some c.in-Some.certificate = sym (c.next_piece.ensures.kept.1 ∙ inv.certificate) ∙ c.in-Some.is in
+    let C : List ℕ → Type 0 = λ l. Tells (g.O.Sink.told c.loop-out.out) (g.O.Sink.told c.print_certificate.new.out) (Adds l) in
     written_all f _ _ (left_of c.loop-out.self.actions) (certificate.pieces c.in-Some.certificate) _ (g.O.Sink.told c.args.out.now) (g.O.Sink.told c.loop-out.out) (g.O.Sink.told c.print_certificate.new.out) _ _ _ steps calls images inv.so_far none
-    (ap certificate_pieces same) c.done-in-Ok-print_certificate.ensures c.in-Ok-print_certificate.ensures.ok c.in-Ok-print_certificate.ensures.calls
+    (ap certificate_pieces same) c.done-in-Ok-print_certificate.ensures (subst C (sym (joined c.in-Some.certificate)) c.in-Ok-print_certificate.ensures.ok) c.in-Ok-print_certificate.ensures.calls
 
 pub returns-clause-works : goal.returns-clause-works
 returns-clause-works g c steps calls images =

@@ -1,4 +1,6 @@
-use Rattle.std.proofs.Common.{List, sym, subst}
+use Rattle.std.proofs.Common.{List, sym, subst, ap, arith}
+use Rattle.unit_undo.specs.UndoState.{UndoState}
+use Rattle.reverse_runner.specs.Workspaces.{HasUnits, tape_in}
 use Rattle.schedule_rules.specs.Situation.{Situation}
 use Rattle.rv_machine.specs.MachineState.{MachineState}
 use Rattle.level_book.specs.BookCosts.{slots_of}
@@ -13,9 +15,16 @@ invariant_of-result c =
     let space = c.in_ok-space.ensures in
     let P : Situation → Type 0 = λ s. IsLaidOut s.steps s.slots s.at c.in_ok-space.space.store in
     let Q : List ShelfState → Type 0 = λ s. IsLaidOut c.args.steps (slots_of c.args.book) (start c.args.steps (slots_of c.args.book)) s in
+    let U : Situation → Type 0 = λ s. HasUnits c.args.unit c.args.journal s.steps s.at c.in_ok-space.space in
     record {
       fits = space.fits;
       laid = λ _. subst P (sym c.in_ok-config.ensures) (subst Q (sym space.store) (begun_is_laid_out c.args.steps (slots_of c.args.book)));
+      units = λ _. subst U (sym c.in_ok-config.ensures) (record {
+        taped = tt;
+        made = omega (arith, ap (λ (u : UndoState). u.unit) space.undo, ap (λ (u : UndoState). u.room) space.undo);
+        same = ap (λ (u : UndoState). u.unit) space.undo;
+        small = c.requires.few;
+      });
     }
 
 pub returns-clause-stands : goal.returns-clause-stands
@@ -23,11 +32,11 @@ returns-clause-stands c told tells =
     let space = c.in_ok-space.ensures in
     let steps = c.args.steps in
     let slots = slots_of c.args.book in
-    let tape = c.in_ok-space.space.tape in
-    let C : Situation → Type 0 = λ s. HoldingsStandAt c.args.start c.args.journal s.at (record { work = c.in_ok-space.space.work; tape = tape; levels = record { store = c.in_ok-space.space.store; told = told } }) in
-    let W : MachineState → Type 0 = λ w. HoldingsStandAt c.args.start c.args.journal (start steps slots) (record { work = w; tape = tape; levels = record { store = c.in_ok-space.space.store; told = told } }) in
-    let S : List ShelfState → Type 0 = λ s. HoldingsStandAt c.args.start c.args.journal (start steps slots) (record { work = c.args.start; tape = tape; levels = record { store = s; told = told } }) in
-    subst C (sym c.in_ok-config.ensures) (subst W (sym space.work) (subst S (sym space.store) (begun_stands c.args.start c.args.journal steps slots tape told tells)))
+    let tape = tape_in c.in_ok-space.space in
+    let C : Situation → Type 0 = λ s. HoldingsStandAt c.args.start c.args.journal c.args.unit s.at (record { work = c.in_ok-space.space.work; tape = tape; levels = record { store = c.in_ok-space.space.store; told = told } }) in
+    let W : MachineState → Type 0 = λ w. HoldingsStandAt c.args.start c.args.journal c.args.unit (start steps slots) (record { work = w; tape = tape; levels = record { store = c.in_ok-space.space.store; told = told } }) in
+    let S : List ShelfState → Type 0 = λ s. HoldingsStandAt c.args.start c.args.journal c.args.unit (start steps slots) (record { work = c.args.start; tape = tape; levels = record { store = s; told = told } }) in
+    subst C (sym c.in_ok-config.ensures) (subst W (sym space.work) (subst S (sym space.store) (begun_stands c.args.start c.args.journal c.args.unit steps slots tape told tells)))
 
 pub returns-clause-alone : goal.returns-clause-alone
 returns-clause-alone c told empty =

@@ -1,0 +1,5 @@
+use Rattle.cert_text.proofs.Spelled.{joined}
+use Rattle.cert_text.proofs.laws.pieces_join.Goals as goal
+
+pub returns : goal.returns
+returns c = joined

@@ -1,0 +1,5 @@
+use Rattle.class_rules.proofs.Deciding.{nested_or_not}
+use Rattle.class_rules.proofs.laws.nested_or_not.Goals as goal
+
+pub returns : goal.returns
+returns c = nested_or_not

@@ -1,0 +1,5 @@
+use Rattle.disk_gen.proofs.DiskExisting.{disk_list_exists}
+use Rattle.disk_gen.proofs.laws.disk_lists_exist.Goals as goal
+
+pub returns : goal.returns
+returns c = disk_list_exists

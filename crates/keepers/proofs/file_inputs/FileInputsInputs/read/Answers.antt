@@ -1,0 +1,6 @@
+use Rattle.keepers.specs.Told.{bytes_in}
+use Rattle.keepers.proofs.Begun.{none_begin}
+use Rattle.keepers.proofs.file_inputs.FileInputsInputs.read.Goals as goal
+
+pub returns-then-is_err-clause-begun : goal.returns-then-is_err-clause-begun
+returns-then-is_err-clause-begun g c = none_begin (g.D.Disk.told c.args.self.now.disk) c.clear.new.self.items (λ files. bytes_in files c.args.name.now) c.clear.ensures.items

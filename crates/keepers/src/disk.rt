@@ -1,0 +1,110 @@
+// The files of a system, by their paths.
+ghost use Rattle.std.specs.Prelude.{◌≡◌, ◌⊎◌, ℕ, ◌<◌, ◌≤◌, length, take, Option, Some, Ok, is_some, IfOk, IsSomeAnd, OnOk, OnErr};
+ghost use Rattle.std.specs.Vec.{vec_len, vec_capacity};
+ghost use Rattle.std.specs.FinMap as finmap;
+ghost use Rattle.keepers.specs.Told.{Files, Tells, WhereTold, SameButNamed, Begins, bytes_in};
+
+use crate::inputs::Whole;
+use crate::transfer::{read_first, read_whole, write_whole};
+use std::fs::File;
+use std::io::ErrorKind;
+use std::rt::Files;
+use std::{fs, io};
+
+/// The files of a system by their paths, which are UTF-8, as keepers and inputs want them.
+pub trait Disk {
+    /// The files, where it tells.
+    ghost told: { Self → Option Files };
+
+    /// Whether a file stands at a path. What stands there and is none, as a folder or a symbolic link, is an error.
+    fn is_there(&self, path: &str) -> io::Result<bool>
+        ensures { IfOk result (λ there. WhereTold (told self.now) (λ files. there ≡ is_some (finmap.get files path.now))) };
+
+    /// Reads a file into a room, until the room is full or the file is at its end, and says how many bytes it read.
+    fn read_first(&self, path: &str, room: &mut [u8]) -> io::Result<usize>
+        ensures fits { IfOk result (λ count. count ≤ length room.old) }
+        ensures bytes { IfOk result (λ count. WhereTold (told self.now) (λ files. take count room.new ≡ take (length room.old) (bytes_in files path.now))) };
+
+    /// Reads a file into `into`, in place of what was there, a piece at a time. A file of more than `limit` bytes is not
+    /// read to its end.
+    fn read_whole(
+        &self,
+        path: &str,
+        limit: u32,
+        piece: &mut [u8],
+        into: &mut Vec<u8>,
+    ) -> io::Result<Whole>
+        requires { 0 < length piece.old }
+        ensures all { result ≡ Ok Whole.All → WhereTold (told self.now) (λ files. finmap.get files path.now ≡ Some into.new.items) }
+        ensures longer { result ≡ Ok Whole.Longer → WhereTold (told self.now) (λ files. IsSomeAnd (finmap.get files path.now) (λ bytes. limit < length bytes)) }
+        ensures begun { WhereTold (told self.now) (λ files. Begins into.new.items (bytes_in files path.now)) }
+        ensures within { vec_len into.new ≤ limit }
+        ensures reserved { vec_capacity into.old ≤ vec_capacity into.new };
+
+    /// Makes a file anew, in place of one that was there. After a refusal there may be any bytes in it, or none of it.
+    fn replace(&mut self, path: &str, bytes: &[u8]) -> io::Result<()>
+        ensures ok { OnOk result (Tells (told self.old) (told self.new) (λ old new. new ≡ finmap.insert old path.now bytes.now)) }
+        ensures refused { OnErr result (Tells (told self.old) (told self.new) (SameButNamed path.now)) };
+
+    /// Removes a file, where there is one. After a refusal it is there, or it isn't.
+    fn remove(&mut self, path: &str) -> io::Result<()>
+        ensures ok { OnOk result (Tells (told self.old) (told self.new) (λ old new. new ≡ finmap.remove old path.now)) }
+        ensures refused { OnErr result (Tells (told self.old) (told self.new) (λ old new. (new ≡ old) ⊎ (new ≡ finmap.remove old path.now))) };
+}
+
+/// The files of the system that a handle gives. It tells nothing of them, so that each call does here what `Disk` says of it
+/// is trusted: that it opens, makes or removes the file at its path, and hands on its room or its bytes.
+#[derive(Drop)]
+pub struct SystemDisk<R> {
+    rt: R,
+}
+
+impl<R: Files> SystemDisk<R> {
+    /// Touches no file.
+    pub fn new(rt: R) -> Self {
+        Self { rt }
+    }
+}
+
+impl<R: Files> Disk for SystemDisk<R> {
+    ghost use Rattle.std.specs.Prelude.{None};
+
+    ghost told = { λ _. None };
+
+    fn is_there(&self, path: &str) -> io::Result<bool> {
+        match fs::symlink_metadata(&self.rt, path) {
+            Ok(found) if found.is_file() => Ok(true),
+            Ok(_) => Err(io::Error::from(ErrorKind::InvalidInput)),
+            Err(error) if error.kind() == ErrorKind::NotFound => Ok(false),
+            Err(error) => Err(error),
+        }
+    }
+
+    fn read_first(&self, path: &str, room: &mut [u8]) -> io::Result<usize> {
+        read_first(&mut fs::open(&self.rt, path)?, room)
+    }
+
+    fn read_whole(
+        &self,
+        path: &str,
+        limit: u32,
+        piece: &mut [u8],
+        into: &mut Vec<u8>,
+    ) -> io::Result<Whole> {
+        into.clear();
+        read_whole(&mut fs::open(&self.rt, path)?, limit, piece, into)
+    }
+
+    // What is written is a file of its own, so that no link is written through.
+    fn replace(&mut self, path: &str, bytes: &[u8]) -> io::Result<()> {
+        self.remove(path)?;
+        write_whole(&mut File::create_new(&self.rt, path)?, bytes)
+    }
+
+    fn remove(&mut self, path: &str) -> io::Result<()> {
+        if self.is_there(path)? {
+            fs::remove_file(&self.rt, path)?;
+        }
+        Ok(())
+    }
+}

@@ -1,0 +1,5 @@
+use Rattle.multistage_gen.proofs.Existing.{plan_exists}
+use Rattle.multistage_gen.proofs.laws.plans_exist.Goals as goal
+
+pub returns : goal.returns
+returns c = plan_exists

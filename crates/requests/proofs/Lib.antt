@@ -1,0 +1,10 @@
+pub mod Steps
+pub mod Decimal
+pub mod Texts
+pub mod Addresses
+pub mod Requests
+pub mod Refusing
+pub mod Placing
+pub mod Lists
+pub mod Taking
+pub mod Settled

@@ -1,0 +1,9 @@
+pub mod Request
+pub mod Bounds
+pub mod Places
+pub mod Inputs
+pub mod Ending
+pub mod Reading
+pub mod ChoiceReading
+pub mod RequestReading
+pub mod InputReading

@@ -1,0 +1,47 @@
+// The numbers of a request, and their bounds.
+ghost use Rattle.std.specs.Prelude.{◌≡◌, ◌↔◌, MatchOption, IsTrue};
+ghost use Rattle.std.specs.List.{AllByRecursion};
+ghost use Rattle.requests.specs.Bounds.{IsWithin, out_of_bounds, RefusesFirst};
+
+use crate::ended::Ended;
+
+/// A number of a request, with the least and the greatest that are accepted, and the number of the rule that says so.
+#[derive(Clone, Copy, Debug)]
+pub struct Bounded {
+    pub number: u64,
+    pub least: u64,
+    pub greatest: u64,
+    pub rule: u16,
+}
+
+impl Bounded {
+    fn is_within(&self) -> bool
+        ensures { IsTrue result ↔ IsWithin self.now }
+    {
+        self.least <= self.number && self.number <= self.greatest
+    }
+
+    // How a call ends that is refused for this number.
+    fn refusal(&self) -> Ended
+        ensures { result ≡ out_of_bounds self.now }
+    {
+        let passed = if self.number < self.least {
+            self.least
+        } else {
+            self.greatest
+        };
+        Ended::out_of_range(self.number, passed, self.rule)
+    }
+}
+
+/// How a call ends for the first of these numbers that is outside its bounds.
+pub fn first_outside(numbers: &[Bounded]) -> Option<Ended>
+    ensures { MatchOption result (AllByRecursion IsWithin numbers.now) (RefusesFirst numbers.now) }
+{
+    for bounded in numbers {
+        if !bounded.is_within() {
+            return Some(bounded.refusal());
+        }
+    }
+    None
+}

@@ -1,0 +1,219 @@
+// The inputs of a request, read in the order of the words.
+ghost use Rattle.std.specs.Prelude.{◌≡◌, ◌≢◌, ℕ, ◌+◌, ◌<◌, ◌≤◌, List, [], ◌∷◌, ◌++◌, length, map, take, Some, Err, IfOk, IfErr, IsErrOf, MatchResult};
+ghost use Rattle.std.specs.FinMap as finmap;
+ghost use Rattle.keepers.specs.Counts.{Rose};
+ghost use Rattle.keepers.specs.Told.{WhereTold};
+ghost use Rattle.requests.specs.Inputs.{program_input, journal_input, book_input, schedule_input, certificate_input, inputs_of, names};
+ghost use Rattle.requests.specs.InputReading.{input_of, all, Reads, Stops};
+ghost use Rattle.requests.specs.Request.{run as run_command, run_revolve as run_revolve_command};
+ghost use Rattle.requests.specs.RequestReading.{as_run, as_run_revolve, as_command};
+
+use crate::ended::Ended;
+use crate::request::{Command, Run, RunRevolve};
+use keepers::{InputFault, Inputs, Whole};
+use std::alloc::Global;
+
+// The limits of the inputs, in bytes.
+const PROGRAM_LIMIT: u32 = 33_554_432;
+
+const JOURNAL_LIMIT: u32 = 67_108_864;
+
+const BOOK_LIMIT: u32 = 65_536;
+
+const SCHEDULE_LIMIT: u32 = 536_870_912;
+
+const CERTIFICATE_LIMIT: u32 = 536_870_912;
+
+/// An input that is wanted: its name, and how many bytes it may have.
+#[derive(Clone, Copy, Debug)]
+pub struct Input<'a> {
+    pub name: &'a [u8],
+    pub limit: u32,
+}
+
+// Why an input wasn't read.
+enum Refusal {
+    Failed,
+    TooLong,
+    Memory,
+}
+
+// An input of each kind.
+fn program_input(name: &[u8]) -> Input<'_>
+    ensures { input_of result ≡ program_input name.now }
+{
+    Input {
+        name,
+        limit: PROGRAM_LIMIT,
+    }
+}
+
+fn journal_input(name: &[u8]) -> Input<'_>
+    ensures { input_of result ≡ journal_input name.now }
+{
+    Input {
+        name,
+        limit: JOURNAL_LIMIT,
+    }
+}
+
+fn book_input(name: &[u8]) -> Input<'_>
+    ensures { input_of result ≡ book_input name.now }
+{
+    Input {
+        name,
+        limit: BOOK_LIMIT,
+    }
+}
+
+fn schedule_input(name: &[u8]) -> Input<'_>
+    ensures { input_of result ≡ schedule_input name.now }
+{
+    Input {
+        name,
+        limit: SCHEDULE_LIMIT,
+    }
+}
+
+fn certificate_input(name: &[u8]) -> Input<'_>
+    ensures { input_of result ≡ certificate_input name.now }
+{
+    Input {
+        name,
+        limit: CERTIFICATE_LIMIT,
+    }
+}
+
+/// Reads the inputs of a command in the order of the words. One that can't be read, or is longer than its limit, is
+/// refused before the next is asked for.
+pub fn read_inputs<I: Inputs>(
+    alloc: Global,
+    command: &Command<'_>,
+    inputs: &mut I,
+) -> Result<Vec<Vec<u8>>, Ended>
+    ensures read { IfOk result (λ v. Reads (inputs_of (as_command command.now)) (I.told inputs.old) (I.asked inputs.old) (I.asked inputs.new) (all (map (λ bytes. bytes.items) v.items))) }
+    ensures stops { IfErr result (λ e. Stops (inputs_of (as_command command.now)) (I.told inputs.old) e (I.asked inputs.old) (I.asked inputs.new)) }
+    ensures asked { (k : ℕ) × (I.asked inputs.new ≡ I.asked inputs.old ++ take k (names (inputs_of (as_command command.now)))) }
+    ensures quiet { IfOk result (λ _. I.fault_count inputs.new ≡ I.fault_count inputs.old) }
+    ensures cause { IfErr result (λ e. e.status ≡ 3 → Rose (I.fault_count inputs.old) (I.fault_count inputs.new)) }
+    ensures no_cause { IfErr result (λ e. e.status ≢ 3 → I.fault_count inputs.new ≡ I.fault_count inputs.old) }
+{
+    match command {
+        Command::Run(run) => read_run_inputs(alloc, run, inputs),
+        Command::RunRevolve(run) => read_run_revolve_inputs(alloc, run, inputs),
+        Command::Plan(plan) => read_all(alloc, &[book_input(plan.book)], inputs),
+        Command::PlanPeriodic(plan) => read_all(alloc, &[book_input(plan.book)], inputs),
+        Command::Check(check) => {
+            let wanted = [book_input(check.book), schedule_input(check.schedule)];
+            read_all(alloc, &wanted, inputs)
+        }
+        Command::Certify(certify) => {
+            let wanted = [
+                book_input(certify.book),
+                schedule_input(certify.schedule),
+                certificate_input(certify.certificate),
+            ];
+            read_all(alloc, &wanted, inputs)
+        }
+        Command::Price(price) => {
+            let wanted = [book_input(price.book), schedule_input(price.schedule)];
+            read_all(alloc, &wanted, inputs)
+        }
+        Command::Ask(ask) => read_run_inputs(alloc, &ask.run, inputs),
+        Command::Demo(_) => read_all(alloc, &[], inputs),
+    }
+}
+
+// The same for a run.
+fn read_run_inputs<I: Inputs>(
+    alloc: Global,
+    run: &Run<'_>,
+    inputs: &mut I,
+) -> Result<Vec<Vec<u8>>, Ended>
+    ensures read { IfOk result (λ v. Reads (inputs_of (run_command (as_run run.now))) (I.told inputs.old) (I.asked inputs.old) (I.asked inputs.new) (all (map (λ bytes. bytes.items) v.items))) }
+    ensures stops { IfErr result (λ e. Stops (inputs_of (run_command (as_run run.now))) (I.told inputs.old) e (I.asked inputs.old) (I.asked inputs.new)) }
+    ensures asked { (k : ℕ) × (I.asked inputs.new ≡ I.asked inputs.old ++ take k (names (inputs_of (run_command (as_run run.now))))) }
+    ensures quiet { IfOk result (λ _. I.fault_count inputs.new ≡ I.fault_count inputs.old) }
+    ensures cause { IfErr result (λ e. e.status ≡ 3 → Rose (I.fault_count inputs.old) (I.fault_count inputs.new)) }
+    ensures no_cause { IfErr result (λ e. e.status ≢ 3 → I.fault_count inputs.new ≡ I.fault_count inputs.old) }
+{
+    let program = program_input(run.program);
+    let book = book_input(run.book);
+    let schedule = schedule_input(run.schedule);
+    match run.journal {
+        Some(name) => {
+            let wanted = [program, journal_input(name), book, schedule];
+            read_all(alloc, &wanted, inputs)
+        }
+        None => read_all(alloc, &[program, book, schedule], inputs),
+    }
+}
+
+// The same for a run by the list of Revolve.
+fn read_run_revolve_inputs<I: Inputs>(
+    alloc: Global,
+    run: &RunRevolve<'_>,
+    inputs: &mut I,
+) -> Result<Vec<Vec<u8>>, Ended>
+    ensures read { IfOk result (λ v. Reads (inputs_of (run_revolve_command (as_run_revolve run.now))) (I.told inputs.old) (I.asked inputs.old) (I.asked inputs.new) (all (map (λ bytes. bytes.items) v.items))) }
+    ensures stops { IfErr result (λ e. Stops (inputs_of (run_revolve_command (as_run_revolve run.now))) (I.told inputs.old) e (I.asked inputs.old) (I.asked inputs.new)) }
+    ensures asked { (k : ℕ) × (I.asked inputs.new ≡ I.asked inputs.old ++ take k (names (inputs_of (run_revolve_command (as_run_revolve run.now))))) }
+    ensures quiet { IfOk result (λ _. I.fault_count inputs.new ≡ I.fault_count inputs.old) }
+    ensures cause { IfErr result (λ e. e.status ≡ 3 → Rose (I.fault_count inputs.old) (I.fault_count inputs.new)) }
+    ensures no_cause { IfErr result (λ e. e.status ≢ 3 → I.fault_count inputs.new ≡ I.fault_count inputs.old) }
+{
+    let program = program_input(run.program);
+    let book = book_input(run.book);
+    match run.journal {
+        Some(name) => read_all(alloc, &[program, journal_input(name), book], inputs),
+        None => read_all(alloc, &[program, book], inputs),
+    }
+}
+
+// Reads the wanted inputs, one after the other.
+fn read_all<I: Inputs>(
+    alloc: Global,
+    wanted: &[Input<'_>],
+    inputs: &mut I,
+) -> Result<Vec<Vec<u8>>, Ended>
+    ensures read { IfOk result (λ v. Reads (map input_of wanted.now) (I.told inputs.old) (I.asked inputs.old) (I.asked inputs.new) (all (map (λ bytes. bytes.items) v.items))) }
+    ensures stops { IfErr result (λ e. Stops (map input_of wanted.now) (I.told inputs.old) e (I.asked inputs.old) (I.asked inputs.new)) }
+    ensures asked { (k : ℕ) × (I.asked inputs.new ≡ I.asked inputs.old ++ take k (names (map input_of wanted.now))) }
+    ensures quiet { IfOk result (λ _. I.fault_count inputs.new ≡ I.fault_count inputs.old) }
+    ensures cause { IfErr result (λ e. e.status ≡ 3 → Rose (I.fault_count inputs.old) (I.fault_count inputs.new)) }
+    ensures no_cause { IfErr result (λ e. e.status ≢ 3 → I.fault_count inputs.new ≡ I.fault_count inputs.old) }
+{
+    let mut read = Vec::with_capacity(alloc, wanted.len())?;
+    for (i, input) in wanted.iter().enumerate() {
+        match read_input(alloc, input, inputs) {
+            Ok(bytes) => read.push(bytes)?,
+            Err(Refusal::Failed) => return Err(Ended::unreadable(i as u64 + 1)),
+            Err(Refusal::TooLong) => return Err(Ended::too_long(i as u64 + 1, input.limit)),
+            Err(Refusal::Memory) => return Err(Ended::no_memory()),
+        }
+    }
+    Ok(read)
+}
+
+// Reads one input.
+fn read_input<I: Inputs>(
+    alloc: Global,
+    input: &Input<'_>,
+    inputs: &mut I,
+) -> Result<Vec<u8>, Refusal>
+    ensures there { IfOk result (λ bytes. (length bytes.items ≤ input.now.limit) × WhereTold (I.told inputs.old) (λ files. finmap.get files input.now.name.now ≡ Some bytes.items)) }
+    ensures longer { IsErrOf result Refusal.TooLong → (bytes : List ℕ) × (input.now.limit < length bytes) × WhereTold (I.told inputs.old) (λ files. finmap.get files input.now.name.now ≡ Some bytes) }
+    ensures same { I.told inputs.new ≡ I.told inputs.old }
+    ensures asks { result ≢ Err Refusal.Memory → I.asked inputs.new ≡ I.asked inputs.old ++ input.now.name.now ∷ [] }
+    ensures may_ask { (k : ℕ) × (I.asked inputs.new ≡ I.asked inputs.old ++ take k (input.now.name.now ∷ [])) }
+    ensures quiet { result ≢ Err Refusal.Failed → I.fault_count inputs.new ≡ I.fault_count inputs.old }
+    ensures cause { result ≡ Err Refusal.Failed → Rose (I.fault_count inputs.old) (I.fault_count inputs.new) }
+{
+    let mut bytes = Vec::new(alloc);
+    match inputs.read(input.name, input.limit, &mut bytes) {
+        Ok(Whole::All) => Ok(bytes),
+        Ok(Whole::Longer) => Err(Refusal::TooLong),
+        Err(InputFault::Failed) => Err(Refusal::Failed),
+        Err(InputFault::Memory) => Err(Refusal::Memory),
+    }
+}

@@ -1,0 +1,30 @@
+//! What the words of a call ask for, what is read for it, and how a call ends. It knows nothing of runs and of schedules;
+//! `reversal`, above it, decides what a request comes to and does it. The files of `specs/` are to be read in this order:
+//! `Request` (what the words say), `Bounds` (its numbers), `Places` (where images are kept), `Inputs` (what is read), and
+//! `Ending`.
+#![tactic(auto)]
+
+mod bounds;
+mod ended;
+mod inputs;
+mod kind;
+mod number;
+mod options;
+mod places;
+mod question;
+mod request;
+mod text;
+mod words;
+
+pub use crate::bounds::Bounded;
+pub use crate::ended::{Ended, ended_text, push_digest};
+pub use crate::inputs::read_inputs;
+pub use crate::kind::PlanKind;
+pub use crate::options::Options;
+pub use crate::places::{KeepAt, keeper_places};
+pub use crate::question::Question;
+pub use crate::request::{
+    Ask, Certify, Check, Command, Demo, PlanFor, PlanPeriodic, Price, Request, Run, RunRevolve,
+    read_request,
+};
+pub use crate::words::Words;

@@ -1,0 +1,46 @@
+// A number in decimal digits.
+ghost use Rattle.std.specs.Prelude.{ℕ, List, IfSome, IfNone};
+ghost use Rattle.requests.specs.Reading.{Gives, IsNumberAt, digits_at, number_at};
+
+// The number that the digits at the front of the bytes make, and the bytes after them.
+#[tactic(auto, unfolding(crate::specs::Reading::digits_at))]
+fn digits(bytes: &[u8], limit: u64) -> Option<(u64, &[u8])>
+    ensures { Gives (λ x. (x.0, x.1.now)) result (digits_at limit 0 bytes.now) }
+{
+    let mut n = 0;
+    let mut rest = bytes;
+    while let [byte @ b'0'..=b'9', after @ ..] = rest {
+        let digit = u64::from(*byte - b'0');
+        if n > limit / 10 || digit > limit - n * 10 {
+            return None;
+        }
+        n = n * 10 + digit;
+        rest = after;
+    }
+    Some((n, rest))
+}
+
+// The same, without a leading zero.
+#[tactic(auto, unfolding(crate::specs::Reading::number_at))]
+fn number(bytes: &[u8], limit: u64) -> Option<(u64, &[u8])>
+    ensures { Gives (λ x. (x.0, x.1.now)) result (number_at limit bytes.now) }
+{
+    match bytes {
+        [b'0', b'0'..=b'9', ..] => None,
+        [b'0', rest @ ..] => Some((0, rest)),
+        [b'1'..=b'9', ..] => digits(bytes, limit),
+        _ => None,
+    }
+}
+
+/// The number in decimal digits, without a sign or a leading zero, at the front of the bytes, and the bytes after it.
+/// It takes the longest run of digits, and is none if that says more than the limit.
+pub fn decimal_at(bytes: &[u8], limit: u64) -> Option<(u64, &[u8])>
+    ensures found { IfSome result (λ x. IsNumberAt limit bytes.now x.0 x.1.now) }
+    ensures none { IfNone result ((n : ℕ) (rest : List ℕ) → IsNumberAt limit bytes.now n rest → ⊥) }
+
+    // Which number and rest it is, as a function on lists.
+    ensures gives { Gives (λ x. (x.0, x.1.now)) result (number_at limit bytes.now) }
+{
+    number(bytes, limit)
+}

@@ -1,0 +1,220 @@
+// The options of a command line.
+ghost use Rattle.std.specs.Prelude.{◌≡◌, map};
+ghost use Rattle.std.specs.List.{list_any};
+ghost use Rattle.requests.specs.Request.{is_files, says_raw, stack_pages, worker_count};
+ghost use Rattle.requests.specs.Reading.{Gives};
+ghost use Rattle.requests.specs.ChoiceReading.{number_of, stack_of, workers_of, files_of, choice_of, first_choice, options_at, behind_options, is_like, are_single, as_choice};
+
+use crate::number::decimal_at;
+use crate::text::after;
+use std::marker::Model;
+
+/// An option.
+#[derive(Clone, Copy, Debug)]
+pub enum Choice<'a> {
+    /// The program is raw words.
+    Raw,
+    /// The stack has so many pages.
+    Stack(u64),
+    /// So many workers fill tables of costs.
+    Workers(u64),
+    /// The images of this level are kept in files of the folder with this name.
+    Files(u64, &'a [u8]),
+}
+
+impl Choice<'_> {
+    // Whether the other is of the same kind, of which one may stand.
+    fn is_like(&self, other: &Choice<'_>) -> bool
+        ensures { result ≡ is_like (as_choice self.now) (as_choice other.now) }
+    {
+        match self {
+            Choice::Raw => matches!(other, Choice::Raw),
+            Choice::Stack(_) => matches!(other, Choice::Stack(_)),
+            Choice::Workers(_) => matches!(other, Choice::Workers(_)),
+            Choice::Files(level, _) => other.is_files(*level),
+        }
+    }
+
+    /// Whether it is the option of this level's files.
+    pub fn is_files(&self, level: u64) -> bool
+        ensures { result ≡ is_files level (as_choice self.now) }
+    {
+        match self {
+            Choice::Files(k, _) => level == *k,
+            _ => false,
+        }
+    }
+}
+
+// How many pages the stack has where nothing is said.
+const STACK_PAGES: u64 = 16;
+
+// How many workers there are where nothing is said.
+const WORKERS: u64 = 1;
+
+/// Options in the order of the words. They take no memory: they are the words, and are read again where they are asked for.
+#[derive(Debug, Drop)]
+pub struct Options<'a> {
+    words: &'a [Vec<u8>],
+}
+
+impl<'a> Model for Options<'a> {
+    ghost use Rattle.std.specs.Prelude.{List, map};
+    ghost use Rattle.requests.specs.Request.{Choice};
+    ghost use Rattle.requests.specs.ChoiceReading.{options_at};
+
+    ghost Value = { List Choice };
+
+    ghost view = { λ o. options_at (map (λ w. w.items) o.words.now) };
+}
+
+impl<'a> Options<'a> {
+    /// Words that they stand at the front of.
+    pub fn words(&self) -> &'a [Vec<u8>]
+        ensures { options_at (map (λ w. w.items) result.now) ≡ self.now }
+    {
+        self.words
+    }
+
+    /// Whether none is of the kind of another.
+    pub fn are_single(&self) -> bool
+        ensures { result ≡ are_single self.now }
+    {
+        let mut rest = self.words();
+        while let Some((choice, behind)) = next_option(rest) {
+            if has_like(behind, &choice) {
+                return false;
+            }
+            rest = behind;
+        }
+        true
+    }
+
+    /// Whether the program is raw words.
+    pub fn says_raw(&self) -> bool
+        ensures { result ≡ says_raw self.now }
+    {
+        has_like(self.words(), &Choice::Raw)
+    }
+
+    /// How many pages the stack has.
+    pub fn stack_pages(&self) -> u64
+        ensures { result ≡ stack_pages self.now }
+    {
+        let mut rest = self.words();
+        while let Some((choice, behind)) = next_option(rest) {
+            if let Choice::Stack(pages) = choice {
+                return pages;
+            }
+            rest = behind;
+        }
+        STACK_PAGES
+    }
+
+    /// How many workers fill tables of costs.
+    pub fn worker_count(&self) -> u64
+        ensures { result ≡ worker_count self.now }
+    {
+        let mut rest = self.words();
+        while let Some((choice, behind)) = next_option(rest) {
+            if let Choice::Workers(count) = choice {
+                return count;
+            }
+            rest = behind;
+        }
+        WORKERS
+    }
+}
+
+// Whether an option of the same kind is among those at the front of the words.
+fn has_like(words: &[Vec<u8>], choice: &Choice<'_>) -> bool
+    ensures { result ≡ list_any (is_like (as_choice choice.now)) (options_at (map (λ w. w.items) words.now)) }
+{
+    let mut rest = words;
+    while let Some((other, behind)) = next_option(rest) {
+        if choice.is_like(&other) {
+            return true;
+        }
+        rest = behind;
+    }
+    false
+}
+
+/// The number that a whole word is.
+#[tactic(auto, unfolding(crate::specs::ChoiceReading::number_of))]
+pub fn number_in(word: &[u8]) -> Option<u64>
+    ensures { Gives (λ n. n) result (number_of word.now) }
+{
+    let (n, rest) = decimal_at(word, u64::MAX)?;
+    if rest.is_empty() { Some(n) } else { None }
+}
+
+// The option of the stack, behind the text that it begins with.
+fn stack_in(text: &[u8]) -> Option<Choice<'_>>
+    ensures { Gives as_choice result (stack_of text.now) }
+{
+    let pages = number_in(text)?;
+    Some(Choice::Stack(pages))
+}
+
+// The option of the workers, likewise.
+fn workers_in(text: &[u8]) -> Option<Choice<'_>>
+    ensures { Gives as_choice result (workers_of text.now) }
+{
+    let count = number_in(text)?;
+    Some(Choice::Workers(count))
+}
+
+// The option of a level's files, likewise.
+fn files_in(text: &[u8]) -> Option<Choice<'_>>
+    ensures { Gives as_choice result (files_of text.now) }
+{
+    let (level, rest) = decimal_at(text, u64::MAX)?;
+    let folder = after(rest, b":")?;
+    if folder.is_empty() {
+        None
+    } else {
+        Some(Choice::Files(level, folder))
+    }
+}
+
+// The option that a word is.
+#[tactic(auto, unfolding(crate::specs::ChoiceReading::choice_of))]
+fn choice_in(word: &[u8]) -> Option<Choice<'_>>
+    ensures { Gives as_choice result (choice_of word.now) }
+{
+    if word == b"--raw".as_slice() {
+        return Some(Choice::Raw);
+    }
+    if let Some(text) = after(word, b"--stack=") {
+        return stack_in(text);
+    }
+    if let Some(text) = after(word, b"--workers=") {
+        return workers_in(text);
+    }
+    let text = after(word, b"--files=")?;
+    files_in(text)
+}
+
+/// The option that the first word is, and the words behind it.
+pub fn next_option(words: &[Vec<u8>]) -> Option<(Choice<'_>, &[Vec<u8>])>
+    ensures { Gives (λ x. (as_choice x.0, map (λ w. w.items) x.1.now)) result (first_choice (map (λ w. w.items) words.now)) }
+{
+    let [word, behind @ ..] = words else {
+        return None;
+    };
+    let choice = choice_in(word)?;
+    Some((choice, behind))
+}
+
+/// The options at the front of the words, and the words behind them.
+pub fn read_options(words: &[Vec<u8>]) -> (Options<'_>, &[Vec<u8>])
+    ensures options { result.0 ≡ options_at (map (λ w. w.items) words.now) }
+    ensures behind { map (λ w. w.items) result.1.now ≡ behind_options (map (λ w. w.items) words.now) }
+{
+    let mut rest = words;
+    while let Some((_, behind)) = next_option(rest) {
+        rest = behind;
+    }
+    (Options { words }, rest)
+}

@@ -1,0 +1,435 @@
+-- A request comes to a decision: no table has a hole.
+use Rattle.std.proofs.Common.{◌≡◌, ◌≢◌, ◌⊎◌, inl, inr, ℕ, zero, suc, ◌+◌, ◌-◌, ◌<◌, ◌≤◌, ◌++◌, Bool, true, false, List, [], ◌∷◌, length, Option, None, Some, slice_get, slice_index_or, refl, subst, arith}
+use Rattle.std.specs.Prelude.{codes, decimal}
+use Rattle.std.specs.List.{AllByRecursion, flat_map}
+use Rattle.std.proofs.lemmas.Bool.{cases_lt, cases_eq}
+use Rattle.plan_types.specs.declared.action.Action.{Action}
+use Rattle.level_book.specs.declared.book.Slots.{Slots}
+use Rattle.level_book.specs.declared.book.Slots.TheVariants.{Count, Unlimited}
+use Rattle.level_book.specs.declared.fault.BookFault.{BookFault}
+use Rattle.level_book.specs.BookCosts.{BookCosts, slots_of, names_of, least, room, total_room, plain}
+use Rattle.level_book.specs.BookFaults.{IsBookText}
+use Rattle.level_book.specs.Valid.{Valid}
+use Rattle.level_book.proofs.Deciding.{decided}
+use Rattle.level_book.proofs.OneBook.{text_names}
+use Rattle.cost_tables.specs.TableRows.{tables_in}
+use Rattle.cost_tables.proofs.Existing.{greatest_exist}
+use Rattle.cost_tables.proofs.Least.{exact_within}
+use Rattle.action_text.specs.ScheduleText.{IsSchedule}
+use Rattle.action_text.specs.Faults.{HasFirstFault}
+use Rattle.action_text.proofs.Whole.{schedule_or_fault}
+use Rattle.schedule_rules.proofs.Lawful.{valid_unbroken}
+use Rattle.schedule_rules.proofs.Breaking.{valid_or_broken}
+use Rattle.elf_load.proofs.Existing.{start_or_fault, raw_start_or_fault}
+use Rattle.elf_load.specs.declared.fault.ElfFault.{ElfFault}
+use Rattle.input_journal.specs.declared.fault.JournalFault.{JournalFault}
+use Rattle.input_journal.proofs.Unique.{journal_or_fault}
+use Rattle.reverse_runner.specs.KeepersSeen.{HaveRoom}
+use Rattle.rv_machine.specs.MachineState.{MachineState}
+use Rattle.revolve_gen.specs.Plans.{HasPlan}
+use Rattle.revolve_gen.specs.Written.{revolve_list}
+use Rattle.hrevolve_gen.specs.Plans as nested
+use Rattle.hrevolve_gen.proofs.Existing.{list_exists}
+use Rattle.multistage_gen.proofs.Existing.{plan_exists}
+use Rattle.disk_gen.specs.Periodic.{images, periodic_list}
+use Rattle.disk_gen.specs.Plans.{slots_at, HasSlots}
+use Rattle.disk_gen.specs.DiskPlans.{HasDiskPlan}
+use Rattle.disk_gen.specs.DiskRows.{disk_tables_in}
+use Rattle.disk_gen.proofs.DiskExact.{fast_exact, disk_exact}
+use Rattle.disk_gen.proofs.DiskExisting.{greatest_disk_exist, disk_list_exists}
+use Rattle.cert_text.specs.declared.certificate.Certificate.{Certificate}
+use Rattle.cert_text.specs.declared.certificate.Certificate.TheVariants as certified
+use Rattle.cert_text.specs.Canonical as certificate_text
+use Rattle.cert_text.specs.Meaning.{IsCertificateText}
+use Rattle.cert_text.specs.Faults.{HasFirstFault as CertificateFirst}
+use Rattle.cert_text.proofs.TextLaws.{certificate_or_fault}
+use Rattle.bound_cert.specs.Accepted.{class_of}
+use Rattle.bound_cert.proofs.Deciding.{accepted_or_refused, threshold_exists}
+use Rattle.requests.specs.declared.ended.Ended.{Ended}
+use Rattle.requests.specs.Ending.{few_keepers, small_keeper, unreadable, too_long, bad_program, bad_journal, bad_book, bad_text, invalid, bad_certificate, out_of_range, no_plan, not_least}
+use Rattle.requests.specs.declared.bounds.Bounded.{Bounded}
+use Rattle.requests.specs.declared.kind.PlanKind.{PlanKind}
+use Rattle.requests.specs.declared.kind.PlanKind.TheVariants.{Revolve, Multistage, Disk, Hrevolve}
+use Rattle.requests.specs.Request.{Choice, Run, RunRevolve, Command, run, run_revolve, plan, plan_periodic, check, certify, price, ask, demo, Request, says_raw, stack_pages}
+use Rattle.requests.specs.Bounds.{plan_bound, question_bound, option_numbers, command_numbers, IsWithin}
+use Rattle.requests.specs.Inputs.{Input, book_input, schedule_input, certificate_input, run_inputs, run_revolve_inputs, inputs_of}
+use Rattle.reversal.specs.Plans.{list_pieces, plan_pieces}
+use Rattle.reversal.specs.Pricing.{list_report}
+use Rattle.reversal.specs.Deeds.{write, perform, demonstrate}
+use Rattle.reversal.specs.Contents.{AreBytes, IsContent, DecisionsExist}
+use Rattle.reversal.specs.Decision.{Decision, refuse, accept, Need, Read, Judge, Keep, Take, Plan, IsFirstSmall, IsFirstWide, Tabulate, HasBookFault, IsStartOf, HasProgramFault, AreItemsOf, HasJournalFault, Maker, performed, asked_about, DecidesOver, DecidesOverBytes, DecidesRunRevolve, DecidesPlan, DecidesPlanRevolve, DecidesPlanMultistage, DecidesPlanDisk, DecidesPlanHrevolve, DecidesPlanPeriodic, DecidesCheck, DecidesPrice, Weigh, DecidesCertify, DecidesDemo, DecidesBytes, Decides, least_line}
+use Rattle.reversal.proofs.BookTexts.{some_level, within_limits}
+use Rattle.reversal.proofs.DemoStart.{demo_start}
+
+-- ---- what is so or isn't
+
+abbrev pub IsKnown : Type 0 → Type 0
+IsKnown P = P ⊎ (P → ⊥)
+
+-- an implication from what is known
+if_known : (P Q : Type 0) → IsKnown P → IsKnown Q → IsKnown (P → Q)
+if_known P Q (inl p) (inl q) = inl (λ _. q)
+if_known P Q (inl p) (inr other) = inr (λ f. other (f p))
+if_known P Q (inr other) q = inl (λ p. absurd (other p))
+
+not_known : (P : Type 0) → IsKnown P → IsKnown (P → ⊥)
+not_known P (inl p) = inr (λ other. other p)
+not_known P (inr other) = inl other
+
+pub at_most : (m n : ℕ) → IsKnown (m ≤ n)
+at_most m n = elim (cases_lt n m) [ inl above ↦ inr (λ le. absurd (omega (arith, above, le))) | inr le ↦ inl le ]
+
+-- the first number of those below n of which something holds, or it holds of none
+abbrev pub FirstOrNone : (ℕ → Type 0) → ℕ → Type 0
+FirstOrNone P n = ((i : ℕ) × (i < n) × P i × ((k : ℕ) → k < i → P k → ⊥)) ⊎ ((i : ℕ) → i < n → P i → ⊥)
+
+pub first_or_none : (P : ℕ → Type 0) → ((i : ℕ) → IsKnown (P i)) → (n : ℕ) → FirstOrNone P n
+first_or_none P known zero = inr (λ i low. absurd (omega (arith, low)))
+first_or_none P known (suc n) = elim (first_or_none P known n) [
+  | inl found ↦ inl (found.0, omega (arith, found.1), found.2, found.3)
+  | inr none ↦ elim (known n) [
+    | inl here ↦ inl (n, omega arith, here, none)
+    | inr other ↦ inr (λ i low. elim (cases_lt i n) [
+      | inl lt ↦ none i lt
+      | inr ge ↦ let e : n ≡ i = omega (arith, ge, low) in let Q : ℕ → Type 0 = λ k. P k → ⊥ in subst Q e other
+    ])
+  ]
+]
+
+-- ---- the lines of the tables: where what stands below comes to a decision, so does the line
+
+abbrev pub SomeDecision : (Decision → Type 0) → Type 0
+SomeDecision Below = (d : Decision) × Below d
+
+pub read_comes : {A F : Type 0} (IsText : A → Type 0) (HasFault : F → Type 0) (ended : F → Ended) (Below : A → Decision → Type 0) → ((x : A) × IsText x) ⊎ ((f : F) × HasFault f) → ((x : A) → IsText x → SomeDecision (Below x)) →
+    SomeDecision (λ d. Read IsText HasFault ended d (λ x. Below x d))
+read_comes IsText HasFault ended Below (inl x) below = let d = below x.0 x.1 in (d.0, inr (x.0, x.1, d.1))
+read_comes IsText HasFault ended Below (inr f) below = (refuse (ended f.0), inl (f.0, f.1, refl))
+
+pub need_comes : (Holds : Type 0) (e : Ended) (Below : Decision → Type 0) → IsKnown Holds → (Holds → SomeDecision Below) → SomeDecision (λ d. Need Holds e d (Below d))
+need_comes Holds e Below (inl holds) below = let d = below holds in (d.0, inr (holds, d.1))
+need_comes Holds e Below (inr other) below = (refuse e, inl (other, refl))
+
+pub judge_comes : (steps : ℕ) (slots : List Slots) (list : List Action) (Below : Decision → Type 0) → (Valid steps slots list → SomeDecision Below) → SomeDecision (λ d. Judge steps slots list d (Below d))
+judge_comes steps slots list Below below = elim (valid_or_broken steps slots list) [
+  | inl valid ↦ (let d = below valid in (d.0, inr (valid, d.1)))
+  | inr b ↦ (refuse (invalid b.0 b.2 b.1), inl (b.0, b.1, b.2, b.3, (λ valid. valid_unbroken steps slots list valid b.0 b.1 b.2 b.3), refl))
+]
+
+pub plan_known : (steps c : ℕ) → IsKnown (HasPlan steps c)
+plan_known steps c = if_known (2 ≤ steps) (1 ≤ c) (at_most 2 steps) (at_most 1 c)
+
+pub plan_comes : (steps : ℕ) (b : BookCosts) (Below : Decision → Type 0) → (HasPlan steps (total_room b steps) → SomeDecision Below) → SomeDecision (λ d. Plan steps b d (Below d))
+plan_comes steps b Below below = need_comes (HasPlan steps (total_room b steps)) (no_plan steps (total_room b steps) 1) Below (plan_known steps (total_room b steps)) below
+
+-- the first keeper that is too small, or there is none
+pub keep_comes : (steps : ℕ) (slots : List Slots) (counts : List ℕ) (Below : Decision → Type 0) → SomeDecision Below → SomeDecision (λ d. Keep steps slots counts d (Below d))
+keep_comes steps slots counts Below below = elim (at_most (length slots) (length counts)) [
+  | inr few ↦ (refuse (few_keepers (length slots) (length counts)), inl (few, refl))
+  | inl many ↦
+      let wants : ℕ → ℕ = λ k. least (slice_index_or slots k (Count 0)) steps in
+      let has : ℕ → ℕ = λ k. slice_index_or counts k 0 in
+      elim (first_or_none (λ k. has k < wants k) (λ k. at_most (suc (has k)) (wants k)) (length slots)) [
+        | inl small ↦
+            let before : (k : ℕ) → k < small.0 → wants k ≤ has k = λ k low. elim (cases_lt (has k) (wants k)) [ inl less ↦ absurd (small.3 k low less) | inr enough ↦ enough ] in
+            (refuse (small_keeper small.0 (has small.0)), inr (many, inl (small.0, (record { within = small.1; small = small.2; before = before }, refl))))
+        | inr none ↦
+            let enough : HaveRoom steps slots counts =
+            λ k low. (omega (arith, low, many), elim (cases_lt (has k) (wants k)) [ inl less ↦ absurd (none k low less) | inr enough ↦ enough ]) in
+            (below.0, inr (many, inr (enough, below.1)))
+      ]
+]
+
+-- the first level that is too wide, or there is none
+pub tabulate_comes : (steps : ℕ) (b : BookCosts) (Below : Decision → Type 0) → (((k : ℕ) → k < length b.levels → room b k steps ≤ 64) → SomeDecision Below) → SomeDecision (λ d. Tabulate steps b d (Below d))
+tabulate_comes steps b Below below = elim (first_or_none (λ k. 64 < room b k steps) (λ k. at_most 65 (room b k steps)) (length b.levels)) [
+  | inl wide ↦
+      let before : (k : ℕ) → k < wide.0 → room b k steps ≤ 64 = λ k low. elim (cases_lt 64 (room b k steps)) [ inl more ↦ absurd (wide.3 k low more) | inr few ↦ few ] in
+      (refuse (out_of_range (room b wide.0 steps) 64 9), inl (wide.0, (record { within = wide.1; wide = wide.2; before = before }, refl)))
+  | inr none ↦
+      let narrow : (k : ℕ) → k < length b.levels → room b k steps ≤ 64 = λ k low. elim (cases_lt 64 (room b k steps)) [ inl more ↦ absurd (none k low more) | inr few ↦ few ] in
+      let d = below narrow in
+      (d.0, inr (narrow, d.1))
+]
+
+-- ---- the inputs
+
+-- where all bytes that are there come to a decision, so does what is there
+pub take_comes : (place : ℕ) (is : List Input) (given : List (Option (List ℕ))) (Below : List (List ℕ) → Decision → Type 0) → AllByRecursion IsContent given →
+    ((bytes : List (List ℕ)) → length bytes ≡ length is → AllByRecursion AreBytes bytes → SomeDecision (Below bytes)) → SomeDecision (λ d. Take place is given d (λ bytes. Below bytes d))
+take_comes place [] given Below contents below = below [] refl tt
+take_comes place (i ∷ is) [] Below contents below = (refuse (unreadable place), refl)
+take_comes place (i ∷ is) (None ∷ given) Below contents below = (refuse (unreadable place), refl)
+take_comes place (i ∷ is) (Some bytes ∷ given) Below contents below =
+    need_comes (length bytes ≤ i.limit) (too_long place i.limit) (λ d. Take (place + 1) is given d (λ others. Below (bytes ∷ others) d)) (at_most (length bytes) i.limit)
+    (λ short. take_comes (place + 1) is given (λ others. Below (bytes ∷ others)) contents.1 (λ others count are. below (bytes ∷ others) (omega (arith, count)) (contents.0, are)))
+
+-- ---- what the inputs say
+
+-- the text of a book
+book_or_fault : (bytes : List ℕ) → ((b : BookCosts) × IsBookText bytes b) ⊎ ((fault : BookFault) × HasBookFault bytes fault)
+book_or_fault bytes = elim (decided bytes) [ inl b ↦ inl b | inr f ↦ inr (f.0, (f.2, f.1)) ]
+
+book_comes : (bytes : List ℕ) (Below : BookCosts → Decision → Type 0) → ((b : BookCosts) → IsBookText bytes b → SomeDecision (Below b)) →
+    SomeDecision (λ d. Read (IsBookText bytes) (HasBookFault bytes) bad_book d (λ b. Below b d))
+book_comes bytes Below below = read_comes (IsBookText bytes) (HasBookFault bytes) bad_book Below (book_or_fault bytes) below
+
+start_or_its_fault : (raw : Bool) (stack : ℕ) (bytes : List ℕ) → ((s : MachineState) × IsStartOf raw stack bytes s) ⊎ ((f : ElfFault) × HasProgramFault raw stack bytes f)
+start_or_its_fault true stack bytes = raw_start_or_fault bytes stack
+start_or_its_fault false stack bytes = start_or_fault bytes stack
+
+items_or_fault : (journal : Option (List ℕ)) → IsContent journal → ((items : List (List ℕ)) × AreItemsOf journal items) ⊎ ((f : JournalFault) × HasJournalFault journal f)
+items_or_fault None content = inl ([], refl)
+items_or_fault (Some bytes) content = journal_or_fault bytes content
+
+list_comes : (book bytes : List ℕ) (b : BookCosts) (Below : List Action → Decision → Type 0) → IsBookText book b → ((list : List Action) → SomeDecision (Below list)) →
+    SomeDecision (λ d. Read (IsSchedule (names_of b) bytes) (HasFirstFault (names_of b) bytes) bad_text d (λ list. Below list d))
+list_comes book bytes b Below is below = read_comes (IsSchedule (names_of b) bytes) (HasFirstFault (names_of b) bytes) bad_text Below (schedule_or_fault (names_of b) (text_names book b is) bytes) (λ list is_list. below list)
+
+-- ---- the tables
+
+pub over_comes : (make : Maker) (options : List Choice) (steps : ℕ) (program : List ℕ) (journal : Option (List ℕ)) (book schedule counts : List ℕ) → IsContent journal → AreBytes book →
+    SomeDecision (DecidesOver make options steps program journal book schedule counts)
+over_comes make options steps program journal book schedule counts content are =
+    let raw = says_raw options in
+    let stack = stack_pages options in
+    book_comes book _ (λ b is_book.
+    keep_comes steps (slots_of b) counts _ (
+    read_comes (IsStartOf raw stack program) (HasProgramFault raw stack program) bad_program _ (start_or_its_fault raw stack program) (λ start is_start.
+    read_comes (AreItemsOf journal) (HasJournalFault journal) bad_journal _ (items_or_fault journal content) (λ items are_items.
+    list_comes book schedule b _ is_book (λ list.
+    judge_comes steps (slots_of b) list _ (λ valid. (accept (make start items (slots_of b) list), refl)))))))
+
+pub revolve_comes : (options : List Choice) (steps : ℕ) (program : List ℕ) (journal : Option (List ℕ)) (book counts : List ℕ) → IsContent journal → AreBytes book →
+    SomeDecision (DecidesRunRevolve options steps program journal book counts)
+revolve_comes options steps program journal book counts content are =
+    let raw = says_raw options in
+    let stack = stack_pages options in
+    book_comes book _ (λ b is_book.
+    keep_comes steps (slots_of b) counts _ (
+    plan_comes steps b _ (λ plan.
+    read_comes (IsStartOf raw stack program) (HasProgramFault raw stack program) bad_program _ (start_or_its_fault raw stack program) (λ start is_start.
+    read_comes (AreItemsOf journal) (HasJournalFault journal) bad_journal _ (items_or_fault journal content) (λ items are_items.
+    (accept (perform start items steps (slots_of b) (revolve_list steps b)), refl))))))
+
+pub plan_revolve_comes : (steps : ℕ) (book : List ℕ) → AreBytes book → SomeDecision (DecidesPlanRevolve steps book)
+plan_revolve_comes steps book are =
+    book_comes book _ (λ b is_book.
+    plan_comes steps b _ (λ plan. (accept (write (plan_pieces steps b)), refl)))
+
+pub check_comes : (steps : ℕ) (book schedule : List ℕ) → AreBytes book → SomeDecision (DecidesCheck steps book schedule)
+check_comes steps book schedule are =
+    book_comes book _ (λ b is_book.
+    list_comes book schedule b _ is_book (λ list.
+    judge_comes steps (slots_of b) list _ (λ valid. (accept (write ((codes "valid " ++ decimal (length list) ++ codes "\n") ∷ [])), refl))))
+
+pub price_comes : (steps : ℕ) (book schedule : List ℕ) → AreBytes book → SomeDecision (DecidesPrice steps book schedule)
+price_comes steps book schedule are =
+    book_comes book _ (λ b is_book.
+    list_comes book schedule b _ is_book (λ list.
+    judge_comes steps (slots_of b) list _ (λ valid. (accept (write (list_report b list)), refl))))
+
+slots_known : (slots : Slots) (n : ℕ) → IsKnown (HasSlots slots n)
+slots_known (Count s) n = at_most n s
+slots_known Unlimited n = inl tt
+
+pub periodic_comes : (steps period : ℕ) (book : List ℕ) → AreBytes book → SomeDecision (DecidesPlanPeriodic steps period book)
+periodic_comes steps period book are =
+    book_comes book _ (λ b is_book.
+    need_comes (length b.levels ≡ 2) (no_plan steps (total_room b steps) 2) _ (cases_eq (length b.levels) 2) (λ two.
+    need_comes (2 ≤ steps → 2 ≤ period → 1 ≤ room b 0 steps) (no_plan steps (total_room b steps) 1) _
+    (if_known (2 ≤ steps) (2 ≤ period → 1 ≤ room b 0 steps) (at_most 2 steps) (if_known (2 ≤ period) (1 ≤ room b 0 steps) (at_most 2 period) (at_most 1 (room b 0 steps)))) (λ fast.
+    need_comes (HasSlots (slots_at b 1) (images steps period)) (no_plan steps (total_room b steps) 4) _ (slots_known (slots_at b 1) (images steps period)) (λ slow.
+    (accept (write (list_pieces (names_of b) (periodic_list steps period b))), refl)))))
+
+-- ---- plans over costs
+
+pub multistage_comes : (steps : ℕ) (book : List ℕ) → AreBytes book → SomeDecision (DecidesPlanMultistage steps book)
+multistage_comes steps book are =
+    book_comes book _ (λ b is_book.
+    need_comes (length b.levels ≡ 2) (no_plan steps (total_room b steps) 2) _ (cases_eq (length b.levels) 2) (λ two.
+    plan_comes steps b _ (λ plan.
+    let list = plan_exists steps b two plan in
+    let threshold = threshold_exists steps b list.0 list.1 in
+    (accept (write (list_pieces (names_of b) list.0 ++ certificate_text.pieces (certified.Places threshold.0))), (list.0, (list.1, (threshold.0, (threshold.1, refl))))))))
+
+unlimited_known : (o : Option Slots) → IsKnown (o ≡ Some Unlimited)
+unlimited_known None = inr (λ e. cc)
+unlimited_known (Some (Count n)) = inr (λ e. cc)
+unlimited_known (Some Unlimited) = inl refl
+
+pub disk_comes : (steps : ℕ) (book : List ℕ) → steps ≤ 8192 → AreBytes book → SomeDecision (DecidesPlanDisk steps book)
+disk_comes steps book short are =
+    book_comes book _ (λ b is_book.
+    need_comes (room b 0 steps ≤ 64) (out_of_range (room b 0 steps) 64 9) _ (at_most (room b 0 steps) 64) (λ few.
+    need_comes (length b.levels ≡ 2) (no_plan steps (total_room b steps) 2) _ (cases_eq (length b.levels) 2) (λ two.
+    need_comes (slice_get (slots_of b) 1 ≡ Some Unlimited) (no_plan steps (total_room b steps) 3) _ (unlimited_known (slice_get (slots_of b) 1)) (λ unlimited.
+    let limits = within_limits book b is_book in
+    let plan : HasDiskPlan b = record { two = two; unlimited = unlimited } in
+    let t = greatest_disk_exist steps b plan short limits in
+    let tables = disk_tables_in t.0 in
+    let list = disk_list_exists steps b tables plan (fast_exact steps b tables plan t.3 short limits) (disk_exact steps b tables plan t.3 short limits) in
+    (accept (write (list_pieces (names_of b) list.0 ++ certificate_text.pieces (certified.Disk t.0))), (t.0, ((t.1, t.2), (t.3, (list.0, (list.1, refl))))))))))
+
+nested_plan_known : (steps : ℕ) (b : BookCosts) → IsKnown (nested.HasPlan steps b)
+nested_plan_known steps b = elim (at_most 2 steps) [
+  | inr few ↦ inl (λ none. few none.0)
+  | inl more ↦ elim (first_or_none (λ k. 1 ≤ room b k steps) (λ k. at_most 1 (room b k steps)) (length b.levels)) [
+    | inl some ↦ inl (λ none. let empty = none.1 some.0 some.1 in let slot = some.2 in absurd (omega (arith, empty, slot)))
+    | inr none ↦ inr (λ plan. plan (more, λ k low. elim (cases_lt 0 (room b k steps)) [ inl slot ↦ absurd (none k low slot) | inr empty ↦ omega (arith, empty) ]))
+  ]
+]
+
+pub hrevolve_comes : (steps : ℕ) (book : List ℕ) → steps ≤ 2048 → AreBytes book → SomeDecision (DecidesPlanHrevolve steps book)
+hrevolve_comes steps book short are =
+    book_comes book _ (λ b is_book.
+    tabulate_comes steps b _ (λ narrow.
+    need_comes (nested.HasPlan steps b) (no_plan steps (total_room b steps) 1) _ (nested_plan_known steps b) (λ plan.
+    let limits = within_limits book b is_book in
+    let few : steps ≤ 8192 = omega (arith, short) in
+    let t = greatest_exist steps b few limits in
+    let tables = tables_in t.0 in
+    let list = list_exists steps b tables (exact_within steps b tables few limits t.3) (some_level book b is_book) plan in
+    (accept (write (list_pieces (names_of b) list.0 ++ certificate_text.pieces (certified.Nested t.0))), (t.0, ((t.1, t.2), (t.3, (list.0, (list.1, refl)))))))))
+
+pub kind_comes : (kind : PlanKind) (steps : ℕ) (book : List ℕ) → IsWithin (plan_bound kind steps) → AreBytes book → SomeDecision (DecidesPlan kind steps book)
+kind_comes Revolve steps book within are = plan_revolve_comes steps book are
+kind_comes Multistage steps book within are = multistage_comes steps book are
+kind_comes Disk steps book within are = disk_comes steps book within.1 are
+kind_comes Hrevolve steps book within are = hrevolve_comes steps book within.1 are
+
+-- ---- certificates
+
+weigh_comes : (steps : ℕ) (b : BookCosts) (list : List Action) (c : Certificate) (Below : Decision → Type 0) → Valid steps (slots_of b) list → SomeDecision Below → SomeDecision (λ d. Weigh steps b list c d (Below d))
+weigh_comes steps b list c Below valid below = elim (accepted_or_refused list steps b c valid) [
+  | inl accepted ↦ (below.0, inr (accepted, below.1))
+  | inr reason ↦ (refuse (not_least reason.0), inl (reason.0, reason.1, refl))
+]
+
+pub certify_comes : (steps : ℕ) (book schedule certificate : List ℕ) → AreBytes book → SomeDecision (DecidesCertify steps book schedule certificate)
+certify_comes steps book schedule certificate are =
+    book_comes book _ (λ b is_book.
+    list_comes book schedule b _ is_book (λ list.
+    judge_comes steps (slots_of b) list _ (λ valid.
+    read_comes (IsCertificateText steps b certificate) (CertificateFirst steps b certificate) bad_certificate _ (certificate_or_fault steps b certificate) (λ c is_certificate.
+    weigh_comes steps b list c _ valid (accept (write (least_line (class_of c) ∷ [])), refl)))))
+
+-- ---- a demonstration
+
+pub demo_comes : (number steps slots : ℕ) → SomeDecision (DecidesDemo number steps slots)
+demo_comes number steps slots =
+    plan_comes steps (plain slots) _ (λ plan. let first = demo_start number in (accept (demonstrate number first.0 steps slots), (first.0, first.1, refl)))
+
+-- ---- by the bytes of the inputs, as many as there are
+
+three_bytes : (make : Maker) (options : List Choice) (steps : ℕ) (slots : List ℕ) (bytes : List (List ℕ)) → length bytes ≡ 3 → AllByRecursion AreBytes bytes → SomeDecision (DecidesOverBytes make options steps bytes slots)
+three_bytes make options steps slots [] e are = absurd (omega (arith, e))
+three_bytes make options steps slots (p ∷ []) e are = absurd (omega (arith, e))
+three_bytes make options steps slots (p ∷ b ∷ []) e are = absurd (omega (arith, e))
+three_bytes make options steps slots (p ∷ b ∷ s ∷ []) e are = over_comes make options steps p None b s slots tt are.1.0
+three_bytes make options steps slots (p ∷ b ∷ s ∷ x ∷ rest) e are = absurd (omega (arith, e))
+
+four_bytes : (make : Maker) (options : List Choice) (steps : ℕ) (slots : List ℕ) (bytes : List (List ℕ)) → length bytes ≡ 4 → AllByRecursion AreBytes bytes → SomeDecision (DecidesOverBytes make options steps bytes slots)
+four_bytes make options steps slots [] e are = absurd (omega (arith, e))
+four_bytes make options steps slots (p ∷ []) e are = absurd (omega (arith, e))
+four_bytes make options steps slots (p ∷ j ∷ []) e are = absurd (omega (arith, e))
+four_bytes make options steps slots (p ∷ j ∷ b ∷ []) e are = absurd (omega (arith, e))
+four_bytes make options steps slots (p ∷ j ∷ b ∷ s ∷ []) e are = over_comes make options steps p (Some j) b s slots are.1.0 are.1.1.0
+four_bytes make options steps slots (p ∷ j ∷ b ∷ s ∷ x ∷ rest) e are = absurd (omega (arith, e))
+
+-- over a run, beside something that holds
+beside_come : (Holds : Type 0) (Below : Decision → Type 0) → Holds → SomeDecision Below → SomeDecision (λ d. Holds × Below d)
+beside_come Holds Below holds d = (d.0, (holds, d.1))
+
+run_given : (make : Maker) (options : List Choice) (steps : ℕ) (slots : List ℕ) (journal : Option (List ℕ)) (c : Run) (given : List (Option (List ℕ))) → AllByRecursion IsContent given →
+    SomeDecision (λ d. Take 1 (run_inputs journal c) given d (λ bytes. DecidesOverBytes make options steps bytes slots d))
+run_given make options steps slots None c given contents = take_comes 1 (run_inputs None c) given (λ bytes d. DecidesOverBytes make options steps bytes slots d) contents (three_bytes make options steps slots)
+run_given make options steps slots (Some journal) c given contents = take_comes 1 (run_inputs (Some journal) c) given (λ bytes d. DecidesOverBytes make options steps bytes slots d) contents (four_bytes make options steps slots)
+
+ask_given : (Holds : Type 0) → Holds → (make : Maker) (options : List Choice) (steps : ℕ) (slots : List ℕ) (journal : Option (List ℕ)) (c : Run) (given : List (Option (List ℕ))) → AllByRecursion IsContent given →
+    SomeDecision (λ d. Take 1 (run_inputs journal c) given d (λ bytes. Holds × DecidesOverBytes make options steps bytes slots d))
+ask_given Holds holds make options steps slots None c given contents =
+    take_comes 1 (run_inputs None c) given (λ bytes d. Holds × DecidesOverBytes make options steps bytes slots d) contents
+    (λ bytes count are. beside_come Holds (DecidesOverBytes make options steps bytes slots) holds (three_bytes make options steps slots bytes count are))
+ask_given Holds holds make options steps slots (Some journal) c given contents =
+    take_comes 1 (run_inputs (Some journal) c) given (λ bytes d. Holds × DecidesOverBytes make options steps bytes slots d) contents
+    (λ bytes count are. beside_come Holds (DecidesOverBytes make options steps bytes slots) holds (four_bytes make options steps slots bytes count are))
+
+revolve_two : (options : List Choice) (c : RunRevolve) (slots : List ℕ) (bytes : List (List ℕ)) → length bytes ≡ 2 → AllByRecursion AreBytes bytes → SomeDecision (DecidesBytes options (run_revolve c) bytes slots)
+revolve_two options c slots [] e are = absurd (omega (arith, e))
+revolve_two options c slots (p ∷ []) e are = absurd (omega (arith, e))
+revolve_two options c slots (p ∷ b ∷ []) e are = revolve_comes options c.steps p None b slots tt are.1.0
+revolve_two options c slots (p ∷ b ∷ x ∷ rest) e are = absurd (omega (arith, e))
+
+revolve_three : (options : List Choice) (c : RunRevolve) (slots : List ℕ) (bytes : List (List ℕ)) → length bytes ≡ 3 → AllByRecursion AreBytes bytes → SomeDecision (DecidesBytes options (run_revolve c) bytes slots)
+revolve_three options c slots [] e are = absurd (omega (arith, e))
+revolve_three options c slots (p ∷ []) e are = absurd (omega (arith, e))
+revolve_three options c slots (p ∷ j ∷ []) e are = absurd (omega (arith, e))
+revolve_three options c slots (p ∷ j ∷ b ∷ []) e are = revolve_comes options c.steps p (Some j) b slots are.1.0 are.1.1.0
+revolve_three options c slots (p ∷ j ∷ b ∷ x ∷ rest) e are = absurd (omega (arith, e))
+
+revolve_given : (options : List Choice) (c : RunRevolve) (slots : List ℕ) (journal : Option (List ℕ)) (given : List (Option (List ℕ))) → AllByRecursion IsContent given →
+    SomeDecision (λ d. Take 1 (run_revolve_inputs journal c) given d (λ bytes. DecidesBytes options (run_revolve c) bytes slots d))
+revolve_given options c slots None given contents = take_comes 1 (run_revolve_inputs None c) given (λ bytes d. DecidesBytes options (run_revolve c) bytes slots d) contents (revolve_two options c slots)
+revolve_given options c slots (Some journal) given contents = take_comes 1 (run_revolve_inputs (Some journal) c) given (λ bytes d. DecidesBytes options (run_revolve c) bytes slots d) contents (revolve_three options c slots)
+
+-- a command of one, two or three inputs
+one_given : (Table : List (List ℕ) → Decision → Type 0) (a : Input) (given : List (Option (List ℕ))) → AllByRecursion IsContent given → ((x : List ℕ) → AreBytes x → SomeDecision (Table (x ∷ []))) →
+    SomeDecision (λ d. Take 1 (a ∷ []) given d (λ bytes. Table bytes d))
+one_given Table a given contents table = take_comes 1 (a ∷ []) given Table contents of_one
+  where
+    of_one : (bytes : List (List ℕ)) → length bytes ≡ 1 → AllByRecursion AreBytes bytes → SomeDecision (Table bytes)
+    of_one [] e are = absurd (omega (arith, e))
+    of_one (x ∷ []) e are = table x are.0
+    of_one (x ∷ y ∷ rest) e are = absurd (omega (arith, e))
+
+two_given : (Table : List (List ℕ) → Decision → Type 0) (a b : Input) (given : List (Option (List ℕ))) → AllByRecursion IsContent given → ((x y : List ℕ) → AreBytes x → SomeDecision (Table (x ∷ y ∷ []))) →
+    SomeDecision (λ d. Take 1 (a ∷ b ∷ []) given d (λ bytes. Table bytes d))
+two_given Table a b given contents table = take_comes 1 (a ∷ b ∷ []) given Table contents of_two
+  where
+    of_two : (bytes : List (List ℕ)) → length bytes ≡ 2 → AllByRecursion AreBytes bytes → SomeDecision (Table bytes)
+    of_two [] e are = absurd (omega (arith, e))
+    of_two (x ∷ []) e are = absurd (omega (arith, e))
+    of_two (x ∷ y ∷ []) e are = table x y are.0
+    of_two (x ∷ y ∷ z ∷ rest) e are = absurd (omega (arith, e))
+
+three_given : (Table : List (List ℕ) → Decision → Type 0) (a b c : Input) (given : List (Option (List ℕ))) → AllByRecursion IsContent given → ((x y z : List ℕ) → AreBytes x → SomeDecision (Table (x ∷ y ∷ z ∷ []))) →
+    SomeDecision (λ d. Take 1 (a ∷ b ∷ c ∷ []) given d (λ bytes. Table bytes d))
+three_given Table a b c given contents table = take_comes 1 (a ∷ b ∷ c ∷ []) given Table contents of_three
+  where
+    of_three : (bytes : List (List ℕ)) → length bytes ≡ 3 → AllByRecursion AreBytes bytes → SomeDecision (Table bytes)
+    of_three [] e are = absurd (omega (arith, e))
+    of_three (x ∷ []) e are = absurd (omega (arith, e))
+    of_three (x ∷ y ∷ []) e are = absurd (omega (arith, e))
+    of_three (x ∷ y ∷ z ∷ []) e are = table x y z are.0
+    of_three (x ∷ y ∷ z ∷ w ∷ rest) e are = absurd (omega (arith, e))
+
+-- ---- all commands
+
+command_comes : (options : List Choice) (command : Command) (given : List (Option (List ℕ))) (slots : List ℕ) → AllByRecursion IsWithin (command_numbers command) → AllByRecursion IsContent given →
+    SomeDecision (λ d. Take 1 (inputs_of command) given d (λ bytes. DecidesBytes options command bytes slots d))
+command_comes options (run c) given slots within contents = run_given (performed c.steps) options c.steps slots c.journal c given contents
+command_comes options (run_revolve c) given slots within contents = revolve_given options c slots c.journal given contents
+command_comes options (plan c) given slots within contents =
+    one_given (λ bytes d. DecidesBytes options (plan c) bytes slots d) (book_input c.book) given contents (λ book are. kind_comes c.kind c.steps book within.0 are)
+command_comes options (plan_periodic c) given slots within contents =
+    one_given (λ bytes d. DecidesBytes options (plan_periodic c) bytes slots d) (book_input c.book) given contents (λ book are. periodic_comes c.steps c.period book are)
+command_comes options (check c) given slots within contents =
+    two_given (λ bytes d. DecidesBytes options (check c) bytes slots d) (book_input c.book) (schedule_input c.schedule) given contents (λ book schedule are. check_comes c.steps book schedule are)
+command_comes options (certify c) given slots within contents =
+    three_given (λ bytes d. DecidesBytes options (certify c) bytes slots d) (book_input c.book) (schedule_input c.schedule) (certificate_input c.certificate) given contents
+    (λ book schedule certificate are. certify_comes c.steps book schedule certificate are)
+command_comes options (price c) given slots within contents =
+    two_given (λ bytes d. DecidesBytes options (price c) bytes slots d) (book_input c.book) (schedule_input c.schedule) given contents (λ book schedule are. price_comes c.steps book schedule are)
+command_comes options (ask c) given slots within contents =
+    ask_given (IsWithin (question_bound c.run.steps c.question)) within.1.0 (asked_about c.question c.run.steps) options c.run.steps slots c.run.journal c.run given contents
+command_comes options (demo c) given slots within contents = demo_comes c.number c.steps c.slots
+
+-- the numbers of a command are among those of its request
+all_behind : (xs ys : List Bounded) → AllByRecursion IsWithin (xs ++ ys) → AllByRecursion IsWithin ys
+all_behind [] ys all = all
+all_behind (x ∷ xs) ys all = all_behind xs ys all.1
+
+pub decision_exists : DecisionsExist
+decision_exists r within given contents slots =
+    command_comes r.options r.command given slots (all_behind (flat_map option_numbers r.options) (command_numbers r.command) within) contents

@@ -1,0 +1,20 @@
+-- What may be there under the names of a request's inputs, bytes or nothing, and that a decision comes of all of it.
+use Rattle.std.specs.Prelude.{ℕ, ◌<◌, List, Option, None, Some}
+use Rattle.std.specs.List.{AllByRecursion}
+use Rattle.requests.specs.Request.{Request}
+use Rattle.requests.specs.Bounds.{numbers, IsWithin}
+use Rattle.reversal.specs.Decision.{Decision, Decides}
+
+abbrev pub AreBytes : List ℕ → Type 0
+AreBytes bytes = AllByRecursion (λ b. b < 256) bytes
+
+abbrev pub IsContent : Option (List ℕ) → Type 0
+IsContent None = Unit {0}
+IsContent (Some bytes) = AreBytes bytes
+
+-- Every request whose numbers are within their bounds comes to a decision, whatever is there under the names of its inputs and
+-- however many slots the keepers have.
+abbrev pub DecisionsExist : Type 0
+DecisionsExist =
+    (r : Request) → AllByRecursion IsWithin (numbers r) → (given : List (Option (List ℕ))) → AllByRecursion IsContent given → (slots : List ℕ) →
+    (d : Decision) × Decides r given slots d

@@ -1,9 +1,0 @@
-// A text at the front of the bytes.
-ghost use Rattle.reversal.specs.Reading.{Gives, after_of};
-
-/// The bytes after this text, where it stands at the front.
-pub fn after<'a>(bytes: &'a [u8], text: &[u8]) -> Option<&'a [u8]>
-    ensures { Gives (λ rest. rest.now) result (after_of text.now bytes.now) }
-{
-    bytes.strip_prefix(text)
-}

@@ -1,0 +1,137 @@
+// What keepers and inputs over files do to the files of the system, of which no contract speaks: sizes at the pieces in which a
+// file is read, names that are no file, and what stands in the place of a slot's file.
+ghost use Rattle.std.specs.Prelude.{◌≡◌, ◌<◌};
+
+use keepers::{FileInputs, FileKeeper, InputFault, Inputs, KeepFault, Keeper, Whole};
+use std::alloc::{AllocError, Global};
+use std::fs;
+use std::os::unix::fs::symlink;
+use std::test::Fail;
+
+// Calls of a keeper. Each says whether it did as it should.
+fn puts<K: Keeper>(keeper: &mut K, slot: u32, image: &[u8]) -> bool
+    requires { slot < K.slot_count keeper.old }
+    ensures { K.slot_count keeper.new ≡ K.slot_count keeper.old }
+{
+    keeper.put(slot, image).is_ok()
+}
+
+fn gives<K: Keeper>(keeper: &mut K, slot: u32, len: u32, image: &[u8], into: &mut Vec<u8>) -> bool
+    requires { slot < K.slot_count keeper.old }
+    ensures { K.slot_count keeper.new ≡ K.slot_count keeper.old }
+{
+    keeper.get(slot, len, into).is_ok() && into.as_slice() == image
+}
+
+fn frees<K: Keeper>(keeper: &mut K, slot: u32) -> bool
+    requires { slot < K.slot_count keeper.old }
+    ensures { K.slot_count keeper.new ≡ K.slot_count keeper.old }
+{
+    keeper.free(slot).is_ok()
+}
+
+fn fails<K: Keeper>(keeper: &mut K, slot: u32, into: &mut Vec<u8>) -> bool
+    requires { slot < K.slot_count keeper.old }
+    ensures { K.slot_count keeper.new ≡ K.slot_count keeper.old }
+{
+    keeper.put(slot, b"new") == Err(KeepFault::Failed)
+        && keeper.get(slot, 9, into) == Err(KeepFault::Failed)
+        && keeper.free(slot) == Err(KeepFault::Failed)
+}
+
+// So many bytes, of which no two pieces are alike.
+fn bytes(alloc: Global, count: u32) -> Result<Vec<u8>, AllocError> {
+    (0..count).map(|i| (i % 251) as u8).collect(alloc)
+}
+
+// The size of a file, a limit, and whether the whole file is read.
+const SIZES: &[(u32, u32, Whole)] = &[
+    (0, 0, Whole::All),
+    (0, 8, Whole::All),
+    (1, 0, Whole::Longer),
+    (8, 8, Whole::All),
+    (9, 8, Whole::Longer),
+    (65_536, 65_536, Whole::All),
+    (65_537, 65_536, Whole::Longer),
+    (65_537, 65_537, Whole::All),
+    (200_000, 200_000, Whole::All),
+    (200_000, u32::MAX, Whole::All),
+    (200_001, 200_000, Whole::Longer),
+];
+
+#[test]
+fn reads_files_of_no_piece_and_of_several_up_to_their_limits(rt: HostRuntime) -> Result<(), Fail> {
+    let mut into = Vec::from_slice(rt.alloc(), b"what was there before")?;
+    let mut inputs = FileInputs::new(rt.clone()?);
+    for (size, limit, want) in SIZES {
+        let file = bytes(rt.alloc(), *size)?;
+        fs::write(&rt, "pieces.bin", &file)?;
+        let outcome = inputs.read(b"pieces.bin", *limit, &mut into);
+        assert_eq!(rt; outcome, Ok(*want), "{size} bytes, at most {limit}");
+        if *want == Whole::All {
+            assert!(rt; into.as_slice() == file.as_slice(), "{size} bytes");
+        }
+    }
+    assert_eq!(rt; inputs.faults(), 0);
+    fs::remove_file(&rt, "pieces.bin")?;
+    Ok(())
+}
+
+#[test]
+fn names_that_are_no_file_are_faults(rt: HostRuntime) -> Result<(), Fail> {
+    let mut into = Vec::new(rt.alloc());
+    let mut inputs = FileInputs::new(rt.clone()?);
+    let names = [
+        b"\xff\xfe is no text, \xc3 neither".as_slice(),
+        b"name.txt\xc3".as_slice(),
+        b"no/such/folder/word.txt".as_slice(),
+        b".".as_slice(),
+        b"".as_slice(),
+    ];
+    for (i, name) in names.iter().enumerate() {
+        assert_eq!(rt;
+            inputs.read(name, 8, &mut into),
+            Err(InputFault::Failed),
+            "name {i}"
+        );
+        assert_eq!(rt; inputs.faults(), i as u64 + 1);
+    }
+    Ok(())
+}
+
+#[test]
+fn each_slot_is_a_file_of_the_folder(rt: HostRuntime) -> Result<(), Fail> {
+    fs::create_dir(&rt, "slots")?;
+    let mut into = Vec::from_slice(rt.alloc(), b"slots")?;
+    let mut keeper = FileKeeper::new(rt.clone()?, into.clone()?, 1, 12);
+    assert!(rt; puts(&mut keeper, 11, b"first and long"));
+    assert!(rt; puts(&mut keeper, 11, b"second"));
+    let file = fs::read(&rt, "slots/level1-slot11.img")?;
+    assert_eq!(rt; file.as_slice(), b"second".as_slice());
+    assert!(rt; gives(&mut keeper, 11, 3, b"sec", &mut into));
+    assert!(rt; gives(&mut keeper, 11, 9, b"second", &mut into));
+    assert!(rt; frees(&mut keeper, 11));
+    assert!(rt; gives(&mut keeper, 11, 9, b"", &mut into));
+    assert!(rt; frees(&mut keeper, 11), "an empty slot");
+    assert_eq!(rt; keeper.faults(), 0);
+    fs::remove_dir(&rt, "slots")?;
+    Ok(())
+}
+
+#[test]
+fn what_is_no_file_is_left_as_it_is(rt: HostRuntime) -> Result<(), Fail> {
+    fs::create_dir(&rt, "links")?;
+    fs::create_dir(&rt, "links/level2-slot0.img")?;
+    fs::write(&rt, "elsewhere.txt", "elsewhere")?;
+    symlink(&rt, "../elsewhere.txt", "links/level2-slot1.img")?;
+    let mut into = Vec::from_slice(rt.alloc(), b"links")?;
+    let mut keeper = FileKeeper::new(rt.clone()?, into.clone()?, 2, 2);
+    assert!(rt; fails(&mut keeper, 0, &mut into), "a folder");
+    assert!(rt; fails(&mut keeper, 1, &mut into), "a link");
+    assert_eq!(rt; keeper.faults(), 6);
+    let elsewhere = fs::read(&rt, "elsewhere.txt")?;
+    assert_eq!(rt; elsewhere.as_slice(), b"elsewhere".as_slice());
+    fs::remove_file(&rt, "elsewhere.txt")?;
+    fs::remove_dir_all(&rt, "links")?;
+    Ok(())
+}

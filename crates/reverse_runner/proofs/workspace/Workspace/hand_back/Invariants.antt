@@ -1,0 +1,27 @@
+use Rattle.std.proofs.Common.{◌≡◌, ◌<◌, ◌+◌, ◌^◌, ◌++◌, ℕ, List, length}
+use Rattle.rv_machine.specs.MachineState.{MachineState}
+use Rattle.unit_undo.specs.Leading.{LeadsBack, led_back}
+use Rattle.reverse_runner.specs.Handed.{numbers_from}
+use Rattle.reverse_runner.specs.Performed.{GetsAll}
+use Rattle.reverse_runner.specs.SessionState.{SamePages}
+use Rattle.reverse_runner.proofs.workspace.Workspace.hand_back.Given as goal
+
+-- the visitor got some of the states, and those that are left are the others
+abbrev pub invariant-loop-self : goal.invariant-loop-self
+invariant-loop-self g l = record {
+  few : l.first + length l.self.undo.entries < 2 ^ 32;
+  leads : LeadsBack l.self.undo.entries l.self.tape (led_back l.self.undo.entries l.self.tape);
+  got : (numbers : List ℕ) × (states : List MachineState) × GetsAll g.V.Visitor.got l.journal numbers states l.initial.visitor l.visitor
+      × (numbers ++ numbers_from l.first (length l.self.undo.entries) ≡ numbers_from l.first (length l.initial.self.undo.entries))
+      × (states ++ led_back l.self.undo.entries l.self.tape ≡ led_back l.initial.self.undo.entries l.initial.self.tape);
+  unit : l.self.undo.unit ≡ l.initial.self.undo.unit;
+  room : l.self.undo.room ≡ l.initial.self.undo.room;
+  pages : SamePages l.self.tape l.initial.self.tape;
+  work : l.self.work ≡ l.initial.self.work;
+  store : l.self.store ≡ l.initial.self.store;
+  buffer : l.self.buffer ≡ l.initial.self.buffer;
+  quiet : g.V.Visitor.fault_count l.visitor ≡ g.V.Visitor.fault_count l.initial.visitor;
+}
+
+abbrev pub decreases-loop-self : goal.decreases-loop-self
+decreases-loop-self g l = length l.self.undo.entries

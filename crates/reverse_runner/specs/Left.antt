@@ -1,0 +1,40 @@
+-- What a refused action may have left on the levels. It may have put an image and released one, or neither; what it got
+-- changed nothing.
+use Rattle.std.specs.Prelude.{◌≡◌, ◌⊎◌, ℕ, true, false, Option, Some}
+use Rattle.std.specs.FinSet as set
+use Rattle.std.specs.FinMap as finmap
+use Rattle.level_book.specs.CostFold.{is_write}
+use Rattle.keepers.specs.Told.{Images}
+use Rattle.plan_types.specs.declared.action.Action.{Action}
+use Rattle.rv_machine.specs.MachineState.{MachineState}
+use Rattle.image_store.specs.declared.shelf.Kept.{Kept}
+use Rattle.image_store.specs.Shelves.{level_of, kept_at}
+use Rattle.image_store.specs.Calls.{IsNotKept, IsNotFreed}
+use Rattle.reverse_runner.specs.Acts.{Levels}
+use Rattle.reverse_runner.specs.HoldsJust.{HoldsJust}
+use Rattle.reverse_runner.specs.KeepersSeen.{is_release}
+use Rattle.reverse_runner.specs.LevelsStand.{Numbers}
+use Rattle.reverse_runner.specs.Standing.{pair_read}
+
+-- an action puts no image on a level, and releases none there
+abbrev pub Spares : Action → ℕ → Type 0
+Spares action k = (is_write k action ≡ false) × (is_release k action ≡ false)
+
+-- what the keepers may tell after an action that was refused, by the levels before it
+pub record MayLeave (action : Action) (old : Levels) (told : ℕ → Option Images) : Type 0 where
+  -- the keeper of a level to which it puts no image, and where it releases none, tells what it told
+  pub spared : (k : ℕ) → Spares action k → told k ≡ old.told k
+  -- on a level to which it puts an image, one slot that no pair has may hold anything
+  pub put_to : (k : ℕ) → is_write k action ≡ true → IsNotKept (level_of old.store k) (old.told k) (told k)
+  -- on a level where it releases an image, the slot of that pair holds what it held, or nothing
+  pub released : (k n : ℕ) (kept : Kept) → is_release k action ≡ true → pair_read action ≡ Some (n, k) → kept_at old.store k n ≡ Some kept →
+      IsNotFreed kept (old.told k) (told k)
+
+-- a keeper holds just the images of some states of a run, and one more slot may hold anything
+pub record HoldsBesides (states : ℕ → MachineState) (numbers : Numbers) (images : Images) : Type 0 where
+  pub spare : ℕ
+  pub rest : HoldsJust states numbers (finmap.remove images spare)
+
+-- it holds just these images, or all of them but that of state n
+abbrev pub HoldsAllBut : (ℕ → MachineState) → Numbers → ℕ → Images → Type 0
+HoldsAllBut states numbers n images = HoldsJust states numbers images ⊎ HoldsJust states (set.remove numbers n) images
