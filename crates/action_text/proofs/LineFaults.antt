@@ -10,7 +10,7 @@ use Rattle.action_text.specs.declared.fault.LineFault.{LineFault}
 use Rattle.action_text.specs.declared.words.Kind.{Kind}
 use Rattle.action_text.specs.declared.words.Kind.TheVariants as kind
 use Rattle.action_text.specs.Tokens.{Token, starts_run, tokens}
-use Rattle.action_text.specs.Shapes.{Want, exactly, opening, shapes, Fits, FitFront, Expects}
+use Rattle.action_text.specs.Shapes.{Want, exactly, opening, shapes, TakesToken, FitFront, Expects}
 use Rattle.action_text.specs.Meaning.{Says, SayNothing, IsPassed}
 use Rattle.action_text.specs.ScheduleText.{texts}
 use Rattle.action_text.specs.Faults.{rule_at, IsTooMany, FaultIn, first_column}
@@ -76,7 +76,7 @@ left_over names rest f (t ∷ ts) is e =
     let column : column_at rest ≡ t.column = ap (λ (xs : List Token). column_in xs rest.end) is in
     IsStuck.at_token [] t ts None refl refl (λ other fit. fit) (ap (λ (g : LineFault). number_of_rule g.rule) (sym fault)) (ap (λ (g : LineFault). g.column) (sym fault) ∙ column)
 
-longer_stuck : (names : List (List ℕ)) (w : Want) (ws : List Want) (t : Token) (ts : List Token) (end : ℕ) (f : LineFault) → Fits names w t.text →
+longer_stuck : (names : List (List ℕ)) (w : Want) (ws : List Want) (t : Token) (ts : List Token) (end : ℕ) (f : LineFault) → TakesToken names w t.text →
     IsStuck names ws ts end f → IsStuck names (w ∷ ws) (t ∷ ts) end f
 longer_stuck names w ws t ts end f fit (IsStuck.at_token before u after next parts front stops rule column) =
     IsStuck.at_token (t ∷ before) u after next (ap (λ (xs : List Token). t ∷ xs) parts) (fit, front) (λ other whole. stops other whole.1) rule column
@@ -95,7 +95,7 @@ stuck names (w ∷ ws) rest f are real e = elim (bind_err (next names w rest) (�
     | inl behind_it ↦
         let taken = next_ok names w rest later.0 real.0 later.1 in
         let others = stuck names ws later.0.1 f are real.1 behind_it in
-        let fit : Fits names w taken.token.text = subst (λ (x : List ℕ). Fits names w x) (sym taken.text) (passes_fits names w later.0.0 taken.passes) in
+        let fit : TakesToken names w taken.token.text = subst (λ (x : List ℕ). TakesToken names w x) (sym taken.text) (passes_fits names w later.0.0 taken.passes) in
         let same_end : IsStuck names ws later.0.1.tokens rest.end f = subst (λ (k : ℕ). IsStuck names ws later.0.1.tokens k f) taken.end others in
         subst (λ (xs : List Token). IsStuck names (w ∷ ws) xs rest.end f) (sym taken.parts) (longer_stuck names w ws taken.token later.0.1.tokens rest.end f fit same_end)
     | inr whole ↦ absurd (not_both _ f whole.2)
@@ -208,7 +208,7 @@ fit_whole names (w ∷ ws) [] (x ∷ xs) fit is = cc
 fit_whole names (w ∷ ws) (t ∷ ts) [] fit is = absurd fit
 fit_whole names (w ∷ ws) (t ∷ ts) (x ∷ xs) fit is =
     let same : x ≡ t.text = cc is in
-    (subst (λ (y : List ℕ). Fits names w y) same fit.0, fit_whole names ws ts xs fit.1 (cc is))
+    (subst (λ (y : List ℕ). TakesToken names w y) same fit.0, fit_whole names ws ts xs fit.1 (cc is))
 
 pass_fit : (names : List (List ℕ)) (ws : List Want) (xs : List (List ℕ)) → AllPass names ws xs → AllFit names ws xs
 pass_fit names [] [] pass = tt

@@ -12,7 +12,7 @@ use Rattle.action_text.specs.declared.words.Place.{Place}
 use Rattle.action_text.specs.declared.words.Place.TheVariants as at
 use Rattle.action_text.specs.declared.words.Kind.{Kind}
 use Rattle.action_text.specs.declared.words.Kind.TheVariants as kind
-use Rattle.action_text.specs.Shapes.{Want, target, place, opening, closing, Fits}
+use Rattle.action_text.specs.Shapes.{Want, target, place, opening, closing, TakesToken}
 use Rattle.action_text.specs.Meaning.{call, forward_call, NamesDest, Says}
 use Rattle.action_text.specs.Reading.{kind_of, wants_of, forward_said, reverse_said, said}
 use Rattle.action_text.proofs.Steps.{which}
@@ -280,7 +280,7 @@ abbrev pub AllFit : List (List ℕ) → List Want → List (List ℕ) → Type 0
 AllFit names [] [] = Unit {0}
 AllFit names [] (x ∷ xs) = ⊥
 AllFit names (w ∷ ws) [] = ⊥
-AllFit names (w ∷ ws) (x ∷ xs) = Fits names w x × AllFit names ws xs
+AllFit names (w ∷ ws) (x ∷ xs) = TakesToken names w x × AllFit names ws xs
 
 pub record IsRead (names : List (List ℕ)) (texts : List (List ℕ)) (a : Action) : Type 0 where
   pub kind_is : Kind
@@ -290,7 +290,7 @@ pub record IsRead (names : List (List ℕ)) (texts : List (List ℕ)) (a : Actio
   pub fit : AllFit names (wants_of kind_is) others
 
 nothing_read : (names : List (List ℕ)) (n m : ℕ) (place_text : List ℕ) (v : Place) → n ≤ 1000000 → m ≤ 1000000 → AreNames names → IsPlace names place_text v →
-    forward_said n m false false v ≡ Some (Forward n m Nothing) → Fits names place place_text → (texts : List (List ℕ)) →
+    forward_said n m false false v ≡ Some (Forward n m Nothing) → TakesToken names place place_text → (texts : List (List ℕ)) →
     texts ≡ forward_call n m (codes "False") (codes "False") place_text → IsRead names texts (Forward n m Nothing)
 nothing_read names n m place_text v low high are is_place says fit texts is = record {
   kind_is = kind.Forward;
@@ -305,7 +305,7 @@ copy_read : (names : List (List ℕ)) (n k : ℕ) (name target_text : List ℕ) 
 copy_read names n k name target_text d low are at_k dest =
     (refl, ((n, low, refl), (refl, (contains_at names k name at_k, (refl, (target_fits d dest, (refl, tt)))))))
   where
-    target_fits : (d : Dest) → NamesDest names d target_text → Fits names target target_text
+    target_fits : (d : Dest) → NamesDest names d target_text → TakesToken names target target_text
     target_fits Work is = inr is
     target_fits (Level j) is = inl (contains_at names j target_text is)
 

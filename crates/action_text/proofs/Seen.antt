@@ -209,15 +209,15 @@ begins start b bs blank end =
     ]
 
 -- bytes at the end of their line
-pub record Ends (rest : Rest) (column : ℕ) : Type 0 where
+pub record EndsLine (rest : Rest) (column : ℕ) : Type 0 where
   pub none : rest.tokens ≡ []
   pub column_is : rest.end ≡ column
 
-pub ends_nothing : (start : ℕ) → Ends (seen start []) (start - 0 + 1)
+pub ends_nothing : (start : ℕ) → EndsLine (seen start []) (start - 0 + 1)
 unfolding seen tokens first_line
 ends_nothing start = record { none = refl; column_is = omega arith }
 
-pub ends_at_line : (start b : ℕ) (bs : List ℕ) → eqb b 10 ≡ true → Ends (seen start (b ∷ bs)) (start - length (b ∷ bs) + 1)
+pub ends_at_line : (start b : ℕ) (bs : List ℕ) → eqb b 10 ≡ true → EndsLine (seen start (b ∷ bs)) (start - length (b ∷ bs) + 1)
 unfolding seen tokens first_line
 ends_at_line start b bs end = rw end (record { none = refl; column_is = omega arith })
 
@@ -292,9 +292,9 @@ begins_old start b bs old at more =
     let P : Rest → Type 0 = λ r. BeginsAt r b (start - length (b ∷ bs) + 1) in
     subst P at.sees (begins start b bs (at.no_blank b bs refl) more)
 
-ends_old : (start : ℕ) (w : List ℕ) (old : Rest) → AtToken start w old → ends_line w ≡ true → Ends old (start - length w + 1)
-ends_old start [] old at end = let P : Rest → Type 0 = λ r. Ends r (start - 0 + 1) in subst P at.sees (ends_nothing start)
-ends_old start (b ∷ bs) old at end = let P : Rest → Type 0 = λ r. Ends r (start - length (b ∷ bs) + 1) in subst P at.sees (ends_at_line start b bs end)
+ends_old : (start : ℕ) (w : List ℕ) (old : Rest) → AtToken start w old → ends_line w ≡ true → EndsLine old (start - length w + 1)
+ends_old start [] old at end = let P : Rest → Type 0 = λ r. EndsLine r (start - 0 + 1) in subst P at.sees (ends_nothing start)
+ends_old start (b ∷ bs) old at end = let P : Rest → Type 0 = λ r. EndsLine r (start - length (b ∷ bs) + 1) in subst P at.sees (ends_at_line start b bs end)
 
 -- the place of the next token, or of the line's end
 pub column_there : (start : ℕ) (w : List ℕ) (old : Rest) → AtToken start w old → column_at old ≡ start - length w + 1

@@ -11,7 +11,7 @@ use Rattle.action_text.specs.declared.fault.LineFault.{LineFault}
 use Rattle.action_text.specs.declared.words.Place.{Place}
 use Rattle.action_text.specs.declared.words.Place.TheVariants as at
 use Rattle.action_text.specs.Tokens.{Token, starts_run, starts_with_digit}
-use Rattle.action_text.specs.Shapes.{Want, exactly, number, truth, level, target, place, Fits}
+use Rattle.action_text.specs.Shapes.{Want, exactly, number, truth, level, target, place, TakesToken}
 use Rattle.action_text.specs.Faults.{rule_at}
 use Rattle.action_text.specs.Rest.{Rest}
 use Rattle.action_text.specs.Reading.{number_of, truth_of, level_of, target_of, place_of, level_or, text_in, column_in, text_at, column_at, behind, take_if, number_rule, level_rule, next, number_next, truth_next, level_next, target_next, place_next, mark_next, number_of_rule}
@@ -150,7 +150,7 @@ some_holds o x e = rw e refl
 both_hold : (a b : Bool) → a ≡ true → b ≡ true → (a && b) ≡ true
 both_hold a b p q = rw (p, q) refl
 
-pub fits_passes : (names : List (List ℕ)) (w : Want) (text : List ℕ) → AreNames names → Fits names w text → test_of names w text ≡ true
+pub fits_passes : (names : List (List ℕ)) (w : Want) (text : List ℕ) → AreNames names → TakesToken names w text → test_of names w text ≡ true
 unfolding test_of
 fits_passes names (exactly wanted) text are fit = bytes_same text wanted fit
 fits_passes names number text are fit = rw fit.2 (both_hold _ _ (decimal_is_run fit.0 fit.1).some (some_holds _ fit.0 (decimal_is_number fit.0 fit.1)))
@@ -169,16 +169,16 @@ fits_passes names place text are (inl fit) =
 fits_passes names place text are (inr (inl is)) = both_hold _ _ (ap starts_run is) (some_holds _ at.Work (place_found names text at.Work are is))
 fits_passes names place text are (inr (inr is)) = both_hold _ _ (ap starts_run is) (some_holds _ at.Nowhere (place_found names text at.Nowhere are is))
 
-target_fits : (names : List (List ℕ)) (text : List ℕ) (d : Dest) → IsTarget names text d → Fits names target text
+target_fits : (names : List (List ℕ)) (text : List ℕ) (d : Dest) → IsTarget names text d → TakesToken names target text
 target_fits names text Work is = inr is
 target_fits names text (Level k) is = inl (contains_at names k text is)
 
-place_fits : (names : List (List ℕ)) (text : List ℕ) (p : Place) → IsPlace names text p → Fits names place text
+place_fits : (names : List (List ℕ)) (text : List ℕ) (p : Place) → IsPlace names text p → TakesToken names place text
 place_fits names text (at.Level k) is = inl (contains_at names k text is)
 place_fits names text at.Work is = inr (inl is)
 place_fits names text at.Nowhere is = inr (inr is)
 
-pub passes_fits : (names : List (List ℕ)) (w : Want) (text : List ℕ) → test_of names w text ≡ true → Fits names w text
+pub passes_fits : (names : List (List ℕ)) (w : Want) (text : List ℕ) → test_of names w text ≡ true → TakesToken names w text
 passes_fits names (exactly wanted) text e = exactly_passed names wanted text e
 passes_fits names number text e = let n = number_passed names text e in let is = number_is text n.0 n.1 in (n.0, is.0, is.1)
 passes_fits names truth text e = let b = truth_passed names text e in elim (truth_is text b.0 b.1) [
@@ -268,7 +268,7 @@ next_ok names w rest x real e =
 -- the next token doesn't fit, or there is none
 pub data IsLeft (names : List (List ℕ)) (w : Want) (rest : Rest) (f : LineFault) : Type 0 where
   nothing : rest.tokens ≡ [] → number_of_rule f.rule ≡ 1 → f.column ≡ rest.end → IsLeft names w rest f
-  unfit : (t : Token) (ts : List Token) → rest.tokens ≡ t ∷ ts → (Fits names w t.text → ⊥) → number_of_rule f.rule ≡ rule_at (Some w) t.text → f.column ≡ t.column → IsLeft names w rest f
+  unfit : (t : Token) (ts : List Token) → rest.tokens ≡ t ∷ ts → (TakesToken names w t.text → ⊥) → number_of_rule f.rule ≡ rule_at (Some w) t.text → f.column ≡ t.column → IsLeft names w rest f
 
 left_of : (names : List (List ℕ)) (w : Want) (ts : List Token) (rest : Rest) → AreNames names → rest.tokens ≡ ts → test_of names w (text_at rest) ≡ false →
     IsLeft names w rest (record { rule = rule_of w (text_at rest); column = column_at rest })

@@ -33,20 +33,20 @@ shapes =
     ∷ []
 
 -- a text that may stand there; numbers are at most 1,000,000, in decimal digits without a leading zero
-abbrev pub Fits : List (List ℕ) → Want → List ℕ → Type 0
-Fits names (exactly wanted) text = text ≡ wanted
-Fits names number text = (n : ℕ) × (n ≤ 1000000) × (text ≡ decimal n)
-Fits names truth text = (text ≡ codes "True") ⊎ (text ≡ codes "False")
-Fits names level text = Contains names text
-Fits names target text = Contains names text ⊎ (text ≡ codes "WORK")
-Fits names place text = Contains names text ⊎ ((text ≡ codes "WORK") ⊎ (text ≡ codes "NONE"))
+abbrev pub TakesToken : List (List ℕ) → Want → List ℕ → Type 0
+TakesToken names (exactly wanted) text = text ≡ wanted
+TakesToken names number text = (n : ℕ) × (n ≤ 1000000) × (text ≡ decimal n)
+TakesToken names truth text = (text ≡ codes "True") ⊎ (text ≡ codes "False")
+TakesToken names level text = Contains names text
+TakesToken names target text = Contains names text ⊎ (text ≡ codes "WORK")
+TakesToken names place text = Contains names text ⊎ ((text ≡ codes "WORK") ⊎ (text ≡ codes "NONE"))
 
 -- the tokens fit the first places of a row one by one, and next is the place behind them, if there is one
 abbrev pub FitFront : List (List ℕ) → List Token → List Want → Option Want → Type 0
 FitFront names [] [] next = next ≡ None
 FitFront names [] (w ∷ ws) next = next ≡ Some w
 FitFront names (t ∷ ts) [] next = ⊥
-FitFront names (t ∷ ts) (w ∷ ws) next = Fits names w t.text × FitFront names ts ws next
+FitFront names (t ∷ ts) (w ∷ ws) next = TakesToken names w t.text × FitFront names ts ws next
 
 -- these tokens begin a line, and this may stand behind them; nothing, where the line is whole
 abbrev pub Expects : List (List ℕ) → List Token → Option Want → Type 0

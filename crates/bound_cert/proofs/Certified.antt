@@ -4,7 +4,7 @@ use Rattle.plan_types.specs.declared.action.Action.{Action}
 use Rattle.level_book.specs.BookCosts.{BookCosts, IsWithinLimits, total_room}
 use Rattle.level_book.specs.UnderTable.{number, IsGreatest, top_entry}
 use Rattle.level_book.specs.DiskUnderTable.{IsGreatestDisk}
-use Rattle.cost_tables.specs.TableRows.{TableRows, AreFor, Fits, FitsFastest, tables_in}
+use Rattle.cost_tables.specs.TableRows.{TableRows, AreFor, TablesFit, FastestTablesFit, tables_in}
 use Rattle.cost_tables.proofs.Least.{exact_within}
 use Rattle.hrevolve_gen.specs.Plans as nested
 use Rattle.hrevolve_gen.specs.Written.{IsWritten}
@@ -40,15 +40,15 @@ many_accepted steps book slots k value plan more slots_are k_is value_is =
     subst (λ (v : ℕ). IsNumberOf steps c k v) (sym value_at) (subst (λ (r : ℕ). IsNumberOf steps c r (steps + least_advances steps c)) (sym k_at) (at_repeats steps c (omega arith) (plan more))) in
     (right.0, right.1.forward_steps (omega arith) ∙ sym value_at, number)
 
-pub nested_accepted : (list : List Action) (steps : ℕ) (book : BookCosts) (t : TableRows) → 0 < length book.levels → IsWithinLimits book → Fits steps book → AreFor steps book t → IsGreatest steps book (tables_in t) →
-    nested.HasPlan steps book → IsWritten steps book (tables_in t) list → IsAccepted list steps book (Nested t)
+pub nested_accepted : (list : List Action) (steps : ℕ) (book : BookCosts) (t : TableRows) → 0 < length book.levels → IsWithinLimits book → TablesFit steps book → AreFor steps book t → IsGreatest steps book (tables_in t) →
+    nested.HasNestedPlan steps book → IsWritten steps book (tables_in t) list → IsAccepted list steps book (Nested t)
 nested_accepted list steps book t some limits fits sized greatest plan written =
     let exact = exact_within steps book (tables_in t) (few_steps steps fits.few) limits greatest in
     let member = written_nested steps book (tables_in t) list some written in
     let top = some_of (top_entry steps book (tables_in t)) (λ never. plan (top_none steps book (tables_in t) exact some never)) in
     (member.0, (fits, sized), member, greatest.under, top.1 ∙ ap (λ (n : ℕ). number n) (sym (written_costs steps book (tables_in t) list top.0 written top.1)))
 
-pub disk_accepted : (list : List Action) (steps : ℕ) (book : BookCosts) (t : DiskRows) → IsWithinLimits book → FitsFastest steps book → AreDiskFor steps book t → IsGreatestDisk steps book (disk_tables_in t) →
+pub disk_accepted : (list : List Action) (steps : ℕ) (book : BookCosts) (t : DiskRows) → IsWithinLimits book → FastestTablesFit steps book → AreDiskFor steps book t → IsGreatestDisk steps book (disk_tables_in t) →
     IsDiskWritten steps book (disk_tables_in t) list → IsAccepted list steps book (Disk t)
 disk_accepted list steps book t limits fits for greatest written =
     let exact = disk_exact steps book (disk_tables_in t) for.plan greatest fits.few limits in

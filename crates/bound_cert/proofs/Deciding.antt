@@ -13,7 +13,7 @@ use Rattle.level_book.specs.CostFold.{forward, cost}
 use Rattle.level_book.specs.UnderTable.{top_entry, number}
 use Rattle.level_book.specs.DiskUnderTable.{disk_top_entry}
 use Rattle.level_book.specs.Valid.{Valid}
-use Rattle.cost_tables.specs.TableRows.{TableRows, AreFor, Fits, FitsFastest, fastest, tables_in}
+use Rattle.cost_tables.specs.TableRows.{TableRows, AreFor, TablesFit, FastestTablesFit, fastest, tables_in}
 use Rattle.hrevolve_gen.proofs.Existing.{same_or_other}
 use Rattle.disk_gen.specs.DiskRows.{DiskRows, disk_tables_in}
 use Rattle.revolve_gen.specs.Places.{places_on}

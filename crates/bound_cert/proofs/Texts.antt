@@ -3,7 +3,7 @@ use Rattle.std.proofs.Common.{◌≡◌, ℕ, ◌<◌, ◌^◌, length, refl, �
 use Rattle.level_book.specs.BookCosts.{BookCosts, IsWithinLimits}
 use Rattle.level_book.specs.UnderTable.{Entry, number, never, IsGreatest}
 use Rattle.level_book.specs.DiskUnderTable.{IsGreatestDisk}
-use Rattle.cost_tables.specs.TableRows.{TableRows, AreFor, Fits, FitsFastest, fastest, tables_in}
+use Rattle.cost_tables.specs.TableRows.{TableRows, AreFor, TablesFit, FastestTablesFit, fastest, tables_in}
 use Rattle.cost_tables.specs.Shapes.{AreShaped}
 use Rattle.cost_tables.proofs.Least.{greatest_low}
 use Rattle.cost_tables.proofs.Fastest.{first_only}
@@ -19,7 +19,7 @@ low_word : (e : Entry) → ((v : ℕ) → e ≡ number v → v < 2 ^ 61) → Has
 low_word (number v) low = omega (arith, low v refl)
 low_word never low = tt
 
-pub nested_has_text : (steps : ℕ) (book : BookCosts) (t : TableRows) → IsWithinLimits book → Fits steps book → AreFor steps book t → AreShaped t → IsGreatest steps book (tables_in t) → HasText steps book (Nested t)
+pub nested_has_text : (steps : ℕ) (book : BookCosts) (t : TableRows) → IsWithinLimits book → TablesFit steps book → AreFor steps book t → AreShaped t → IsGreatest steps book (tables_in t) → HasText steps book (Nested t)
 nested_has_text steps book t limits fits sized shaped greatest =
     let low = greatest_low steps book (tables_in t) (few_steps steps fits.few) limits greatest in
     record {
@@ -36,7 +36,7 @@ nested_has_text steps book t limits fits sized shaped greatest =
       };
     }
 
-pub disk_has_text : (steps : ℕ) (book : BookCosts) (t : DiskRows) → IsWithinLimits book → FitsFastest steps book → AreDiskFor steps book t → AreDiskShaped t → IsGreatestDisk steps book (disk_tables_in t) → HasText steps book (Disk t)
+pub disk_has_text : (steps : ℕ) (book : BookCosts) (t : DiskRows) → IsWithinLimits book → FastestTablesFit steps book → AreDiskFor steps book t → AreDiskShaped t → IsGreatestDisk steps book (disk_tables_in t) → HasText steps book (Disk t)
 disk_has_text steps book t limits fits are shaped greatest =
     let low = fast_low steps book (disk_tables_in t) are.plan greatest fits.few limits in
     let over = disk_low steps book (disk_tables_in t) greatest.under fits.few limits in

@@ -8,7 +8,7 @@ use Rattle.level_book.specs.NestedClass.{Nested}
 use Rattle.level_book.specs.DiskClass.{Disk}
 use Rattle.level_book.specs.UnderTable.{Entry, number, never, IsUnderTable, top_entry}
 use Rattle.level_book.specs.DiskUnderTable.{IsDiskUnderTable, disk_top_entry}
-use Rattle.cost_tables.specs.TableRows.{TableRows, AreFor, Fits, FitsFastest, tables_in}
+use Rattle.cost_tables.specs.TableRows.{TableRows, AreFor, TablesFit, FastestTablesFit, tables_in}
 use Rattle.disk_gen.specs.DiskRows.{DiskRows, AreDiskSized, disk_tables_in}
 use Rattle.table_clauses.specs.declared.entry.Entry.{Entry as Place}
 use Rattle.table_clauses.specs.Broken.{Breaks, DiskBreaks, IsFirst}
@@ -53,7 +53,7 @@ FailsFirst tests (ValueDiffers cost_is value_is) =
 -- ---- of tables for the nested class
 
 abbrev pub AreSized : ℕ → BookCosts → TableRows → Type 0
-AreSized steps book t = Fits steps book × AreFor steps book t
+AreSized steps book t = TablesFit steps book × AreFor steps book t
 
 abbrev pub nested_tests : List Action → ℕ → BookCosts → TableRows → FiveTests
 nested_tests list steps book t = record {
@@ -69,7 +69,7 @@ nested_tests list steps book t = record {
 -- ---- of tables for the disk class
 
 abbrev pub AreSizedDisk : ℕ → BookCosts → DiskRows → Type 0
-AreSizedDisk steps book t = FitsFastest steps book × AreDiskSized steps book t
+AreSizedDisk steps book t = FastestTablesFit steps book × AreDiskSized steps book t
 
 abbrev pub disk_tests : List Action → ℕ → BookCosts → DiskRows → FiveTests
 disk_tests list steps book t = record {

@@ -11,7 +11,7 @@ ghost use Rattle.revolve_gen.specs.Plans.{HasPlan};
 ghost use Rattle.revolve_gen.specs.Written.{revolve_list};
 ghost use Rattle.revolve_gen.specs.Multistage.{IsMultistage};
 ghost use Rattle.multistage_gen.specs.Planned.{IsMultistageList};
-ghost use Rattle.cost_tables.specs.TableRows.{AreFor, Fits, FitsFastest, tables_in};
+ghost use Rattle.cost_tables.specs.TableRows.{AreFor, TablesFit, FastestTablesFit, tables_in};
 ghost use Rattle.hrevolve_gen.specs.Plans as nested;
 ghost use Rattle.hrevolve_gen.specs.Written.{IsWritten};
 ghost use Rattle.disk_gen.specs.DiskPlans.{HasDiskPlan};
@@ -107,10 +107,10 @@ pub fn certify_nested(tables: Tables) -> Certificate
     ensures value { result ≡ Certificate.Nested tables }
 
     // Of the greatest tables it has a text, and it is accepted for the list that is read from them.
-    ensures text { (steps : ℕ) (book : BookCosts) → IsWithinLimits book → Fits steps book → AreFor steps book tables → IsGreatest steps book (tables_in tables) →
+    ensures text { (steps : ℕ) (book : BookCosts) → IsWithinLimits book → TablesFit steps book → AreFor steps book tables → IsGreatest steps book (tables_in tables) →
         HasText steps book result }
-    ensures accepted { (list : List Action) (steps : ℕ) (book : BookCosts) → IsWithinLimits book → Fits steps book → AreFor steps book tables →
-        IsGreatest steps book (tables_in tables) → nested.HasPlan steps book → IsWritten steps book (tables_in tables) list → IsAccepted list steps book result }
+    ensures accepted { (list : List Action) (steps : ℕ) (book : BookCosts) → IsWithinLimits book → TablesFit steps book → AreFor steps book tables →
+        IsGreatest steps book (tables_in tables) → nested.HasNestedPlan steps book → IsWritten steps book (tables_in tables) list → IsAccepted list steps book result }
 {
     tables.is_shaped();
     let _levels = tables.levels();
@@ -120,9 +120,9 @@ pub fn certify_nested(tables: Tables) -> Certificate
 /// The same of the disk class and its tables.
 pub fn certify_disk(tables: DiskTables) -> Certificate
     ensures value { result ≡ Certificate.Disk tables }
-    ensures text { (steps : ℕ) (book : BookCosts) → IsWithinLimits book → FitsFastest steps book → AreDiskFor steps book tables →
+    ensures text { (steps : ℕ) (book : BookCosts) → IsWithinLimits book → FastestTablesFit steps book → AreDiskFor steps book tables →
         IsGreatestDisk steps book (disk_tables_in tables) → HasText steps book result }
-    ensures accepted { (list : List Action) (steps : ℕ) (book : BookCosts) → IsWithinLimits book → FitsFastest steps book → AreDiskFor steps book tables →
+    ensures accepted { (list : List Action) (steps : ℕ) (book : BookCosts) → IsWithinLimits book → FastestTablesFit steps book → AreDiskFor steps book tables →
         IsGreatestDisk steps book (disk_tables_in tables) → IsDiskWritten steps book (disk_tables_in tables) list → IsAccepted list steps book result }
 {
     tables.is_shaped();

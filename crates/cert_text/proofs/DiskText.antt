@@ -7,7 +7,7 @@ use Rattle.std.proofs.lemmas.List.{append_cancel_left}
 use Rattle.std.proofs.lemmas.List.FromFn.{length-map-range_with_len, get_or-map-range_with_len}
 use Rattle.level_book.specs.BookCosts.{BookCosts, room}
 use Rattle.level_book.specs.UnderTable.{Entry, number}
-use Rattle.cost_tables.specs.TableRows.{TableRows, FitsFastest, fastest, tables_in}
+use Rattle.cost_tables.specs.TableRows.{TableRows, FastestTablesFit, fastest, tables_in}
 use Rattle.disk_gen.specs.DiskRows.{DiskRows, disk_tables_in}
 use Rattle.cert_text.specs.declared.kind.Kind.TheVariants as kind
 use Rattle.cert_text.specs.MarkedLines.{CertificateLine}
@@ -21,7 +21,7 @@ use Rattle.cert_text.proofs.Shaping.{same_by}
 use Rattle.cert_text.proofs.Tabled.{some_wants, some_lines, one_entry, line_said, line_fits, one_word, levels_said, FitRows, fit_joined, levels_fit}
 use Rattle.cert_text.proofs.Nesting.{all_levels_said, wants_are, made, made_said, made_text, fresh_words, held_words, same_tables}
 
-pub disk_fits_or_not : (steps : ℕ) (book : BookCosts) → FitsFastest steps book ⊎ (FitsFastest steps book → ⊥)
+pub disk_fits_or_not : (steps : ℕ) (book : BookCosts) → FastestTablesFit steps book ⊎ (FastestTablesFit steps book → ⊥)
 disk_fits_or_not steps book = elim (cases_lt 8192 steps) [
   | inl many ↦ inr (λ fits. omega (arith, fits.few))
   | inr few ↦ elim (cases_lt 64 (room book 0 steps)) [
@@ -73,7 +73,7 @@ column_at steps l e least most =
     let back : (l - 1) + 1 ≡ l = omega arith in
     get_or-map-range_with_len (λ r. e (r + 1)) 0 steps (l - 1) (l - 1) (number 0) (omega arith) (omega arith) ∙ ap e back
 
-pub disk_said : (steps : ℕ) (book : BookCosts) (ls : List CertificateLine) → FitsFastest steps book → FitLines (later_wants kind.Disk steps book) ls →
+pub disk_said : (steps : ℕ) (book : BookCosts) (ls : List CertificateLine) → FastestTablesFit steps book → FitLines (later_wants kind.Disk steps book) ls →
     (t : DiskRows) × HaveDiskText steps book t × (map texts_of ls ≡ flat_map (level_lines t.fast) (range_with_len 0 (length t.fast.rooms)) ++ column_lines t)
 disk_said steps book ls fit f =
     let one = fastest book in

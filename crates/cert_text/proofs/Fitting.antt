@@ -8,7 +8,7 @@ use Rattle.action_text.specs.Tokens.{Token}
 use Rattle.action_text.specs.Reading.{number_at, whole}
 use Rattle.cert_text.specs.MarkedLines.{CertificateLine}
 use Rattle.cert_text.specs.Words.{words_of, end_of}
-use Rattle.cert_text.specs.Wanted.{Want, this_word, number_to, an_entry, Fits}
+use Rattle.cert_text.specs.Wanted.{Want, this_word, number_to, an_entry, TakesWord}
 use Rattle.cert_text.specs.Faults.{wrong_rule, FitAll, IsWordFault, first_column, IsLineFault}
 use Rattle.cert_text.proofs.WordLemmas.{which}
 use Rattle.cert_text.proofs.Numerals.{number_is, no_number}
@@ -29,11 +29,11 @@ same_or_other text word = elim (which (bytes_eq text word)) [
   | inr other ↦ inr (λ e. let same : bytes_eq text word ≡ true = (bytes_eq-Decides text word).1 e in absurd cc)
 ]
 
-decided : (want : Want) (text : List ℕ) → IsNarrow want → Fits want text ⊎ (Fits want text → ⊥)
+decided : (want : Want) (text : List ℕ) → IsNarrow want → TakesWord want text ⊎ (TakesWord want text → ⊥)
 decided (this_word word) text narrow = same_or_other text word
 decided (number_to most) text narrow = found (whole (number_at most text)) refl
   where
-    found : (answer : Option ℕ) → whole (number_at most text) ≡ answer → Fits (number_to most) text ⊎ (Fits (number_to most) text → ⊥)
+    found : (answer : Option ℕ) → whole (number_at most text) ≡ answer → TakesWord (number_to most) text ⊎ (TakesWord (number_to most) text → ⊥)
     found (Some n) e = let is = number_is most text n narrow e in inl (n, is.0, is.1)
     found None e = inr (λ f. no_number most text narrow e f.0 f.1 f.2)
 decided an_entry text narrow = elim (same_or_other text (codes "-")) [
@@ -41,11 +41,11 @@ decided an_entry text narrow = elim (same_or_other text (codes "-")) [
   | inr other ↦ found other (whole (number_at (2 ^ 64 - 1) text)) refl
 ]
   where
-    neither : (text ≡ codes "-" → ⊥) → whole (number_at (2 ^ 64 - 1) text) ≡ None → Fits an_entry text → ⊥
+    neither : (text ≡ codes "-" → ⊥) → whole (number_at (2 ^ 64 - 1) text) ≡ None → TakesWord an_entry text → ⊥
     neither other e (inl none) = other none
     neither other e (inr some) = no_number (2 ^ 64 - 1) text (omega arith) e some.0 (omega (arith, some.1)) some.2
 
-    found : (text ≡ codes "-" → ⊥) → (answer : Option ℕ) → whole (number_at (2 ^ 64 - 1) text) ≡ answer → Fits an_entry text ⊎ (Fits an_entry text → ⊥)
+    found : (text ≡ codes "-" → ⊥) → (answer : Option ℕ) → whole (number_at (2 ^ 64 - 1) text) ≡ answer → TakesWord an_entry text ⊎ (TakesWord an_entry text → ⊥)
     found other (Some n) e = let is = number_is (2 ^ 64 - 1) text n (omega arith) e in inl (inr (n, omega (arith, is.0), is.1))
     found other None e = inr (λ f. neither other e f)
 

@@ -13,7 +13,7 @@ use Rattle.cert_text.specs.declared.fault.LineFault.{LineFault}
 use Rattle.cert_text.specs.declared.fault.CertFault.{CertFault}
 use Rattle.cert_text.specs.declared.fault.CertFault.TheVariants.{At, Memory}
 use Rattle.cert_text.specs.Meaning.{HasWord}
-use Rattle.cert_text.specs.Wanted.{Want, an_entry, Fits}
+use Rattle.cert_text.specs.Wanted.{Want, an_entry, TakesWord}
 use Rattle.cert_text.specs.Faults.{FitAll, IsWordFault, IsLineFault}
 use Rattle.cert_text.specs.Left.{Left, Takes, Goes, texts, number_of_rule, Unread, left, IsAt}
 use Rattle.cert_text.specs.Rows.{Reads, cost_word}
@@ -30,7 +30,7 @@ take-all (suc k) (x ∷ l) low = ap (λ (m : List _). x ∷ m) (take-all k l (om
 pub goes_none : (a : Left) → Goes [] a a
 goes_none a = record { fault = λ more rule column is. is; fits = λ more is. is }
 
-pub goes_one : (want : Want) (text : List ℕ) (a b : Left) → Takes text a b → Fits want text → Goes (want ∷ []) a b
+pub goes_one : (want : Want) (text : List ℕ) (a b : Left) → Takes text a b → TakesWord want text → Goes (want ∷ []) a b
 goes_one want text a b taken fits = record {
   fault = λ more rule column is. wrong_later want more text a b rule column taken fits is;
   fits = λ more is. fit_later want more text a b taken fits is;
@@ -81,7 +81,7 @@ one_more (x ∷ row) (suc i) c low =
     let e : suc i + 1 ≡ suc (i + 1) = omega arith in
     ap (λ (k : ℕ). take k (x ∷ set row i c)) e ∙ ap (λ (l : List Cost). x ∷ l) (one_more row i c (omega arith))
 
-pub entry_more : (i : ℕ) (row : List Cost) (cost : Cost) (a b c : Left) → i < length row → ReadsEntries i row a b → HasWord (value_of cost) → Takes (cost_word cost) b c → Fits an_entry (cost_word cost) →
+pub entry_more : (i : ℕ) (row : List Cost) (cost : Cost) (a b c : Left) → i < length row → ReadsEntries i row a b → HasWord (value_of cost) → Takes (cost_word cost) b c → TakesWord an_entry (cost_word cost) →
     ReadsEntries (i + 1) (set row i cost) a c
 entry_more i row cost a b c low so has taken fits = record {
   goes = subst (λ (w : List Want). Goes w a c) (replicate_more i an_entry) (goes_then (replicate i an_entry) (an_entry ∷ []) a b c so.goes (goes_one an_entry (cost_word cost) b c taken fits));

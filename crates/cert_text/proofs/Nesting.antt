@@ -7,7 +7,7 @@ use Rattle.std.proofs.lemmas.List.{same_lists}
 use Rattle.std.proofs.lemmas.List.FromFn.{length-map-range_with_len, get_or-map-range_with_len}
 use Rattle.level_book.specs.BookCosts.{BookCosts, room}
 use Rattle.level_book.specs.UnderTable.{Entry, number}
-use Rattle.cost_tables.specs.TableRows.{TableRows, AreFor, Fits, tables_in}
+use Rattle.cost_tables.specs.TableRows.{TableRows, AreFor, TablesFit, tables_in}
 use Rattle.cost_tables.specs.Shapes.{AreShaped}
 use Rattle.cert_text.specs.WordLines.{row_lines, level_lines}
 use Rattle.cert_text.specs.Meaning.{HasWord, HaveTables}
@@ -135,7 +135,7 @@ held_words steps book t k m l has low in_room least most =
 -- ---- tables are for these steps and levels alone
 
 -- whether tables fit
-pub fits_or_not : (steps : ℕ) (book : BookCosts) → Fits steps book ⊎ (Fits steps book → ⊥)
+pub fits_or_not : (steps : ℕ) (book : BookCosts) → TablesFit steps book ⊎ (TablesFit steps book → ⊥)
 fits_or_not steps book = elim (cases_lt 2048 steps) [
   | inl many ↦ inr (λ fits. omega (arith, fits.few))
   | inr few ↦ elim (narrow_or_not (length book.levels)) [

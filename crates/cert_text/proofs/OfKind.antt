@@ -5,7 +5,7 @@ use Rattle.std.proofs.lemmas.Fmt.{decimal_injective}
 use Rattle.std.specs.List.{AllByRecursion, range_with_len, flat_map}
 use Rattle.level_book.specs.BookCosts.{BookCosts, room}
 use Rattle.level_book.specs.UnderTable.{Entry}
-use Rattle.cost_tables.specs.TableRows.{TableRows, Fits, FitsFastest, fastest, tables_in}
+use Rattle.cost_tables.specs.TableRows.{TableRows, TablesFit, FastestTablesFit, fastest, tables_in}
 use Rattle.action_text.specs.Tokens.{Token}
 use Rattle.cert_text.specs.declared.certificate.Certificate.{Certificate}
 use Rattle.cert_text.specs.declared.certificate.Certificate.TheVariants.{Revolve, Places, Nested, Disk}
@@ -152,7 +152,7 @@ both_appended : {A : Type 0} {a b c d : List A} → a ≡ b → c ≡ d → a ++
 both_appended e f = λ i. e i ++ f i
 
 -- lines of tables say some
-tables_said : (steps : ℕ) (book : BookCosts) (ls : List CertificateLine) → Fits steps book → FitLines (later_wants kind.Nested steps book) ls →
+tables_said : (steps : ℕ) (book : BookCosts) (ls : List CertificateLine) → TablesFit steps book → FitLines (later_wants kind.Nested steps book) ls →
     (t : TableRows) × HaveText steps book t × (map texts_of ls ≡ flat_map (level_lines t) (range_with_len 0 (length t.rooms)) ++ (codes "end" ∷ []) ∷ [])
 tables_said steps book ls fit f =
     let end : List (List Want) = (this_word (codes "end") ∷ []) ∷ [] in
@@ -182,13 +182,13 @@ fits_say kind.Places steps book (first ∷ []) _ f =
 fits_say kind.Places steps book (first ∷ next ∷ others) small f = absurd f.1
 fits_say kind.Nested steps book [] small f = absurd f
 fits_say kind.Nested steps book (first ∷ others) small f =
-    let fit : Fits steps book = elim (fits_or_not steps book) [ inl fit ↦ fit | inr not ↦ absurd (small not) ] in
+    let fit : TablesFit steps book = elim (fits_or_not steps book) [ inl fit ↦ fit | inr not ↦ absurd (small not) ] in
     let some = tables_said steps book others fit f.1 in
     let line = one_word (codes "nested") (words_of first) f.0 in
     (Nested some.0, some.1, (λ i. line i ∷ some.2 i))
 fits_say kind.Disk steps book [] small f = absurd f
 fits_say kind.Disk steps book (first ∷ others) small f =
-    let fit : FitsFastest steps book = elim (disk_fits_or_not steps book) [ inl fit ↦ fit | inr not ↦ absurd (small not) ] in
+    let fit : FastestTablesFit steps book = elim (disk_fits_or_not steps book) [ inl fit ↦ fit | inr not ↦ absurd (small not) ] in
     let some = disk_said steps book others fit f.1 in
     let line = one_word (codes "disk") (words_of first) f.0 in
     (Disk some.0, some.1, (λ i. line i ∷ some.2 i))

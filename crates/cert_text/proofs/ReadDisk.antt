@@ -7,7 +7,7 @@ use Rattle.level_book.specs.BookCosts.{BookCosts}
 use Rattle.level_book.specs.UnderTable.{Entry, number}
 use Rattle.cost_tables.specs.declared.cost.Cost.{Cost}
 use Rattle.cost_tables.specs.declared.cost.Cost.TheVariants.{Never}
-use Rattle.cost_tables.specs.TableRows.{TableRows, AreFor, FitsFastest, fastest, value_of}
+use Rattle.cost_tables.specs.TableRows.{TableRows, AreFor, FastestTablesFit, fastest, value_of}
 use Rattle.cost_tables.specs.Shapes.{AreShaped}
 use Rattle.disk_gen.specs.DiskRows.{DiskRows}
 use Rattle.cert_text.specs.declared.fault.CertFault.{CertFault}
@@ -85,7 +85,7 @@ pub parts_are : (t : DiskRows) (u : TableRows) (n m : ℕ) (x y z w : List Cost)
     t ≡ record { fast = u; disk_fresh = map value_of (take n (x ++ z)); disk_held = map value_of (take m (y ++ w)) } → t ≡ record { fast = u; disk_fresh = map value_of x; disk_held = map value_of y }
 parts_are t u n m x y z w long wide is = is ∙ (λ i. record { fast = u; disk_fresh = map value_of (kept n x z long i); disk_held = map value_of (kept m y w wide i) })
 
-pub disk_done : (steps : ℕ) (book : BookCosts) (s u : TableRows) (x y : List Cost) (t : DiskRows) (a b c d : Unread) → FitsFastest steps book → AreFor steps (fastest book) s →
+pub disk_done : (steps : ℕ) (book : BookCosts) (s u : TableRows) (x y : List Cost) (t : DiskRows) (a b c d : Unread) → FastestTablesFit steps book → AreFor steps (fastest book) s →
     Reads (flat_map (wants_for s) (range_with_len 0 (length s.rooms))) (flat_map (level_lines u) (range_with_len 0 (length s.rooms))) a b → ((k : ℕ) → k < length s.rooms → HaveWords u k) →
     u.steps ≡ s.steps → u.rooms ≡ s.rooms → AreShaped u → length x ≡ steps → length y ≡ steps →
     map texts_of b.lines ≡ (codes "Fd" ∷ map cost_word x) ∷ map texts_of c.lines → ((i : ℕ) → i < steps → HasWord (value_of (get_or x i Never))) →

@@ -10,20 +10,20 @@ use Rattle.cert_text.specs.declared.fault.CertFault.TheVariants.{At, Memory}
 use Rattle.cert_text.specs.declared.kind.Kind.{Kind}
 use Rattle.cert_text.specs.MarkedLines.{CertificateLine, certificate_lines, line_count}
 use Rattle.cert_text.specs.Words.{words, texts_of, words_of, end_of}
-use Rattle.cert_text.specs.Wanted.{Want, this_word, Fits, kind_word, first_wants, later_wants, wants_of, IsTooLarge}
+use Rattle.cert_text.specs.Wanted.{Want, this_word, TakesWord, kind_word, first_wants, later_wants, wants_of, IsTooLarge}
 use Rattle.cert_text.specs.Faults.{FitAll, IsWordFault, first_column, IsLineFault, Names, IsFault, IsKindFault}
 use Rattle.cert_text.specs.Left.{Left, left, Takes, texts, Unread, unread, IsAt, IsRestFault, SaysRest, IsSizedFault}
 use Rattle.cert_text.proofs.TextLaws.{Answers}
 
 -- ---- behind a word that fits
 
-pub wrong_later : (want : Want) (wants : List Want) (text : List ℕ) (old new : Left) (rule column : ℕ) → Takes text old new → Fits want text →
+pub wrong_later : (want : Want) (wants : List Want) (text : List ℕ) (old new : Left) (rule column : ℕ) → Takes text old new → TakesWord want text →
     IsWordFault wants new.words new.end rule column → IsWordFault (want ∷ wants) old.words old.end rule column
 wrong_later want wants text old new rule column taken fits fault =
     let there : IsWordFault wants new.words old.end rule column = subst (λ (end : ℕ). IsWordFault wants new.words end rule column) taken.end fault in
     subst (λ (ws : List Token). IsWordFault (want ∷ wants) ws old.end rule column) (sym taken.parts) (inr (fits, there))
 
-pub fit_later : (want : Want) (wants : List Want) (text : List ℕ) (old new : Left) → Takes text old new → Fits want text → FitAll wants new.words → FitAll (want ∷ wants) old.words
+pub fit_later : (want : Want) (wants : List Want) (text : List ℕ) (old new : Left) → Takes text old new → TakesWord want text → FitAll wants new.words → FitAll (want ∷ wants) old.words
 fit_later want wants text old new taken fits all = subst (λ (ws : List Token). FitAll (want ∷ wants) ws) (sym taken.parts) (fits, all)
 
 pub taken_text : (text : List ℕ) (old new : Left) → Takes text old new → texts old.words ≡ text ∷ texts new.words

@@ -12,7 +12,7 @@ use Rattle.cert_text.specs.MarkedLines.{CertificateLine}
 use Rattle.cert_text.specs.Words.{words_of, texts_of}
 use Rattle.cert_text.specs.WordLines.{entry_word, row_line, row_lines}
 use Rattle.cert_text.specs.Meaning.{HasWord}
-use Rattle.cert_text.specs.Wanted.{Want, this_word, an_entry, Fits, row_wants, rows_wants}
+use Rattle.cert_text.specs.Wanted.{Want, this_word, an_entry, TakesWord, row_wants, rows_wants}
 use Rattle.cert_text.specs.Faults.{FitAll}
 use Rattle.cert_text.specs.Left.{texts}
 use Rattle.cert_text.proofs.Fitting.{FitLines}
@@ -45,11 +45,11 @@ one_entry (number n) never a b e = absurd (never_apart n a e)
 one_entry never (number m) a b e = absurd (never_apart m b (sym e))
 one_entry never never a b e = refl
 
-some_entry : (text : List ℕ) → Fits an_entry text → (x : Entry) × HasWord x × (text ≡ entry_word x)
+some_entry : (text : List ℕ) → TakesWord an_entry text → (x : Entry) × HasWord x × (text ≡ entry_word x)
 some_entry text (inl none) = (never, tt, none)
 some_entry text (inr some) = (number some.0, some.1, some.2)
 
-pub entry_fits : (x : Entry) → HasWord x → Fits an_entry (entry_word x)
+pub entry_fits : (x : Entry) → HasWord x → TakesWord an_entry (entry_word x)
 entry_fits (number n) has = inr (n, has, refl)
 entry_fits never has = inl refl
 
@@ -207,7 +207,7 @@ abbrev pub FitTexts : List Want → List (List ℕ) → Type 0
 FitTexts [] [] = Unit {0}
 FitTexts [] (w ∷ ws) = ⊥
 FitTexts (want ∷ wants) [] = ⊥
-FitTexts (want ∷ wants) (w ∷ ws) = Fits want w × FitTexts wants ws
+FitTexts (want ∷ wants) (w ∷ ws) = TakesWord want w × FitTexts wants ws
 
 abbrev pub FitRows : List (List Want) → List (List (List ℕ)) → Type 0
 FitRows [] [] = Unit {0}

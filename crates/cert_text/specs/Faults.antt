@@ -8,7 +8,7 @@ use Rattle.cert_text.specs.declared.fault.CertFault.{CertFault}
 use Rattle.cert_text.specs.declared.fault.CertFault.TheVariants.{At, Memory}
 use Rattle.cert_text.specs.MarkedLines.{CertificateLine, certificate_lines, line_count}
 use Rattle.cert_text.specs.Words.{words_of, end_of}
-use Rattle.cert_text.specs.Wanted.{Want, this_word, number_to, an_entry, Fits, kind_word, IsTooLarge, wants_of}
+use Rattle.cert_text.specs.Wanted.{Want, this_word, number_to, an_entry, TakesWord, kind_word, IsTooLarge, wants_of}
 
 -- ---- in one line
 
@@ -23,7 +23,7 @@ abbrev pub FitAll : List Want → List Token → Type 0
 FitAll [] [] = Unit {0}
 FitAll [] (w ∷ ws) = ⊥
 FitAll (want ∷ wants) [] = ⊥
-FitAll (want ∷ wants) (w ∷ ws) = Fits want w.text × FitAll wants ws
+FitAll (want ∷ wants) (w ∷ ws) = TakesWord want w.text × FitAll wants ws
 
 -- The first fault of words at these places: one that doesn't fit, one that is missing, or one too many; `end` is the column past
 -- the line's bytes.
@@ -32,7 +32,7 @@ IsWordFault [] [] end rule column = ⊥
 IsWordFault [] (w ∷ ws) end rule column = (rule ≡ 4) × (column ≡ w.column)
 IsWordFault (want ∷ wants) [] end rule column = (rule ≡ 4) × (column ≡ end)
 IsWordFault (want ∷ wants) (w ∷ ws) end rule column =
-    ((Fits want w.text → ⊥) × (rule ≡ wrong_rule want) × (column ≡ w.column)) ⊎ (Fits want w.text × IsWordFault wants ws end rule column)
+    ((TakesWord want w.text → ⊥) × (rule ≡ wrong_rule want) × (column ≡ w.column)) ⊎ (TakesWord want w.text × IsWordFault wants ws end rule column)
 
 -- where the first of these words begins; past the bytes where there is none
 abbrev pub first_column : List Token → ℕ → ℕ

@@ -2,7 +2,7 @@
 use Rattle.std.specs.Prelude.{◌≡◌, ◌≢◌, ◌⊎◌, ℕ, false, List, [], ◌∷◌, ◌++◌}
 use Rattle.std.specs.List.{AllByRecursion, flat_map, concat}
 use Rattle.level_book.specs.BookCosts.{BookCosts}
-use Rattle.cost_tables.specs.TableRows.{TableRows, AreFor, Fits, FitsFastest}
+use Rattle.cost_tables.specs.TableRows.{TableRows, AreFor, TablesFit, FastestTablesFit}
 use Rattle.disk_gen.specs.DiskRows.{DiskRows, AreDiskSized}
 use Rattle.cert_text.specs.declared.certificate.Certificate.{Certificate}
 use Rattle.cert_text.specs.declared.certificate.Certificate.TheVariants.{Nested, Disk}
@@ -50,7 +50,7 @@ CanonicalIsRead =
 -- Tables that can be built for so many steps and a book, and that are for them, have a text, whichever entries were set; so it is
 -- with disk tables.
 abbrev pub SizedHasText : TableRows → Type 0
-SizedHasText t = (steps : ℕ) (book : BookCosts) → Fits steps book → AreFor steps book t → HasText steps book (Nested t)
+SizedHasText t = (steps : ℕ) (book : BookCosts) → TablesFit steps book → AreFor steps book t → HasText steps book (Nested t)
 
 abbrev pub DiskSizedHasText : DiskRows → Type 0
-DiskSizedHasText t = (steps : ℕ) (book : BookCosts) → FitsFastest steps book → AreDiskSized steps book t → HasText steps book (Disk t)
+DiskSizedHasText t = (steps : ℕ) (book : BookCosts) → FastestTablesFit steps book → AreDiskSized steps book t → HasText steps book (Disk t)

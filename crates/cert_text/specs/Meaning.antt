@@ -2,7 +2,7 @@
 use Rattle.std.specs.Prelude.{◌≡◌, ℕ, ◌^◌, ◌<◌, ◌≤◌, List, map, length, slice_index_or}
 use Rattle.level_book.specs.BookCosts.{BookCosts}
 use Rattle.level_book.specs.UnderTable.{Entry}
-use Rattle.cost_tables.specs.TableRows.{TableRows, tables_in, AreFor, Fits, FitsFastest, fastest}
+use Rattle.cost_tables.specs.TableRows.{TableRows, tables_in, AreFor, TablesFit, FastestTablesFit, fastest}
 use Rattle.cost_tables.specs.Shapes.{AreShaped, IsShort}
 use Rattle.disk_gen.specs.DiskRows.{DiskRows, disk_tables_in}
 use Rattle.cert_text.specs.declared.certificate.Certificate.{Certificate}
@@ -28,13 +28,13 @@ pub record HaveTables (steps : ℕ) (book : BookCosts) (t : TableRows) : Type 0 
 
 -- the same, and such tables can be built
 pub record HaveText (steps : ℕ) (book : BookCosts) (t : TableRows) : Type 0 where
-  pub fit : Fits steps book
+  pub fit : TablesFit steps book
   pub tables : HaveTables steps book t
 
 -- the same of disk tables: those of level 0 are as if the book had no other, and over both levels there is an entry for each
 -- number of steps
 pub record HaveDiskText (steps : ℕ) (book : BookCosts) (t : DiskRows) : Type 0 where
-  pub fit : FitsFastest steps book
+  pub fit : FastestTablesFit steps book
   pub fast : HaveTables steps (fastest book) t.fast
   pub fresh_long : length t.disk_fresh ≡ steps
   pub held_long : length t.disk_held ≡ steps

@@ -13,10 +13,10 @@ pub data Want : Type 0 where
   an_entry : Want
 
 -- the text is what may stand there
-abbrev pub Fits : Want → List ℕ → Type 0
-Fits (this_word word) text = text ≡ word
-Fits (number_to most) text = (n : ℕ) × (n ≤ most) × (text ≡ decimal n)
-Fits an_entry text = (text ≡ codes "-") ⊎ ((n : ℕ) × (n < 2 ^ 64) × (text ≡ decimal n))
+abbrev pub TakesWord : Want → List ℕ → Type 0
+TakesWord (this_word word) text = text ≡ word
+TakesWord (number_to most) text = (n : ℕ) × (n ≤ most) × (text ≡ decimal n)
+TakesWord an_entry text = (text ≡ codes "-") ⊎ ((n : ℕ) × (n < 2 ^ 64) × (text ≡ decimal n))
 
 -- the greatest number of 64 bits
 abbrev pub greatest : ℕ
@@ -63,8 +63,8 @@ later_wants Disk steps book = flat_map (level_wants steps (tables.fastest book))
 abbrev pub IsTooLarge : Kind → ℕ → BookCosts → Type 0
 IsTooLarge Revolve steps book = ⊥
 IsTooLarge Places steps book = ⊥
-IsTooLarge Nested steps book = tables.Fits steps book → ⊥
-IsTooLarge Disk steps book = tables.FitsFastest steps book → ⊥
+IsTooLarge Nested steps book = tables.TablesFit steps book → ⊥
+IsTooLarge Disk steps book = tables.FastestTablesFit steps book → ⊥
 
 -- all lines
 abbrev pub wants_of : Kind → ℕ → BookCosts → List (List Want)

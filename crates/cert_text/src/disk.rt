@@ -1,7 +1,7 @@
 // Texts of disk tables.
 ghost use Rattle.std.specs.Prelude.{◌≡◌, ◌⊎◌, ◌++◌, length, map, MatchResult};
 ghost use Rattle.std.specs.List.{range_with_len, flat_map};
-ghost use Rattle.cost_tables.specs.TableRows.{FitsFastest};
+ghost use Rattle.cost_tables.specs.TableRows.{FastestTablesFit};
 ghost use Rattle.cert_text.specs.declared.fault.CertFault.{CertFault};
 ghost use Rattle.cert_text.specs.declared.kind.Kind.TheVariants as kind;
 ghost use Rattle.cert_text.specs.Words.{texts_of};
@@ -27,7 +27,7 @@ pub(crate) fn read_disk(
     steps: u32,
     book: &Book,
 ) -> Result<DiskTables, CertFault>
-    requires { FitsFastest steps book.now }
+    requires { FastestTablesFit steps book.now }
     ensures { MatchResult result
         (λ t. HaveDiskText steps book.now t
         × (map texts_of reader.old.lines ≡ flat_map (level_lines t.fast) (range_with_len 0 (length t.fast.rooms)) ++ column_lines t))

@@ -1,7 +1,7 @@
 // Texts of tables over the levels of a book.
 ghost use Rattle.std.specs.Prelude.{◌≡◌, ◌⊎◌, ◌<◌, ◌≤◌, ◌+◌, ℕ, [], ◌∷◌, ◌++◌, All, length, map, codes, slice_index_or, MatchResult, IfOk};
 ghost use Rattle.std.specs.List.{range_with_len, flat_map};
-ghost use Rattle.cost_tables.specs.TableRows.{Fits, tables_in};
+ghost use Rattle.cost_tables.specs.TableRows.{TablesFit, tables_in};
 ghost use Rattle.cert_text.specs.declared.fault.CertFault.{CertFault};
 ghost use Rattle.cert_text.specs.declared.kind.Kind.TheVariants as kind;
 ghost use Rattle.cert_text.specs.Words.{texts_of};
@@ -27,7 +27,7 @@ pub(crate) fn read_nested(
     steps: u32,
     book: &Book,
 ) -> Result<Tables, CertFault>
-    requires { Fits steps book.now }
+    requires { TablesFit steps book.now }
     ensures { MatchResult result
         (λ t. HaveText steps book.now t
         × (map texts_of reader.old.lines ≡ flat_map (level_lines t) (range_with_len 0 (length t.rooms)) ++ (codes "end" ∷ []) ∷ []))

@@ -3,7 +3,7 @@ ghost use Rattle.std.specs.Prelude.{◌≡◌, ◌<◌, ◌≤◌, ◌+◌, ◌^
 ghost use Rattle.std.specs.List.{prefix_len};
 ghost use Rattle.action_text.specs.Tokens.{is_blank};
 ghost use Rattle.cert_text.specs.declared.kind.Kind.{Kind};
-ghost use Rattle.cert_text.specs.Wanted.{Want, this_word, number_to, an_entry, Fits, kind_word};
+ghost use Rattle.cert_text.specs.Wanted.{Want, this_word, number_to, an_entry, TakesWord, kind_word};
 ghost use Rattle.cost_tables.specs.TableRows.{value_of};
 ghost use Rattle.cert_text.specs.WordLines.{entry_word};
 ghost use Rattle.cert_text.specs.Meaning.{HasWord};
@@ -202,7 +202,7 @@ impl<'a> Words<'a> {
 
 // The entry that a text is: a number, or Never, whose word is `-`.
 fn entry(text: &[u8]) -> Option<Cost>
-    ensures { MatchOption result (Fits an_entry text.now → ⊥) (λ cost. HasWord (value_of cost) × (text.now ≡ entry_word (value_of cost))) }
+    ensures { MatchOption result (TakesWord an_entry text.now → ⊥) (λ cost. HasWord (value_of cost) × (text.now ≡ entry_word (value_of cost))) }
 {
     if text == b"-".as_slice() {
         return Some(Cost::Never);

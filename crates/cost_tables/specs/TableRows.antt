@@ -28,7 +28,7 @@ pub record AreFor (steps : ℕ) (book : BookCosts) (t : TableRows) : Type 0 wher
   pub rooms_are : (k : ℕ) → k < length book.levels → slice_index_or t.rooms k 0 ≡ room book k steps
 
 -- tables for so many steps and the levels of a book can be built
-pub record Fits (steps : ℕ) (book : BookCosts) : Type 0 where
+pub record TablesFit (steps : ℕ) (book : BookCosts) : Type 0 where
   pub few : steps ≤ 2048
   pub narrow : (k : ℕ) → k < length book.levels → room book k steps ≤ 64
 
@@ -37,7 +37,7 @@ abbrev pub fastest : BookCosts → BookCosts
 fastest book = record { forward = book.forward; reverse = book.reverse; levels = take 1 book.levels }
 
 -- tables for so many steps and the fastest level of a book can be built
-pub record FitsFastest (steps : ℕ) (book : BookCosts) : Type 0 where
+pub record FastestTablesFit (steps : ℕ) (book : BookCosts) : Type 0 where
   pub few : steps ≤ 8192
   pub narrow : room book 0 steps ≤ 64
 

@@ -1,7 +1,7 @@
 // Tables of least costs.
 ghost use Rattle.std.specs.Prelude.{◌≡◌, ◌↔◌, ℕ, ◌+◌, ◌^◌, ◌<◌, ◌≤◌, true, length, All, IfOk, slice_index};
 ghost use Rattle.level_book.specs.UnderTable.{IsGreatest};
-ghost use Rattle.cost_tables.specs.TableRows.{AreFor, Fits, FitsFastest, fastest, tables_in, value_of};
+ghost use Rattle.cost_tables.specs.TableRows.{AreFor, TablesFit, FastestTablesFit, fastest, tables_in, value_of};
 ghost use Rattle.cost_tables.specs.Shapes.{AreShaped, AreShort};
 ghost use Rattle.cost_tables.specs.Filling.{AreAllNever, IsOther};
 ghost use Rattle.cost_tables.specs.Entries.{fresh_in};
@@ -48,7 +48,7 @@ impl Tables {
     /// Whether tables for so many steps and a book can be built: for at most 2,048 steps, and at most 64 images on a level.
     /// It takes no memory.
     pub fn fits(steps: u32, book: &Book) -> bool
-        ensures { result ≡ true ↔ Fits steps book.now }
+        ensures { result ≡ true ↔ TablesFit steps book.now }
     {
         if steps > MOST_STEPS {
             return false;
@@ -70,7 +70,7 @@ impl Tables {
         book: &Book,
         workers: u32,
     ) -> Result<Tables, AllocError>
-        requires fits { Fits steps book.now }
+        requires fits { TablesFit steps book.now }
         requires workers { (1 ≤ workers) × (workers ≤ 64) }
         ensures sizes { IfOk result (AreFor steps book.now) }
         ensures greatest { IfOk result (λ t. IsGreatest steps book.now (tables_in t)) }
@@ -88,7 +88,7 @@ impl Tables {
         workers: u32,
         gate: &G,
     ) -> Result<Tables, AllocError>
-        requires fits { Fits steps book.now }
+        requires fits { TablesFit steps book.now }
         requires workers { (1 ≤ workers) × (workers ≤ 64) }
         ensures sizes { IfOk result (AreFor steps book.now) }
         ensures greatest { IfOk result (λ t. IsGreatest steps book.now (tables_in t)) }
@@ -129,7 +129,7 @@ impl Tables {
     /// Whether the tables of the fastest level alone can be built: for at most 8,192 steps, and at most 64 images on it. It
     /// takes no memory.
     pub fn fits_fastest(steps: u32, book: &Book) -> bool
-        ensures { result ≡ true ↔ FitsFastest steps book.now }
+        ensures { result ≡ true ↔ FastestTablesFit steps book.now }
     {
         let _levels = book.levels();
         steps <= MOST_STEPS_OF_ONE && book.room(0, steps) <= MOST_SLOTS
@@ -144,7 +144,7 @@ impl Tables {
         book: &Book,
         workers: u32,
     ) -> Result<Tables, AllocError>
-        requires fits { FitsFastest steps book.now }
+        requires fits { FastestTablesFit steps book.now }
         requires workers { (1 ≤ workers) × (workers ≤ 64) }
         ensures sizes { IfOk result (AreFor steps (fastest book.now)) }
         ensures greatest { IfOk result (λ t. IsGreatest steps (fastest book.now) (tables_in t)) }
@@ -183,7 +183,7 @@ impl Tables {
     /// Tables of which each entry is Never, to be filled by `set_fresh` and `set_held`. They are refused for want of memory
     /// alone.
     pub fn never(alloc: Global, steps: u32, book: &Book) -> Result<Tables, AllocError>
-        requires { Fits steps book.now }
+        requires { TablesFit steps book.now }
         ensures sizes { IfOk result (AreFor steps book.now) }
         ensures never { IfOk result (λ t. AreAllNever steps book.now (tables_in t)) }
     {
@@ -203,7 +203,7 @@ impl Tables {
 
     /// The same for the fastest level alone, as if the book had no other.
     pub fn never_fastest(alloc: Global, steps: u32, book: &Book) -> Result<Tables, AllocError>
-        requires { FitsFastest steps book.now }
+        requires { FastestTablesFit steps book.now }
         ensures sizes { IfOk result (AreFor steps (fastest book.now)) }
         ensures never { IfOk result (λ t. AreAllNever steps (fastest book.now) (tables_in t)) }
     {

@@ -5,7 +5,7 @@ use Rattle.std.proofs.lemmas.Nat.{div-add-mod', mod_below, div_below, mul-le}
 use Rattle.level_book.specs.BookCosts.{BookCosts, room}
 use Rattle.revolve_gen.specs.Plans as revolve
 use Rattle.disk_gen.specs.Periodic.{stretches, images, last_steps}
-use Rattle.disk_gen.specs.Plans.{HasPlan}
+use Rattle.disk_gen.specs.Plans.{HasPeriodicPlan}
 use Rattle.disk_gen.specs.Laws.{StretchesAreLeast}
 
 -- one stretch fewer is too few, and one more is enough
@@ -66,7 +66,7 @@ last_some steps period step some =
     omega (arith, fit.0)
 
 -- where there is a plan, each stretch has one
-pub last_planned : (steps period : ℕ) (book : BookCosts) → 1 ≤ period → HasPlan steps period book → revolve.HasPlan (last_steps steps period) (room book 0 steps)
+pub last_planned : (steps period : ℕ) (book : BookCosts) → 1 ≤ period → HasPeriodicPlan steps period book → revolve.HasPlan (last_steps steps period) (room book 0 steps)
 last_planned steps period book some plan two =
     let e : last_steps steps period ≡ steps - images steps period * period = refl in
     plan.fast (omega arith) (omega (arith, last_short steps period some))
@@ -74,6 +74,6 @@ last_planned steps period book some plan two =
 longer : (n period steps : ℕ) → 1 ≤ n → n * period ≤ steps → period ≤ steps
 longer n period steps h below = omega (arith, mul-le 1 period n period h (omega arith))
 
-pub each_planned : (steps period : ℕ) (book : BookCosts) → 1 ≤ period → HasPlan steps period book → 1 ≤ images steps period → revolve.HasPlan period (room book 0 steps)
+pub each_planned : (steps period : ℕ) (book : BookCosts) → 1 ≤ period → HasPeriodicPlan steps period book → 1 ≤ images steps period → revolve.HasPlan period (room book 0 steps)
 each_planned steps period book some plan more two =
     plan.fast (omega (arith, longer (images steps period) period steps more (images_within steps period some))) two

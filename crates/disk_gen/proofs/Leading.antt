@@ -19,7 +19,7 @@ use Rattle.revolve_gen.proofs.Written.{planned}
 use Rattle.revolve_gen.proofs.Holding.{Images, on, stored, there, on_stored, released, room_at}
 use Rattle.revolve_gen.proofs.Leading.{at, leads_on, listed, both}
 use Rattle.disk_gen.specs.Periodic.{images, last_steps, ahead, back, periodic, periodic_list}
-use Rattle.disk_gen.specs.Plans.{HasSlots, HasPlan}
+use Rattle.disk_gen.specs.Plans.{HasSlots, HasPeriodicPlan}
 use Rattle.disk_gen.specs.Laws.{PeriodicIsValid}
 use Rattle.disk_gen.proofs.Counting.{images_fit, last_some, last_planned, each_planned}
 use Rattle.disk_gen.proofs.Holding.{level_to, from_i, kept, kept_slow, kept_holds, room_slots, fewer_slots, slow_roomy, roomy}

@@ -15,7 +15,7 @@ use Rattle.revolve_gen.specs.Written.{fresh}
 use Rattle.disk_gen.specs.declared.phase.Phase.{Phase}
 use Rattle.disk_gen.specs.declared.phase.Phase.TheVariants.{Ahead, Back}
 use Rattle.disk_gen.specs.Periodic.{images, last_steps, ahead, back, periodic}
-use Rattle.disk_gen.specs.Plans.{HasPlan}
+use Rattle.disk_gen.specs.Plans.{HasPeriodicPlan}
 use Rattle.disk_gen.specs.Owed.{owed_behind, IsOwing}
 use Rattle.disk_gen.proofs.Counting.{no_images, images_within, last_some, last_planned, each_planned}
 
@@ -154,7 +154,7 @@ whole_back steps period c l levels fast some e =
     ∙ whole steps period c 0 steps some (sym e) all
 
 -- and how it stands
-pub start_ahead : (steps period n l : ℕ) (book : BookCosts) (levels : List Slots) → levels ≡ Unlimited ∷ [] → 1 ≤ period → steps ≤ 1000000 → HasPlan steps period book →
+pub start_ahead : (steps period n l : ℕ) (book : BookCosts) (levels : List Slots) → levels ≡ Unlimited ∷ [] → 1 ≤ period → steps ≤ 1000000 → HasPeriodicPlan steps period book →
     n ≡ images steps period → l ≡ last_steps steps period → 1 ≤ n → IsOwing period l levels (room book 0 steps) (Ahead 0 n)
 start_ahead steps period n l book levels fast some short plan e f more =
     let product = ap (λ n. (0 + n) * period) e in
@@ -175,7 +175,7 @@ start_back period l c levels fast some = record {
 }
 
 -- without an image on level 1 all steps are one stretch
-pub one_planned : (steps period : ℕ) (book : BookCosts) → 1 ≤ period → HasPlan steps period book → images steps period ≡ 0 → revolve.HasPlan steps (room book 0 steps)
+pub one_planned : (steps period : ℕ) (book : BookCosts) → 1 ≤ period → HasPeriodicPlan steps period book → images steps period ≡ 0 → revolve.HasPlan steps (room book 0 steps)
 one_planned steps period book some plan e =
     let product = ap (λ n. n * period) e in
     let rest : last_steps steps period ≡ steps - images steps period * period = refl in

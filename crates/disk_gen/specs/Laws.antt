@@ -8,7 +8,7 @@ use Rattle.hrevolve_gen.specs.Laws.{EndsForwardAtTape}
 use Rattle.disk_gen.specs.Periodic.{stretches, periodic_list}
 use Rattle.cost_tables.specs.Exact.{IsExact}
 use Rattle.cost_tables.specs.TableRows.{fastest}
-use Rattle.disk_gen.specs.Plans.{HasPlan}
+use Rattle.disk_gen.specs.Plans.{HasPeriodicPlan}
 use Rattle.disk_gen.specs.DiskPlans.{HasDiskPlan}
 use Rattle.disk_gen.specs.DiskReading.{IsDiskExact}
 use Rattle.disk_gen.specs.DiskRows.{DiskRows, AreDiskSized, disk_tables_in}
@@ -25,11 +25,11 @@ StretchesAreLeast steps period = 1 ≤ period → AreLeast steps period (stretch
 
 -- the list, where there is a plan, is valid for its book
 abbrev pub PeriodicIsValid : ℕ → ℕ → BookCosts → Type 0
-PeriodicIsValid steps period book = 1 ≤ period → HasPlan steps period book → Valid steps (slots_of book) (periodic_list steps period book)
+PeriodicIsValid steps period book = 1 ≤ period → HasPeriodicPlan steps period book → Valid steps (slots_of book) (periodic_list steps period book)
 
 -- it has four actions for each step
 abbrev pub PeriodicIsCounted : ℕ → ℕ → BookCosts → Type 0
-PeriodicIsCounted steps period book = 1 ≤ steps → 1 ≤ period → HasPlan steps period book → length (periodic_list steps period book) ≡ 4 * steps
+PeriodicIsCounted steps period book = 1 ≤ steps → 1 ≤ period → HasPeriodicPlan steps period book → length (periodic_list steps period book) ≡ 4 * steps
 
 -- two lists that are read from disk tables whose entries are the greatest are one, whichever tables these are
 abbrev pub DiskPlanIsUnique : ℕ → BookCosts → DiskTables → DiskTables → List Action → List Action → Type 0

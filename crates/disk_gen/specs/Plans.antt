@@ -27,7 +27,7 @@ pub record IsStuck (steps period : ℕ) (book : BookCosts) : Type 0 where
   pub long : 2 ≤ period
 
 -- there is a list: the book has two levels, the faster one has a slot where it is used, and the slower one has its images
-pub record HasPlan (steps period : ℕ) (book : BookCosts) : Type 0 where
+pub record HasPeriodicPlan (steps period : ℕ) (book : BookCosts) : Type 0 where
   pub two : length book.levels ≡ 2
   pub fast : 2 ≤ steps → 2 ≤ period → 1 ≤ room book 0 steps
   pub slow : HasSlots (slots_at book 1) (images steps period)
@@ -39,4 +39,4 @@ IsFault steps period book (NoPlan rule) =
     ((rule ≡ 2) × (length book.levels ≢ 2))
     ⊎ (((rule ≡ 1) × (length book.levels ≡ 2) × IsStuck steps period book)
     ⊎ ((rule ≡ 4) × (length book.levels ≡ 2) × (2 ≤ steps → 2 ≤ period → 1 ≤ room book 0 steps) × LacksSlots (slots_at book 1) (images steps period)))
-IsFault steps period book Memory = HasPlan steps period book
+IsFault steps period book Memory = HasPeriodicPlan steps period book

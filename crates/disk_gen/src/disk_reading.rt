@@ -5,7 +5,7 @@ ghost use Rattle.level_book.specs.CostFold.{cost};
 ghost use Rattle.level_book.specs.DiskClass.{Disk};
 ghost use Rattle.level_book.specs.DiskUnderTable.{IsGreatestDisk, disk_top_entry};
 ghost use Rattle.level_book.specs.UnderTable.{number, sum_of};
-ghost use Rattle.cost_tables.specs.TableRows.{FitsFastest, value_of};
+ghost use Rattle.cost_tables.specs.TableRows.{FastestTablesFit, value_of};
 ghost use Rattle.disk_gen.specs.DiskRows.{AreDiskFor, disk_tables_in};
 ghost use Rattle.disk_gen.specs.DiskWritten.{IsDiskWritten};
 ghost use Rattle.disk_gen.specs.DiskReading.{CanReadDisk, IsHeldMore, IsDiskMore};
@@ -24,7 +24,7 @@ pub fn disk_list(
     steps: u32,
     book: &Book,
 ) -> Result<Vec<Action>, AllocError>
-    requires fits { FitsFastest steps book.now }
+    requires fits { FastestTablesFit steps book.now }
     requires sizes { AreDiskFor steps book.now tables.now }
     requires greatest { IsGreatestDisk steps book.now (disk_tables_in tables.now) }
     ensures list { IfOk result (λ list. IsDiskWritten steps book.now (disk_tables_in tables.now) list.items) }

@@ -3,7 +3,7 @@ ghost use Rattle.std.specs.Prelude.{◌≡◌, ◌≢◌, ◌↔◌, ℕ, ◌+�
 ghost use Rattle.level_book.specs.UnderTable.{number};
 ghost use Rattle.level_book.specs.DiskUnderTable.{IsGreatestDisk};
 ghost use Rattle.cost_tables.specs.Entries.{entry, least_split};
-ghost use Rattle.cost_tables.specs.TableRows.{FitsFastest, tables_in, value_of};
+ghost use Rattle.cost_tables.specs.TableRows.{FastestTablesFit, tables_in, value_of};
 ghost use Rattle.cost_tables.specs.Filling.{IsOther};
 ghost use Rattle.disk_gen.specs.DiskPlans.{HasDiskPlan, IsDiskFault};
 ghost use Rattle.disk_gen.specs.DiskRows.{AreDiskSized, AreDiskFor, AreAllNeverDisk, disk_tables_in};
@@ -44,7 +44,7 @@ impl DiskTables {
     /// Whether tables for so many steps and a book can be built: for at most 8,192 steps, and at most 64 images on level 0. It
     /// takes no memory.
     pub fn fits(steps: u32, book: &Book) -> bool
-        ensures { result ≡ true ↔ FitsFastest steps book.now }
+        ensures { result ≡ true ↔ FastestTablesFit steps book.now }
     {
         Tables::fits_fastest(steps, book)
     }
@@ -58,7 +58,7 @@ impl DiskTables {
         book: &Book,
         workers: u32,
     ) -> Result<DiskTables, GenFault>
-        requires fits { FitsFastest steps book.now }
+        requires fits { FastestTablesFit steps book.now }
         requires workers { (1 ≤ workers) × (workers ≤ 64) }
         ensures sizes { IfOk result (AreDiskFor steps book.now) }
         ensures greatest { IfOk result (λ t. IsGreatestDisk steps book.now (disk_tables_in t)) }
@@ -80,7 +80,7 @@ impl DiskTables {
     /// Tables of which each entry is Never, to be filled entry by entry. The book may also be one that has no greatest table here,
     /// as of one level. They are refused for want of memory alone.
     pub fn never(alloc: Global, steps: u32, book: &Book) -> Result<DiskTables, AllocError>
-        requires { FitsFastest steps book.now }
+        requires { FastestTablesFit steps book.now }
         ensures sizes { IfOk result (AreDiskSized steps book.now) }
         ensures never { IfOk result (λ t. AreAllNeverDisk steps book.now (disk_tables_in t)) }
     {
@@ -286,7 +286,7 @@ fn filled<R: Threads + Sync>(
     book: &Book,
     workers: u32,
 ) -> Result<DiskTables, AllocError>
-    requires fits { FitsFastest steps book.now }
+    requires fits { FastestTablesFit steps book.now }
     requires workers { (1 ≤ workers) × (workers ≤ 64) }
     requires plan { HasDiskPlan book.now }
     ensures sizes { IfOk result (AreDiskFor steps book.now) }

@@ -1,7 +1,7 @@
 // The periodic list, one action at a time and as a whole.
 ghost use Rattle.std.specs.Prelude.{◌≡◌, ◌≤◌, [], ◌∷◌, MatchOption, IfOk, IfErr, OnOk};
 ghost use Rattle.disk_gen.specs.Periodic.{periodic_list};
-ghost use Rattle.disk_gen.specs.Plans.{HasPlan, IsFault};
+ghost use Rattle.disk_gen.specs.Plans.{HasPeriodicPlan, IsFault};
 
 use crate::phase::{Phase, next_behind};
 use crate::plans::planned_images;
@@ -41,7 +41,7 @@ impl Periodic {
         requires some { 1 ≤ period }
         requires small { period ≤ 1000000 }
         ensures list { IfOk result (λ p. p ≡ periodic_list steps period book.now) }
-        ensures plan { OnOk result (HasPlan steps period book.now) }
+        ensures plan { OnOk result (HasPeriodicPlan steps period book.now) }
         ensures refused { IfErr result (IsFault steps period book.now) }
     {
         let images = planned_images(steps, period, book)?;
@@ -97,7 +97,7 @@ pub fn periodic_list(
     requires some { 1 ≤ period }
     requires small { period ≤ 1000000 }
     ensures list { IfOk result (λ list. list.items ≡ periodic_list steps period book.now) }
-    ensures plan { OnOk result (HasPlan steps period book.now) }
+    ensures plan { OnOk result (HasPeriodicPlan steps period book.now) }
     ensures refused { IfErr result (IsFault steps period book.now) }
 {
     let mut stream = Periodic::new(alloc, steps, period, book)?;

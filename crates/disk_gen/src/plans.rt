@@ -1,7 +1,7 @@
 // Where there is a plan.
 ghost use Rattle.std.specs.Prelude.{◌≡◌, ◌≤◌, IfOk, IfErr, OnOk};
 ghost use Rattle.disk_gen.specs.Periodic.{images};
-ghost use Rattle.disk_gen.specs.Plans.{HasPlan, IsFault};
+ghost use Rattle.disk_gen.specs.Plans.{HasPeriodicPlan, IsFault};
 
 use level_book::{Book, Slots};
 use revolve_gen::GenFault;
@@ -22,7 +22,7 @@ pub(crate) fn planned_images(steps: u32, period: u32, book: &Book) -> Result<u32
     requires some { 1 ≤ period }
     requires small { period ≤ 1000000 }
     ensures value { IfOk result (λ n. n ≡ images steps period) }
-    ensures plan { OnOk result (HasPlan steps period book.now) }
+    ensures plan { OnOk result (HasPeriodicPlan steps period book.now) }
     ensures refused { IfErr result (IsFault steps period book.now) }
 {
     if book.levels() != 2 {

@@ -11,7 +11,7 @@ use Rattle.elf_load.specs.declared.header.Header.{Header}
 use Rattle.elf_load.specs.declared.segment.Segment.{Segment}
 use Rattle.elf_load.specs.Program.{Piece, HoldsByteOf, IsStackPage, IsMappedPage, AreMapped, stack_start, start_at, memory_of}
 use Rattle.elf_load.specs.Raw.{raw_pieces, AreWords}
-use Rattle.elf_load.specs.Elf.{ProgramHeader, HasMagic, HasClass, IsExecutable, IsForRiscV, HasHeaders, IsSound, Fits, AllFit, NoneShare, HasEntry, IsProgram, header_at, is_load, loads, pieces, e_type, e_machine, e_entry, e_phoff, e_phentsize, e_phnum}
+use Rattle.elf_load.specs.Elf.{ProgramHeader, HasMagic, HasClass, IsExecutable, IsForRiscV, HasHeaders, IsSound, IsSoundIfLoaded, AllFit, NoneShare, HasEntry, IsProgram, header_at, is_load, loads, pieces, e_type, e_machine, e_entry, e_phoff, e_phentsize, e_phnum}
 use Rattle.elf_load.specs.Faults.{FirstFault, IsMet, number_of}
 use Rattle.elf_load.specs.Laws.{StartOrFault, RawStartOrFault}
 use Rattle.elf_load.specs.Reading.{IsHeaderOf, segments_of, segment_at, Cross, AreApart, AreFirstToCross}
@@ -193,7 +193,7 @@ sound_cases file stack h =
       ]
     ]
 
-fits_cases : (file : List ℕ) (stack i : ℕ) → Fits file stack i ⊎ (Fits file stack i → ⊥)
+fits_cases : (file : List ℕ) (stack i : ℕ) → IsSoundIfLoaded file stack i ⊎ (IsSoundIfLoaded file stack i → ⊥)
 fits_cases file stack i =
     elim (true_or_false (is_load (header_at file i))) [
       | inr other ↦ inl (λ load. absurd (false≢true (sym other ∙ load)))
@@ -328,7 +328,7 @@ module _ (file : List ℕ) (stack : ℕ) (header : Header) (h : IsHeaderOf file 
 
   found_segments : Found file stack
   found_segments =
-      elim (first_not (Fits file stack) (fits_cases file stack) (e_phnum file)) [
+      elim (first_not (IsSoundIfLoaded file stack) (fits_cases file stack) (e_phnum file)) [
         | inl fit ↦ found_apart fit
         | inr w ↦ inr (bad_segment w.0, record { before = before_segments file stack header h; missed = w.1 })
       ]

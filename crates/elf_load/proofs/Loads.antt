@@ -6,7 +6,7 @@ use Rattle.std.proofs.lemmas.List.Elements.{filter-append}
 use Rattle.std.specs.List.{range_with_len}
 use Rattle.elf_load.specs.declared.header.Header.{Header}
 use Rattle.elf_load.specs.declared.segment.Segment.{Segment}
-use Rattle.elf_load.specs.Elf.{ProgramHeader, header_from, header_at, is_load, Fits}
+use Rattle.elf_load.specs.Elf.{ProgramHeader, header_from, header_at, is_load, IsSoundIfLoaded}
 use Rattle.elf_load.specs.Program.{stack_start}
 use Rattle.elf_load.specs.Reading.{IsHeaderOf, segment_of, segments_of}
 use Rattle.elf_load.proofs.Lists.{range_more}
@@ -33,13 +33,13 @@ none_load i h e = none_by i h (is_load h) e
 abbrev pub IsSoundAs : List ℕ → ℕ → Segment → Type 0
 IsSoundAs file stack s = (s.file_size ≤ s.memory_size) × (s.offset + s.file_size ≤ length file) × (s.address + s.memory_size ≤ stack_start stack)
 
-pub sound_fits : (file : List ℕ) (stack i : ℕ) (s : Segment) → s ≡ segment_of i (header_at file i) → IsSoundAs file stack s → Fits file stack i
+pub sound_fits : (file : List ℕ) (stack i : ℕ) (s : Segment) → s ≡ segment_of i (header_at file i) → IsSoundAs file stack s → IsSoundIfLoaded file stack i
 sound_fits file stack i s e h load = let g = subst (IsSoundAs file stack) e h in record { sizes = g.0; inside = g.1; below = g.2 }
 
-pub fits_sound : (file : List ℕ) (stack i : ℕ) (s : Segment) → s ≡ segment_of i (header_at file i) → IsTrue (is_load (header_at file i)) → Fits file stack i → IsSoundAs file stack s
+pub fits_sound : (file : List ℕ) (stack i : ℕ) (s : Segment) → s ≡ segment_of i (header_at file i) → IsTrue (is_load (header_at file i)) → IsSoundIfLoaded file stack i → IsSoundAs file stack s
 fits_sound file stack i s e load fits = let h = fits load in subst (IsSoundAs file stack) (sym e) (h.sizes, h.inside, h.below)
 
-pub passed_fits : (file : List ℕ) (stack i : ℕ) → is_load (header_at file i) ≡ false → Fits file stack i
+pub passed_fits : (file : List ℕ) (stack i : ℕ) → is_load (header_at file i) ≡ false → IsSoundIfLoaded file stack i
 passed_fits file stack i e load = absurd (false≢true (sym e ∙ load))
 
 -- one more header
@@ -66,6 +66,6 @@ pub read_other : (file : List ℕ) (n : ℕ) (items new : List Segment) → is_l
 read_other file n items new other before e =
     e ∙ before ∙ sym (read_more file n ∙ ap (λ b. cond b (read file n ++ segment_of n (header_at file n) ∷ []) (read file n)) other)
 
-pub fit_more : (file : List ℕ) (stack n : ℕ) → ((i : ℕ) → i < n → Fits file stack i) → Fits file stack n → (i : ℕ) → i < n + 1 → Fits file stack i
+pub fit_more : (file : List ℕ) (stack n : ℕ) → ((i : ℕ) → i < n → IsSoundIfLoaded file stack i) → IsSoundIfLoaded file stack n → (i : ℕ) → i < n + 1 → IsSoundIfLoaded file stack i
 fit_more file stack n before here i l =
-    elim (cases_lt i n) [ inl less ↦ before i less | inr more ↦ let same : n ≡ i = omega arith in subst (Fits file stack) same here ]
+    elim (cases_lt i n) [ inl less ↦ before i less | inr more ↦ let same : n ≡ i = omega arith in subst (IsSoundIfLoaded file stack) same here ]

@@ -96,8 +96,8 @@ pub record IsSound (file : List ℕ) (stack : ℕ) (h : ProgramHeader) : Type 0 
   pub below : h.address + h.memory_size ≤ stack_start stack
 
 -- the header with an index is that of a sound load segment, or is passed over
-abbrev pub Fits : List ℕ → ℕ → ℕ → Type 0
-Fits file stack i = IsTrue (is_load (header_at file i)) → IsSound file stack (header_at file i)
+abbrev pub IsSoundIfLoaded : List ℕ → ℕ → ℕ → Type 0
+IsSoundIfLoaded file stack i = IsTrue (is_load (header_at file i)) → IsSound file stack (header_at file i)
 
 -- an address is one of a segment's
 abbrev pub IsIn : ProgramHeader → ℕ → Type 0
@@ -113,7 +113,7 @@ pub record Share (file : List ℕ) (i j : ℕ) : Type 0 where
 
 -- the headers fit, and no two of them share an address
 abbrev pub AllFit : List ℕ → ℕ → Type 0
-AllFit file stack = (i : ℕ) → i < e_phnum file → Fits file stack i
+AllFit file stack = (i : ℕ) → i < e_phnum file → IsSoundIfLoaded file stack i
 
 abbrev pub NoneShare : List ℕ → Type 0
 NoneShare file = (i j : ℕ) → i < j → j < e_phnum file → Share file i j → ⊥

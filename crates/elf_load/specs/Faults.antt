@@ -4,7 +4,7 @@ use Rattle.elf_load.specs.declared.fault.ElfFault.{ElfFault}
 use Rattle.elf_load.specs.declared.fault.ElfFault.TheVariants.{NotElf, Class, Kind, Machine, Headers, Segment, Overlap, TooLarge, Entry, Memory, RawLength}
 use Rattle.elf_load.specs.Program.{AreMapped}
 use Rattle.elf_load.specs.Raw.{AreWords, raw_pieces}
-use Rattle.elf_load.specs.Elf.{HasMagic, HasClass, IsExecutable, IsForRiscV, HasHeaders, Fits, Share, AllFit, NoneShare, HasEntry, e_entry, e_phnum, pieces}
+use Rattle.elf_load.specs.Elf.{HasMagic, HasClass, IsExecutable, IsForRiscV, HasHeaders, IsSoundIfLoaded, Share, AllFit, NoneShare, HasEntry, e_entry, e_phnum, pieces}
 
 -- the lines of the table by their numbers
 abbrev pub number_of : ElfFault → ℕ
@@ -46,7 +46,7 @@ IsMissed file stack Class = HasClass file → ⊥
 IsMissed file stack Kind = IsExecutable file → ⊥
 IsMissed file stack Machine = IsForRiscV file → ⊥
 IsMissed file stack Headers = HasHeaders file → ⊥
-IsMissed file stack (Segment i) = (i < e_phnum file) × (Fits file stack i → ⊥) × ((k : ℕ) → k < i → Fits file stack k)
+IsMissed file stack (Segment i) = (i < e_phnum file) × (IsSoundIfLoaded file stack i → ⊥) × ((k : ℕ) → k < i → IsSoundIfLoaded file stack k)
 IsMissed file stack (Overlap i j) =
     (i < j) × (j < e_phnum file) × Share file i j ×
     ((k l : ℕ) → k < l → l < e_phnum file → Share file k l → (i < k) ⊎ ((i ≡ k) × (j ≤ l)))

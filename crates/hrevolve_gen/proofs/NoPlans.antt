@@ -6,7 +6,7 @@ use Rattle.level_book.specs.UnderTable.{Entry, number, never, Tables, top_entry}
 use Rattle.cost_tables.specs.Exact.{IsExact}
 use Rattle.plan_types.specs.declared.action.Action.{Action}
 use Rattle.plan_types.specs.declared.action.Action.TheVariants.{EndReverse}
-use Rattle.hrevolve_gen.specs.Plans.{HasNoPlan}
+use Rattle.hrevolve_gen.specs.Plans.{HasNoNestedPlan}
 use Rattle.hrevolve_gen.specs.Written.{Part, actions, Reads, whole, IsWritten}
 
 -- an entry that can't but be Never
@@ -14,7 +14,7 @@ pub never_of : (e : Entry) → (e ≢ never → ⊥) → e ≡ never
 never_of (number v) h = absurd (h (λ e. cc))
 never_of never h = refl
 
-pub top_none : (steps : ℕ) (book : BookCosts) (t : Tables) → IsExact steps book t → 0 < length book.levels → top_entry steps book t ≡ never → HasNoPlan steps book
+pub top_none : (steps : ℕ) (book : BookCosts) (t : Tables) → IsExact steps book t → 0 < length book.levels → top_entry steps book t ≡ never → HasNoNestedPlan steps book
 top_none zero book t exact some e = cc
 top_none (suc n) book t exact some e =
     let last = length book.levels - 1 in
@@ -26,7 +26,7 @@ top_none (suc n) book t exact some e =
       ],
     )
 
-pub none_top : (steps : ℕ) (book : BookCosts) (t : Tables) → IsExact steps book t → 0 < length book.levels → HasNoPlan steps book → top_entry steps book t ≡ never
+pub none_top : (steps : ℕ) (book : BookCosts) (t : Tables) → IsExact steps book t → 0 < length book.levels → HasNoNestedPlan steps book → top_entry steps book t ≡ never
 none_top zero book t exact some is = absurd (omega (arith, is.0))
 none_top (suc n) book t exact some is =
     let last = length book.levels - 1 in

@@ -6,7 +6,7 @@ use Rattle.plan_types.specs.declared.action.Action.TheVariants.{Forward, EndForw
 use Rattle.level_book.specs.BookCosts.{BookCosts}
 use Rattle.level_book.specs.UnderTable.{Tables, IsGreatest}
 use Rattle.cost_tables.specs.Exact.{IsExact}
-use Rattle.hrevolve_gen.specs.Plans.{HasPlan}
+use Rattle.hrevolve_gen.specs.Plans.{HasNestedPlan}
 use Rattle.hrevolve_gen.specs.Written.{IsWritten}
 
 -- two lists that are read from the same tables are one
@@ -19,7 +19,7 @@ PlanIsUnique steps book s t list other = IsGreatest steps book s → IsGreatest 
 
 -- from tables whose entries are attained a list can be read where there is a plan
 abbrev pub ListExists : ℕ → BookCosts → Tables → Type 0
-ListExists steps book t = IsExact steps book t → 0 < length book.levels → HasPlan steps book → (list : List Action) × IsWritten steps book t list
+ListExists steps book t = IsExact steps book t → 0 < length book.levels → HasNestedPlan steps book → (list : List Action) × IsWritten steps book t list
 
 -- none of the actions is EndForward
 abbrev pub HasNoEndForward : List Action → Type 0

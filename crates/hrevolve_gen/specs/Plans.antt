@@ -5,13 +5,13 @@ use Rattle.revolve_gen.specs.declared.fault.GenFault.TheVariants.{NoPlan, Memory
 use Rattle.level_book.specs.BookCosts.{BookCosts, room}
 
 -- there are two steps or more, and no level has a slot
-abbrev pub HasNoPlan : ℕ → BookCosts → Type 0
-HasNoPlan steps book = (2 ≤ steps) × ((k : ℕ) → k < length book.levels → room book k steps ≡ 0)
+abbrev pub HasNoNestedPlan : ℕ → BookCosts → Type 0
+HasNoNestedPlan steps book = (2 ≤ steps) × ((k : ℕ) → k < length book.levels → room book k steps ≡ 0)
 
-abbrev pub HasPlan : ℕ → BookCosts → Type 0
-HasPlan steps book = HasNoPlan steps book → ⊥
+abbrev pub HasNestedPlan : ℕ → BookCosts → Type 0
+HasNestedPlan steps book = HasNoNestedPlan steps book → ⊥
 
 -- Why there is no list: there is no plan, which is rule 1. Memory can be wanting only where there is a plan.
 abbrev pub IsFault : ℕ → BookCosts → GenFault → Type 0
-IsFault steps book (NoPlan rule) = (rule ≡ 1) × HasNoPlan steps book
-IsFault steps book Memory = HasPlan steps book
+IsFault steps book (NoPlan rule) = (rule ≡ 1) × HasNoNestedPlan steps book
+IsFault steps book Memory = HasNestedPlan steps book

@@ -4,9 +4,9 @@ ghost use Rattle.level_book.specs.BookCosts.{slots_of};
 ghost use Rattle.level_book.specs.CostFold.{cost};
 ghost use Rattle.level_book.specs.NestedClass.{Nested};
 ghost use Rattle.level_book.specs.UnderTable.{IsGreatest, number, never, top_entry};
-ghost use Rattle.cost_tables.specs.TableRows.{AreFor, Fits, tables_in};
+ghost use Rattle.cost_tables.specs.TableRows.{AreFor, TablesFit, tables_in};
 ghost use Rattle.hrevolve_gen.specs.Written.{IsWritten};
-ghost use Rattle.hrevolve_gen.specs.Plans.{HasPlan, IsFault};
+ghost use Rattle.hrevolve_gen.specs.Plans.{HasNestedPlan, IsFault};
 ghost use Rattle.hrevolve_gen.specs.Reading.{CanRead};
 
 use crate::writing::write_fresh;
@@ -24,13 +24,13 @@ pub fn hrevolve_list(
     steps: u32,
     book: &Book,
 ) -> Result<Vec<Action>, GenFault>
-    requires fits { Fits steps book.now }
+    requires fits { TablesFit steps book.now }
     requires sizes { AreFor steps book.now tables.now }
     requires greatest { IsGreatest steps book.now (tables_in tables.now) }
     ensures list { IfOk result (λ list. IsWritten steps book.now (tables_in tables.now) list.items) }
     ensures nested { IfOk result (λ list. Nested steps (slots_of book.now) list.items) }
     ensures cost { IfOk result (λ list. top_entry steps book.now (tables_in tables.now) ≡ number (cost list.items book.now)) }
-    ensures plan { OnOk result (HasPlan steps book.now) }
+    ensures plan { OnOk result (HasNestedPlan steps book.now) }
     ensures refused { IfErr result (IsFault steps book.now) }
 {
     greatest_is_exact();

@@ -8,7 +8,7 @@ use Rattle.requests.specs.Inputs.{Input, inputs_of, FailsAtInput}
 use Rattle.requests.specs.InputReading.{all, too_long, Reads, Stops}
 use Rattle.reversal.specs.Deeds.{Job, Shown, Moment, HaltsShowing}
 use Rattle.reversal.specs.JobReading.{Works}
-use Rattle.reversal.specs.Decision.{Decision, refuse, accept, DecidesBytes, Comes, Ends, EndsBy}
+use Rattle.reversal.specs.Decision.{Decision, refuse, accept, DecidesBytes, Comes, JobEnds, EndsBy}
 use Rattle.requests.proofs.Requests.{one_request}
 use Rattle.reversal.proofs.Refused.{refusing_at}
 use Rattle.reversal.proofs.Deciding.{read_decides, long_decides, refuse_by, decided_refusal}
@@ -94,7 +94,7 @@ working_at e status is above = record { not_words = λ x. absurd (omega (arith, 
 working_done : (e : Ended) → e.status ≡ 0 → IsWorking e
 working_done e is = record { not_words = λ x. absurd (omega (arith, x, is)); not_input = λ x. absurd (omega (arith, x, is)) }
 
-ends_working : (shown : Shown) (job : Job) (e : Ended) (old new : Moment) → Ends shown job e old new → IsWorking e × (e.status ≢ 17)
+ends_working : (shown : Shown) (job : Job) (e : Ended) (old new : Moment) → JobEnds shown job e old new → IsWorking e × (e.status ≢ 17)
 ends_working shown job e old new h = elim h [
   | inl finished ↦ let status = ap (λ (y : Ended). y.status) finished.0 in (working_done e status, λ x. absurd (omega (arith, x, status)))
   | inr more ↦ elim more [

@@ -24,7 +24,7 @@ use Rattle.reverse_runner.specs.Standing.{begun, IsDamage}
 use Rattle.schedule_rules.proofs.Judging.{take_one_more}
 use Rattle.reverse_queries.specs.Queries.{IsLast, hands_out, front_to, up_to}
 use Rattle.reverse_queries.specs.OnTheWay.{GoesThrough, IsFoundOn}
-use Rattle.reverse_queries.specs.Performing.{calls_of_all, done_after, IsOut, Fits, RefusedIn}
+use Rattle.reverse_queries.specs.Performing.{calls_of_all, done_after, IsOut, FaultFits, RefusedIn}
 use Rattle.requests.specs.declared.ended.Ended.{Ended as Ending}
 use Rattle.requests.specs.declared.question.Question.{Question}
 use Rattle.requests.specs.declared.question.Question.TheVariants.{State}
@@ -225,7 +225,7 @@ module _ (question : Question) (first : MachineState) (journal : List (List ℕ)
 
   -- by storage, or for want of memory
   refused_by : (shown : Shown) (fault : RunFault) (ds : List Deed) (i : ℕ) (d : Deed) (a c : Moment) → deeds shown job ≡ ds → IsShown job shown a → ((breaks : BreaksOff ds i a c) × (breaks.next ≡ d)) →
-      (Misses : Action → Holdings → Type 0) (next : Action) (held : Holdings) (states : States) → d.calls ≡ calls_of next → Fits Misses fault next held → slice_get list i ≡ Some next →
+      (Misses : Action → Holdings → Type 0) (next : Action) (held : Holdings) (states : States) → d.calls ≡ calls_of next → FaultFits Misses fault next held → slice_get list i ≡ Some next →
       GoesThrough 1 steps journal (take i list) (held_at_start first journal steps slots a) held states → fault ≢ Visitor →
       ((k : ℕ) (put got : List ℕ) → fault ≡ Damaged k put got → AllTell (length slots) a.images → ⊥) → Works job (fault_ending (i + 1) fault) a c
   refused_by shown (Keeper k) ds i d a c are is_shown broke Misses next held states same fits there through seen silent =

@@ -16,7 +16,7 @@ use Rattle.revolve_gen.proofs.Extending.{multistage_valid}
 use Rattle.cert_text.specs.declared.certificate.Certificate.{Certificate}
 use Rattle.cert_text.specs.declared.certificate.Certificate.TheVariants.{Places, Nested, Disk}
 use Rattle.cert_text.specs.Meaning.{HasText}
-use Rattle.cost_tables.specs.TableRows.{TableRows, Fits, FitsFastest, tables_in}
+use Rattle.cost_tables.specs.TableRows.{TableRows, TablesFit, FastestTablesFit, tables_in}
 use Rattle.disk_gen.specs.DiskRows.{DiskRows, disk_tables_in}
 use Rattle.cert_text.specs.Canonical as certificate_text
 use Rattle.bound_cert.specs.Accepted.{IsAccepted}
@@ -90,7 +90,7 @@ hrevolve_least steps book job short h =
     let t = plan.1.0 in
     let are = plan.1.1.0 in
     let greatest = plan.1.1.1.0 in
-    let fits : Fits steps b.0 = record { few = short; narrow = narrow.0 } in
+    let fits : TablesFit steps b.0 = record { few = short; narrow = narrow.0 } in
     let has = nested_has_text steps b.0 t (within_limits book b.0 b.1.0) fits are.0 are.1 greatest in
     let list = plan.1.1.1.1.0 in
     let is = plan.1.1.1.1.1.0 in
@@ -154,7 +154,7 @@ disk_least steps book job short h =
     let is = unlimited.1.1.1.1.1.0 in
     let done : job ≡ write (list_pieces (names_of b.0) list ++ certificate_text.pieces (Disk t)) = ap (job_or job) unlimited.1.1.1.1.1.1 in
     let plan : HasDiskPlan b.0 = record { two = two.0; unlimited = unlimited.0 } in
-    let fits : FitsFastest steps b.0 = record { few = short; narrow = few.0 } in
+    let fits : FastestTablesFit steps b.0 = record { few = short; narrow = few.0 } in
     let has = disk_has_text steps b.0 t (within_limits book b.0 b.1.0) fits (record { sized = are.0; plan = plan }) are.1 greatest in
     let top = disk_top_number steps b.0 (disk_tables_in t) list is in
     let costs = top.1 ∙ ap (λ n. number n) (sym (written_disk_costs steps b.0 (disk_tables_in t) list top.0 is top.1)) in

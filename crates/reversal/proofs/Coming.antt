@@ -271,7 +271,7 @@ disk_comes steps book short are =
     let list = disk_list_exists steps b tables plan (fast_exact steps b tables plan t.3 short limits) (disk_exact steps b tables plan t.3 short limits) in
     (accept (write (list_pieces (names_of b) list.0 ++ certificate_text.pieces (certified.Disk t.0))), (t.0, ((t.1, t.2), (t.3, (list.0, (list.1, refl))))))))))
 
-nested_plan_known : (steps : ℕ) (b : BookCosts) → IsKnown (nested.HasPlan steps b)
+nested_plan_known : (steps : ℕ) (b : BookCosts) → IsKnown (nested.HasNestedPlan steps b)
 nested_plan_known steps b = elim (at_most 2 steps) [
   | inr few ↦ inl (λ none. few none.0)
   | inl more ↦ elim (first_or_none (λ k. 1 ≤ room b k steps) (λ k. at_most 1 (room b k steps)) (length b.levels)) [
@@ -284,7 +284,7 @@ pub hrevolve_comes : (steps : ℕ) (book : List ℕ) → steps ≤ 2048 → AreB
 hrevolve_comes steps book short are =
     book_comes book _ (λ b is_book.
     tabulate_comes steps b _ (λ narrow.
-    need_comes (nested.HasPlan steps b) (no_plan steps (total_room b steps) 1) _ (nested_plan_known steps b) (λ plan.
+    need_comes (nested.HasNestedPlan steps b) (no_plan steps (total_room b steps) 1) _ (nested_plan_known steps b) (λ plan.
     let limits = within_limits book b is_book in
     let few : steps ≤ 8192 = omega (arith, short) in
     let t = greatest_exist steps b few limits in

@@ -186,7 +186,7 @@ hrevolve_one : (steps : ℕ) (book : List ℕ) (c d : Decision) → DecidesPlanH
 hrevolve_one steps book c d =
     read_one (IsBookText book) (HasBookFault book) bad_book c d _ _ (book_one book) (book_fault_one book) (book_excludes book) (λ b is_book.
     tabulate_one steps b c d _ _ (
-    need_one (nested.HasPlan steps b) (no_plan steps (total_room b steps) 1) c d _ _ (λ x y.
+    need_one (nested.HasNestedPlan steps b) (no_plan steps (total_room b steps) 1) c d _ _ (λ x y.
     let s = x.1.1.1 in
     let t = y.1.1.1 in
     let list = plan_unique steps b (tables_in x.0) (tables_in y.0) s.0 t.0 x.1.1.0 y.1.1.0 s.1.0 t.1.0 in
@@ -888,7 +888,7 @@ hrevolve_by_plan steps book e b is_book narrow h = elim h [
   | inr none ↦ inr (inr (b, is_book, inr (narrow, inl (none.0, refuse_by e _ none.1))))
 ]
 
-pub hrevolve_accepted : (steps : ℕ) (book : List ℕ) (b : BookCosts) (t : TableRows) (list : List Action) → IsBookText book b → ((k : ℕ) → k < length b.levels → room b k steps ≤ 64) → nested.HasPlan steps b →
+pub hrevolve_accepted : (steps : ℕ) (book : List ℕ) (b : BookCosts) (t : TableRows) (list : List Action) → IsBookText book b → ((k : ℕ) → k < length b.levels → room b k steps ≤ 64) → nested.HasNestedPlan steps b →
     AreTablesFor steps b t → IsGreatest steps b (tables_in t) → IsWritten steps b (tables_in t) list → DecidesPlanHrevolve steps book (accept (write (list_pieces (names_of b) list ++ certificate_text.pieces (certified.Nested t))))
 hrevolve_accepted steps book b t list is_book narrow planned has greatest is = inr (b, is_book, inr (narrow, inr (planned, (t, (has, (greatest, (list, (is, refl))))))))
 

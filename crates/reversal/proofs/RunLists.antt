@@ -15,7 +15,7 @@ use Rattle.rv_machine.specs.MachineState.{MachineState}
 use Rattle.revolve_gen.specs.Written.{revolve_list}
 use Rattle.revolve_gen.proofs.Books.{book_right}
 use Rattle.disk_gen.specs.Periodic.{images, periodic_list}
-use Rattle.disk_gen.specs.Plans.{HasPlan, HasSlots, slots_at}
+use Rattle.disk_gen.specs.Plans.{HasPeriodicPlan, HasSlots, slots_at}
 use Rattle.disk_gen.proofs.Leading.{periodic_valid}
 use Rattle.disk_gen.proofs.Lengths.{periodic_counted}
 use Rattle.requests.specs.Request.{Choice, says_raw, stack_pages}
@@ -54,11 +54,11 @@ run_least options steps program journal book counts job h =
 
 -- ---- a periodic list
 
-periodic_few : (steps period : ℕ) (b : BookCosts) → steps ≤ 1000000 → 1 ≤ period → HasPlan steps period b → length (periodic_list steps period b) ≤ 16777216
+periodic_few : (steps period : ℕ) (b : BookCosts) → steps ≤ 1000000 → 1 ≤ period → HasPeriodicPlan steps period b → length (periodic_list steps period b) ≤ 16777216
 periodic_few zero period b short some plan = omega arith
 periodic_few (suc n) period b short some plan = let counted = periodic_counted (suc n) period b (omega arith) some plan in omega (arith, counted, short)
 
-periodic_read : (steps period : ℕ) (book : List ℕ) (b : BookCosts) → steps ≤ 1000000 → 1 ≤ period → IsBookText book b → HasPlan steps period b → IsSchedule (names_of b) (bytes_of (list_pieces (names_of b) (periodic_list steps period b))) (periodic_list steps period b)
+periodic_read : (steps period : ℕ) (book : List ℕ) (b : BookCosts) → steps ≤ 1000000 → 1 ≤ period → IsBookText book b → HasPeriodicPlan steps period b → IsSchedule (names_of b) (bytes_of (list_pieces (names_of b) (periodic_list steps period b))) (periodic_list steps period b)
 periodic_read steps period book b short some is plan =
     let names = names_of b in
     let list = periodic_list steps period b in
@@ -75,7 +75,7 @@ periodic_again steps period book job short some h =
     let two = need_met _ _ job _ b.1.1 in
     let fast = need_met _ _ job _ two.1 in
     let slow = need_met _ _ job _ fast.1 in
-    let plan : HasPlan steps period b.0 = record { two = two.0; fast = fast.0; slow = slow.0 } in
+    let plan : HasPeriodicPlan steps period b.0 = record { two = two.0; fast = fast.0; slow = slow.0 } in
     let done : job ≡ write (list_pieces (names_of b.0) (periodic_list steps period b.0)) = ap (job_or job) slow.1 in
     let P : Shown → Job → Type 0 = λ shown j. IsSchedule (names_of b.0) (output shown j) (periodic_list steps period b.0) in
     (b.0, b.1.0, done, periodic_valid steps period b.0 some plan, λ shown. subst (P shown) (sym done) (periodic_read steps period book b.0 short some b.1.0 plan))

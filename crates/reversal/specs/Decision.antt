@@ -220,7 +220,7 @@ abbrev pub DecidesPlanHrevolve : ℕ → List ℕ → Decision → Type 0
 DecidesPlanHrevolve steps book d =
     Read (IsBookText book) (HasBookFault book) bad_book d (λ (b : BookCosts).
     Tabulate steps b d (
-    Need (nested.HasPlan steps b) (no_plan steps (total_room b steps) 1) d
+    Need (nested.HasNestedPlan steps b) (no_plan steps (total_room b steps) 1) d
     ((t : TableRows) × (AreTablesFor steps b t × (IsGreatest steps b (tables_in t)
     × ((list : List Action) × (IsWritten steps b (tables_in t) list
     × (d ≡ accept (write (list_pieces (names_of b) list ++ certificate_text.pieces (certified.Nested t)))))))))))
@@ -316,8 +316,8 @@ pub record Comes (r : Request) (told : Option Files) (before after : List (List 
 
 -- How a job ends, and what it leaves: it was done, or it stopped where the sink failed, a keeper failed, or an image was
 -- damaged, in the deed behind so many that were done. Places count from 1.
-abbrev pub Ends : Shown → Job → Ended → Moment → Moment → Type 0
-Ends shown job e old new =
+abbrev pub JobEnds : Shown → Job → Ended → Moment → Moment → Type 0
+JobEnds shown job e old new =
     ((e ≡ done) × Done shown job old new)
     ⊎ ((performed : ℕ) × (e ≡ stopped (shown_place job (performed + 1))) × DidUntil shown job performed old new)
     ⊎ ((performed : ℕ) × (level : ℕ) × (e ≡ keeper_failed (performed + 1) level) × FailsAt shown job performed level old new)
@@ -326,7 +326,7 @@ Ends shown job e old new =
 -- how a call ends by a decision: by the refusal's own ending, or by that of a job, with the states that it shows
 abbrev pub EndsBy : Decision → Ended → Moment → Moment → Type 0
 EndsBy (refuse refusal) e old new = e ≡ refusal
-EndsBy (accept job) e old new = (shown : Shown) × (IsShown job shown old × Ends shown job e old new)
+EndsBy (accept job) e old new = (shown : Shown) × (IsShown job shown old × JobEnds shown job e old new)
 
 -- which keepers a decision leaves as they were: all where the call is refused, and else those past the levels of the job
 abbrev pub KeepsOthers : {K : Type 0} → Decision → List K → List K → Type 0

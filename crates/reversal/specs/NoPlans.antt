@@ -23,4 +23,4 @@ IsUndisked steps b e =
 
 -- none of H-Revolve
 abbrev pub IsUnnested : ℕ → BookCosts → Ended → Type 0
-IsUnnested steps b e = (nested.HasPlan steps b → ⊥) × (e ≡ no_plan steps (total_room b steps) 1)
+IsUnnested steps b e = (nested.HasNestedPlan steps b → ⊥) × (e ≡ no_plan steps (total_room b steps) 1)

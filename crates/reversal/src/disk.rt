@@ -1,7 +1,7 @@
 // The list of DiskRevolve for memory and an unlimited disk, and the tables that it is read from, as text.
 ghost use Rattle.std.specs.Prelude.{◌≡◌, ◌⊎◌, ℕ, ◌≤◌, List, length, IfOk, IfErr, OnOk};
 ghost use Rattle.level_book.specs.DiskUnderTable.{IsGreatestDisk};
-ghost use Rattle.cost_tables.specs.TableRows.{FitsFastest};
+ghost use Rattle.cost_tables.specs.TableRows.{FastestTablesFit};
 ghost use Rattle.disk_gen.specs.DiskPlans.{HasDiskPlan};
 ghost use Rattle.disk_gen.specs.DiskRows.{AreDiskFor, disk_tables_in};
 ghost use Rattle.reversal.specs.Decision.{accept, refuse, DecidesPlanDisk};
@@ -63,7 +63,7 @@ fn tables_for<R: Threads + Sync>(
     book: &Book,
 ) -> Result<DiskTables, Ended>
     requires workers { (1 ≤ workers) × (workers ≤ 64) }
-    requires fits { FitsFastest steps book.now }
+    requires fits { FastestTablesFit steps book.now }
     ensures sizes { IfOk result (AreDiskFor steps book.now) }
     ensures greatest { IfOk result (λ t. IsGreatestDisk steps book.now (disk_tables_in t)) }
     ensures plan { OnOk result (HasDiskPlan book.now) }

@@ -3,9 +3,9 @@ ghost use Rattle.std.specs.Prelude.{◌≡◌, ◌⊎◌, ℕ, ◌<◌, ◌≤�
 ghost use Rattle.level_book.specs.BookCosts.{room, slots_of};
 ghost use Rattle.level_book.specs.NestedClass.{Nested};
 ghost use Rattle.level_book.specs.UnderTable.{IsGreatest};
-ghost use Rattle.cost_tables.specs.TableRows.{AreFor, Fits, tables_in};
+ghost use Rattle.cost_tables.specs.TableRows.{AreFor, TablesFit, tables_in};
 ghost use Rattle.hrevolve_gen.specs.Written.{IsWritten};
-ghost use Rattle.hrevolve_gen.specs.Plans.{HasPlan};
+ghost use Rattle.hrevolve_gen.specs.Plans.{HasNestedPlan};
 ghost use Rattle.reversal.specs.Decision.{accept, refuse, IsFirstWide, DecidesPlanHrevolve};
 ghost use Rattle.requests.specs.Ending.{no_memory, out_of_range};
 ghost use Rattle.reversal.specs.JobReading.{job_of, CanBeDone, KeepersHaveRoom};
@@ -70,12 +70,12 @@ fn first_wide(steps: u32, book: &Book) -> Option<u8>
 
 // The list that is read from the tables for so many steps and a book.
 fn list_for(alloc: Global, tables: &Tables, steps: u32, book: &Book) -> Result<Vec<Action>, Ended>
-    requires fits { Fits steps book.now }
+    requires fits { TablesFit steps book.now }
     requires sizes { AreFor steps book.now tables.now }
     requires greatest { IsGreatest steps book.now (tables_in tables.now) }
     ensures list { IfOk result (λ list. IsWritten steps book.now (tables_in tables.now) list.items) }
     ensures nested { IfOk result (λ list. Nested steps (slots_of book.now) list.items) }
-    ensures plan { OnOk result (HasPlan steps book.now) }
+    ensures plan { OnOk result (HasNestedPlan steps book.now) }
     ensures refused { IfErr result (λ e. (e ≡ no_memory) ⊎ IsUnnested steps book.now e) }
 {
     match hrevolve_list(alloc, tables, steps, book) {

@@ -2,7 +2,7 @@
 ghost use Rattle.std.specs.Prelude.{◌≡◌, ◌⊎◌, ℕ, ◌≤◌, List, IfOk, IfErr, OnOk};
 ghost use Rattle.level_book.specs.BookCosts.{total_room};
 ghost use Rattle.disk_gen.specs.Periodic.{periodic_list};
-ghost use Rattle.disk_gen.specs.Plans.{HasPlan};
+ghost use Rattle.disk_gen.specs.Plans.{HasPeriodicPlan};
 ghost use Rattle.reversal.specs.Decision.{accept, refuse, DecidesPlanPeriodic};
 ghost use Rattle.requests.specs.Ending.{no_memory};
 ghost use Rattle.reversal.specs.JobReading.{job_of, CanBeDone, KeepersHaveRoom};
@@ -40,7 +40,7 @@ fn periodic_for(alloc: Global, steps: u32, period: u32, book: &Book) -> Result<P
     requires some { 1 ≤ period }
     requires small { period ≤ 1000000 }
     ensures list { IfOk result (λ p. p ≡ periodic_list steps period book.now) }
-    ensures plan { OnOk result (HasPlan steps period book.now) }
+    ensures plan { OnOk result (HasPeriodicPlan steps period book.now) }
     ensures refused { IfErr result (λ e. (e ≡ no_memory) ⊎ IsUnperiodic steps period book.now e) }
 {
     match Periodic::new(alloc, steps, period, book) {

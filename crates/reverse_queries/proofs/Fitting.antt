@@ -13,7 +13,7 @@ use Rattle.reverse_runner.specs.Acts.{Holdings}
 use Rattle.reverse_runner.specs.KeepersSeen.{calls_of, one_if}
 use Rattle.reverse_runner.specs.Performed.{calls_keepers}
 use Rattle.reverse_runner.specs.Standing.{pair_read, IsDamage}
-use Rattle.reverse_queries.specs.Performing.{CallsKeeper, Fits}
+use Rattle.reverse_queries.specs.Performing.{CallsKeeper, FaultFits}
 use Rattle.reverse_queries.proofs.Naming.{one_named, two_named, none_named}
 
 -- a test that a number is this one counts one
@@ -56,7 +56,7 @@ gets_pair EndReverse n k e = absurd cc
 -- the fault of a refused action fits it, by what is known of each fault
 pub fault_fits : {T : Type 0} (Misses : Action → Holdings → Type 0) (a : Action) (s : Holdings) (r : Result T RunFault) (fault : RunFault) → r ≡ Err fault →
     ((k : ℕ) → r ≡ Err (Keeper k) → Contains (levels_named a) k) → ((k : ℕ) (put got : List ℕ) → r ≡ Err (Damaged k put got) → IsDamage a s k put got) →
-    (r ≡ Err Memory → calls_keepers a ≡ true) → (r ≡ Err Visitor → Misses a s) → (r ≡ Err Ended → ⊥) → Fits Misses fault a s
+    (r ≡ Err Memory → calls_keepers a ≡ true) → (r ≡ Err Visitor → Misses a s) → (r ≡ Err Ended → ⊥) → FaultFits Misses fault a s
 fault_fits Misses a s r (Keeper k) is keeper damaged wants missed over = calls_named a k (keeper k is)
 fault_fits Misses a s r (Damaged k put got) is keeper damaged wants missed over = damaged k put got is
 fault_fits Misses a s r Visitor is keeper damaged wants missed over = missed is

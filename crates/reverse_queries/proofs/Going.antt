@@ -12,7 +12,7 @@ use Rattle.rv_machine.specs.States.{state_number}
 use Rattle.reverse_runner.specs.Acts.{Holdings, Acts}
 use Rattle.reverse_runner.specs.Handed.{numbers_from, handed_by}
 use Rattle.reverse_runner.specs.Performed.{states_out, GetsAll}
-use Rattle.reverse_queries.specs.declared.finder.Question.{Question}
+use Rattle.reverse_queries.specs.declared.finder.Sought.{Sought}
 use Rattle.reverse_queries.specs.declared.finder.Finder.{Finder}
 use Rattle.reverse_queries.specs.OnTheWay.{HaveOut, GoesThrough, IsFoundOn}
 use Rattle.reverse_queries.proofs.Looking.{Unfound}
@@ -162,13 +162,13 @@ through unit steps journal list front count old new c within is gone =
 
 -- The first so many actions were gone through, and a finder has no answer by any states that have those that were handed out. Those of
 -- a run have them.
-pub record Going (question : Question) (word unit steps : ℕ) (journal : List (List ℕ)) (list : List Action) (count : ℕ) (old new : Holdings) (c : Configuration) (f : Finder) (IsOfRun : MachineState → Type 0) : Type 0 where
+pub record Going (question : Sought) (word unit steps : ℕ) (journal : List (List ℕ)) (list : List Action) (count : ℕ) (old new : Holdings) (c : Configuration) (f : Finder) (IsOfRun : MachineState → Type 0) : Type 0 where
   pub gone : Gone unit steps journal list count old new c
   pub unfound : (states : ℕ → MachineState) → HaveAllOut unit steps list count gone.held states → Unfound question states journal word (unit * steps) (left unit steps c) f
   pub of_run : (first : MachineState) → IsOfRun first → HaveAllOut unit steps list count gone.held (state_number first journal)
 
 -- one action more
-pub going_on : (question : Question) (word unit steps : ℕ) (slots : List Slots) (journal : List (List ℕ)) (list : List Action) (count : ℕ) (old mid new : Holdings) (c : Configuration) (a : Action) (d : Configuration) (f g : Finder)
+pub going_on : (question : Sought) (word unit steps : ℕ) (slots : List Slots) (journal : List (List ℕ)) (list : List Action) (count : ℕ) (old mid new : Holdings) (c : Configuration) (a : Action) (d : Configuration) (f g : Finder)
     (IsOfRun : MachineState → Type 0) → Goes steps slots c a d → Turns steps c → slice_get list count ≡ Some a → Acts unit journal a mid new → IsEven unit steps a mid →
     ((states : ℕ → MachineState) → HaveOut unit steps a mid states → Unfound question states journal word (unit * steps) (left unit steps c) f → Unfound question states journal word (unit * steps) (left unit steps d) g) →
     ((first : MachineState) → IsOfRun first → HaveOut unit steps a mid (state_number first journal)) →

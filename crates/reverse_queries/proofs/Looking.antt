@@ -7,11 +7,11 @@ use Rattle.rv_machine.specs.MachineState.{MachineState}
 use Rattle.rv_machine.specs.StepTable.{written}
 use Rattle.reverse_runner.specs.Handed.{numbers_from}
 use Rattle.reverse_runner.specs.Performed.{GetsAll}
-use Rattle.reverse_queries.specs.declared.finder.Question.{Question}
-use Rattle.reverse_queries.specs.declared.finder.Question.TheVariants.{Write, Change}
+use Rattle.reverse_queries.specs.declared.finder.Sought.{Sought}
+use Rattle.reverse_queries.specs.declared.finder.Sought.TheVariants.{Write, Change}
 use Rattle.reverse_queries.specs.declared.finder.Finder.{Finder}
 use Rattle.reverse_queries.specs.Queries.{Differ, IsLast}
-use Rattle.reverse_queries.specs.Finding.{word_bytes, Does, Finds, Looked, Got}
+use Rattle.reverse_queries.specs.Finding.{word_bytes, DoesWhatIsAsked, Finds, Looked, Got}
 use Rattle.reverse_queries.proofs.Numbers.{head_same, rest_same}
 
 -- the bytes of a word, one by one
@@ -23,8 +23,8 @@ byte_of_word m word (suc (suc (suc zero))) lt = refl
 byte_of_word m word (suc (suc (suc (suc k)))) lt = absurd (omega (arith, lt))
 
 -- what a finder finds at a state is what its step does
-finds_does : (question : Question) (states : ℕ → MachineState) (journal : List (List ℕ)) (word n : ℕ) (s : MachineState) (later : List (Option ℕ)) → s ≡ states n →
-    later ≡ word_bytes (states (n + 1)).memory word → Finds question word later s journal → Does question journal word states n
+finds_does : (question : Sought) (states : ℕ → MachineState) (journal : List (List ℕ)) (word n : ℕ) (s : MachineState) (later : List (Option ℕ)) → s ≡ states n →
+    later ≡ word_bytes (states (n + 1)).memory word → Finds question word later s journal → DoesWhatIsAsked question journal word states n
 finds_does Write states journal word n s later is after h = let P : MachineState → Type 0 = λ x. Any (λ at. (word ≤ at) × (at < word + 4)) (written x journal) in subst P is h
 finds_does Change states journal word n s later is after (k, (lt, h)) =
     let A : MachineState → Type 0 = λ x. Differ (slice_index_or (word_bytes x.memory word) k None) (slice_index_or later k None) in
@@ -33,8 +33,8 @@ finds_does Change states journal word n s later is after (k, (lt, h)) =
     let D : Option ℕ → Type 0 = λ o. Differ (byte_at (states n).memory (word + k)) o in
     (k, (lt, subst D (byte_of_word (states (n + 1)).memory word k lt) (subst C (byte_of_word (states n).memory word k lt) (subst B after (subst A is h)))))
 
-does_finds : (question : Question) (states : ℕ → MachineState) (journal : List (List ℕ)) (word n : ℕ) (s : MachineState) (later : List (Option ℕ)) → s ≡ states n →
-    later ≡ word_bytes (states (n + 1)).memory word → Does question journal word states n → Finds question word later s journal
+does_finds : (question : Sought) (states : ℕ → MachineState) (journal : List (List ℕ)) (word n : ℕ) (s : MachineState) (later : List (Option ℕ)) → s ≡ states n →
+    later ≡ word_bytes (states (n + 1)).memory word → DoesWhatIsAsked question journal word states n → Finds question word later s journal
 does_finds Write states journal word n s later is after h = let P : MachineState → Type 0 = λ x. Any (λ at. (word ≤ at) × (at < word + 4)) (written x journal) in subst P (sym is) h
 does_finds Change states journal word n s later is after (k, (lt, h)) =
     let A : MachineState → Type 0 = λ x. Differ (slice_index_or (word_bytes x.memory word) k None) (slice_index_or later k None) in
@@ -45,39 +45,39 @@ does_finds Change states journal word n s later is after (k, (lt, h)) =
 
 -- A finder without an answer, that got all states from one number on: it keeps what it is asked, and none of them is one whose
 -- step does it.
-pub record Unfound (question : Question) (states : ℕ → MachineState) (journal : List (List ℕ)) (word last from : ℕ) (f : Finder) : Type 0 where
-  pub none : (m : ℕ) → from ≤ m → m < last → Does question journal word states m → ⊥
+pub record Unfound (question : Sought) (states : ℕ → MachineState) (journal : List (List ℕ)) (word last from : ℕ) (f : Finder) : Type 0 where
+  pub none : (m : ℕ) → from ≤ m → m < last → DoesWhatIsAsked question journal word states m → ⊥
   pub later : from ≤ last → f.later ≡ word_bytes (states from).memory word
 
 -- what a finder is asked stays
-pub record Asked (question : Question) (word last : ℕ) (f : Finder) : Type 0 where
+pub record Asked (question : Sought) (word last : ℕ) (f : Finder) : Type 0 where
   pub question_is : f.question ≡ question
   pub word_is : f.word ≡ word
   pub last_is : f.last ≡ last
   pub unanswered : f.answer ≡ None
 
 -- the finds of a finder that is asked so
-same_finds : (question : Question) (word : ℕ) (steps : ℕ) (f : Finder) (s : MachineState) (journal : List (List ℕ)) → Asked question word steps f → Finds f.question f.word f.later s journal → Finds question word f.later s journal
+same_finds : (question : Sought) (word : ℕ) (steps : ℕ) (f : Finder) (s : MachineState) (journal : List (List ℕ)) → Asked question word steps f → Finds f.question f.word f.later s journal → Finds question word f.later s journal
 same_finds question word steps f s journal asked h =
-    let Q : Question → Type 0 = λ q. Finds q f.word f.later s journal in
+    let Q : Sought → Type 0 = λ q. Finds q f.word f.later s journal in
     let W : ℕ → Type 0 = λ w. Finds question w f.later s journal in
     subst W asked.word_is (subst Q asked.question_is h)
 
-finds_same : (question : Question) (word : ℕ) (steps : ℕ) (f : Finder) (s : MachineState) (journal : List (List ℕ)) → Asked question word steps f → Finds question word f.later s journal → Finds f.question f.word f.later s journal
+finds_same : (question : Sought) (word : ℕ) (steps : ℕ) (f : Finder) (s : MachineState) (journal : List (List ℕ)) → Asked question word steps f → Finds question word f.later s journal → Finds f.question f.word f.later s journal
 finds_same question word steps f s journal asked h =
-    let Q : Question → Type 0 = λ q. Finds q f.word f.later s journal in
+    let Q : Sought → Type 0 = λ q. Finds q f.word f.later s journal in
     let W : ℕ → Type 0 = λ w. Finds question w f.later s journal in
     subst Q (sym asked.question_is) (subst W (sym asked.word_is) h)
 
 -- a finder that got one state more, and still has no answer
-unfound_on : (question : Question) (states : ℕ → MachineState) (journal : List (List ℕ)) (word last m n : ℕ) (s : MachineState) (f g : Finder) → Asked question word last f → Looked f n s journal g →
+unfound_on : (question : Sought) (states : ℕ → MachineState) (journal : List (List ℕ)) (word last m n : ℕ) (s : MachineState) (f g : Finder) → Asked question word last f → Looked f n s journal g →
     (n < f.last → Finds f.question f.word f.later s journal → ⊥) → s ≡ states n → m ≡ n + 1 → Unfound question states journal word last m f → Unfound question states journal word last n g
 unfound_on question states journal word last m n s f g asked looked none is next unfound =
-    let no : n < last → Does question journal word states n → ⊥ = λ lt does.
+    let no : n < last → DoesWhatIsAsked question journal word states n → ⊥ = λ lt does.
     let later = unfound.later (omega (arith, lt, next)) ∙ ap (λ k. word_bytes (states k).memory word) next in
     let finds = does_finds question states journal word n s f.later is later does in
     none (let same = asked.last_is in omega (arith, lt, same)) (finds_same question word last f s journal asked finds) in
-    let P : ℕ → Type 0 = λ k. k < last → Does question journal word states k → ⊥ in
+    let P : ℕ → Type 0 = λ k. k < last → DoesWhatIsAsked question journal word states k → ⊥ in
     record {
       none = λ k from lt does. elim (cases_eq k n) [
         | inl e ↦ subst P (sym e) no lt does
@@ -87,8 +87,8 @@ unfound_on question states journal word last m n s f g asked looked none is next
     }
 
 -- an answer is the last place
-found_last : (question : Question) (states : ℕ → MachineState) (journal : List (List ℕ)) (word last m n : ℕ) (s : MachineState) (f : Finder) → Asked question word last f → n < f.last → Finds f.question f.word f.later s journal →
-    s ≡ states n → m ≡ n + 1 → Unfound question states journal word last m f → IsLast (Does question journal word states) last (Some n)
+found_last : (question : Sought) (states : ℕ → MachineState) (journal : List (List ℕ)) (word last m n : ℕ) (s : MachineState) (f : Finder) → Asked question word last f → n < f.last → Finds f.question f.word f.later s journal →
+    s ≡ states n → m ≡ n + 1 → Unfound question states journal word last m f → IsLast (DoesWhatIsAsked question journal word states) last (Some n)
 found_last question states journal word last m n s f asked lt finds is next unfound =
     let same = asked.last_is in
     let later = unfound.later (omega (arith, lt, next, same)) ∙ ap (λ k. word_bytes (states k).memory word) next in (
@@ -98,7 +98,7 @@ found_last question states journal word last m n s f asked lt finds is next unfo
     )
 
 -- a finder is asked the same after a state
-asked_on : (question : Question) (word last n : ℕ) (s : MachineState) (journal : List (List ℕ)) (f g : Finder) → Asked question word last f → Looked f n s journal g → g.answer ≡ f.answer → Asked question word last g
+asked_on : (question : Sought) (word last n : ℕ) (s : MachineState) (journal : List (List ℕ)) (f g : Finder) → Asked question word last f → Looked f n s journal g → g.answer ≡ f.answer → Asked question word last g
 asked_on question word last n s journal f g asked looked still = record {
   question_is = looked.question ∙ asked.question_is;
   word_is = looked.word ∙ asked.word_is;
@@ -118,13 +118,13 @@ answer_kept journal (n ∷ numbers) (s ∷ out) k f g answer h =
 
 -- what a finder is after the states with so many numbers, the last one first: by any states that have them it has no answer, or
 -- its answer is the last place
-pub record Ran (question : Question) (word last from count : ℕ) (journal : List (List ℕ)) (out : List MachineState) (f g : Finder) : Type 0 where
+pub record Ran (question : Sought) (word last from count : ℕ) (journal : List (List ℕ)) (out : List MachineState) (f g : Finder) : Type 0 where
   pub unanswered : g.answer ≡ None → Asked question word last g × ((states : ℕ → MachineState) → map states (numbers_from from count) ≡ out → Unfound question states journal word last (from + count) f → Unfound question states journal word last from g)
   pub answered :
       (k : ℕ) → g.answer ≡ Some k →
-      (from ≤ k) × (k < from + count) × ((states : ℕ → MachineState) → map states (numbers_from from count) ≡ out → Unfound question states journal word last (from + count) f → IsLast (Does question journal word states) last (Some k))
+      (from ≤ k) × (k < from + count) × ((states : ℕ → MachineState) → map states (numbers_from from count) ≡ out → Unfound question states journal word last (from + count) f → IsLast (DoesWhatIsAsked question journal word states) last (Some k))
 
-pub finder_runs : (question : Question) (word last from count : ℕ) (journal : List (List ℕ)) (out : List MachineState) (f g : Finder) → Asked question word last f → GetsAll Got journal (numbers_from from count) out f g →
+pub finder_runs : (question : Sought) (word last from count : ℕ) (journal : List (List ℕ)) (out : List MachineState) (f g : Finder) → Asked question word last f → GetsAll Got journal (numbers_from from count) out f g →
     Ran question word last from count journal out f g
 finder_runs question word last from zero journal [] f g asked h =
     let P : Finder → Type 0 = λ x. Asked question word last x in
@@ -154,7 +154,7 @@ finder_runs question word last from (suc count) journal (s ∷ out) f g asked h 
                   omega (arith, same),
                   omega (arith, same),
                   λ states have unfound.
-                      (let P : ℕ → Type 0 = λ m. IsLast (Does question journal word states) last (Some m) in
+                      (let P : ℕ → Type 0 = λ m. IsLast (DoesWhatIsAsked question journal word states) last (Some m) in
                       subst P same (found_last question states journal word last (from + suc count) n s f asked found.1 found.2 (sym (head_same have)) next unfound)),
                 ));
           })
@@ -172,6 +172,6 @@ finder_runs question word last from (suc count) journal (s ∷ out) f g asked h 
     ]
 
 -- where nothing is left there is no place
-pub found_none : (question : Question) (states : ℕ → MachineState) (journal : List (List ℕ)) (word last from : ℕ) (f : Finder) → from ≡ 0 → Unfound question states journal word last from f →
-    IsLast (Does question journal word states) last None
+pub found_none : (question : Sought) (states : ℕ → MachineState) (journal : List (List ℕ)) (word last from : ℕ) (f : Finder) → from ≡ 0 → Unfound question states journal word last from f →
+    IsLast (DoesWhatIsAsked question journal word states) last None
 found_none question states journal word last from f all unfound = λ n lt does. unfound.none n (omega (arith, all)) lt does

@@ -8,16 +8,16 @@ use Rattle.rv_machine.specs.MachineState.{MachineState}
 use Rattle.reverse_runner.specs.Acts.{Holdings}
 use Rattle.reverse_runner.specs.Handed.{numbers_from, handed_by}
 use Rattle.reverse_runner.specs.Performed.{states_out, GetsAll}
-use Rattle.reverse_queries.specs.declared.finder.Question.{Question}
+use Rattle.reverse_queries.specs.declared.finder.Sought.{Sought}
 use Rattle.reverse_queries.specs.declared.finder.Finder.{Finder}
 use Rattle.reverse_queries.specs.Queries.{IsLast, hands_out}
 use Rattle.reverse_queries.specs.OnTheWay.{HaveOut}
-use Rattle.reverse_queries.specs.Finding.{Does, Got}
+use Rattle.reverse_queries.specs.Finding.{DoesWhatIsAsked, Got}
 use Rattle.reverse_queries.proofs.Looking.{Asked, Unfound, finder_runs}
 use Rattle.reverse_queries.proofs.Turning.{Turns, left, hands_of}
 
 -- a finder without an answer after the action keeps what it is asked; an answer is the last place
-pub record RanAt (question : Question) (word unit steps : ℕ) (journal : List (List ℕ)) (c : Configuration) (a : Action) (d : Configuration) (held : Holdings) (f g : Finder) : Type 0 where
+pub record RanAt (question : Sought) (word unit steps : ℕ) (journal : List (List ℕ)) (c : Configuration) (a : Action) (d : Configuration) (held : Holdings) (f g : Finder) : Type 0 where
   pub unanswered :
       g.answer ≡ None →
       Asked question word (unit * steps) g
@@ -25,9 +25,9 @@ pub record RanAt (question : Question) (word unit steps : ℕ) (journal : List (
   pub answered :
       (k : ℕ) → g.answer ≡ Some k →
       (hands_out unit steps k a ≡ true) × (k < left unit steps c)
-      × ((states : ℕ → MachineState) → HaveOut unit steps a held states → Unfound question states journal word (unit * steps) (left unit steps c) f → IsLast (Does question journal word states) (unit * steps) (Some k))
+      × ((states : ℕ → MachineState) → HaveOut unit steps a held states → Unfound question states journal word (unit * steps) (left unit steps c) f → IsLast (DoesWhatIsAsked question journal word states) (unit * steps) (Some k))
 
-pub ran_at : (question : Question) (word unit steps : ℕ) (slots : List Slots) (journal : List (List ℕ)) (c : Configuration) (a : Action) (d : Configuration) (held : Holdings) (f g : Finder) → Goes steps slots c a d → Turns steps c →
+pub ran_at : (question : Sought) (word unit steps : ℕ) (slots : List Slots) (journal : List (List ℕ)) (c : Configuration) (a : Action) (d : Configuration) (held : Holdings) (f g : Finder) → Goes steps slots c a d → Turns steps c →
     Asked question word (unit * steps) f → GetsAll Got journal (handed_by unit steps a) (states_out a held.work held.tape.states) f g → RanAt question word unit steps journal c a d held f g
 ran_at question word unit steps slots journal c a d held f g goes turns asked gets =
     let h = hands_of unit steps slots c a d goes turns in

@@ -27,8 +27,8 @@ use Rattle.reverse_runner.specs.LevelsStand.{AreAlone, HoldingsStandAt}
 use Rattle.reverse_runner.specs.Handed.{handed_by}
 use Rattle.reverse_runner.specs.Performed.{GetsAll, MissesOne}
 use Rattle.rv_machine.specs.States.{state_number}
-use Rattle.reverse_runner.specs.Standing.{StandsAt, Performs, Ends}
-use Rattle.reverse_queries.specs.Performing.{calls_of_all, done_after, PerformsAll, Fits, RefusedIn}
+use Rattle.reverse_runner.specs.Standing.{StandsAt, Performs, SessionEnds}
+use Rattle.reverse_queries.specs.Performing.{calls_of_all, done_after, PerformsAll, FaultFits, RefusedIn}
 use Rattle.reverse_queries.proofs.Fronts.{is_within}
 use Rattle.reverse_queries.proofs.Fitting.{same_there}
 use Rattle.reverse_queries.proofs.Going.{Gone, through}
@@ -200,8 +200,8 @@ way_on told puts gets frees slots faults list i old mid new ks ls ms before afte
 
 pub refused_in : {K : Type 0} (told : K → Option Images) (puts gets frees slots faults : K → ℕ) (list front : List Action) (i : ℕ) (old mid new : SessionState) (ks ls ms : List K) (before after last : ℕ) (a : Action) (Misses : Action → Holdings → Type 0) (fault : RunFault) →
     slice_get list i ≡ Some a → take i front ≡ take i list → take (i + 1) front ≡ take (i + 1) list → i < length front →
-    Way told puts gets frees slots faults list i old mid ks ls before after → Gone old.unit old.situation.steps old.journal list i (holdings_of old (told_by told ks)) (holdings_of mid (told_by told ls)) mid.situation.at → Ends mid new → last ≡ after →
-    CalledAtMost (calls_of a) (calls_to puts gets frees ls) (calls_to puts gets frees ms) → Fits Misses fault a (holdings_of mid (told_by told ls)) →
+    Way told puts gets frees slots faults list i old mid ks ls before after → Gone old.unit old.situation.steps old.journal list i (holdings_of old (told_by told ks)) (holdings_of mid (told_by told ls)) mid.situation.at → SessionEnds mid new → last ≡ after →
+    CalledAtMost (calls_of a) (calls_to puts gets frees ls) (calls_to puts gets frees ms) → FaultFits Misses fault a (holdings_of mid (told_by told ls)) →
     RefusedIn Misses front fault old new (told_by told ks) before last (calls_to puts gets frees ks) (calls_to puts gets frees ms)
 refused_in told puts gets frees slots faults list front i old mid new ks ls ms before after last a Misses fault at here there inside way gone ends still most fits =
     let within = is_within list i a at in

@@ -3,8 +3,8 @@ use Rattle.std.specs.Prelude.{◌≡◌, ◌⊎◌, ℕ, ◌+◌, ◌<◌, ◌�
 use Rattle.rv_pages.specs.Memory.{Memory, byte_at}
 use Rattle.rv_machine.specs.MachineState.{MachineState}
 use Rattle.rv_machine.specs.StepTable.{written}
-use Rattle.reverse_queries.specs.declared.finder.Question.{Question}
-use Rattle.reverse_queries.specs.declared.finder.Question.TheVariants.{Write, Change}
+use Rattle.reverse_queries.specs.declared.finder.Sought.{Sought}
+use Rattle.reverse_queries.specs.declared.finder.Sought.TheVariants.{Write, Change}
 use Rattle.reverse_queries.specs.declared.finder.Finder.{Finder}
 use Rattle.reverse_queries.specs.Queries.{WritesIn, ChangesIn, Differ}
 
@@ -17,12 +17,12 @@ abbrev pub SomeDiffer : List (Option ℕ) → List (Option ℕ) → Type 0
 SomeDiffer before after = (k : ℕ) × ((k < 4) × Differ (slice_index_or before k None) (slice_index_or after k None))
 
 -- the step of state m does what is asked
-abbrev pub Does : Question → List (List ℕ) → ℕ → (ℕ → MachineState) → ℕ → Type 0
-Does Write journal word states m = WritesIn states journal word m
-Does Change journal word states m = ChangesIn states word m
+abbrev pub DoesWhatIsAsked : Sought → List (List ℕ) → ℕ → (ℕ → MachineState) → ℕ → Type 0
+DoesWhatIsAsked Write journal word states m = WritesIn states journal word m
+DoesWhatIsAsked Change journal word states m = ChangesIn states word m
 
 -- the next step of a state does it, where the word has these bytes in the state after it
-abbrev pub Finds : Question → ℕ → List (Option ℕ) → MachineState → List (List ℕ) → Type 0
+abbrev pub Finds : Sought → ℕ → List (Option ℕ) → MachineState → List (List ℕ) → Type 0
 Finds Write word later s journal = Any (λ at. (word ≤ at) × (at < word + 4)) (written s journal)
 Finds Change word later s journal = SomeDiffer (word_bytes s.memory word) later
 

@@ -64,12 +64,12 @@ pub record MissesState {V : Type 0} (missed : V → ℕ → MachineState → Lis
 -- A fault fits an action that does what failed, over what is held before it. It calls the keeper of the level; got bytes of an
 -- image of the level that are damaged; misses to give the visitor a state; or calls some keeper. No action fits the fault of
 -- a session that has ended. Which states the visitor can miss is said by the question.
-abbrev pub Fits : (Action → Holdings → Type 0) → RunFault → Action → Holdings → Type 0
-Fits Misses (Keeper k) a held = CallsKeeper a k
-Fits Misses (Damaged k put got) a held = IsDamage a held k put got
-Fits Misses Visitor a held = Misses a held
-Fits Misses Memory a held = (k : ℕ) × CallsKeeper a k
-Fits Misses Ended a held = ⊥
+abbrev pub FaultFits : (Action → Holdings → Type 0) → RunFault → Action → Holdings → Type 0
+FaultFits Misses (Keeper k) a held = CallsKeeper a k
+FaultFits Misses (Damaged k put got) a held = IsDamage a held k put got
+FaultFits Misses Visitor a held = Misses a held
+FaultFits Misses Memory a held = (k : ℕ) × CallsKeeper a k
+FaultFits Misses Ended a held = ⊥
 
 -- The next action of a list was refused with a fault that fits it: those before it were performed, the count of steps of the
 -- machine rose by theirs, and the keepers were called as often as those before it call them, and at most as those up to it do.
@@ -84,7 +84,7 @@ pub record RefusedIn (Misses : Action → Holdings → Type 0) (list : List Acti
   pub held : Holdings
   pub states : ℕ → MachineState
   pub through : GoesThrough old.unit old.situation.steps old.journal (take place list) (holdings_of old told) held states
-  pub fits : Fits Misses fault next held
+  pub fits : FaultFits Misses fault next held
   pub leads : Leads old.situation.steps old.situation.slots old.situation.at (take place list) new.situation.at
   pub done : new.done ≡ done_after old.done place
   pub over : new.ended ≡ true

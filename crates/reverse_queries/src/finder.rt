@@ -3,7 +3,7 @@ ghost use Rattle.std.specs.Prelude.{◌≤◌};
 
 // What a step is asked to do to a word.
 #[derive(Clone, Copy)]
-pub(crate) enum Question {
+pub(crate) enum Sought {
     // To write a byte of it.
     Write,
     // To change a byte of it.
@@ -13,7 +13,7 @@ pub(crate) enum Question {
 // Gets states from the last one down, and keeps the number of the one whose step does what is asked.
 #[derive(Drop)]
 pub(crate) struct Finder {
-    pub question: Question,
+    pub question: Sought,
     pub word: u32,
     // The number of the last state, after which there is no step.
     pub last: u32,

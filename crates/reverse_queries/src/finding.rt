@@ -13,9 +13,9 @@ ghost use Rattle.reverse_runner.specs.Standing.{StandsAt};
 ghost use Rattle.reverse_queries.specs.Queries.{Differ, IsLast, up_to};
 ghost use Rattle.reverse_queries.specs.Performing.{calls_of_all, PerformsAll, RefusedIn};
 ghost use Rattle.reverse_queries.specs.OnTheWay.{IsFoundOn};
-ghost use Rattle.reverse_queries.specs.Finding.{word_bytes, SomeDiffer, Does, Finds, Got};
+ghost use Rattle.reverse_queries.specs.Finding.{word_bytes, SomeDiffer, DoesWhatIsAsked, Finds, Got};
 
-use crate::finder::{Finder, Question};
+use crate::finder::{Finder, Sought};
 use input_journal::Journal;
 use keepers::Keeper;
 use plan_types::Action;
@@ -25,7 +25,7 @@ use std::sync::ledger::Ledger;
 
 impl Finder {
     // A finder that has got no state.
-    pub fn new(question: Question, word: u32, last: u32) -> Finder
+    pub fn new(question: Sought, word: u32, last: u32) -> Finder
         requires { word ≤ 0xFFFFFFFC }
         ensures question { result.question ≡ question }
         ensures word { result.word ≡ word }
@@ -47,8 +47,8 @@ impl Finder {
         ensures { IsTrue result ↔ Finds self.now.question self.now.word self.now.later state.now journal.now }
     {
         match self.question {
-            Question::Write => wrote(state, journal, self.word),
-            Question::Change => some_differ(bytes, &self.later),
+            Sought::Write => wrote(state, journal, self.word),
+            Sought::Change => some_differ(bytes, &self.later),
         }
     }
 }
@@ -113,7 +113,7 @@ pub(crate) fn find_last<K: Keeper, L: Ledger>(
     session: &mut Session,
     list: &[Action],
     keepers: &mut Vec<K>,
-    question: Question,
+    question: Sought,
     word: u32,
     steps: &mut Steps<L>,
 ) -> Result<Option<u32>, RunFault>
@@ -124,10 +124,10 @@ pub(crate) fn find_last<K: Keeper, L: Ledger>(
     requires word { word ≤ 0xFFFFFFFC }
 
     // The answer, where the session stands at its start.
-    ensures answer { (first : MachineState) → IsMachineState first → StandsAt first session.old (told_by K.told keepers.old.items) → IfOk result (IsLast (Does question session.old.journal word (state_number first session.old.journal)) (session.old.unit * session.old.situation.steps)) }
+    ensures answer { (first : MachineState) → IsMachineState first → StandsAt first session.old (told_by K.told keepers.old.items) → IfOk result (IsLast (DoesWhatIsAsked question session.old.journal word (state_number first session.old.journal)) (session.old.unit * session.old.situation.steps)) }
 
     // The same by the states that were handed out on the way, also where nothing stands.
-    ensures found { IfOk result (λ answer. IsFoundOn (λ states. IsLast (Does question session.old.journal word states) (session.old.unit * session.old.situation.steps) answer) session.old.unit session.old.situation.steps session.old.journal (up_to session.old.unit session.old.situation.steps answer list.now) (holdings_of session.old (told_by K.told keepers.old.items)) (holdings_of session.new (told_by K.told keepers.new.items))) }
+    ensures found { IfOk result (λ answer. IsFoundOn (λ states. IsLast (DoesWhatIsAsked question session.old.journal word states) (session.old.unit * session.old.situation.steps) answer) session.old.unit session.old.situation.steps session.old.journal (up_to session.old.unit session.old.situation.steps answer list.now) (holdings_of session.old (told_by K.told keepers.old.items)) (holdings_of session.new (told_by K.told keepers.new.items))) }
 
     // What was performed for it.
     ensures performs { IfOk result (λ answer. PerformsAll session.old (up_to session.old.unit session.old.situation.steps answer list.now) session.new) }

@@ -8,7 +8,5 @@ mod finder;
 mod finding;
 mod picked;
 mod queries;
-#[cfg(test)]
-mod tests;
 
 pub use crate::queries::{last_change, last_write, state_at};

@@ -13,7 +13,7 @@ ghost use Rattle.reverse_queries.specs.Queries.{WritesIn, ChangesIn, WritesWord,
 ghost use Rattle.reverse_queries.specs.OnTheWay.{IsFoundOn};
 ghost use Rattle.reverse_queries.specs.Performing.{calls_of_all, PerformsAll, GetsState, MissesState, RefusedIn};
 
-use crate::finder::Question;
+use crate::finder::Sought;
 use crate::finding::find_last;
 use crate::picked::Picked;
 use keepers::Keeper;
@@ -116,7 +116,7 @@ pub fn last_write<K: Keeper, L: Ledger>(
     ensures slots { map K.slot_count keepers.new.items ≡ map K.slot_count keepers.old.items }
     ensures others { (k : ℕ) → length session.old.situation.slots ≤ k → slice_get keepers.new.items k ≡ slice_get keepers.old.items k }
 {
-    find_last(session, list, keepers, Question::Write, word, steps)
+    find_last(session, list, keepers, Sought::Write, word, steps)
 }
 
 /// Performs a valid list from the start of a session, and gives the number of the last step that changes a byte of a word,
@@ -160,5 +160,5 @@ pub fn last_change<K: Keeper, L: Ledger>(
     ensures slots { map K.slot_count keepers.new.items ≡ map K.slot_count keepers.old.items }
     ensures others { (k : ℕ) → length session.old.situation.slots ≤ k → slice_get keepers.new.items k ≡ slice_get keepers.old.items k }
 {
-    find_last(session, list, keepers, Question::Change, word, steps)
+    find_last(session, list, keepers, Sought::Change, word, steps)
 }

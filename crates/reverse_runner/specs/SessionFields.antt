@@ -3,7 +3,7 @@ use Rattle.std.specs.Prelude.{◌≡◌, false}
 use Rattle.reverse_runner.specs.declared.session.Session.TheInside.{Inside}
 use Rattle.reverse_runner.specs.SessionState.{SessionState}
 use Rattle.reverse_runner.specs.LevelsStand.{IsLaidOut}
-use Rattle.reverse_runner.specs.Workspaces.{Fits, tape_in, HasUnits}
+use Rattle.reverse_runner.specs.Workspaces.{IsInOrder, tape_in, HasUnits}
 
 abbrev pub session_state : Inside → SessionState
 session_state s = record {
@@ -20,6 +20,6 @@ session_state s = record {
 -- The levels hold the pairs that the configuration names, up to a refusal, and a tape that isn't empty holds a unit. The
 -- undo list was made for the recorded input.
 pub record IsSession (s : Inside) : Type 0 where
-  pub fits : Fits s.space
+  pub fits : IsInOrder s.space
   pub laid : s.ended ≡ false → IsLaidOut s.config.steps s.config.slots s.config.at s.space.store
   pub units : s.ended ≡ false → HasUnits s.unit s.journal s.config.steps s.config.at s.space

@@ -40,7 +40,7 @@ pub record Performs (old : SessionState) (action : Action) (new : SessionState) 
   pub lasts : new.ended ≡ false
 
 -- an action was refused: the session has ended where it stood
-pub record Ends (old new : SessionState) : Type 0 where
+pub record SessionEnds (old new : SessionState) : Type 0 where
   pub situation : new.situation ≡ old.situation
   pub unit : new.unit ≡ old.unit
   pub journal : new.journal ≡ old.journal

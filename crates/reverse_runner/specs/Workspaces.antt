@@ -29,7 +29,7 @@ abbrev pub holdings_in : Workspace → (ℕ → Option Images) → Holdings
 holdings_in w told = record { work = w.work; tape = tape_in w; levels = levels_in w told }
 
 -- its states map the same pages, the buffer was reserved for the image of each, and the undo list leads back from the tape
-pub record Fits (w : Workspace) : Type 0 where
+pub record IsInOrder (w : Workspace) : Type 0 where
   pub pages : SamePages w.tape w.work
   pub few : length (page_numbers w.work.memory) ≤ 4096
   pub back : LeadsBack w.undo.entries w.tape (led_back w.undo.entries w.tape)
@@ -41,7 +41,7 @@ pub record IsReady (steps : ℕ) (slots : List Slots) (c : Configuration) (w : W
   pub sound : IsSound steps slots c
   pub laid : IsLaidOut steps slots c w.store
   pub room : HaveRoom steps slots counts
-  pub fits : Fits w
+  pub fits : IsInOrder w
 
 -- The undo list is made for units of so many steps with this recorded input, and holds one where the tape isn't empty.
 pub record HasUnits (unit : ℕ) (journal : List (List ℕ)) (steps : ℕ) (c : Configuration) (w : Workspace) : Type 0 where

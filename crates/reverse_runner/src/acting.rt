@@ -15,7 +15,7 @@ ghost use Rattle.reverse_runner.specs.Performed.{states_out, GetsAll, MissesOne,
 ghost use Rattle.reverse_runner.specs.Standing.{IsDamage};
 ghost use Rattle.reverse_runner.specs.Touching.{Remain, IsCaused, IsOfStorage};
 ghost use Rattle.reverse_runner.specs.Left.{MayLeave};
-ghost use Rattle.reverse_runner.specs.Workspaces.{Fits, IsReady, HasUnits, tape_in, levels_in, holdings_in};
+ghost use Rattle.reverse_runner.specs.Workspaces.{IsInOrder, IsReady, HasUnits, tape_in, levels_in, holdings_in};
 
 use crate::fault::RunFault;
 use crate::visitor::{Visitor, hand_out};
@@ -55,7 +55,7 @@ pub(crate) fn act<K: Keeper, V: Visitor, L: Ledger>(
     ensures others { (k : ℕ) → (Contains (levels_named action.now) k → ⊥) → slice_get keepers.new.items k ≡ slice_get keepers.old.items k }
     ensures caused { IsCaused K.fault_count keepers.old.items keepers.new.items result }
     ensures named { (k : ℕ) → result ≡ Err (RunFault.Keeper k) → Contains (levels_named action.now) k }
-    ensures fits { Fits space.new }
+    ensures fits { IsInOrder space.new }
     ensures units { (d : Configuration) → Goes config.now.steps config.now.slots config.now.at action.now d → OnOk result (HasUnits unit journal.now config.now.steps d space.new) }
     ensures wants { result ≡ Err RunFault.Memory → IsTrue (calls_keepers action.now) }
     ensures lasting { result ≢ Err RunFault.Ended }
@@ -109,7 +109,7 @@ fn forward<K: Keeper, L: Ledger>(
     ensures others { (k : ℕ) → (Contains (levels_named (Action.Forward from to keep)) k → ⊥) → slice_get keepers.new.items k ≡ slice_get keepers.old.items k }
     ensures caused { IsCaused K.fault_count keepers.old.items keepers.new.items result }
     ensures named { (k : ℕ) → result ≡ Err (RunFault.Keeper k) → Contains (levels_named (Action.Forward from to keep)) k }
-    ensures fits { Fits space.new }
+    ensures fits { IsInOrder space.new }
     ensures units { (d : Configuration) → Goes config.now.steps config.now.slots config.now.at (Action.Forward from to keep) d → OnOk result (HasUnits unit journal.now config.now.steps d space.new) }
 {
     let count = unit * (to - from);
@@ -149,7 +149,7 @@ fn copy<K: Keeper>(
     ensures others { (k : ℕ) → (Contains (levels_named (Action.Copy n from dest)) k → ⊥) → slice_get keepers.new.items k ≡ slice_get keepers.old.items k }
     ensures caused { IsCaused K.fault_count keepers.old.items keepers.new.items result }
     ensures named { (k : ℕ) → result ≡ Err (RunFault.Keeper k) → Contains (levels_named (Action.Copy n from dest)) k }
-    ensures fits { Fits space.new }
+    ensures fits { IsInOrder space.new }
     ensures undo { space.new.undo ≡ space.old.undo }
 {
     space.fetch(keepers, from, n)?;
@@ -183,7 +183,7 @@ fn move_<K: Keeper>(
     ensures others { (k : ℕ) → (Contains (levels_named (Action.Move n from dest)) k → ⊥) → slice_get keepers.new.items k ≡ slice_get keepers.old.items k }
     ensures caused { IsCaused K.fault_count keepers.old.items keepers.new.items result }
     ensures named { (k : ℕ) → result ≡ Err (RunFault.Keeper k) → Contains (levels_named (Action.Move n from dest)) k }
-    ensures fits { Fits space.new }
+    ensures fits { IsInOrder space.new }
     ensures undo { space.new.undo ≡ space.old.undo }
 {
     copy(space, config, keepers, n, from, dest)?;

@@ -9,8 +9,6 @@ mod fault;
 pub mod laws;
 mod line_writer;
 mod session;
-#[cfg(test)]
-mod tests;
 mod visitor;
 mod workspace;
 

@@ -14,7 +14,7 @@ ghost use Rattle.reverse_runner.specs.Left.{MayLeave};
 ghost use Rattle.reverse_runner.specs.Handed.{handed_by};
 ghost use Rattle.reverse_runner.specs.Performed.{states_out, GetsAll, MissesOne, calls_keepers};
 ghost use Rattle.reverse_runner.specs.SessionState.{levels_of, holdings_of};
-ghost use Rattle.reverse_runner.specs.Standing.{begun, Performs, Ends, StandsAt, IsDamage};
+ghost use Rattle.reverse_runner.specs.Standing.{begun, Performs, SessionEnds, StandsAt, IsDamage};
 
 use crate::acting::act;
 use crate::fault::RunFault;
@@ -137,7 +137,7 @@ impl Session {
         ensures alone { AreAlone (levels_of self.old (told_by K.told keepers.old.items)) → OnOk result (AreAlone (levels_of self.new (told_by K.told keepers.new.items))) }
 
         // A refusal ends the session.
-        ensures refused { OnErr result (Ends self.old self.new) }
+        ensures refused { OnErr result (SessionEnds self.old self.new) }
         ensures uncounted { OnErr result (steps.new ≡ steps.old) }
         ensures left { self.old.ended ≡ false → OnErr result (MayLeave action.now (levels_of self.old (told_by K.told keepers.old.items)) (told_by K.told keepers.new.items)) }
         ensures whole { (k : ℕ) (put got : List ℕ) → result ≡ Err (RunFault.Damaged k put got) → (j : ℕ) → told_by K.told keepers.new.items j ≡ told_by K.told keepers.old.items j }

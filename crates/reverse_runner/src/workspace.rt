@@ -48,7 +48,7 @@ pub(crate) struct Workspace {
 }
 
 impl Workspace {
-    ghost use Rattle.reverse_runner.specs.Workspaces.{Fits, tape_in, levels_in};
+    ghost use Rattle.reverse_runner.specs.Workspaces.{IsInOrder, tape_in, levels_in};
 
     /// A workspace with a state in work, and no images. It takes all the memory that it ever needs.
     pub fn begin(
@@ -64,7 +64,7 @@ impl Workspace {
         ensures work { IfOk result (λ w. w.work ≡ start) }
         ensures tape { IfOk result (λ w. w.tape ≡ start) }
         ensures store { IfOk result (λ w. w.store ≡ no_pairs_on (slots_of book.now) steps) }
-        ensures fits { IfOk result Fits }
+        ensures fits { IfOk result IsInOrder }
     {
         let store = Store::begin(alloc, book, steps)?;
         let buffer = Vec::with_capacity(alloc, max_image(&start) as usize)?;
@@ -79,7 +79,8 @@ impl Workspace {
         })
     }
 
-    /// Takes so many steps of the machine.
+    /// Takes so many steps of the machine. No other function of this crate steps: where `step` stands once, the compiler
+    /// puts its whole body in place.
     pub fn advance<L: Ledger>(&mut self, journal: &Journal, count: u32, steps: &mut Steps<L>)
         ensures work { self.new.work ≡ state_number self.old.work journal.now count }
         ensures pages { SamePages self.old.work self.new.work }
@@ -116,7 +117,7 @@ impl Workspace {
         self.undo.clear();
         for _ in 0..count {
             self.undo.push(&self.work, journal);
-            step(&mut self.work, journal, steps);
+            self.advance(journal, 1, steps);
         }
         self.tape.copy_from(&self.work);
     }
@@ -153,27 +154,27 @@ impl Workspace {
 
     /// Writes the image of the state in work into the buffer.
     pub fn encode(&mut self)
-        requires { Fits self.old }
+        requires { IsInOrder self.old }
         ensures image { self.new.buffer.items ≡ image self.old.work }
         ensures short { vec_len self.new.buffer < 2 ^ 32 }
         ensures work { self.new.work ≡ self.old.work }
         ensures tape { self.new.tape ≡ self.old.tape }
         ensures undo { self.new.undo ≡ self.old.undo }
         ensures store { self.new.store ≡ self.old.store }
-        ensures fits { Fits self.new }
+        ensures fits { IsInOrder self.new }
     {
         encode_image(&self.work, &mut self.buffer);
     }
 
     /// Makes the state in work the one whose image stands in the buffer, which came from a level.
     pub fn decode(&mut self, level: u8) -> Result<(), RunFault>
-        requires { Fits self.old }
+        requires { IsInOrder self.old }
         ensures decoded { OnOk result (IsDecoded self.old.work self.new.work self.old.buffer.items) }
         ensures damaged { IfErr result (λ fault. (fault ≡ RunFault.Damaged level (sha256 self.old.buffer.items) (sha256 self.old.buffer.items)) × IsNoImage self.old.work self.old.buffer.items) }
         ensures tape { self.new.tape ≡ self.old.tape }
         ensures undo { self.new.undo ≡ self.old.undo }
         ensures store { self.new.store ≡ self.old.store }
-        ensures fits { Fits self.new }
+        ensures fits { IsInOrder self.new }
     {
         match decode_image(self.buffer.as_slice(), &mut self.work) {
             Ok(()) => {

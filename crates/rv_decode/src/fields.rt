@@ -2,43 +2,49 @@
 ghost use Rattle.std.specs.Prelude.{◌≡◌, ◌+◌, ◌-◌, ◌*◌, ◌^◌, ◌<◌, ◌≤◌, cond, nat_lt};
 ghost use Rattle.rv_decode.specs.Formats.{opcode as opcode_of, rd as rd_of, funct3 as funct3_of, rs1 as rs1_of, rs2 as rs2_of, funct7 as funct7_of, imm_i as imm_i_of, imm_s as imm_s_of, imm_b as imm_b_of, imm_u as imm_u_of, imm_j as imm_j_of, shift_amount as shift_amount_of};
 
+/// Bits 6 to 0.
 #[inline(always)]
-pub(crate) fn opcode(word: u32) -> u32
+pub fn opcode(word: u32) -> u32
     ensures { result ≡ opcode_of word }
 {
     word & 0x7f
 }
 
+/// The register that is written.
 #[inline(always)]
-pub(crate) fn rd(word: u32) -> u8
+pub fn rd(word: u32) -> u8
     ensures { result ≡ rd_of word }
 {
     (word >> 7 & 0x1f) as u8
 }
 
+/// Bits 14 to 12.
 #[inline(always)]
-pub(crate) fn funct3(word: u32) -> u32
+pub fn funct3(word: u32) -> u32
     ensures { result ≡ funct3_of word }
 {
     word >> 12 & 0x7
 }
 
+/// The first register that is read.
 #[inline(always)]
-pub(crate) fn rs1(word: u32) -> u8
+pub fn rs1(word: u32) -> u8
     ensures { result ≡ rs1_of word }
 {
     (word >> 15 & 0x1f) as u8
 }
 
+/// The second one.
 #[inline(always)]
-pub(crate) fn rs2(word: u32) -> u8
+pub fn rs2(word: u32) -> u8
     ensures { result ≡ rs2_of word }
 {
     (word >> 20 & 0x1f) as u8
 }
 
+/// Bits 31 to 25.
 #[inline(always)]
-pub(crate) fn funct7(word: u32) -> u32
+pub fn funct7(word: u32) -> u32
     ensures { result ≡ funct7_of word }
 {
     word >> 25
@@ -58,22 +64,25 @@ fn extended(n: u32, sign: u32) -> u32
     }
 }
 
+/// The immediate of format I.
 #[inline(always)]
-pub(crate) fn imm_i(word: u32) -> u32
+pub fn imm_i(word: u32) -> u32
     ensures { result ≡ imm_i_of word }
 {
     extended(word >> 20, 1 << 11)
 }
 
+/// The immediate of format S.
 #[inline(always)]
-pub(crate) fn imm_s(word: u32) -> u32
+pub fn imm_s(word: u32) -> u32
     ensures { result ≡ imm_s_of word }
 {
     extended(((word >> 25) << 5) + (word >> 7 & 0x1f), 1 << 11)
 }
 
+/// The immediate of format B.
 #[inline(always)]
-pub(crate) fn imm_b(word: u32) -> u32
+pub fn imm_b(word: u32) -> u32
     ensures { result ≡ imm_b_of word }
 {
     let (bit_12, bit_11) = (word >> 31, word >> 7 & 1);
@@ -82,15 +91,17 @@ pub(crate) fn imm_b(word: u32) -> u32
     extended((bit_12 << 12) + (bit_11 << 11) + low, 1 << 12)
 }
 
+/// The immediate of format U.
 #[inline(always)]
-pub(crate) fn imm_u(word: u32) -> u32
+pub fn imm_u(word: u32) -> u32
     ensures { result ≡ imm_u_of word }
 {
     (word >> 12) << 12
 }
 
+/// The immediate of format J.
 #[inline(always)]
-pub(crate) fn imm_j(word: u32) -> u32
+pub fn imm_j(word: u32) -> u32
     ensures { result ≡ imm_j_of word }
 {
     let (bit_20, bits_19_to_12) = (word >> 31, word >> 12 & 0xff);
@@ -99,8 +110,9 @@ pub(crate) fn imm_j(word: u32) -> u32
     extended((bit_20 << 20) + (bits_19_to_12 << 12) + low, 1 << 20)
 }
 
+/// How far a shift by an immediate shifts.
 #[inline(always)]
-pub(crate) fn shift_amount(word: u32) -> u32
+pub fn shift_amount(word: u32) -> u32
     ensures { result ≡ shift_amount_of word }
 {
     word >> 20 & 0x1f

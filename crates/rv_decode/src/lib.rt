@@ -5,7 +5,7 @@
 
 mod decoding;
 mod encoding;
-mod fields;
+pub mod fields;
 mod instruction;
 pub mod laws;
 

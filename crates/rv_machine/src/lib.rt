@@ -6,8 +6,6 @@
 //! counted then.
 #![tactic(auto)]
 
-#[cfg(test)]
-mod below_tests;
 mod calls;
 mod changes;
 mod effect;

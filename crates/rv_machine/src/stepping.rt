@@ -127,6 +127,3 @@ fn meets(at: u32, count: u32, word: u32) -> bool
 {
     count > 0 && (word.wrapping_sub(at) < count || at.wrapping_sub(word) < 4)
 }
-
-#[cfg(test)]
-mod tests;

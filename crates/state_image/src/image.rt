@@ -18,8 +18,8 @@ pub(crate) const VERSION: u32 = 1;
 // As many pages as may be mapped.
 pub(crate) const MAX_PAGES: usize = 4096;
 
-/// The SHA-256 of a state's image.
-pub(crate) fn image_digest(state: &State) -> [u8; 32]
+/// The SHA-256 of a state's image. It takes no memory.
+pub fn image_digest(state: &State) -> [u8; 32]
     ensures { result ≡ sha256 (image state.now) }
 {
     let mut stored = [false; MAX_PAGES];

@@ -14,4 +14,5 @@ mod text;
 pub use crate::decoding::decode_image;
 pub use crate::encoding::{encode_image, max_image};
 pub use crate::fault::ImageFault;
+pub use crate::image::image_digest;
 pub use crate::text::state_line;

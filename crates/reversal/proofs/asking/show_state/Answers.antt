@@ -10,7 +10,7 @@ use Rattle.reverse_runner.specs.KeepersSeen.{Called, told_by, calls_to}
 use Rattle.reverse_runner.specs.SessionState.{SessionState, holdings_of}
 use Rattle.reverse_runner.specs.Acts.{Holdings}
 use Rattle.reverse_queries.specs.OnTheWay.{GoesThrough}
-use Rattle.reverse_queries.specs.Performing.{calls_of_all, done_after, IsOut, MissesState, Fits, RefusedIn}
+use Rattle.reverse_queries.specs.Performing.{calls_of_all, done_after, IsOut, MissesState, FaultFits, RefusedIn}
 use Rattle.reverse_queries.specs.Queries.{front_to}
 use Rattle.requests.specs.declared.ended.Ended.{Ended}
 use Rattle.requests.specs.declared.question.Question.TheVariants.{State}
@@ -90,7 +90,7 @@ returns-in-Err-clause-works g c =
     let same = c.new-writer.ensures.same in
     let unseen : fault ≢ Visitor → v ≡ w = λ other. c.in-Err.ensures.unseen (λ e. other cc) in
     let kept : v.out.ghost_name ≡ w.out.ghost_name = elim (is_visitor fault) [
-      | inl e ↦ (let F : RunFault → Type 0 = λ f. Fits Missing f refused.next refused.held in let missed : Missing refused.next refused.held = subst F e refused.fits in missed.misses.0)
+      | inl e ↦ (let F : RunFault → Type 0 = λ f. FaultFits Missing f refused.next refused.held in let missed : Missing refused.next refused.held = subst F e refused.fits in missed.misses.0)
       | inr other ↦ ap (λ x. x.out.ghost_name) (unseen other)
     ] in
     let last = c.out-1.given.1 (sym (kept ∙ c.new-writer.ensures.same_reference)) in

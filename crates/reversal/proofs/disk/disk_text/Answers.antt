@@ -3,7 +3,7 @@ use Rattle.std.specs.List.{AllByRecursion}
 use Rattle.plan_types.specs.declared.action.Action.{Action}
 use Rattle.level_book.specs.BookCosts.{slots_of, names_of, room}
 use Rattle.action_text.specs.Canonical.{HasSpelling}
-use Rattle.cost_tables.specs.TableRows.{FitsFastest}
+use Rattle.cost_tables.specs.TableRows.{FastestTablesFit}
 use Rattle.disk_gen.specs.DiskShapes.{AreDiskShaped}
 use Rattle.cert_text.specs.declared.certificate.Certificate.TheVariants.{Disk}
 use Rattle.cert_text.specs.Canonical as certificate_text
@@ -27,7 +27,7 @@ returns-clause-accepted g c =
     let b = c.in_ok-book.book in
     let t = c.in_ok-tables.tables in
     let narrow : room b 0 c.args.steps ≤ 64 = omega (arith, c.if-room-gt-MOST_IMAGES.false, c.room-room.ensures) in
-    let fits : FitsFastest c.args.steps b = record { few = c.requires.steps; narrow = narrow } in
+    let fits : FastestTablesFit c.args.steps b = record { few = c.requires.steps; narrow = narrow } in
     let D : Job → Type 0 = λ j. DecidesPlanDisk c.args.steps c.args.book.now (accept j) in
     let is : c.certify_disk-certificate.result ≡ Disk t = c.certify_disk-certificate.ensures.value in
     let plan = c.in_ok-tables.ensures.sizes.plan in

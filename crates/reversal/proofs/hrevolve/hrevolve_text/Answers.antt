@@ -3,7 +3,7 @@ use Rattle.std.specs.List.{AllByRecursion}
 use Rattle.plan_types.specs.declared.action.Action.{Action}
 use Rattle.level_book.specs.BookCosts.{slots_of, names_of}
 use Rattle.action_text.specs.Canonical.{HasSpelling}
-use Rattle.cost_tables.specs.TableRows.{Fits}
+use Rattle.cost_tables.specs.TableRows.{TablesFit}
 use Rattle.cert_text.specs.declared.certificate.Certificate.TheVariants.{Nested}
 use Rattle.cert_text.specs.Canonical as certificate_text
 use Rattle.cert_text.specs.Meaning.{HasText}
@@ -52,7 +52,7 @@ pub returns-clause-accepted : goal.returns-clause-accepted
 returns-clause-accepted g c =
     let b = c.in_ok-book.book in
     let t = c.in_ok-tables.tables in
-    let fits : Fits c.args.steps b = record { few = c.requires.steps; narrow = c.in_default.ensures } in
+    let fits : TablesFit c.args.steps b = record { few = c.requires.steps; narrow = c.in_default.ensures } in
     let D : Job → Type 0 = λ j. DecidesPlanHrevolve c.args.steps c.args.book.now (accept j) in
     let is : c.certify_nested-certificate.result ≡ Nested t = c.certify_nested-certificate.ensures.value in
     let has : HasText c.args.steps b (Nested t) =

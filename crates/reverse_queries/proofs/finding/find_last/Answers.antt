@@ -13,7 +13,7 @@ use Rattle.reverse_runner.specs.declared.fault.RunFault.TheVariants.{Keeper, Dam
 use Rattle.reverse_runner.specs.KeepersSeen.{calls_to, by_number, told_by, Called}
 use Rattle.reverse_queries.specs.Performing.{calls_of_all, PerformsAll}
 use Rattle.reverse_queries.specs.Queries.{IsLast, up_to}
-use Rattle.reverse_queries.specs.Finding.{Does, Got}
+use Rattle.reverse_queries.specs.Finding.{DoesWhatIsAsked, Got}
 use Rattle.reverse_queries.proofs.Fronts.{front_past, front_ends}
 use Rattle.std.proofs.lemmas.List.{take_all}
 use Rattle.rv_machine.specs.States.{state_number}
@@ -209,7 +209,7 @@ returns-in-Some-clause-found g c =
     let told = told_by g.K.Keeper.told in
     let acts = acts_there old mid (take i list) a _ _ so_far.way.performs done.acts in
     let even = got_even Got old.journal unit steps a held c.loop-action.finder c.perform.new.visitor gets in
-    found_on (λ states. IsLast (Does c.args.question old.journal c.args.word states) (unit * steps) (Some c.in-Some.place)) unit steps slots old.journal list (up_to unit steps (Some c.in-Some.place) list) i
+    found_on (λ states. IsLast (DoesWhatIsAsked c.args.question old.journal c.args.word states) (unit * steps) (Some c.in-Some.place)) unit steps slots old.journal list (up_to unit steps (Some c.in-Some.place) list) i
     (holdings_of old (told c.args.keepers.now.items)) held (holdings_of new (told c.perform.new.keepers.items)) mid.situation.at a new.situation.at (omega (arith, within)) front goes so_far.way.turns at acts even so_far.going.gone
     (λ states have all. ends.2 states have (so_far.going.unfound states all))
 

@@ -1,7 +1,0 @@
-use Rattle.std.proofs.Common.{map}
-use Rattle.reverse_runner.specs.KeepersSeen.{HaveRoom}
-use Rattle.reverse_runner.proofs.tests.go_through.Given as goal
-
--- each level has a keeper with room
-abbrev pub invariant-loop-action : goal.invariant-loop-action
-invariant-loop-action g l = HaveRoom l.session.situation.steps l.session.situation.slots (map g.K.Keeper.slot_count l.keepers.items)

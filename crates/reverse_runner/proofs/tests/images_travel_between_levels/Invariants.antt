@@ -1,4 +1,0 @@
-use Rattle.reverse_runner.proofs.tests.images_travel_between_levels.Given as goal
-
-abbrev pub ghosts-performed : goal.ghosts-performed
-ghosts-performed g a = record { name = a.blank.name; parts = a.blank.parts }

@@ -1,4 +1,0 @@
-use Rattle.rv_machine.proofs.stepping.tests.a_clone_goes_its_own_way_until_it_is_copied_over.Given as goal
-
-abbrev pub ghosts-stepped : goal.ghosts-stepped
-ghosts-stepped g a = record { name = a.blank.name; parts = a.blank.parts }

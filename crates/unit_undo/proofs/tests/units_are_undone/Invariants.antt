@@ -1,4 +1,0 @@
-use Rattle.unit_undo.proofs.tests.units_are_undone.Given as goal
-
-abbrev pub ghosts-go_there_and_back : goal.ghosts-go_there_and_back
-ghosts-go_there_and_back g a = record { name = a.blank.name; parts = a.blank.parts }
