@@ -12,8 +12,8 @@ use Rattle.hex.specs.Hex.{IsBytes, decode_sized}
 use Rattle.hex.proofs.HexLemmas.{decode_sized-encode_lower, decode_sized-ok, decode_sized-twice, decode_of-ok}
 use Rattle.state_image.specs.Line.{hex_word}
 use Rattle.requests.specs.Reading.{◌>>=◌, after_of}
-use Rattle.requests.specs.Request.{address_word}
-use Rattle.requests.specs.RequestReading.{address_of}
+use Rattle.requests.specs.Operands.{address_word}
+use Rattle.requests.specs.Forms.{address_of}
 use Rattle.requests.proofs.Steps.{passed_then, bind_some}
 use Rattle.requests.proofs.Texts.{after_again, after_taken}
 

@@ -2,6 +2,9 @@ pub mod Steps
 pub mod Decimal
 pub mod Texts
 pub mod Addresses
+pub mod Forming
+pub mod Placed
+pub mod Commands
 pub mod Requests
 pub mod Refusing
 pub mod Placing

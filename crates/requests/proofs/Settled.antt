@@ -1,5 +1,5 @@
 -- A request is refused by its numbers in one way or not at all, and words that say it are refused as it is.
-use Rattle.std.proofs.Common.{◌≡◌, ◌⊎◌, inl, inr, ℕ, List, [], ◌∷◌, sym, ◌∙◌, ap, subst, arith}
+use Rattle.std.proofs.Common.{◌≡◌, inl, inr, ℕ, List, [], ◌∷◌, sym, ◌∙◌, ap, subst, arith}
 use Rattle.std.specs.List.{AllByRecursion}
 use Rattle.requests.specs.declared.ended.Ended.{Ended}
 use Rattle.requests.specs.declared.bounds.Bounded.{Bounded}

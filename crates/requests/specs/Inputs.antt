@@ -1,53 +1,17 @@
 -- The inputs of a command, and what is there under their names.
-use Rattle.std.specs.Prelude.{◌≡◌, ℕ, ◌+◌, ◌-◌, ◌<◌, ◌≤◌, ◌++◌, List, [], ◌∷◌, length, map, take, nat_le, if◌then◌else◌, Option, None, Some, IsSomeAnd}
-use Rattle.std.specs.List.{AllByRecursion}
+use Rattle.std.specs.Prelude.{◌≡◌, ℕ, ◌+◌, ◌-◌, ◌<◌, ◌≤◌, ◌++◌, List, [], ◌∷◌, length, map, take, nat_le, if◌then◌else◌, Option, Some, IsSomeAnd}
+use Rattle.std.specs.List.{AllByRecursion, flat_map}
 use Rattle.std.specs.FinMap as finmap
 use Rattle.keepers.specs.Told.{Files, WhereTold}
 use Rattle.requests.specs.declared.ended.Ended.{Ended}
-use Rattle.requests.specs.Request.{Run, RunRevolve, Command, run, run_revolve, plan, plan_periodic, check, certify, price, ask, demo}
+pub use Rattle.requests.specs.Operands.{Input}
+use Rattle.requests.specs.Operands.{inputs_named}
+use Rattle.requests.specs.Request.{Command, operands}
 use Rattle.requests.specs.Ending.{unreadable}
-
--- an input by its name, and how many bytes it may have
-pub record Input : Type 0 where
-  pub name : List ℕ
-  pub limit : ℕ
-
--- each kind of input, with its limit
-abbrev pub program_input : List ℕ → Input
-program_input name = record { name = name; limit = 33554432 }
-
-abbrev pub journal_input : List ℕ → Input
-journal_input name = record { name = name; limit = 67108864 }
-
-abbrev pub book_input : List ℕ → Input
-book_input name = record { name = name; limit = 65536 }
-
-abbrev pub schedule_input : List ℕ → Input
-schedule_input name = record { name = name; limit = 536870912 }
-
-abbrev pub certificate_input : List ℕ → Input
-certificate_input name = record { name = name; limit = 536870912 }
-
--- the inputs of a run; without a name for recorded input none is read
-abbrev pub run_inputs : Option (List ℕ) → Run → List Input
-run_inputs None c = program_input c.program ∷ book_input c.book ∷ schedule_input c.schedule ∷ []
-run_inputs (Some journal) c = program_input c.program ∷ journal_input journal ∷ book_input c.book ∷ schedule_input c.schedule ∷ []
-
-abbrev pub run_revolve_inputs : Option (List ℕ) → RunRevolve → List Input
-run_revolve_inputs None c = program_input c.program ∷ book_input c.book ∷ []
-run_revolve_inputs (Some journal) c = program_input c.program ∷ journal_input journal ∷ book_input c.book ∷ []
 
 -- the inputs of a command, in the order of the words; a demonstration makes its own
 abbrev pub inputs_of : Command → List Input
-inputs_of (run c) = run_inputs c.journal c
-inputs_of (run_revolve c) = run_revolve_inputs c.journal c
-inputs_of (plan c) = book_input c.book ∷ []
-inputs_of (plan_periodic c) = book_input c.book ∷ []
-inputs_of (check c) = book_input c.book ∷ schedule_input c.schedule ∷ []
-inputs_of (certify c) = book_input c.book ∷ schedule_input c.schedule ∷ certificate_input c.certificate ∷ []
-inputs_of (price c) = book_input c.book ∷ schedule_input c.schedule ∷ []
-inputs_of (ask c) = run_inputs c.run.journal c.run
-inputs_of (demo c) = []
+inputs_of c = flat_map inputs_named (operands c)
 
 abbrev pub names : List Input → List (List ℕ)
 names is = map (λ i. i.name) is

@@ -1,3 +1,4 @@
+pub mod Operands
 pub mod Request
 pub mod Bounds
 pub mod Places
@@ -5,5 +6,6 @@ pub mod Inputs
 pub mod Ending
 pub mod Reading
 pub mod ChoiceReading
+pub mod Forms
 pub mod RequestReading
 pub mod InputReading

@@ -14,14 +14,14 @@
 --     ask last-write PROGRAM JOURNAL BOOK SCHEDULE N ADDRESS
 --     ask last-change PROGRAM JOURNAL BOOK SCHEDULE N ADDRESS
 --     demo NUMBER N SLOTS
-use Rattle.std.specs.Prelude.{◌≡◌, ◌≢◌, ℕ, ◌<◌, ◌≤◌, ◌^◌, ◌==◌, Bool, true, false, List, [], ◌∷◌, ◌++◌, codes, decimal, map, count_by, Option, None, Some}
+use Rattle.std.specs.Prelude.{◌≡◌, ℕ, ◌≤◌, ◌==◌, Bool, true, false, List, [], ◌∷◌, ◌++◌, codes, decimal, map, count_by, Option}
 use Rattle.std.specs.List.{AllByRecursion, list_any}
 use Rattle.requests.specs.declared.words.Words.{Words}
 use Rattle.requests.specs.declared.kind.PlanKind.{PlanKind}
 use Rattle.requests.specs.declared.kind.PlanKind.TheVariants.{Revolve, Multistage, Disk, Hrevolve}
 use Rattle.requests.specs.declared.question.Question.{Question}
 use Rattle.requests.specs.declared.question.Question.TheVariants.{State, LastWrite, LastChange}
-use Rattle.state_image.specs.Line.{hex_word}
+use Rattle.requests.specs.Operands.{Limit, Operand, the_word, a_program, a_journal, a_book, a_schedule, a_certificate, a_number, a_question, word_of, IsName, IsNumber, CanStand}
 
 -- ---- options
 
@@ -127,7 +127,7 @@ pub record Demo : Type 0 where
   pub steps : ℕ
   pub slots : ℕ
 
--- A command that is added is a case here, and in each definition by cases on commands.
+-- A command that is added is a case here, and a row in `operands`.
 pub data Command : Type 0 where
   run : Run → Command
   run_revolve : RunRevolve → Command
@@ -139,11 +139,6 @@ pub data Command : Type 0 where
   ask : Ask → Command
   demo : Demo → Command
 
--- the word of a name that may be left out
-abbrev pub word_or_dash : Option (List ℕ) → List ℕ
-word_or_dash (Some name) = name
-word_or_dash None = codes "-"
-
 -- the word of a kind of plans
 abbrev pub kind_word : PlanKind → List ℕ
 kind_word Revolve = codes "revolve"
@@ -151,31 +146,59 @@ kind_word Multistage = codes "multistage"
 kind_word Disk = codes "disk"
 kind_word Hrevolve = codes "hrevolve"
 
--- the word of a question, and that of its number: a state's is decimal, an address `0x` and eight lower-case hexadecimal digits
+-- the word of a question
 abbrev pub question_word : Question → List ℕ
 question_word (State place) = codes "state"
 question_word (LastWrite address) = codes "last-write"
 question_word (LastChange address) = codes "last-change"
 
-abbrev pub address_word : ℕ → List ℕ
-address_word address = codes "0x" ++ hex_word address
+-- The limits of numbers. Rule 1 is the number of steps, 2 a period, 10 a number of slots, and 11 the number that a program is made
+-- from, which has 32 bits.
+abbrev pub steps_limit : Limit
+steps_limit = record { least = 0; greatest = 1000000; rule = 1 }
 
-abbrev pub question_number : Question → List ℕ
-question_number (State place) = decimal place
-question_number (LastWrite address) = address_word address
-question_number (LastChange address) = address_word address
+-- plans over costs are read from tables, which are kept small
+abbrev pub plan_limit : PlanKind → Limit
+plan_limit Revolve = steps_limit
+plan_limit Multistage = steps_limit
+plan_limit Disk = record { least = 0; greatest = 8192; rule = 1 }
+plan_limit Hrevolve = record { least = 0; greatest = 2048; rule = 1 }
+
+abbrev pub period_limit : Limit
+period_limit = record { least = 1; greatest = 1000000; rule = 2 }
+
+abbrev pub slots_limit : Limit
+slots_limit = record { least = 0; greatest = 1000000; rule = 10 }
+
+abbrev pub seed_limit : Limit
+seed_limit = record { least = 0; greatest = 4294967295; rule = 11 }
+
+-- the rows: the words and operands of each command, in their order
+abbrev pub operands : Command → List Operand
+operands (run c) =
+    the_word (codes "run") ∷ a_program c.program ∷ a_journal c.journal ∷ a_book c.book ∷ a_schedule c.schedule
+    ∷ a_number steps_limit c.steps ∷ []
+operands (run_revolve c) =
+    the_word (codes "run") ∷ a_program c.program ∷ a_journal c.journal ∷ a_book c.book ∷ the_word (codes "@revolve")
+    ∷ a_number steps_limit c.steps ∷ []
+operands (plan c) = the_word (codes "plan") ∷ the_word (kind_word c.kind) ∷ a_book c.book ∷ a_number (plan_limit c.kind) c.steps ∷ []
+operands (plan_periodic c) =
+    the_word (codes "plan") ∷ the_word (codes "periodic") ∷ a_book c.book ∷ a_number steps_limit c.steps ∷ a_number period_limit c.period ∷ []
+operands (check c) = the_word (codes "check") ∷ a_book c.book ∷ a_schedule c.schedule ∷ a_number steps_limit c.steps ∷ []
+operands (certify c) =
+    the_word (codes "certify") ∷ a_book c.book ∷ a_schedule c.schedule ∷ a_certificate c.certificate ∷ a_number steps_limit c.steps ∷ []
+operands (price c) = the_word (codes "cost") ∷ a_book c.book ∷ a_schedule c.schedule ∷ a_number steps_limit c.steps ∷ []
+operands (ask c) =
+    the_word (codes "ask") ∷ the_word (question_word c.question) ∷ a_program c.run.program ∷ a_journal c.run.journal ∷ a_book c.run.book
+    ∷ a_schedule c.run.schedule ∷ a_number steps_limit c.run.steps ∷ a_question c.run.steps c.question ∷ []
+operands (demo c) = the_word (codes "demo") ∷ a_number seed_limit c.number ∷ a_number steps_limit c.steps ∷ a_number slots_limit c.slots ∷ []
 
 abbrev pub command_words : Command → List (List ℕ)
-command_words (run c) = codes "run" ∷ c.program ∷ word_or_dash c.journal ∷ c.book ∷ c.schedule ∷ decimal c.steps ∷ []
-command_words (run_revolve c) = codes "run" ∷ c.program ∷ word_or_dash c.journal ∷ c.book ∷ codes "@revolve" ∷ decimal c.steps ∷ []
-command_words (plan c) = codes "plan" ∷ kind_word c.kind ∷ c.book ∷ decimal c.steps ∷ []
-command_words (plan_periodic c) = codes "plan" ∷ codes "periodic" ∷ c.book ∷ decimal c.steps ∷ decimal c.period ∷ []
-command_words (check c) = codes "check" ∷ c.book ∷ c.schedule ∷ decimal c.steps ∷ []
-command_words (certify c) = codes "certify" ∷ c.book ∷ c.schedule ∷ c.certificate ∷ decimal c.steps ∷ []
-command_words (price c) = codes "cost" ∷ c.book ∷ c.schedule ∷ decimal c.steps ∷ []
-command_words (ask c) =
-    codes "ask" ∷ question_word c.question ∷ c.run.program ∷ word_or_dash c.run.journal ∷ c.run.book ∷ c.run.schedule ∷ decimal c.run.steps ∷ question_number c.question ∷ []
-command_words (demo c) = codes "demo" ∷ decimal c.number ∷ decimal c.steps ∷ decimal c.slots ∷ []
+command_words c = map word_of (operands c)
+
+-- the names and numbers of a command may stand among its words
+abbrev pub CanBeSpelled : Command → Type 0
+CanBeSpelled c = AllByRecursion CanStand (operands c)
 
 -- ---- requests
 
@@ -186,28 +209,6 @@ pub record Request : Type 0 where
 -- the words of a request
 abbrev pub spelling : Request → List (List ℕ)
 spelling r = map option_word r.options ++ command_words r.command
-
--- A name is any word that isn't empty. The name of a schedule isn't the word @revolve, which has a meaning of its own.
-abbrev pub IsName : List ℕ → Type 0
-IsName word = word ≢ []
-
-abbrev pub IsScheduleName : List ℕ → Type 0
-IsScheduleName word = IsName word × (word ≢ codes "@revolve")
-
--- A number is below 2 ^ 64. Its spelling has neither a sign nor a leading zero.
-abbrev pub IsNumber : ℕ → Type 0
-IsNumber n = n < 2 ^ 64
-
--- a name that may be left out isn't the word for that
-abbrev pub MayBeNamed : Option (List ℕ) → Type 0
-MayBeNamed (Some name) = IsName name × (name ≢ codes "-")
-MayBeNamed None = Unit {0}
-
--- an address has 32 bits
-abbrev pub IsQuestion : Question → Type 0
-IsQuestion (State place) = IsNumber place
-IsQuestion (LastWrite address) = address < 2 ^ 32
-IsQuestion (LastChange address) = address < 2 ^ 32
 
 -- the number of an option, and the name of its folder, may stand in its word
 abbrev pub FitsWord : Choice → Type 0
@@ -223,21 +224,6 @@ pub record AreOptions (options : List Choice) : Type 0 where
   pub one_workers : count_by is_workers options ≤ 1
   pub one_folder : (level : ℕ) → count_by (is_files level) options ≤ 1
   pub fit : AllByRecursion FitsWord options
-
--- the names and numbers of a command may stand among its words
-abbrev pub IsRun : Run → Type 0
-IsRun c = IsName c.program × MayBeNamed c.journal × IsName c.book × IsScheduleName c.schedule × IsNumber c.steps
-
-abbrev pub CanBeSpelled : Command → Type 0
-CanBeSpelled (run c) = IsRun c
-CanBeSpelled (run_revolve c) = IsName c.program × MayBeNamed c.journal × IsName c.book × IsNumber c.steps
-CanBeSpelled (plan c) = IsName c.book × IsNumber c.steps
-CanBeSpelled (plan_periodic c) = IsName c.book × IsNumber c.steps × IsNumber c.period
-CanBeSpelled (check c) = IsName c.book × IsScheduleName c.schedule × IsNumber c.steps
-CanBeSpelled (certify c) = IsName c.book × IsScheduleName c.schedule × IsName c.certificate × IsNumber c.steps
-CanBeSpelled (price c) = IsName c.book × IsScheduleName c.schedule × IsNumber c.steps
-CanBeSpelled (ask c) = IsRun c.run × IsQuestion c.question
-CanBeSpelled (demo c) = IsNumber c.number × IsNumber c.steps × IsNumber c.slots
 
 -- the words say this request
 pub record Says (words : List (List ℕ)) (r : Request) : Type 0 where

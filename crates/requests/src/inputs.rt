@@ -3,7 +3,8 @@ ghost use Rattle.std.specs.Prelude.{◌≡◌, ◌≢◌, ℕ, ◌+◌, ◌<◌,
 ghost use Rattle.std.specs.FinMap as finmap;
 ghost use Rattle.keepers.specs.Counts.{Rose};
 ghost use Rattle.keepers.specs.Told.{WhereTold};
-ghost use Rattle.requests.specs.Inputs.{program_input, journal_input, book_input, schedule_input, certificate_input, inputs_of, names};
+ghost use Rattle.requests.specs.Operands.{program_input, journal_input, book_input, schedule_input, certificate_input};
+ghost use Rattle.requests.specs.Inputs.{inputs_of, names};
 ghost use Rattle.requests.specs.InputReading.{input_of, all, Reads, Stops};
 ghost use Rattle.requests.specs.Request.{run as run_command, run_revolve as run_revolve_command};
 ghost use Rattle.requests.specs.RequestReading.{as_run, as_run_revolve, as_command};

@@ -1,7 +1,7 @@
 //! What the words of a call ask for, what is read for it, and how a call ends. It knows nothing of runs and of schedules;
 //! `reversal`, above it, decides what a request comes to and does it. The files of `specs/` are to be read in this order:
-//! `Request` (what the words say), `Bounds` (its numbers), `Places` (where images are kept), `Inputs` (what is read), and
-//! `Ending`.
+//! `Operands` (their kinds), `Request` (what the words say), `Bounds` (its numbers), `Places` (where images are kept),
+//! `Inputs` (what is read), and `Ending`.
 #![tactic(auto)]
 
 mod bounds;
@@ -9,9 +9,11 @@ mod ended;
 mod inputs;
 mod kind;
 mod number;
+mod operands;
 mod options;
 mod places;
 mod question;
+mod reading;
 mod request;
 mod text;
 mod words;

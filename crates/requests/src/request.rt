@@ -1,17 +1,19 @@
 // What the words ask for: options and a command, as a value that borrows the names.
-ghost use Rattle.std.specs.Prelude.{◌≡◌, ◌↔◌, map, IfSome, IfNone, MatchOption, option_map};
+ghost use Rattle.std.specs.Prelude.{◌≡◌, map, IfSome, IfNone, MatchOption};
 ghost use Rattle.std.specs.List.{AllByRecursion, flat_map};
-ghost use Rattle.requests.specs.Request.{Request as ARequest, Says};
-ghost use Rattle.requests.specs.Bounds.{plan_bound, question_bound, numbers, option_numbers, command_numbers, IsWithin, RefusesFirst};
+ghost use Rattle.requests.specs.Operands.{within, question_bound};
+ghost use Rattle.requests.specs.Request.{Request as ARequest, Says, steps_limit, plan_limit, period_limit, slots_limit, seed_limit};
+ghost use Rattle.requests.specs.Bounds.{stack_limit, workers_limit, level_limit, numbers, option_numbers, command_numbers, IsWithin, RefusesFirst};
 ghost use Rattle.requests.specs.Reading.{Gives};
 ghost use Rattle.requests.specs.ChoiceReading.{options_at, as_choice};
-ghost use Rattle.requests.specs.RequestReading.{is_name, is_schedule_name, name_or_none, run_of, run_revolve_of, kind_of, plan_for_of, plan_periodic_of, check_of, certify_of, price_of, ask_of, demo_of, any_run_of, of_three_of, of_four_of, of_seven_of, command_of, request_read, as_run, as_run_revolve, as_plan, as_plan_periodic, as_check, as_certify, as_price, as_ask, as_demo, as_command, request_of};
+ghost use Rattle.requests.specs.RequestReading.{request_read, as_command, request_of};
 
 use crate::bounds::{Bounded, first_outside};
 use crate::ended::Ended;
 use crate::kind::PlanKind;
-use crate::options::{Choice, Options, next_option, number_in, read_options};
-use crate::question::{Question, read_question};
+use crate::options::{Choice, Options, next_option, read_options};
+use crate::question::Question;
+use crate::reading::read_command;
 use plan_types::{MOST_SLOTS, MOST_STEPS};
 
 // The address of the last word in the machine's memory.
@@ -126,7 +128,7 @@ pub struct Demo {
 
 // The bounds of the number of the stack's pages.
 fn stack_bound(pages: u64) -> Bounded
-    ensures { result ≡ record { number = pages; least = 1; greatest = 1024; rule = 4 } }
+    ensures { result ≡ within stack_limit pages }
 {
     Bounded {
         number: pages,
@@ -138,7 +140,7 @@ fn stack_bound(pages: u64) -> Bounded
 
 // The bounds of the number of workers.
 fn workers_bound(count: u64) -> Bounded
-    ensures { result ≡ record { number = count; least = 1; greatest = 64; rule = 3 } }
+    ensures { result ≡ within workers_limit count }
 {
     Bounded {
         number: count,
@@ -150,7 +152,7 @@ fn workers_bound(count: u64) -> Bounded
 
 // The bounds of a level.
 fn level_bound(level: u64) -> Bounded
-    ensures { result ≡ record { number = level; least = 0; greatest = 3; rule = 5 } }
+    ensures { result ≡ within level_limit level }
 {
     Bounded {
         number: level,
@@ -162,7 +164,7 @@ fn level_bound(level: u64) -> Bounded
 
 // The bounds of the number of steps.
 fn steps_bound(steps: u64) -> Bounded
-    ensures { result ≡ record { number = steps; least = 0; greatest = 1000000; rule = 1 } }
+    ensures { result ≡ within steps_limit steps }
 {
     Bounded {
         number: steps,
@@ -174,7 +176,7 @@ fn steps_bound(steps: u64) -> Bounded
 
 // The bounds of the number of a plan's steps.
 fn plan_bound(kind: PlanKind, steps: u64) -> Bounded
-    ensures { result ≡ plan_bound kind steps }
+    ensures { result ≡ within (plan_limit kind) steps }
 {
     match kind {
         PlanKind::Revolve | PlanKind::Multistage => steps_bound(steps),
@@ -195,7 +197,7 @@ fn plan_bound(kind: PlanKind, steps: u64) -> Bounded
 
 // The bounds of a period.
 fn period_bound(period: u64) -> Bounded
-    ensures { result ≡ record { number = period; least = 1; greatest = 1000000; rule = 2 } }
+    ensures { result ≡ within period_limit period }
 {
     Bounded {
         number: period,
@@ -227,7 +229,7 @@ fn question_bound(steps: u64, question: Question) -> Bounded
 
 // The bounds of the number of a demonstration's slots.
 fn slots_bound(slots: u64) -> Bounded
-    ensures { result ≡ record { number = slots; least = 0; greatest = 1000000; rule = 10 } }
+    ensures { result ≡ within slots_limit slots }
 {
     Bounded {
         number: slots,
@@ -239,7 +241,7 @@ fn slots_bound(slots: u64) -> Bounded
 
 // The bounds of the number that a program is made from.
 fn seed_bound(number: u64) -> Bounded
-    ensures { result ≡ record { number = number; least = 0; greatest = 4294967295; rule = 11 } }
+    ensures { result ≡ within seed_limit number }
 {
     Bounded {
         number,
@@ -314,311 +316,6 @@ impl Command<'_> {
                 slots_bound(demo.slots),
             ]),
         }
-    }
-}
-
-// Whether a word may name a schedule.
-fn is_schedule_name(word: &[u8]) -> bool
-    ensures { result ≡ is_schedule_name word.now }
-{
-    !word.is_empty() && word != b"@revolve".as_slice()
-}
-
-// The name that a word is, but for the word that stands for none.
-fn name_or_none(word: &[u8]) -> Option<&[u8]>
-    ensures { option_map (λ name. name.now) result ≡ name_or_none word.now }
-{
-    if word == b"-".as_slice() {
-        None
-    } else {
-        Some(word)
-    }
-}
-
-#[tactic(auto, unfolding(crate::specs::RequestReading::run_of))]
-fn read_run<'a>(
-    program: &'a [u8],
-    journal: &'a [u8],
-    book: &'a [u8],
-    schedule: &'a [u8],
-    steps: &[u8],
-) -> Option<Run<'a>>
-    ensures { Gives as_run result (run_of program.now journal.now book.now schedule.now steps.now) }
-{
-    let are_names = !program.is_empty()
-        && !journal.is_empty()
-        && !book.is_empty()
-        && is_schedule_name(schedule);
-    if !are_names {
-        return None;
-    }
-    let steps = number_in(steps)?;
-    Some(Run {
-        program,
-        journal: name_or_none(journal),
-        book,
-        schedule,
-        steps,
-    })
-}
-
-#[tactic(auto, unfolding(crate::specs::RequestReading::run_revolve_of))]
-fn read_run_revolve<'a>(
-    program: &'a [u8],
-    journal: &'a [u8],
-    book: &'a [u8],
-    steps: &[u8],
-) -> Option<RunRevolve<'a>>
-    ensures { Gives as_run_revolve result (run_revolve_of program.now journal.now book.now steps.now) }
-{
-    let are_names = !program.is_empty() && !journal.is_empty() && !book.is_empty();
-    if !are_names {
-        return None;
-    }
-    let steps = number_in(steps)?;
-    Some(RunRevolve {
-        program,
-        journal: name_or_none(journal),
-        book,
-        steps,
-    })
-}
-
-// The kind of plans that a word is.
-#[tactic(auto, unfolding(crate::specs::RequestReading::kind_of))]
-fn read_kind(word: &[u8]) -> Option<PlanKind>
-    ensures { result ≡ kind_of word.now }
-{
-    if word == b"revolve".as_slice() {
-        return Some(PlanKind::Revolve);
-    }
-    if word == b"multistage".as_slice() {
-        return Some(PlanKind::Multistage);
-    }
-    if word == b"disk".as_slice() {
-        return Some(PlanKind::Disk);
-    }
-    if word == b"hrevolve".as_slice() {
-        return Some(PlanKind::Hrevolve);
-    }
-    None
-}
-
-#[tactic(auto, unfolding(crate::specs::RequestReading::plan_for_of))]
-fn read_plan_for<'a>(kind: &[u8], book: &'a [u8], steps: &[u8]) -> Option<PlanFor<'a>>
-    ensures { Gives as_plan result (plan_for_of kind.now book.now steps.now) }
-{
-    let kind = read_kind(kind)?;
-    if book.is_empty() {
-        return None;
-    }
-    let steps = number_in(steps)?;
-    Some(PlanFor { kind, book, steps })
-}
-
-#[tactic(auto, unfolding(crate::specs::RequestReading::plan_periodic_of))]
-fn read_plan_periodic<'a>(book: &'a [u8], steps: &[u8], period: &[u8]) -> Option<PlanPeriodic<'a>>
-    ensures { Gives as_plan_periodic result (plan_periodic_of book.now steps.now period.now) }
-{
-    if book.is_empty() {
-        return None;
-    }
-    let steps = number_in(steps)?;
-    let period = number_in(period)?;
-    Some(PlanPeriodic {
-        book,
-        steps,
-        period,
-    })
-}
-
-#[tactic(auto, unfolding(crate::specs::RequestReading::check_of))]
-fn read_check<'a>(book: &'a [u8], schedule: &'a [u8], steps: &[u8]) -> Option<Check<'a>>
-    ensures { Gives as_check result (check_of book.now schedule.now steps.now) }
-{
-    let are_names = !book.is_empty() && is_schedule_name(schedule);
-    if !are_names {
-        return None;
-    }
-    let steps = number_in(steps)?;
-    Some(Check {
-        book,
-        schedule,
-        steps,
-    })
-}
-
-#[tactic(auto, unfolding(crate::specs::RequestReading::certify_of))]
-fn read_certify<'a>(
-    book: &'a [u8],
-    schedule: &'a [u8],
-    certificate: &'a [u8],
-    steps: &[u8],
-) -> Option<Certify<'a>>
-    ensures { Gives as_certify result (certify_of book.now schedule.now certificate.now steps.now) }
-{
-    let are_names = !book.is_empty() && is_schedule_name(schedule) && !certificate.is_empty();
-    if !are_names {
-        return None;
-    }
-    let steps = number_in(steps)?;
-    Some(Certify {
-        book,
-        schedule,
-        certificate,
-        steps,
-    })
-}
-
-#[tactic(auto, unfolding(crate::specs::RequestReading::price_of))]
-fn read_price<'a>(book: &'a [u8], schedule: &'a [u8], steps: &[u8]) -> Option<Price<'a>>
-    ensures { Gives as_price result (price_of book.now schedule.now steps.now) }
-{
-    let are_names = !book.is_empty() && is_schedule_name(schedule);
-    if !are_names {
-        return None;
-    }
-    let steps = number_in(steps)?;
-    Some(Price {
-        book,
-        schedule,
-        steps,
-    })
-}
-
-#[tactic(auto, unfolding(crate::specs::RequestReading::ask_of))]
-fn read_ask<'a>(
-    kind: &[u8],
-    program: &'a [u8],
-    journal: &'a [u8],
-    book: &'a [u8],
-    schedule: &'a [u8],
-    steps: &[u8],
-    number: &[u8],
-) -> Option<Ask<'a>>
-    ensures { Gives as_ask result (ask_of kind.now program.now journal.now book.now schedule.now steps.now number.now) }
-{
-    let run = read_run(program, journal, book, schedule, steps)?;
-    let question = read_question(kind, number)?;
-    Some(Ask { question, run })
-}
-
-#[tactic(auto, unfolding(crate::specs::RequestReading::demo_of))]
-fn read_demo(number: &[u8], steps: &[u8], slots: &[u8]) -> Option<Demo>
-    ensures { Gives as_demo result (demo_of number.now steps.now slots.now) }
-{
-    let number = number_in(number)?;
-    let steps = number_in(steps)?;
-    let slots = number_in(slots)?;
-    Some(Demo {
-        number,
-        steps,
-        slots,
-    })
-}
-
-// A run, by a named schedule or by the list of Revolve.
-fn read_any_run<'a>(
-    program: &'a [u8],
-    journal: &'a [u8],
-    book: &'a [u8],
-    schedule: &'a [u8],
-    steps: &[u8],
-) -> Option<Command<'a>>
-    ensures { Gives as_command result (any_run_of program.now journal.now book.now schedule.now steps.now) }
-{
-    if schedule == b"@revolve".as_slice() {
-        let run = read_run_revolve(program, journal, book, steps)?;
-        return Some(Command::RunRevolve(run));
-    }
-    let run = read_run(program, journal, book, schedule, steps)?;
-    Some(Command::Run(run))
-}
-
-// A command that is its name and three words.
-fn read_of_three<'a>(
-    name: &[u8],
-    first: &'a [u8],
-    second: &'a [u8],
-    third: &[u8],
-) -> Option<Command<'a>>
-    ensures { Gives as_command result (of_three_of name.now first.now second.now third.now) }
-{
-    if name == b"check".as_slice() {
-        let check = read_check(first, second, third)?;
-        return Some(Command::Check(check));
-    }
-    if name == b"plan".as_slice() {
-        let plan = read_plan_for(first, second, third)?;
-        return Some(Command::Plan(plan));
-    }
-    if name == b"cost".as_slice() {
-        let price = read_price(first, second, third)?;
-        return Some(Command::Price(price));
-    }
-    if name == b"demo".as_slice() {
-        let demo = read_demo(first, second, third)?;
-        return Some(Command::Demo(demo));
-    }
-    None
-}
-
-// A command that is its name and four words.
-fn read_of_four<'a>(
-    name: &[u8],
-    first: &'a [u8],
-    second: &'a [u8],
-    third: &'a [u8],
-    fourth: &[u8],
-) -> Option<Command<'a>>
-    ensures { Gives as_command result (of_four_of name.now first.now second.now third.now fourth.now) }
-{
-    if name == b"certify".as_slice() {
-        let certify = read_certify(first, second, third, fourth)?;
-        return Some(Command::Certify(certify));
-    }
-    if name == b"plan".as_slice() && first == b"periodic".as_slice() {
-        let plan = read_plan_periodic(second, third, fourth)?;
-        return Some(Command::PlanPeriodic(plan));
-    }
-    None
-}
-
-// A command that is its name and seven words.
-fn read_of_seven<'a>(
-    name: &[u8],
-    kind: &[u8],
-    program: &'a [u8],
-    journal: &'a [u8],
-    book: &'a [u8],
-    schedule: &'a [u8],
-    steps: &[u8],
-    number: &[u8],
-) -> Option<Command<'a>>
-    ensures { Gives as_command result (of_seven_of name.now kind.now program.now journal.now book.now schedule.now steps.now number.now) }
-{
-    if name == b"ask".as_slice() {
-        let ask = read_ask(kind, program, journal, book, schedule, steps, number)?;
-        return Some(Command::Ask(ask));
-    }
-    None
-}
-
-// The command that the words behind the options are.
-#[tactic(auto, unfolding(crate::specs::RequestReading::command_of))]
-fn read_command(words: &[Vec<u8>]) -> Option<Command<'_>>
-    ensures { Gives as_command result (command_of (map (λ w. w.items) words.now)) }
-{
-    match words {
-        [name, kind, program, journal, book, schedule, steps, number] => {
-            read_of_seven(name, kind, program, journal, book, schedule, steps, number)
-        }
-        [name, program, journal, book, schedule, steps] if name.as_slice() == b"run".as_slice() => {
-            read_any_run(program, journal, book, schedule, steps)
-        }
-        [name, first, second, third, fourth] => read_of_four(name, first, second, third, fourth),
-        [name, first, second, third] => read_of_three(name, first, second, third),
-        _ => None,
     }
 }
 

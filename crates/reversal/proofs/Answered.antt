@@ -16,7 +16,8 @@ use Rattle.reverse_runner.specs.KeepersSeen.{calls_of}
 use Rattle.reverse_queries.specs.Queries.{hands_out, front_to, up_to}
 use Rattle.requests.specs.declared.question.Question.{Question}
 use Rattle.requests.specs.declared.question.Question.TheVariants.{State, LastWrite, LastChange}
-use Rattle.requests.specs.Bounds.{IsWithin, question_bound}
+use Rattle.requests.specs.Operands.{question_bound}
+use Rattle.requests.specs.Bounds.{IsWithin}
 use Rattle.reversal.specs.Output.{line_of}
 use Rattle.reversal.specs.Deeds.{Deed, States, Shown, ask, deed_for, unseen_deed, writing, answer_text, deeds, output, steps_taken, bytes_of, bytes_written, writes_made, steps_made}
 

@@ -1,5 +1,5 @@
 -- From what the steps of the top call answer to what it promises.
-use Rattle.std.proofs.Common.{◌≡◌, ◌≢◌, ◌⊎◌, ◌<◌, inl, inr, ℕ, List, [], ◌∷◌, Option, Result, Ok, Err, IfOk, IfErr, sym, ◌∙◌, ap, subst, arith}
+use Rattle.std.proofs.Common.{◌≡◌, ◌≢◌, ◌⊎◌, ◌<◌, inl, inr, ℕ, List, Option, Result, Ok, Err, IfOk, IfErr, sym, ap, subst, arith}
 use Rattle.keepers.specs.Told.{Files}
 use Rattle.requests.specs.declared.ended.Ended.{Ended}
 use Rattle.requests.specs.Ending.{no_memory, too_long as longer}

@@ -1,6 +1,6 @@
 -- What was done of a question: the actions of a list, up to one that was refused, or all of them, and then its answer.
 use Rattle.std.proofs.Common.{◌≡◌, ◌≢◌, ◌⊎◌, inl, inr, ℕ, zero, suc, ◌+◌, ◌*◌, ◌^◌, ◌<◌, ◌≤◌, ◌++◌, ◌==◌, ◌&&◌, Bool, true, false, cond, List, [], ◌∷◌, length, map, take, append-nil, Option, None, Some, refl, sym, ◌∙◌, ap, subst, arith, slice_get, sum_by}
-use Rattle.std.proofs.lemmas.Bool.{eqb-true, eq-eqb, le-leb, lt-ltb, false≢true}
+use Rattle.std.proofs.lemmas.Bool.{eqb-true, eq-eqb, le-leb, lt-ltb}
 use Rattle.std.proofs.lemmas.List.{take-map, take_all, take_at}
 use Rattle.std.proofs.lemmas.List.Sums.{sum_by-cons, sum_by-append}
 use Rattle.std.proofs.lemmas.Option.{none-some, same_Some}
@@ -11,7 +11,7 @@ use Rattle.level_book.specs.declared.book.Slots.{Slots}
 use Rattle.level_book.specs.Valid.{Valid}
 use Rattle.level_book.specs.CostFold.{steps_of, forward, writes, reads}
 use Rattle.keepers.specs.Counts.{raised}
-use Rattle.keepers.specs.Told.{Images, Tells, AddsPrefix}
+use Rattle.keepers.specs.Told.{Tells, AddsPrefix}
 use Rattle.rv_machine.specs.MachineState.{MachineState}
 use Rattle.rv_machine.specs.States.{state_number}
 use Rattle.reverse_runner.specs.declared.fault.RunFault.{RunFault}
@@ -30,7 +30,7 @@ use Rattle.requests.specs.declared.question.Question.{Question}
 use Rattle.requests.specs.declared.question.Question.TheVariants.{State}
 use Rattle.reversal.specs.Output.{line_of, Adds}
 use Rattle.requests.specs.Ending.{done, stopped}
-use Rattle.reversal.specs.Deeds.{Job, Deed, States, Shown, ask, deed_for, unseen_deed, writing, answer_text, deeds, bytes_of, bytes_written, writes_made, steps_made, calls_made, Moment, Did, BreaksOff, ComesTo, held_at_start, IsDamagedIn, IsShown, IsShownNext, IsFound, IsAnswered, AllTell, output, steps_taken, shown_place}
+use Rattle.reversal.specs.Deeds.{Job, Deed, States, Shown, ask, deed_for, unseen_deed, writing, answer_text, deeds, bytes_of, bytes_written, writes_made, steps_made, calls_made, Moment, Did, BreaksOff, ComesTo, held_at_start, IsShown, IsShownNext, IsFound, IsAnswered, AllTell, output, steps_taken, shown_place}
 use Rattle.reversal.specs.JobReading.{Works, fault_ending}
 use Rattle.reversal.proofs.Doing.{tells_nothing, raised_none, did_then, did_one, is_until_first, did_until, failed_at, damaged_at, halted_at}
 use Rattle.requests.proofs.Lists.{get_map}

@@ -1,5 +1,5 @@
 -- A request comes to a decision: no table has a hole.
-use Rattle.std.proofs.Common.{◌≡◌, ◌≢◌, ◌⊎◌, inl, inr, ℕ, zero, suc, ◌+◌, ◌-◌, ◌<◌, ◌≤◌, ◌++◌, Bool, true, false, List, [], ◌∷◌, length, Option, None, Some, slice_get, slice_index_or, refl, subst, arith}
+use Rattle.std.proofs.Common.{◌≡◌, ◌⊎◌, inl, inr, ℕ, zero, suc, ◌+◌, ◌<◌, ◌≤◌, ◌++◌, Bool, true, false, List, [], ◌∷◌, length, Option, None, Some, slice_get, slice_index_or, refl, subst, arith}
 use Rattle.std.specs.Prelude.{codes, decimal}
 use Rattle.std.specs.List.{AllByRecursion, flat_map}
 use Rattle.std.proofs.lemmas.Bool.{cases_lt, cases_eq}
@@ -50,14 +50,15 @@ use Rattle.requests.specs.Ending.{few_keepers, small_keeper, unreadable, too_lon
 use Rattle.requests.specs.declared.bounds.Bounded.{Bounded}
 use Rattle.requests.specs.declared.kind.PlanKind.{PlanKind}
 use Rattle.requests.specs.declared.kind.PlanKind.TheVariants.{Revolve, Multistage, Disk, Hrevolve}
-use Rattle.requests.specs.Request.{Choice, Run, RunRevolve, Command, run, run_revolve, plan, plan_periodic, check, certify, price, ask, demo, Request, says_raw, stack_pages}
-use Rattle.requests.specs.Bounds.{plan_bound, question_bound, option_numbers, command_numbers, IsWithin}
-use Rattle.requests.specs.Inputs.{Input, book_input, schedule_input, certificate_input, run_inputs, run_revolve_inputs, inputs_of}
+use Rattle.requests.specs.Request.{Choice, Run, RunRevolve, Command, run, run_revolve, plan, plan_periodic, check, certify, price, ask, demo, plan_limit, says_raw, stack_pages}
+use Rattle.requests.specs.Operands.{within, journal_inputs, program_input, book_input, schedule_input, certificate_input, question_bound}
+use Rattle.requests.specs.Bounds.{option_numbers, command_numbers, IsWithin}
+use Rattle.requests.specs.Inputs.{Input, inputs_of}
 use Rattle.reversal.specs.Plans.{list_pieces, plan_pieces}
 use Rattle.reversal.specs.Pricing.{list_report}
 use Rattle.reversal.specs.Deeds.{write, perform, demonstrate}
 use Rattle.reversal.specs.Contents.{AreBytes, IsContent, DecisionsExist}
-use Rattle.reversal.specs.Decision.{Decision, refuse, accept, Need, Read, Judge, Keep, Take, Plan, IsFirstSmall, IsFirstWide, Tabulate, HasBookFault, IsStartOf, HasProgramFault, AreItemsOf, HasJournalFault, Maker, performed, asked_about, DecidesOver, DecidesOverBytes, DecidesRunRevolve, DecidesPlan, DecidesPlanRevolve, DecidesPlanMultistage, DecidesPlanDisk, DecidesPlanHrevolve, DecidesPlanPeriodic, DecidesCheck, DecidesPrice, Weigh, DecidesCertify, DecidesDemo, DecidesBytes, Decides, least_line}
+use Rattle.reversal.specs.Decision.{Decision, refuse, accept, Need, Read, Judge, Keep, Take, Plan, Tabulate, HasBookFault, IsStartOf, HasProgramFault, AreItemsOf, HasJournalFault, Maker, performed, asked_about, DecidesOver, DecidesOverBytes, DecidesRunRevolve, DecidesPlan, DecidesPlanRevolve, DecidesPlanMultistage, DecidesPlanDisk, DecidesPlanHrevolve, DecidesPlanPeriodic, DecidesCheck, DecidesPrice, Weigh, DecidesCertify, DecidesDemo, DecidesBytes, least_line}
 use Rattle.reversal.proofs.BookTexts.{some_level, within_limits}
 use Rattle.reversal.proofs.DemoStart.{demo_start}
 
@@ -292,7 +293,7 @@ hrevolve_comes steps book short are =
     let list = list_exists steps b tables (exact_within steps b tables few limits t.3) (some_level book b is_book) plan in
     (accept (write (list_pieces (names_of b) list.0 ++ certificate_text.pieces (certified.Nested t.0))), (t.0, ((t.1, t.2), (t.3, (list.0, (list.1, refl)))))))))
 
-pub kind_comes : (kind : PlanKind) (steps : ℕ) (book : List ℕ) → IsWithin (plan_bound kind steps) → AreBytes book → SomeDecision (DecidesPlan kind steps book)
+pub kind_comes : (kind : PlanKind) (steps : ℕ) (book : List ℕ) → IsWithin (within (plan_limit kind) steps) → AreBytes book → SomeDecision (DecidesPlan kind steps book)
 kind_comes Revolve steps book within are = plan_revolve_comes steps book are
 kind_comes Multistage steps book within are = multistage_comes steps book are
 kind_comes Disk steps book within are = disk_comes steps book within.1 are
@@ -336,6 +337,13 @@ four_bytes make options steps slots (p ∷ j ∷ []) e are = absurd (omega (arit
 four_bytes make options steps slots (p ∷ j ∷ b ∷ []) e are = absurd (omega (arith, e))
 four_bytes make options steps slots (p ∷ j ∷ b ∷ s ∷ []) e are = over_comes make options steps p (Some j) b s slots are.1.0 are.1.1.0
 four_bytes make options steps slots (p ∷ j ∷ b ∷ s ∷ x ∷ rest) e are = absurd (omega (arith, e))
+
+-- the inputs of a run, where recorded input may be left out
+abbrev run_inputs : Option (List ℕ) → Run → List Input
+run_inputs journal c = program_input c.program ∷ (journal_inputs journal ++ book_input c.book ∷ schedule_input c.schedule ∷ [])
+
+abbrev run_revolve_inputs : Option (List ℕ) → RunRevolve → List Input
+run_revolve_inputs journal c = program_input c.program ∷ (journal_inputs journal ++ book_input c.book ∷ [])
 
 -- over a run, beside something that holds
 beside_come : (Holds : Type 0) (Below : Decision → Type 0) → Holds → SomeDecision Below → SomeDecision (λ d. Holds × Below d)

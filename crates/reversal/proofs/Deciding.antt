@@ -44,7 +44,8 @@ use Rattle.reversal.proofs.Planned.{plan_valid, plan_certified, revolve_least}
 use Rattle.reversal.proofs.ReadAgain.{plan_read_again}
 use Rattle.reversal.specs.Demo as demonstration
 use Rattle.requests.specs.declared.question.Question.{Question}
-use Rattle.requests.specs.Bounds.{IsWithin, question_bound}
+use Rattle.requests.specs.Operands.{question_bound}
+use Rattle.requests.specs.Bounds.{IsWithin}
 use Rattle.reversal.specs.Pricing.{list_report}
 use Rattle.level_book.specs.declared.book.Slots.TheVariants.{Unlimited}
 use Rattle.level_book.specs.DiskUnderTable.{IsGreatestDisk}

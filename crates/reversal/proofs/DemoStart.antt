@@ -1,21 +1,20 @@
 -- The program of a demonstration has a first state: its bytes are words, and few.
-use Rattle.std.proofs.Common.{◌≡◌, ◌⊎◌, ℕ, zero, suc, ◌+◌, ◌-◌, ◌*◌, ◌/◌, ◌%◌, ◌^◌, ◌<◌, ◌≤◌, List, [], ◌∷◌, ◌++◌, length, get_or, refl, sym, ◌∙◌, ap, subst, inl, inr, arith}
+use Rattle.std.proofs.Common.{◌≡◌, ◌⊎◌, ℕ, zero, suc, ◌+◌, ◌-◌, ◌*◌, ◌/◌, ◌%◌, ◌^◌, ◌<◌, ◌≤◌, List, [], ◌∷◌, length, get_or, refl, sym, ap, subst, inl, inr, arith}
 use Rattle.std.specs.Prelude.{replicate}
-use Rattle.std.specs.List.{Contains, flat_map}
 use Rattle.std.specs.List.Sorted.{IsStrictlyIncreasing}
 use Rattle.std.proofs.lemmas.Bool.{cases_lt}
 use Rattle.std.proofs.lemmas.List.{length-append, length-replicate}
 use Rattle.std.proofs.lemmas.List.Elements.{Contains-get_or}
 use Rattle.rv_decode.specs.declared.instruction.Inst.{Inst}
-use Rattle.rv_decode.specs.declared.instruction.Inst.TheVariants.{Lui, Jal}
+use Rattle.rv_decode.specs.declared.instruction.Inst.TheVariants.{Jal}
 use Rattle.rv_machine.specs.MachineState.{MachineState}
 use Rattle.elf_load.specs.declared.fault.ElfFault.{ElfFault}
 use Rattle.elf_load.specs.declared.fault.ElfFault.TheVariants as fault
 use Rattle.elf_load.specs.Faults.{FirstRawFault}
-use Rattle.elf_load.specs.Program.{AreMapped, IsMappedPage, HoldsByteOf, IsStackPage}
+use Rattle.elf_load.specs.Program.{AreMapped, IsMappedPage, HoldsByteOf}
 use Rattle.elf_load.specs.Raw.{raw_pieces, AreWords, IsRawProgram}
 use Rattle.elf_load.proofs.Existing.{raw_start_or_fault}
-use Rattle.reversal.specs.Demo.{drawn, instruction_of, drawn_from, instructions, program}
+use Rattle.reversal.specs.Demo.{drawn, drawn_from, instructions, program}
 use Rattle.reversal.proofs.Drawing.{bytes_of, all_bytes}
 
 -- ---- how many bytes there are

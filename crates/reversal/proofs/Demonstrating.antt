@@ -1,5 +1,5 @@
 -- A run that is shown: what is known of it after each action.
-use Rattle.std.proofs.Common.{◌≡◌, ℕ, zero, suc, ◌+◌, ◌*◌, ◌<◌, false, List, [], ◌∷◌, ◌++◌, length, map, take, append-nil, append_assoc, IsSome, Option, Some, None, Result, Ok, Err, OnOk, OnErr, MatchOption, refl, sym, ◌∙◌, ap, subst, arith, slice_get}
+use Rattle.std.proofs.Common.{◌≡◌, ℕ, zero, suc, ◌+◌, ◌*◌, ◌<◌, false, List, [], ◌∷◌, ◌++◌, length, map, take, append-nil, append_assoc, IsSome, Option, Some, None, Result, Ok, Err, OnOk, OnErr, refl, sym, ◌∙◌, ap, subst, arith, slice_get}
 use Rattle.std.specs.List.{flat_map}
 use Rattle.std.specs.Result.{result_ok}
 use Rattle.std.proofs.lemmas.Grind.{flat_map-append}
@@ -7,11 +7,10 @@ use Rattle.std.proofs.lemmas.List.{take_at}
 use Rattle.std.proofs.lemmas.List.Sums.{sum_by-append}
 use Rattle.sha2.specs.Hashers.{Holds256}
 use Rattle.plan_types.specs.declared.action.Action.{Action}
-use Rattle.plan_types.specs.declared.action.Action.TheVariants.{Forward, Reverse, Copy, Move, EndForward, EndReverse}
 use Rattle.level_book.specs.declared.book.Slots.{Slots}
 use Rattle.level_book.specs.declared.book.Slots.TheVariants.{Count}
 use Rattle.level_book.specs.BookCosts.{slots_of, total_room, plain}
-use Rattle.level_book.specs.Configuration.{Configuration, start}
+use Rattle.level_book.specs.Configuration.{start}
 use Rattle.level_book.specs.CostFold.{forward, steps_of}
 use Rattle.level_book.specs.Moves.{Goes}
 use Rattle.level_book.specs.Rules.{rule}

@@ -4,7 +4,6 @@ use Rattle.std.specs.FinSet as set
 use Rattle.std.proofs.lemmas.Bool.{false≢true}
 use Rattle.std.proofs.lemmas.Option.{none-some, same_Some}
 use Rattle.std.proofs.lemmas.List.{take-map}
-use Rattle.plan_types.specs.declared.action.Keep.TheVariants.{Nothing, Store, Tape}
 use Rattle.plan_types.specs.declared.action.Dest.TheVariants.{Work, Level}
 use Rattle.plan_types.specs.declared.action.Action.{Action}
 use Rattle.plan_types.specs.declared.action.Action.TheVariants.{Forward, Reverse, Copy, Move, EndForward, EndReverse}

@@ -1,8 +1,7 @@
 -- The list of a run by Revolve is the least, and a periodic list is valid and is read again as it was made.
-use Rattle.std.proofs.Common.{◌≡◌, ℕ, zero, suc, ◌+◌, ◌*◌, ◌≤◌, ◌++◌, List, [], ◌∷◌, length, append-nil, Option, refl, sym, ◌∙◌, ap, subst, arith}
-use Rattle.std.specs.List.{AllByRecursion}
+use Rattle.std.proofs.Common.{◌≡◌, ℕ, zero, suc, ◌+◌, ◌≤◌, List, [], length, append-nil, Option, sym, ◌∙◌, ap, subst, arith}
 use Rattle.plan_types.specs.declared.action.Action.{Action}
-use Rattle.level_book.specs.BookCosts.{BookCosts, slots_of, names_of, room, total_room}
+use Rattle.level_book.specs.BookCosts.{BookCosts, slots_of, names_of, total_room}
 use Rattle.level_book.specs.BookFaults.{IsBookText}
 use Rattle.level_book.specs.CostFold.{forward}
 use Rattle.level_book.specs.Valid.{Valid}
@@ -14,8 +13,8 @@ use Rattle.binomials.specs.Advances.{least_advances}
 use Rattle.rv_machine.specs.MachineState.{MachineState}
 use Rattle.revolve_gen.specs.Written.{revolve_list}
 use Rattle.revolve_gen.proofs.Books.{book_right}
-use Rattle.disk_gen.specs.Periodic.{images, periodic_list}
-use Rattle.disk_gen.specs.Plans.{HasPeriodicPlan, HasSlots, slots_at}
+use Rattle.disk_gen.specs.Periodic.{periodic_list}
+use Rattle.disk_gen.specs.Plans.{HasPeriodicPlan}
 use Rattle.disk_gen.proofs.Leading.{periodic_valid}
 use Rattle.disk_gen.proofs.Lengths.{periodic_counted}
 use Rattle.requests.specs.Request.{Choice, says_raw, stack_pages}

@@ -14,7 +14,6 @@ use Rattle.level_book.specs.Moves.{Goes}
 use Rattle.level_book.specs.CostFold.{steps_of}
 use Rattle.rv_machine.specs.MachineState.{MachineState}
 use Rattle.rv_machine.specs.States.{state_number}
-use Rattle.unit_undo.specs.Leading.{states_below}
 use Rattle.reverse_runner.specs.Acts.{TapeState}
 use Rattle.reverse_runner.specs.Handed.{numbers_from, handed_by, handed}
 use Rattle.reverse_runner.specs.Performed.{states_out}

@@ -50,7 +50,8 @@ use Rattle.disk_gen.specs.Plans.{slots_at, HasSlots}
 use Rattle.requests.specs.declared.kind.PlanKind.{PlanKind}
 use Rattle.requests.specs.declared.kind.PlanKind.TheVariants.{Revolve, Multistage, Disk, Hrevolve}
 use Rattle.requests.specs.Request.{run_revolve, plan, plan_periodic, certify, price, ask, demo, says_raw, stack_pages, Command, run, check, Request}
-use Rattle.requests.specs.Bounds.{IsWithin, question_bound}
+use Rattle.requests.specs.Operands.{question_bound}
+use Rattle.requests.specs.Bounds.{IsWithin}
 use Rattle.requests.specs.Inputs.{Input, inputs_of, names, contents, asked_count}
 use Rattle.reversal.specs.Plans.{list_pieces, plan_pieces, AreTablesFor, AreDiskTablesFor}
 use Rattle.reversal.specs.Pricing.{list_report}

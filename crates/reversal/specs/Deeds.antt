@@ -1,6 +1,6 @@
 -- What a job does, piece by piece: a list of deeds. Every command is such a list, so that one definition says what a call
 -- did that was done, that stopped at a write that failed or at storage, or that ran out of memory.
-use Rattle.std.specs.Prelude.{◌≡◌, ◌⊎◌, ℕ, ◌+◌, ◌*◌, ◌<◌, ◌≤◌, ◌++◌, cond, codes, decimal, true, List, [], ◌∷◌, length, take, map, sum_by, slice_get, Option, Some, None, IsSome}
+use Rattle.std.specs.Prelude.{◌≡◌, ℕ, ◌+◌, ◌*◌, ◌<◌, ◌≤◌, ◌++◌, cond, codes, decimal, true, List, [], ◌∷◌, length, take, map, sum_by, slice_get, Option, Some, None, IsSome}
 use Rattle.std.specs.List.{flat_map}
 use Rattle.std.specs.FinMap as finmap
 use Rattle.plan_types.specs.declared.action.Action.{Action}

@@ -24,7 +24,8 @@ use Rattle.cost_fold.specs.CountsOf.{all_of}
 use Rattle.cost_report.specs.Report.{report_lines}
 use Rattle.reversal.specs.ActionsLeft.{left_of}
 use Rattle.reversal.specs.Plans.{list_pieces}
-use Rattle.requests.specs.Bounds.{IsWithin, question_bound}
+use Rattle.requests.specs.Operands.{question_bound}
+use Rattle.requests.specs.Bounds.{IsWithin}
 use Rattle.reversal.specs.Deeds.{Job, perform, ask, write, demonstrate, Moment, HaltsShowing}
 use Rattle.reversal.specs.Decision.{accept, EndsBy}
 use Rattle.reverse_runner.specs.declared.fault.RunFault.{RunFault}

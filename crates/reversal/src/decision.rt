@@ -9,10 +9,11 @@ ghost use Rattle.action_text.specs.ScheduleText.{IsSchedule};
 ghost use Rattle.action_text.specs.Faults.{HasFirstFault};
 ghost use Rattle.reverse_runner.specs.KeepersSeen.{HaveRoom};
 ghost use Rattle.requests.specs.Request.{Choice};
-ghost use Rattle.requests.specs.Bounds.{numbers, IsWithin, question_bound};
+ghost use Rattle.requests.specs.Operands.{question_bound};
+ghost use Rattle.requests.specs.Bounds.{numbers, IsWithin};
 ghost use Rattle.reversal.specs.Decision.{accept, refuse, HasBookFault, IsStartOf, HasProgramFault, AreItemsOf, HasJournalFault, Keep, Maker, DecidesOver, DecidesOverBytes, DecidesCheck, DecidesBytes};
 ghost use Rattle.requests.specs.Ending.{no_memory, bad_program, bad_journal, bad_book, bad_text, invalid};
-ghost use Rattle.requests.specs.Inputs.{inputs_of, run_inputs};
+ghost use Rattle.requests.specs.Inputs.{inputs_of};
 ghost use Rattle.requests.specs.InputReading.{AreWithinLimits};
 ghost use Rattle.reversal.specs.Deeds.{perform};
 ghost use Rattle.reversal.specs.JobReading.{job_of, IsOver, CanBeDone, KeepersHaveRoom, IsRefusal};
@@ -154,7 +155,7 @@ fn decide_over(
 ) -> Result<Over, Ended>
     requires stack { (1 ≤ stack_pages options.now) × (stack_pages options.now ≤ 1024) }
     requires steps { steps ≤ 1000000 }
-    requires inputs { (r : ARun) × AreWithinLimits (run_inputs r.journal r) (map (λ b. b.items) bytes.now) }
+    requires inputs { (r : ARun) × AreWithinLimits (inputs_of (run_command r)) (map (λ b. b.items) bytes.now) }
     ensures accepted { IfOk result (λ o. (job : Maker) → DecidesOverBytes job options.now steps (map (λ b. b.items) bytes.now) counts.now (accept (job o.start o.journal (slots_of o.book) o.list.items))) }
     ensures over { IfOk result IsOver }
     ensures steps { IfOk result (λ o. o.steps ≡ steps) }

@@ -1,8 +1,9 @@
 // What requests for plans come to.
 ghost use Rattle.std.specs.Prelude.{◌≡◌, ◌⊎◌, ℕ, ◌≤◌, List, map, IfOk, IfErr};
 ghost use Rattle.std.specs.List.{AllByRecursion};
-ghost use Rattle.requests.specs.Request.{Choice, plan as plan_command, plan_periodic as plan_periodic_command};
-ghost use Rattle.requests.specs.Bounds.{plan_bound, IsWithin};
+ghost use Rattle.requests.specs.Request.{Choice, plan_limit, plan as plan_command, plan_periodic as plan_periodic_command};
+ghost use Rattle.requests.specs.Operands.{within};
+ghost use Rattle.requests.specs.Bounds.{IsWithin};
 ghost use Rattle.reversal.specs.Decision.{accept, refuse, DecidesPlan, DecidesBytes};
 ghost use Rattle.requests.specs.Ending.{no_memory};
 ghost use Rattle.requests.specs.Inputs.{inputs_of};
@@ -29,7 +30,7 @@ pub fn decide_plan<R: Threads + Sync>(
     bytes: &[Vec<u8>],
 ) -> Result<Job, Ended>
     requires workers { (1 ≤ workers) × (workers ≤ 64) }
-    requires steps { IsWithin (plan_bound plan.now.kind plan.now.steps) }
+    requires steps { IsWithin (within (plan_limit plan.now.kind) plan.now.steps) }
     requires inputs { AreWithinLimits (inputs_of (plan_command (as_plan plan.now))) (map (λ b. b.items) bytes.now) }
     ensures accepted { IfOk result (λ job. (slots : List ℕ) → (options : List Choice) → DecidesBytes options (plan_command (as_plan plan.now)) (map (λ b. b.items) bytes.now) slots (accept (job_of job))) }
     ensures can_be_done { IfOk result CanBeDone }
@@ -50,7 +51,7 @@ fn kind_text<R: Threads + Sync>(
     book: &[u8],
 ) -> Result<Job, Ended>
     requires workers { (1 ≤ workers) × (workers ≤ 64) }
-    requires steps { IsWithin (plan_bound kind steps) }
+    requires steps { IsWithin (within (plan_limit kind) steps) }
     ensures accepted { IfOk result (λ job. DecidesPlan kind steps book.now (accept (job_of job))) }
     ensures can_be_done { IfOk result CanBeDone }
     ensures room { IfOk result (λ job. (counts : List ℕ) → KeepersHaveRoom job counts) }

@@ -1,7 +1,8 @@
 use Rattle.std.proofs.Common.{◌≡◌, ◌⊎◌, inl, inr, ℕ, map, sym, subst}
 use Rattle.level_book.specs.BookCosts.{slots_of}
 use Rattle.requests.specs.declared.ended.Ended.{Ended}
-use Rattle.requests.specs.Bounds.{IsWithin, question_bound}
+use Rattle.requests.specs.Operands.{question_bound}
+use Rattle.requests.specs.Bounds.{IsWithin}
 use Rattle.reversal.specs.Deeds.{ask}
 use Rattle.reversal.specs.Decision.{accept, refuse, asked_about, DecidesOverBytes}
 use Rattle.requests.specs.Ending.{no_memory}

@@ -1,30 +1,24 @@
 use Rattle.std.proofs.Common.{◌≡◌, ◌∙◌, ◌+◌, ◌*◌, ◌≤◌, [], ℕ, List, map, take, length, Err, inl, inr, arith, sym, ap, refl, subst}
 use Rattle.std.proofs.lemmas.List.{take_all, length-map}
-use Rattle.plan_types.specs.declared.action.Action.{Action}
 use Rattle.level_book.specs.declared.book.Slots.{Slots}
-use Rattle.level_book.specs.Configuration.{Configuration, start}
+use Rattle.level_book.specs.Configuration.{Configuration}
 use Rattle.level_book.specs.Moves.{Goes}
 use Rattle.level_book.specs.Rules.{rule}
 use Rattle.schedule_rules.proofs.Judging.{kept_on_the_way}
 use Rattle.schedule_rules.proofs.Lawful.{rules_moves}
-use Rattle.level_book.specs.CostFold.{steps_of, forward}
-use Rattle.rv_machine.specs.MachineState.{MachineState}
+use Rattle.level_book.specs.CostFold.{steps_of}
 use Rattle.rv_machine.specs.States.{state_number}
-use Rattle.image_store.specs.Standing.{IsToldAnd}
 use Rattle.reverse_runner.specs.declared.fault.RunFault.TheVariants.{Keeper, Damaged, Memory}
 use Rattle.reverse_runner.specs.Handed.{handed_by}
-use Rattle.reverse_runner.specs.HoldsJust.{HoldsJust}
 use Rattle.reverse_runner.specs.Performed.{states_out, GetsAll, MissesOne}
 use Rattle.reverse_runner.specs.KeepersSeen.{HaveRoom, told_by}
 use Rattle.reverse_runner.specs.Acts.{Holdings, Acts}
 use Rattle.reverse_runner.specs.SessionState.{SessionState, holdings_of}
 use Rattle.reverse_queries.specs.OnTheWay.{GoesThrough}
 use Rattle.reversal.specs.Deeds.{Deed, deed_of, perform, moment, Did, SparesNext, AllLevels, Went}
-use Rattle.reversal.specs.Output.{Adds, lines_down}
-use Rattle.requests.specs.Ending.{ended_at}
+use Rattle.reversal.specs.Output.{Adds}
 use Rattle.keepers.specs.Counts.{Rose}
 use Rattle.keepers.specs.Told.{Tells}
-use Rattle.level_book.specs.Valid.{Leads}
 use Rattle.reversal.specs.ActionsLeft.{left_of}
 use Rattle.requests.proofs.Lists.{at_front, none_left}
 use Rattle.reversal.proofs.OnTheWay.{allowed, led_on}

@@ -1,0 +1,94 @@
+-- What a place of a form takes is spelled so, and what may be spelled is taken.
+use Rattle.std.proofs.Common.{◌≡◌, ℕ, ◌^◌, ◌<◌, ◌++◌, Bool, true, false, cond, not, List, [], length, Option, Some, None, refl, sym, ap, subst, ◌∙◌, arith, append-nil}
+use Rattle.std.specs.Prelude.{decimal, codes, ◌==◌}
+use Rattle.std.specs.Str.{bytes_eq}
+use Rattle.std.proofs.lemmas.Bool.{false≢true}
+use Rattle.std.proofs.lemmas.Option.{same_Some}
+use Rattle.std.proofs.lemmas.Slice.Eq.{bytes_eq-Decides}
+use Rattle.requests.specs.Reading.{◌>>=◌, number_at}
+use Rattle.requests.specs.ChoiceReading.{number_of}
+use Rattle.requests.specs.Operands.{IsName, IsScheduleName, MayBeNamed, word_or_dash}
+use Rattle.requests.specs.Forms.{Place, fixed, named, named_or_none, schedule_named, numbered, addressed, Value, word_at, Allows, is_name, is_schedule_name, name_or_none, taken}
+use Rattle.requests.proofs.Addresses.{address_again, address_read}
+use Rattle.requests.proofs.Decimal.{number_again, number_taken}
+use Rattle.requests.proofs.Steps.{passed_then, bind_some, is_not, and_parts, and_both, empty, other_text, same_text}
+
+-- ---- numbers
+
+pub number_of_again : (n : ℕ) → n < 2 ^ 64 → number_of (decimal n) ≡ Some n
+unfolding number_of
+number_of_again n small =
+    let again = ap (number_at 18446744073709551615) (sym (append-nil (decimal n))) ∙ number_again 18446744073709551615 n [] (omega arith) (omega arith) refl in
+    ap (λ o. o >>= λ read. cond (length read.1 == 0) (Some read.0) None) again
+
+pub number_of_read : (word : List ℕ) (n : ℕ) → number_of word ≡ Some n → (word ≡ decimal n) × (n < 2 ^ 64)
+unfolding number_of
+number_of_read word n e =
+    let step = bind_some (number_at 18446744073709551615 word) (λ read. cond (length read.1 == 0) (Some read.0) None) n e in
+    let ends = passed_then (length (step.0).1 == 0) (Some (step.0).0) n step.2 in
+    let same = same_Some (step.0).0 n ends.1 in
+    let none = empty (step.0).1 ends.0 in
+    let is = number_taken 18446744073709551615 word (step.0).0 (step.0).1 (omega arith) step.1 in
+    (is.text ∙ ap (λ r. decimal (step.0).0 ++ r) none ∙ append-nil (decimal (step.0).0) ∙ ap decimal same, omega (arith, is.small, same))
+
+-- ---- names
+
+pub name_is : (word : List ℕ) → IsName word → is_name word ≡ true
+name_is word h = ap not (is_not (length word == 0) (λ e. h (empty word e)))
+
+pub name_was : (word : List ℕ) → is_name word ≡ true → IsName word
+name_was word e is = false≢true (sym (ap is_name is) ∙ e)
+
+pub schedule_name_is : (word : List ℕ) → IsScheduleName word → is_schedule_name word ≡ true
+schedule_name_is word h = and_both _ _ (name_is word h.0) (ap not (other_text word (codes "@revolve") h.1))
+
+pub schedule_name_was : (word : List ℕ) → is_schedule_name word ≡ true → IsScheduleName word
+schedule_name_was word e =
+    let parts = and_parts (is_name word) _ e in
+    (name_was word parts.0, λ is. false≢true (sym (ap not (same_text word (codes "@revolve") is)) ∙ parts.1))
+
+-- the name that may be left out, and its word
+journal_again : (o : Option (List ℕ)) → MayBeNamed o → (is_name (word_or_dash o) ≡ true) × (name_or_none (word_or_dash o) ≡ o)
+journal_again None h = (refl, refl)
+journal_again (Some name) h = (name_is name h.0, ap (λ b. cond b None (Some name)) (other_text name (codes "-") h.1))
+
+journal_read : (word : List ℕ) → is_name word ≡ true → (word ≡ word_or_dash (name_or_none word)) × MayBeNamed (name_or_none word)
+journal_read word e = by_text (bytes_eq word (codes "-")) refl
+  where
+    by_text : (b : Bool) → bytes_eq word (codes "-") ≡ b → (word ≡ word_or_dash (name_or_none word)) × MayBeNamed (name_or_none word)
+    by_text true f =
+        let P : Option (List ℕ) → Type 0 = λ o. (word ≡ word_or_dash o) × MayBeNamed o in
+        subst P (sym (ap (λ b. cond b None (Some word)) f)) ((bytes_eq-Decides word (codes "-")).0 f, tt)
+    by_text false f =
+        let P : Option (List ℕ) → Type 0 = λ o. (word ≡ word_or_dash o) × MayBeNamed o in
+        subst P (sym (ap (λ b. cond b None (Some word)) f)) (refl, (name_was word e, λ is. false≢true (sym f ∙ same_text word (codes "-") is)))
+
+-- ---- places
+
+pub taken_again : (p : Place) (v : Value p) → Allows p v → taken p (word_at p v) ≡ Some v
+taken_again (fixed text) v h = ap (λ b. cond b (Some tt) None) (same_text text text refl)
+taken_again named v h = ap (λ b. cond b (Some v) None) (name_is v h)
+taken_again named_or_none v h =
+    let again = journal_again v h in
+    ap (λ b. cond b (Some (name_or_none (word_or_dash v))) None) again.0 ∙ ap (λ o. Some o) again.1
+taken_again schedule_named v h = ap (λ b. cond b (Some v) None) (schedule_name_is v h)
+taken_again numbered v h = number_of_again v h
+taken_again addressed v h = address_again v h
+
+pub taken_read : (p : Place) (word : List ℕ) (v : Value p) → taken p word ≡ Some v → (word ≡ word_at p v) × Allows p v
+taken_read (fixed text) word v e = let is = passed_then (bytes_eq word text) (Some tt) v e in ((bytes_eq-Decides word text).0 is.0, tt)
+taken_read named word v e =
+    let is = passed_then (is_name word) (Some word) v e in
+    let same = same_Some word v is.1 in
+    (same, subst IsName same (name_was word is.0))
+taken_read named_or_none word v e =
+    let is = passed_then (is_name word) (Some (name_or_none word)) v e in
+    let read = journal_read word is.0 in
+    let same = same_Some (name_or_none word) v is.1 in
+    (read.0 ∙ ap word_or_dash same, subst MayBeNamed same read.1)
+taken_read schedule_named word v e =
+    let is = passed_then (is_schedule_name word) (Some word) v e in
+    let same = same_Some word v is.1 in
+    (same, subst IsScheduleName same (schedule_name_was word is.0))
+taken_read numbered word v e = number_of_read word v e
+taken_read addressed word v e = address_read word v e

@@ -1,0 +1,198 @@
+-- No public clause cites this file. What the reader of a command's words computes: a form says what stands at each place, and the
+-- words are those of the first form that takes them all.
+use Rattle.std.specs.Prelude.{◌≡◌, ℕ, ◌==◌, Bool, not, ◌&&◌, if◌then◌else◌, List, [], ◌∷◌, length, codes, decimal, Option, None, Some}
+use Rattle.std.specs.Int.{from_be_bytes, w32}
+use Rattle.std.specs.Option.{option_or}
+use Rattle.std.specs.Result.{result_ok}
+use Rattle.std.specs.Str.{bytes_eq}
+use Rattle.hex.specs.Hex.{decode_sized}
+use Rattle.state_image.specs.Line.{hex_word}
+use Rattle.requests.specs.declared.kind.PlanKind.{PlanKind}
+use Rattle.requests.specs.declared.kind.PlanKind.TheVariants.{Revolve, Multistage, Disk, Hrevolve}
+use Rattle.requests.specs.declared.question.Question.{Question}
+use Rattle.requests.specs.declared.question.Question.TheVariants.{State, LastWrite, LastChange}
+use Rattle.requests.specs.Reading.{◌>>=◌, after_of}
+use Rattle.requests.specs.ChoiceReading.{number_of}
+use Rattle.requests.specs.Operands.{IsName, IsScheduleName, MayBeNamed, IsNumber, IsAddress, word_or_dash, address_word}
+use Rattle.requests.specs.Request.{Command, run, run_revolve, plan, plan_periodic, check, certify, price, ask, demo, kind_word}
+
+-- ---- places
+
+-- what stands at a place of a form: a word of its own, a name, a name that may be left out, the name of a schedule, a number or
+-- an address
+pub data Place : Type 0 where
+  fixed : List ℕ → Place
+  named : Place
+  named_or_none : Place
+  schedule_named : Place
+  numbered : Place
+  addressed : Place
+
+abbrev pub Value : Place → Type 0
+Value (fixed text) = Unit {0}
+Value named = List ℕ
+Value named_or_none = Option (List ℕ)
+Value schedule_named = List ℕ
+Value numbered = ℕ
+Value addressed = ℕ
+
+abbrev pub word_at : (p : Place) → Value p → List ℕ
+word_at (fixed text) v = text
+word_at named v = v
+word_at named_or_none v = word_or_dash v
+word_at schedule_named v = v
+word_at numbered v = decimal v
+word_at addressed v = address_word v
+
+abbrev pub Allows : (p : Place) → Value p → Type 0
+Allows (fixed text) v = Unit {0}
+Allows named v = IsName v
+Allows named_or_none v = MayBeNamed v
+Allows schedule_named v = IsScheduleName v
+Allows numbered v = IsNumber v
+Allows addressed v = IsAddress v
+
+-- ---- what a place takes
+
+abbrev pub is_name : List ℕ → Bool
+is_name word = not (length word == 0)
+
+abbrev pub is_schedule_name : List ℕ → Bool
+is_schedule_name word = is_name word && not (bytes_eq word (codes "@revolve"))
+
+-- the name that a word is, but for the word that stands for none
+abbrev pub name_or_none : List ℕ → Option (List ℕ)
+name_or_none word = if bytes_eq word (codes "-") then None else Some word
+
+-- the address that a word is: its digits are those of four bytes, and are spelled so
+unfoldable pub address_of : List ℕ → Option ℕ
+address_of word =
+    after_of (codes "0x") word >>= λ digits. result_ok (decode_sized digits 4) >>= λ bytes.
+    if bytes_eq (hex_word (from_be_bytes w32 bytes)) digits then Some (from_be_bytes w32 bytes) else None
+
+abbrev pub taken : (p : Place) → List ℕ → Option (Value p)
+taken (fixed text) word = if bytes_eq word text then Some tt else None
+taken named word = if is_name word then Some word else None
+taken named_or_none word = if is_name word then Some (name_or_none word) else None
+taken schedule_named word = if is_schedule_name word then Some word else None
+taken numbered word = number_of word
+taken addressed word = address_of word
+
+-- what a place takes of the first word, and the words behind it
+unfoldable pub front_taken : (p : Place) → List (List ℕ) → Option (Value p × List (List ℕ))
+front_taken p [] = None
+front_taken p (word ∷ words) = taken p word >>= λ v. Some (v, words)
+
+-- ---- forms
+
+abbrev pub Values : List Place → Type 0
+Values [] = Unit {0}
+Values (p ∷ ps) = Value p × Values ps
+
+abbrev pub words_at : (ps : List Place) → Values ps → List (List ℕ)
+words_at [] vs = []
+words_at (p ∷ ps) vs = word_at p vs.0 ∷ words_at ps vs.1
+
+abbrev pub AllAllowed : (ps : List Place) → Values ps → Type 0
+AllAllowed [] vs = Unit {0}
+AllAllowed (p ∷ ps) vs = Allows p vs.0 × AllAllowed ps vs.1
+
+abbrev pub all_taken : (ps : List Place) → List (List ℕ) → Option (Values ps)
+all_taken [] [] = Some tt
+all_taken [] (word ∷ words) = None
+all_taken (p ∷ ps) words = front_taken p words >>= λ x. all_taken ps x.1 >>= λ vs. Some (x.0, vs)
+
+-- A place took this value: of words that are still to be taken, the first. Nothing is taken of no words, and nothing any more once a
+-- place took nothing.
+abbrev pub Takes : (p : Place) → Option (List (List ℕ)) → Value p → Option (List (List ℕ)) → Type 0
+Takes p None v rest = rest ≡ None
+Takes p (Some words) v rest = front_taken p words ≡ (rest >>= λ behind. Some (v, behind))
+
+-- what was taken, where nothing is left behind it
+abbrev pub finished : {A : Type 0} → Option (List (List ℕ)) → A → Option A
+finished None x = None
+finished (Some []) x = Some x
+finished (Some (word ∷ words)) x = None
+
+-- a form, and the command that its values are
+pub record Form : Type 0 where
+  pub places : List Place
+  pub make : Values places → Command
+
+abbrev pub form_taken : Form → List (List ℕ) → Option Command
+form_taken f words = all_taken f.places words >>= λ vs. Some (f.make vs)
+
+-- ---- the forms
+
+abbrev pub run_form : Form
+run_form = record {
+  places = fixed (codes "run") ∷ named ∷ named_or_none ∷ named ∷ schedule_named ∷ numbered ∷ [];
+  make = λ v. run (record { program = v.1.0; journal = v.1.1.0; book = v.1.1.1.0; schedule = v.1.1.1.1.0; steps = v.1.1.1.1.1.0 });
+}
+
+abbrev pub run_revolve_form : Form
+run_revolve_form = record {
+  places = fixed (codes "run") ∷ named ∷ named_or_none ∷ named ∷ fixed (codes "@revolve") ∷ numbered ∷ [];
+  make = λ v. run_revolve (record { program = v.1.0; journal = v.1.1.0; book = v.1.1.1.0; steps = v.1.1.1.1.1.0 });
+}
+
+abbrev pub plan_form : PlanKind → Form
+plan_form kind = record {
+  places = fixed (codes "plan") ∷ fixed (kind_word kind) ∷ named ∷ numbered ∷ [];
+  make = λ v. plan (record { kind = kind; book = v.1.1.0; steps = v.1.1.1.0 });
+}
+
+abbrev pub periodic_form : Form
+periodic_form = record {
+  places = fixed (codes "plan") ∷ fixed (codes "periodic") ∷ named ∷ numbered ∷ numbered ∷ [];
+  make = λ v. plan_periodic (record { book = v.1.1.0; steps = v.1.1.1.0; period = v.1.1.1.1.0 });
+}
+
+abbrev pub check_form : Form
+check_form = record {
+  places = fixed (codes "check") ∷ named ∷ schedule_named ∷ numbered ∷ [];
+  make = λ v. check (record { book = v.1.0; schedule = v.1.1.0; steps = v.1.1.1.0 });
+}
+
+abbrev pub certify_form : Form
+certify_form = record {
+  places = fixed (codes "certify") ∷ named ∷ schedule_named ∷ named ∷ numbered ∷ [];
+  make = λ v. certify (record { book = v.1.0; schedule = v.1.1.0; certificate = v.1.1.1.0; steps = v.1.1.1.1.0 });
+}
+
+abbrev pub price_form : Form
+price_form = record {
+  places = fixed (codes "cost") ∷ named ∷ schedule_named ∷ numbered ∷ [];
+  make = λ v. price (record { book = v.1.0; schedule = v.1.1.0; steps = v.1.1.1.0 });
+}
+
+-- a question by its word, and what stands at its end
+abbrev pub ask_form : List ℕ → (p : Place) → (Value p → Question) → Form
+ask_form word p question = record {
+  places = fixed (codes "ask") ∷ fixed word ∷ named ∷ named_or_none ∷ named ∷ schedule_named ∷ numbered ∷ p ∷ [];
+  make = λ v. ask (record {
+    question = question v.1.1.1.1.1.1.1.0;
+    run = record { program = v.1.1.0; journal = v.1.1.1.0; book = v.1.1.1.1.0; schedule = v.1.1.1.1.1.0; steps = v.1.1.1.1.1.1.0 };
+  });
+}
+
+abbrev pub demo_form : Form
+demo_form = record {
+  places = fixed (codes "demo") ∷ numbered ∷ numbered ∷ numbered ∷ [];
+  make = λ v. demo (record { number = v.1.0; steps = v.1.1.0; slots = v.1.1.1.0 });
+}
+
+abbrev pub forms : List Form
+forms =
+    run_revolve_form ∷ run_form ∷ plan_form Revolve ∷ plan_form Multistage ∷ plan_form Disk ∷ plan_form Hrevolve ∷ periodic_form
+    ∷ check_form ∷ certify_form ∷ price_form ∷ ask_form (codes "state") numbered State ∷ ask_form (codes "last-write") addressed LastWrite
+    ∷ ask_form (codes "last-change") addressed LastChange ∷ demo_form ∷ []
+
+-- what was found before, or what the first of these forms takes that takes all words
+abbrev pub first_of : Option Command → List Form → List (List ℕ) → Option Command
+first_of found [] words = found
+first_of found (f ∷ fs) words = first_of (option_or found (form_taken f words)) fs words
+
+-- the command that the words are
+unfoldable pub command_of : List (List ℕ) → Option Command
+command_of words = first_of None forms words

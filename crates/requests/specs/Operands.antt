@@ -1,0 +1,161 @@
+-- The kinds of operand of a command, a row each in the definitions below: how a value is spelled, when it may be spelled, within
+-- which bounds its number has to be, and which input its name is that of. All that words, bounds and inputs say of a command follows
+-- from its operands.
+use Rattle.std.specs.Prelude.{◌≢◌, ℕ, ◌<◌, ◌^◌, ◌++◌, List, [], ◌∷◌, codes, decimal, Option, None, Some}
+use Rattle.state_image.specs.Line.{hex_word}
+use Rattle.requests.specs.declared.bounds.Bounded.{Bounded}
+use Rattle.requests.specs.declared.question.Question.{Question}
+use Rattle.requests.specs.declared.question.Question.TheVariants.{State, LastWrite, LastChange}
+
+-- an input by its name, and how many bytes it may have
+pub record Input : Type 0 where
+  pub name : List ℕ
+  pub limit : ℕ
+
+-- what a number may be, and the rule that says so
+pub record Limit : Type 0 where
+  pub least : ℕ
+  pub greatest : ℕ
+  pub rule : ℕ
+
+-- An operand with its value. A kind that is added is a case here, and a row in each of the definitions below.
+pub data Operand : Type 0 where
+  -- a word of the command itself
+  the_word : List ℕ → Operand
+  -- the name of a program, of recorded input, which may be left out, of a book, of a schedule and of a certificate
+  a_program : List ℕ → Operand
+  a_journal : Option (List ℕ) → Operand
+  a_book : List ℕ → Operand
+  a_schedule : List ℕ → Operand
+  a_certificate : List ℕ → Operand
+  -- a number within limits
+  a_number : Limit → ℕ → Operand
+  -- what is asked of a run of so many steps: the number of a state, or the address of a word in the machine's memory
+  a_question : ℕ → Question → Operand
+
+-- ---- spelling
+
+-- the word of a name that may be left out
+abbrev pub word_or_dash : Option (List ℕ) → List ℕ
+word_or_dash (Some name) = name
+word_or_dash None = codes "-"
+
+-- an address is `0x` and eight lower-case hexadecimal digits
+abbrev pub address_word : ℕ → List ℕ
+address_word address = codes "0x" ++ hex_word address
+
+-- the number of a state is decimal
+abbrev pub question_number : Question → List ℕ
+question_number (State place) = decimal place
+question_number (LastWrite address) = address_word address
+question_number (LastChange address) = address_word address
+
+-- and so are other numbers
+abbrev pub word_of : Operand → List ℕ
+word_of (the_word text) = text
+word_of (a_program name) = name
+word_of (a_journal name) = word_or_dash name
+word_of (a_book name) = name
+word_of (a_schedule name) = name
+word_of (a_certificate name) = name
+word_of (a_number limit n) = decimal n
+word_of (a_question steps question) = question_number question
+
+-- ---- what may be spelled
+
+-- A name is any word that isn't empty. The name of a schedule isn't the word @revolve, which has a meaning of its own.
+abbrev pub IsName : List ℕ → Type 0
+IsName word = word ≢ []
+
+abbrev pub IsScheduleName : List ℕ → Type 0
+IsScheduleName word = IsName word × (word ≢ codes "@revolve")
+
+-- a name that may be left out isn't the word for that
+abbrev pub MayBeNamed : Option (List ℕ) → Type 0
+MayBeNamed (Some name) = IsName name × (name ≢ codes "-")
+MayBeNamed None = Unit {0}
+
+-- A number is below 2 ^ 64. Its spelling has neither a sign nor a leading zero.
+abbrev pub IsNumber : ℕ → Type 0
+IsNumber n = n < 2 ^ 64
+
+-- an address has 32 bits
+abbrev pub IsAddress : ℕ → Type 0
+IsAddress address = address < 2 ^ 32
+
+abbrev pub IsQuestion : Question → Type 0
+IsQuestion (State place) = IsNumber place
+IsQuestion (LastWrite address) = IsAddress address
+IsQuestion (LastChange address) = IsAddress address
+
+abbrev pub CanStand : Operand → Type 0
+CanStand (the_word text) = Unit {0}
+CanStand (a_program name) = IsName name
+CanStand (a_journal name) = MayBeNamed name
+CanStand (a_book name) = IsName name
+CanStand (a_schedule name) = IsScheduleName name
+CanStand (a_certificate name) = IsName name
+CanStand (a_number limit n) = IsNumber n
+CanStand (a_question steps question) = IsQuestion question
+
+-- ---- bounds
+
+-- a number and its limits
+abbrev pub within : Limit → ℕ → Bounded
+within limit n = record { number = n; least = limit.least; greatest = limit.greatest; rule = limit.rule }
+
+-- rule 6: a state is one of the run
+abbrev pub place_limit : ℕ → Limit
+place_limit steps = record { least = 0; greatest = steps; rule = 6 }
+
+-- rule 7: behind an address three more have to be
+abbrev pub address_limit : Limit
+address_limit = record { least = 0; greatest = 4294967292; rule = 7 }
+
+abbrev pub question_bound : ℕ → Question → Bounded
+question_bound steps (State place) = within (place_limit steps) place
+question_bound steps (LastWrite address) = within address_limit address
+question_bound steps (LastChange address) = within address_limit address
+
+abbrev pub bounds_of : Operand → List Bounded
+bounds_of (the_word text) = []
+bounds_of (a_program name) = []
+bounds_of (a_journal name) = []
+bounds_of (a_book name) = []
+bounds_of (a_schedule name) = []
+bounds_of (a_certificate name) = []
+bounds_of (a_number limit n) = within limit n ∷ []
+bounds_of (a_question steps question) = question_bound steps question ∷ []
+
+-- ---- inputs
+
+-- each kind of input, with its limit
+abbrev pub program_input : List ℕ → Input
+program_input name = record { name = name; limit = 33554432 }
+
+abbrev pub journal_input : List ℕ → Input
+journal_input name = record { name = name; limit = 67108864 }
+
+abbrev pub book_input : List ℕ → Input
+book_input name = record { name = name; limit = 65536 }
+
+abbrev pub schedule_input : List ℕ → Input
+schedule_input name = record { name = name; limit = 536870912 }
+
+abbrev pub certificate_input : List ℕ → Input
+certificate_input name = record { name = name; limit = 536870912 }
+
+-- without a name for recorded input none is read
+abbrev pub journal_inputs : Option (List ℕ) → List Input
+journal_inputs None = []
+journal_inputs (Some name) = journal_input name ∷ []
+
+abbrev pub inputs_named : Operand → List Input
+inputs_named (the_word text) = []
+inputs_named (a_program name) = program_input name ∷ []
+inputs_named (a_journal name) = journal_inputs name
+inputs_named (a_book name) = book_input name ∷ []
+inputs_named (a_schedule name) = schedule_input name ∷ []
+inputs_named (a_certificate name) = certificate_input name ∷ []
+inputs_named (a_number limit n) = []
+inputs_named (a_question steps question) = []

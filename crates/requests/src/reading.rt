@@ -1,0 +1,223 @@
+// A command is read by its form: a line for each of its words and operands, in their order.
+ghost use Rattle.std.specs.Prelude.{◌≡◌, map, codes};
+ghost use Rattle.requests.specs.Reading.{Gives};
+ghost use Rattle.requests.specs.Request.{kind_word};
+ghost use Rattle.requests.specs.declared.question.Question.TheVariants as about;
+ghost use Rattle.requests.specs.Forms.{numbered, addressed, run_form, run_revolve_form, plan_form, periodic_form, check_form, certify_form, price_form, ask_form, demo_form, form_taken, command_of};
+ghost use Rattle.requests.specs.RequestReading.{as_command};
+
+use crate::kind::PlanKind;
+use crate::operands::Operands;
+use crate::question::Question;
+use crate::request::{
+    Ask, Certify, Check, Command, Demo, PlanFor, PlanPeriodic, Price, Run, RunRevolve,
+};
+
+/// The command that the words behind the options are.
+pub fn read_command(words: &[Vec<u8>]) -> Option<Command<'_>>
+    ensures { Gives as_command result (command_of (map (λ w. w.items) words.now)) }
+{
+    read_run_revolve(words)
+        .or(read_run(words))
+        .or(read_plan(words, PlanKind::Revolve))
+        .or(read_plan(words, PlanKind::Multistage))
+        .or(read_plan(words, PlanKind::Disk))
+        .or(read_plan(words, PlanKind::Hrevolve))
+        .or(read_plan_periodic(words))
+        .or(read_check(words))
+        .or(read_certify(words))
+        .or(read_price(words))
+        .or(read_ask_state(words))
+        .or(read_ask_last_write(words))
+        .or(read_ask_last_change(words))
+        .or(read_demo(words))
+}
+
+fn read_run(words: &[Vec<u8>]) -> Option<Command<'_>>
+    ensures { Gives as_command result (form_taken run_form (map (λ w. w.items) words.now)) }
+{
+    let mut words = Operands::of(words);
+    words.word(b"run");
+    let program = words.name();
+    let journal = words.name_or_dash();
+    let book = words.name();
+    let schedule = words.schedule_name();
+    let steps = words.number();
+    words.finish(Command::Run(Run {
+        program,
+        journal,
+        book,
+        schedule,
+        steps,
+    }))
+}
+
+fn read_run_revolve(words: &[Vec<u8>]) -> Option<Command<'_>>
+    ensures { Gives as_command result (form_taken run_revolve_form (map (λ w. w.items) words.now)) }
+{
+    let mut words = Operands::of(words);
+    words.word(b"run");
+    let program = words.name();
+    let journal = words.name_or_dash();
+    let book = words.name();
+    words.word(b"@revolve");
+    let steps = words.number();
+    words.finish(Command::RunRevolve(RunRevolve {
+        program,
+        journal,
+        book,
+        steps,
+    }))
+}
+
+// The word of a kind of plans.
+fn kind_word(kind: PlanKind) -> &'static [u8]
+    ensures { result.now ≡ kind_word kind }
+{
+    match kind {
+        PlanKind::Revolve => b"revolve",
+        PlanKind::Multistage => b"multistage",
+        PlanKind::Disk => b"disk",
+        PlanKind::Hrevolve => b"hrevolve",
+    }
+}
+
+fn read_plan(words: &[Vec<u8>], kind: PlanKind) -> Option<Command<'_>>
+    ensures { Gives as_command result (form_taken (plan_form kind) (map (λ w. w.items) words.now)) }
+{
+    let mut words = Operands::of(words);
+    words.word(b"plan");
+    words.word(kind_word(kind));
+    let book = words.name();
+    let steps = words.number();
+    words.finish(Command::Plan(PlanFor { kind, book, steps }))
+}
+
+fn read_plan_periodic(words: &[Vec<u8>]) -> Option<Command<'_>>
+    ensures { Gives as_command result (form_taken periodic_form (map (λ w. w.items) words.now)) }
+{
+    let mut words = Operands::of(words);
+    words.word(b"plan");
+    words.word(b"periodic");
+    let book = words.name();
+    let steps = words.number();
+    let period = words.number();
+    words.finish(Command::PlanPeriodic(PlanPeriodic {
+        book,
+        steps,
+        period,
+    }))
+}
+
+fn read_check(words: &[Vec<u8>]) -> Option<Command<'_>>
+    ensures { Gives as_command result (form_taken check_form (map (λ w. w.items) words.now)) }
+{
+    let mut words = Operands::of(words);
+    words.word(b"check");
+    let book = words.name();
+    let schedule = words.schedule_name();
+    let steps = words.number();
+    words.finish(Command::Check(Check {
+        book,
+        schedule,
+        steps,
+    }))
+}
+
+fn read_certify(words: &[Vec<u8>]) -> Option<Command<'_>>
+    ensures { Gives as_command result (form_taken certify_form (map (λ w. w.items) words.now)) }
+{
+    let mut words = Operands::of(words);
+    words.word(b"certify");
+    let book = words.name();
+    let schedule = words.schedule_name();
+    let certificate = words.name();
+    let steps = words.number();
+    words.finish(Command::Certify(Certify {
+        book,
+        schedule,
+        certificate,
+        steps,
+    }))
+}
+
+fn read_price(words: &[Vec<u8>]) -> Option<Command<'_>>
+    ensures { Gives as_command result (form_taken price_form (map (λ w. w.items) words.now)) }
+{
+    let mut words = Operands::of(words);
+    words.word(b"cost");
+    let book = words.name();
+    let schedule = words.schedule_name();
+    let steps = words.number();
+    words.finish(Command::Price(Price {
+        book,
+        schedule,
+        steps,
+    }))
+}
+
+fn read_ask_state(words: &[Vec<u8>]) -> Option<Command<'_>>
+    ensures { Gives as_command result (form_taken (ask_form (codes "state") numbered about.State) (map (λ w. w.items) words.now)) }
+{
+    let mut words = Operands::of(words);
+    words.word(b"ask");
+    words.word(b"state");
+    let run = Run {
+        program: words.name(),
+        journal: words.name_or_dash(),
+        book: words.name(),
+        schedule: words.schedule_name(),
+        steps: words.number(),
+    };
+    let question = Question::State(words.number());
+    words.finish(Command::Ask(Ask { question, run }))
+}
+
+fn read_ask_last_write(words: &[Vec<u8>]) -> Option<Command<'_>>
+    ensures { Gives as_command result (form_taken (ask_form (codes "last-write") addressed about.LastWrite) (map (λ w. w.items) words.now)) }
+{
+    let mut words = Operands::of(words);
+    words.word(b"ask");
+    words.word(b"last-write");
+    let run = Run {
+        program: words.name(),
+        journal: words.name_or_dash(),
+        book: words.name(),
+        schedule: words.schedule_name(),
+        steps: words.number(),
+    };
+    let question = Question::LastWrite(words.address());
+    words.finish(Command::Ask(Ask { question, run }))
+}
+
+fn read_ask_last_change(words: &[Vec<u8>]) -> Option<Command<'_>>
+    ensures { Gives as_command result (form_taken (ask_form (codes "last-change") addressed about.LastChange) (map (λ w. w.items) words.now)) }
+{
+    let mut words = Operands::of(words);
+    words.word(b"ask");
+    words.word(b"last-change");
+    let run = Run {
+        program: words.name(),
+        journal: words.name_or_dash(),
+        book: words.name(),
+        schedule: words.schedule_name(),
+        steps: words.number(),
+    };
+    let question = Question::LastChange(words.address());
+    words.finish(Command::Ask(Ask { question, run }))
+}
+
+fn read_demo(words: &[Vec<u8>]) -> Option<Command<'_>>
+    ensures { Gives as_command result (form_taken demo_form (map (λ w. w.items) words.now)) }
+{
+    let mut words = Operands::of(words);
+    words.word(b"demo");
+    let number = words.number();
+    let steps = words.number();
+    let slots = words.number();
+    words.finish(Command::Demo(Demo {
+        number,
+        steps,
+        slots,
+    }))
+}
