@@ -1,16 +1,15 @@
 -- What a request comes to: one decision, and of a list that is performed that it is valid.
 use Rattle.std.proofs.Common.{◌≡◌, ◌⊎◌, inl, inr, ℕ, ◌+◌, ◌<◌, ◌≤◌, ◌++◌, Bool, true, false, cond, nat_le, List, [], ◌∷◌, length, map, append-nil, Option, None, Some, slice_get, Result, Ok, Err, IsErrAnd, IfErr, refl, sym, ◌∙◌, ap, subst, arith}
 use Rattle.std.specs.Prelude.{codes, decimal}
-use Rattle.std.proofs.lemmas.Bool.{leb-true, leb-false, cases_lt}
+use Rattle.std.proofs.lemmas.Bool.{leb-true, leb-false}
 use Rattle.std.proofs.lemmas.List.Folds.{fold-map}
 use Rattle.std.proofs.lemmas.List.Sums.{sum_by-append}
 use Rattle.plan_types.specs.declared.action.Action.{Action}
 use Rattle.level_book.specs.declared.book.Slots.{Slots}
-use Rattle.level_book.specs.BookCosts.{BookCosts, slots_of, names_of, room, total_room, plain}
+use Rattle.level_book.specs.BookCosts.{BookCosts, slots_of, names_of, room, total_room}
 use Rattle.level_book.specs.BookFaults.{IsBookText}
 use Rattle.level_book.specs.Valid.{Valid, BrokenAt}
 use Rattle.action_text.specs.ScheduleText.{IsSchedule}
-use Rattle.schedule_rules.proofs.Lawful.{one_break}
 use Rattle.rv_machine.specs.MachineState.{MachineState}
 use Rattle.reverse_runner.specs.KeepersSeen.{HaveRoom}
 use Rattle.requests.specs.declared.ended.Ended.{Ended}
@@ -18,14 +17,11 @@ use Rattle.requests.specs.Request.{Choice}
 use Rattle.requests.specs.Ending.{no_memory, unreadable, too_long as longer, bad_program, bad_journal, bad_book, bad_text, invalid, bad_certificate, out_of_range, no_plan}
 use Rattle.revolve_gen.specs.Plans.{HasPlan}
 use Rattle.revolve_gen.specs.Written.{revolve_list}
-use Rattle.revolve_gen.proofs.Books.{book_right}
-use Rattle.requests.specs.Request.{says_raw, stack_pages, Command, run, run_revolve, plan, plan_periodic, check, certify, price, ask, demo, Request}
+use Rattle.requests.specs.Request.{says_raw, stack_pages, Command, Request}
 use Rattle.requests.specs.Inputs.{Input, inputs_of}
 use Rattle.requests.specs.InputReading.{Reading, all, too_long, not_there, with_front, reading}
 use Rattle.multistage_gen.specs.Planned.{IsMultistageList}
-use Rattle.multistage_gen.proofs.Unique.{plans_unique}
 use Rattle.bound_cert.specs.Thresholds.{IsThresholdOf}
-use Rattle.bound_cert.proofs.Fitting.{one_threshold}
 use Rattle.cert_text.specs.declared.certificate.Certificate.TheVariants as certified
 use Rattle.cert_text.specs.Canonical as certificate_text
 use Rattle.level_book.specs.UnderTable.{IsGreatest}
@@ -33,28 +29,21 @@ use Rattle.cost_tables.specs.TableRows.{TableRows, tables_in}
 use Rattle.disk_gen.specs.DiskRows.{DiskRows, disk_tables_in}
 use Rattle.hrevolve_gen.specs.Plans as nested
 use Rattle.hrevolve_gen.specs.Written.{IsWritten}
-use Rattle.hrevolve_gen.proofs.Greatest.{plan_unique}
 use Rattle.disk_gen.specs.Periodic.{images, periodic_list}
 use Rattle.disk_gen.specs.Plans.{slots_at, HasSlots}
 use Rattle.reversal.specs.NoPlans.{IsUnperiodic, IsUndisked, IsUnnested}
-use Rattle.requests.specs.declared.kind.PlanKind.{PlanKind}
-use Rattle.requests.specs.declared.kind.PlanKind.TheVariants.{Revolve, Multistage, Disk, Hrevolve}
 use Rattle.reversal.specs.Plans.{list_pieces, plan_pieces, certificate_of, AreTablesFor, AreDiskTablesFor}
 use Rattle.reversal.proofs.Planned.{plan_valid, plan_certified, revolve_least}
 use Rattle.reversal.proofs.ReadAgain.{plan_read_again}
 use Rattle.reversal.specs.Demo as demonstration
-use Rattle.requests.specs.declared.question.Question.{Question}
-use Rattle.requests.specs.Operands.{question_bound}
-use Rattle.requests.specs.Bounds.{IsWithin}
 use Rattle.reversal.specs.Pricing.{list_report}
 use Rattle.level_book.specs.declared.book.Slots.TheVariants.{Unlimited}
 use Rattle.level_book.specs.DiskUnderTable.{IsGreatestDisk}
 use Rattle.disk_gen.specs.DiskWritten.{IsDiskWritten}
-use Rattle.disk_gen.proofs.DiskUnique.{disk_plan_unique}
 use Rattle.reversal.specs.Deeds.{Job, perform, ask as ask_job, write, demonstrate, Shown, deeds, silent_deed, writing, Deed, bytes_of, bytes_written, steps_made, output, steps_taken}
-use Rattle.reversal.specs.Decision.{Decision, refuse, accept, Need, Read, Judge, Keep, Take, Plan, IsFirstWide, Tabulate, DecidesRunRevolve, DecidesPlan, DecidesPlanRevolve, DecidesPlanMultistage, DecidesPlanDisk, DecidesPlanHrevolve, DecidesPlanPeriodic, DecidesDemo, HasBookFault, IsStartOf, HasProgramFault, AreItemsOf, HasJournalFault, Maker, DecidesOver, performed, asked_about, DecidesOverBytes, DecidesPrice, DecidesCheck, DecidesCertify, DecidesBytes, Decides, least_line}
+use Rattle.reversal.specs.Decision.{Decision, refuse, accept, Need, Read, Judge, Keep, Take, Plan, IsFirstWide, Tabulate, DecidesRunRevolve, DecidesPlanRevolve, DecidesPlanMultistage, DecidesPlanDisk, DecidesPlanHrevolve, DecidesPlanPeriodic, HasBookFault, IsStartOf, HasProgramFault, AreItemsOf, HasJournalFault, Maker, DecidesOver, DecidesPrice, DecidesCheck, DecidesCertify, DecidesBytes, Decides, least_line}
 use Rattle.reversal.specs.JobReading.{IsRefusal, IsUnweighed}
-use Rattle.reversal.proofs.Refused.{IsOne, Excludes, book_one, book_fault_one, book_excludes, start_one, program_fault_one, start_excludes, items_one, journal_fault_one, items_exclude, list_one, text_fault_one, list_excludes, IsRefusing, refusing_at, program_refuses, journal_refuses, book_refuses, text_refuses, program_fault_is_other, journal_fault_is_other, text_fault_is_other, certificate_one, certificate_fault_one, certificate_excludes, certificate_refuses, certificate_fault_is_other}
+use Rattle.reversal.proofs.Refused.{IsRefusing}
 use Rattle.cert_text.specs.declared.certificate.Certificate.{Certificate}
 use Rattle.cert_text.specs.Meaning.{IsCertificateText}
 use Rattle.cert_text.specs.Faults.{HasFirstFault as CertificateFirst}
@@ -63,193 +52,32 @@ use Rattle.level_book.specs.CostFold.{forward}
 use Rattle.bound_cert.proofs.Accepting.{accepted_least}
 use Rattle.level_book.specs.declared.book.Level.{Level}
 use Rattle.reversal.proofs.BookTexts.{some_level, costs_rise}
-use Rattle.reversal.proofs.LeastTables.{nested_same, disk_same}
-use Rattle.reversal.proofs.Weighing.{weigh_one, weigh_met, weigh_refusing, weigh_refuses}
-use Rattle.reversal.proofs.Keeping.{keep_one, keep_met, keep_refusing, keep_refuses, keep_accepts, keep_passes}
+use Rattle.reversal.proofs.Weighing.{weigh_met, weigh_refuses}
+use Rattle.reversal.proofs.Keeping.{keep_refuses, keep_accepts, keep_passes}
 use Rattle.action_text.specs.Faults.{HasFirstFault}
 use Rattle.reversal.proofs.Progress.{bytes_of_run, steps_of_run}
 use Rattle.reversal.proofs.Answered.{bytes_asked, steps_asked}
+use Rattle.reversal.specs.Decision.{table_of}
+use Rattle.reversal.proofs.Tables.{IsMet, asks, performs, writes, shows, one_decided, comes_to}
+use Rattle.reversal.proofs.Commanding.{tables_sound}
 
--- ---- a decision is unique, line by line
-
-need_one : (Holds : Type 0) (e : Ended) (c d : Decision) (Below Other : Type 0) → (Below → Other → c ≡ d) → Need Holds e c Below → Need Holds e d Other → c ≡ d
-need_one Holds e c d Below Other one h g = elim h [
-  | inl x ↦ elim g [ inl y ↦ x.1 ∙ sym y.1 | inr y ↦ absurd (x.0 y.0) ]
-  | inr x ↦ elim g [ inl y ↦ absurd (y.0 x.0) | inr y ↦ one x.1 y.1 ]
-]
-
-read_one : {A F : Type 0} (IsText : A → Type 0) (HasFault : F → Type 0) (ended : F → Ended) (c d : Decision) (Below Other : A → Type 0) → IsOne IsText → IsOne HasFault → Excludes IsText HasFault → ((x : A) → IsText x → Below x → Other x → c ≡ d) →
-    Read IsText HasFault ended c Below → Read IsText HasFault ended d Other → c ≡ d
-read_one IsText HasFault ended c d Below Other unique fault excludes one h g = elim h [
-  | inl x ↦ elim g [ inl y ↦ x.2 ∙ ap (λ f. refuse (ended f)) (fault x.0 y.0 x.1 y.1) ∙ sym y.2 | inr y ↦ absurd (excludes y.0 x.0 y.1 x.1) ]
-  | inr x ↦ elim g [ inl y ↦ absurd (excludes x.0 y.0 x.1 y.1) | inr y ↦ one x.0 x.1 x.2 (subst Other (unique y.0 x.0 y.1 x.1) y.2) ]
-]
-
-judge_one : (steps : ℕ) (slots : List Slots) (list : List Action) (c d : Decision) (Below Other : Type 0) → (Below → Other → c ≡ d) → Judge steps slots list c Below → Judge steps slots list d Other → c ≡ d
-judge_one steps slots list c d Below Other one h g = elim h [
-  | inl x ↦ elim g [
-    | inl y ↦
-        let same = one_break steps slots list x.0 y.0 x.1 y.1 x.2 y.2 x.3 y.3 in
-        x.5 ∙ (λ i. refuse (invalid (same.0 i) (same.2 i) (same.1 i))) ∙ sym y.5
-    | inr y ↦ absurd (x.4 y.0)
-  ]
-  | inr x ↦ elim g [ inl y ↦ absurd (y.4 x.0) | inr y ↦ one x.1 y.1 ]
-]
+-- ---- a decision is unique
 
 take_one : (place : ℕ) (is : List Input) (given : List (Option (List ℕ))) (c d : Decision) (Below Other : List (List ℕ) → Type 0) → ((bytes : List (List ℕ)) → Below bytes → Other bytes → c ≡ d) →
     Take place is given c Below → Take place is given d Other → c ≡ d
 take_one place [] given c d Below Other one h g = one [] h g
 take_one place (i ∷ is) [] c d Below Other one h g = h ∙ sym g
 take_one place (i ∷ is) (None ∷ given) c d Below Other one h g = h ∙ sym g
-take_one place (i ∷ is) (Some bytes ∷ given) c d Below Other one h g =
-    need_one (length bytes ≤ i.limit) (longer place i.limit) c d _ _
-    (take_one (place + 1) is given c d (λ more. Below (bytes ∷ more)) (λ more. Other (bytes ∷ more)) (λ more. one (bytes ∷ more))) h g
-
-over_one : (make : Maker) (options : List Choice) (steps : ℕ) (program : List ℕ) (journal : Option (List ℕ)) (book schedule counts : List ℕ) (c d : Decision) → DecidesOver make options steps program journal book schedule counts c → DecidesOver make options steps program journal book schedule counts d → c ≡ d
-over_one make options steps program journal book schedule counts c d =
-    let raw = says_raw options in
-    let stack = stack_pages options in
-    read_one (IsBookText book) (HasBookFault book) bad_book c d _ _ (book_one book) (book_fault_one book) (book_excludes book) (λ b is_book.
-    keep_one steps (slots_of b) counts c d _ _ (
-    read_one (IsStartOf raw stack program) (HasProgramFault raw stack program) bad_program c d _ _ (start_one raw stack program) (program_fault_one raw stack program) (start_excludes raw stack program) (λ start is_start.
-    read_one (AreItemsOf journal) (HasJournalFault journal) bad_journal c d _ _ (items_one journal) (journal_fault_one journal) (items_exclude journal) (λ items are_items.
-    read_one (IsSchedule (names_of b) schedule) (HasFirstFault (names_of b) schedule) bad_text c d _ _ (list_one book b schedule is_book) (text_fault_one book b schedule is_book) (list_excludes book b schedule is_book) (λ list is_list.
-    judge_one steps (slots_of b) list c d _ _ (λ x y. x ∙ sym y))))))
-
-check_one : (steps : ℕ) (book schedule : List ℕ) (c d : Decision) → DecidesCheck steps book schedule c → DecidesCheck steps book schedule d → c ≡ d
-check_one steps book schedule c d =
-    read_one (IsBookText book) (HasBookFault book) bad_book c d _ _ (book_one book) (book_fault_one book) (book_excludes book) (λ b is_book.
-    read_one (IsSchedule (names_of b) schedule) (HasFirstFault (names_of b) schedule) bad_text c d _ _ (list_one book b schedule is_book) (text_fault_one book b schedule is_book) (list_excludes book b schedule is_book) (λ list is_list.
-    judge_one steps (slots_of b) list c d _ _ (λ x y. x ∙ sym y)))
-
-price_one : (steps : ℕ) (book schedule : List ℕ) (c d : Decision) → DecidesPrice steps book schedule c → DecidesPrice steps book schedule d → c ≡ d
-price_one steps book schedule c d =
-    read_one (IsBookText book) (HasBookFault book) bad_book c d _ _ (book_one book) (book_fault_one book) (book_excludes book) (λ b is_book.
-    read_one (IsSchedule (names_of b) schedule) (HasFirstFault (names_of b) schedule) bad_text c d _ _ (list_one book b schedule is_book) (text_fault_one book b schedule is_book) (list_excludes book b schedule is_book) (λ list is_list.
-    judge_one steps (slots_of b) list c d _ _ (λ x y. x ∙ sym y)))
-
-certify_one : (steps : ℕ) (book schedule certificate : List ℕ) (c d : Decision) → DecidesCertify steps book schedule certificate c → DecidesCertify steps book schedule certificate d → c ≡ d
-certify_one steps book schedule certificate c d =
-    read_one (IsBookText book) (HasBookFault book) bad_book c d _ _ (book_one book) (book_fault_one book) (book_excludes book) (λ b is_book.
-    read_one (IsSchedule (names_of b) schedule) (HasFirstFault (names_of b) schedule) bad_text c d _ _ (list_one book b schedule is_book) (text_fault_one book b schedule is_book) (list_excludes book b schedule is_book) (λ list is_list.
-    judge_one steps (slots_of b) list c d _ _ (
-    read_one (IsCertificateText steps b certificate) (CertificateFirst steps b certificate) bad_certificate c d _ _ (certificate_one steps b certificate) (certificate_fault_one steps b certificate) (certificate_excludes steps b certificate) (λ k is_certificate.
-    weigh_one steps b list k c d _ _ (λ x y. x ∙ sym y)))))
-
-revolve_one : (options : List Choice) (steps : ℕ) (program : List ℕ) (journal : Option (List ℕ)) (book counts : List ℕ) (c d : Decision) → DecidesRunRevolve options steps program journal book counts c → DecidesRunRevolve options steps program journal book counts d → c ≡ d
-revolve_one options steps program journal book counts c d =
-    let raw = says_raw options in
-    let stack = stack_pages options in
-    read_one (IsBookText book) (HasBookFault book) bad_book c d _ _ (book_one book) (book_fault_one book) (book_excludes book) (λ b is_book.
-    keep_one steps (slots_of b) counts c d _ _ (
-    need_one (HasPlan steps (total_room b steps)) (no_plan steps (total_room b steps) 1) c d _ _ (
-    read_one (IsStartOf raw stack program) (HasProgramFault raw stack program) bad_program c d _ _ (start_one raw stack program) (program_fault_one raw stack program) (start_excludes raw stack program) (λ start is_start.
-    read_one (AreItemsOf journal) (HasJournalFault journal) bad_journal c d _ _ (items_one journal) (journal_fault_one journal) (items_exclude journal) (λ items are_items x y.
-    x ∙ sym y)))))
-
-plan_one : (steps : ℕ) (book : List ℕ) (c d : Decision) → DecidesPlanRevolve steps book c → DecidesPlanRevolve steps book d → c ≡ d
-plan_one steps book c d =
-    read_one (IsBookText book) (HasBookFault book) bad_book c d _ _ (book_one book) (book_fault_one book) (book_excludes book) (λ b is_book.
-    need_one (HasPlan steps (total_room b steps)) (no_plan steps (total_room b steps) 1) c d _ _ (λ x y. x ∙ sym y))
-
-multistage_one : (steps : ℕ) (book : List ℕ) (c d : Decision) → DecidesPlanMultistage steps book c → DecidesPlanMultistage steps book d → c ≡ d
-multistage_one steps book c d =
-    read_one (IsBookText book) (HasBookFault book) bad_book c d _ _ (book_one book) (book_fault_one book) (book_excludes book) (λ b is_book.
-    need_one (length b.levels ≡ 2) (no_plan steps (total_room b steps) 2) c d _ _ (
-    need_one (HasPlan steps (total_room b steps)) (no_plan steps (total_room b steps) 1) c d _ _ (λ x y.
-    let list = plans_unique steps b x.0 y.0 x.1.0 y.1.0 in
-    let threshold = one_threshold steps b y.0 x.1.1.0 y.1.1.0 (subst (λ (l : List Action). IsThresholdOf x.1.1.0 steps b l) list x.1.1.1.0) y.1.1.1.0 in
-    x.1.1.1.1 ∙ (λ i. accept (write (list_pieces (names_of b) (list i) ++ certificate_text.pieces (certified.Places (threshold i))))) ∙ sym y.1.1.1.1)))
-
--- two levels that are the first of their kind are one
-one_wide : (steps : ℕ) (book : BookCosts) (k l : ℕ) → IsFirstWide steps book k → IsFirstWide steps book l → k ≡ l
-one_wide steps book k l h g = elim (cases_lt k l) [
-  | inl less ↦ (let small = g.before k less in let wide = h.wide in absurd (omega arith))
-  | inr more ↦ elim (cases_lt l k) [
-    | inl less ↦ (let small = h.before l less in let wide = g.wide in absurd (omega arith))
-    | inr same ↦ (omega arith)
-  ]
-]
-
-tabulate_one : (steps : ℕ) (b : BookCosts) (c d : Decision) (Below Other : Type 0) → (Below → Other → c ≡ d) → Tabulate steps b c Below → Tabulate steps b d Other → c ≡ d
-tabulate_one steps b c d Below Other one h g = elim h [
-  | inl x ↦ elim g [
-    | inl y ↦ x.1.1 ∙ ap (λ k. refuse (out_of_range (room b k steps) 64 9)) (one_wide steps b x.0 y.0 x.1.0 y.1.0) ∙ sym y.1.1
-    | inr y ↦ (let wide = x.1.0.wide in let small = y.0 x.0 x.1.0.within in absurd (omega arith))
-  ]
+take_one place (i ∷ is) (Some bytes ∷ given) c d Below Other one h g = elim h [
+  | inl x ↦ elim g [ inl y ↦ x.1 ∙ sym y.1 | inr y ↦ absurd (x.0 y.0) ]
   | inr x ↦ elim g [
-    | inl y ↦ (let wide = y.1.0.wide in let small = x.0 y.0 y.1.0.within in absurd (omega arith))
-    | inr y ↦ one x.1 y.1
+    | inl y ↦ absurd (y.0 x.0)
+    | inr y ↦ take_one (place + 1) is given c d (λ more. Below (bytes ∷ more)) (λ more. Other (bytes ∷ more)) (λ more. one (bytes ∷ more)) x.1 y.1
   ]
 ]
-
-hrevolve_one : (steps : ℕ) (book : List ℕ) (c d : Decision) → DecidesPlanHrevolve steps book c → DecidesPlanHrevolve steps book d → c ≡ d
-hrevolve_one steps book c d =
-    read_one (IsBookText book) (HasBookFault book) bad_book c d _ _ (book_one book) (book_fault_one book) (book_excludes book) (λ b is_book.
-    tabulate_one steps b c d _ _ (
-    need_one (nested.HasNestedPlan steps b) (no_plan steps (total_room b steps) 1) c d _ _ (λ x y.
-    let s = x.1.1.1 in
-    let t = y.1.1.1 in
-    let list = plan_unique steps b (tables_in x.0) (tables_in y.0) s.0 t.0 x.1.1.0 y.1.1.0 s.1.0 t.1.0 in
-    let tables = nested_same steps b x.0 y.0 x.1.0 x.1.1.0 y.1.0 y.1.1.0 in
-    s.1.1 ∙ (λ i. accept (write (list_pieces (names_of b) (list i) ++ certificate_text.pieces (certified.Nested (tables i))))) ∙ sym t.1.1)))
-
-disk_one : (steps : ℕ) (book : List ℕ) (c d : Decision) → DecidesPlanDisk steps book c → DecidesPlanDisk steps book d → c ≡ d
-disk_one steps book c d =
-    read_one (IsBookText book) (HasBookFault book) bad_book c d _ _ (book_one book) (book_fault_one book) (book_excludes book) (λ b is_book.
-    need_one (room b 0 steps ≤ 64) (out_of_range (room b 0 steps) 64 9) c d _ _ (
-    need_one (length b.levels ≡ 2) (no_plan steps (total_room b steps) 2) c d _ _ (
-    need_one (slice_get (slots_of b) 1 ≡ Some Unlimited) (no_plan steps (total_room b steps) 3) c d _ _ (λ x y.
-    let s = x.1.1.1 in
-    let t = y.1.1.1 in
-    let list = disk_plan_unique steps b (disk_tables_in x.0) (disk_tables_in y.0) s.0 t.0 x.1.1.0 y.1.1.0 s.1.0 t.1.0 in
-    let tables = disk_same steps b x.0 y.0 x.1.0 x.1.1.0 y.1.0 y.1.1.0 in
-    s.1.1 ∙ (λ i. accept (write (list_pieces (names_of b) (list i) ++ certificate_text.pieces (certified.Disk (tables i))))) ∙ sym t.1.1))))
-
-kind_one : (kind : PlanKind) (steps : ℕ) (book : List ℕ) (c d : Decision) → DecidesPlan kind steps book c → DecidesPlan kind steps book d → c ≡ d
-kind_one Revolve steps book c d = plan_one steps book c d
-kind_one Multistage steps book c d = multistage_one steps book c d
-kind_one Disk steps book c d = disk_one steps book c d
-kind_one Hrevolve steps book c d = hrevolve_one steps book c d
-
-periodic_one : (steps period : ℕ) (book : List ℕ) (c d : Decision) → DecidesPlanPeriodic steps period book c → DecidesPlanPeriodic steps period book d → c ≡ d
-periodic_one steps period book c d =
-    read_one (IsBookText book) (HasBookFault book) bad_book c d _ _ (book_one book) (book_fault_one book) (book_excludes book) (λ b is_book.
-    need_one (length b.levels ≡ 2) (no_plan steps (total_room b steps) 2) c d _ _ (
-    need_one (2 ≤ steps → 2 ≤ period → 1 ≤ room b 0 steps) (no_plan steps (total_room b steps) 1) c d _ _ (
-    need_one (HasSlots (slots_at b 1) (images steps period)) (no_plan steps (total_room b steps) 4) c d _ _ (λ x y. x ∙ sym y))))
-
-demo_one : (number steps slots : ℕ) (c d : Decision) → DecidesDemo number steps slots c → DecidesDemo number steps slots d → c ≡ d
-demo_one number steps slots c d =
-    need_one (HasPlan steps (total_room (plain slots) steps)) (no_plan steps (total_room (plain slots) steps) 1) c d _ _ (λ x y.
-    x.2 ∙ ap (λ s. accept (demonstrate number s steps slots)) (start_one true 16 (demonstration.program number) x.0 y.0 x.1 y.1) ∙ sym y.2)
-
-over_bytes_one : (make : Maker) (options : List Choice) (steps : ℕ) (bytes : List (List ℕ)) (slots : List ℕ) (c d : Decision) → DecidesOverBytes make options steps bytes slots c → DecidesOverBytes make options steps bytes slots d → c ≡ d
-over_bytes_one make options steps (program ∷ book ∷ schedule ∷ []) slots c d h g = over_one make options steps program None book schedule slots c d h g
-over_bytes_one make options steps (program ∷ journal ∷ book ∷ schedule ∷ []) slots c d h g = over_one make options steps program (Some journal) book schedule slots c d h g
-over_bytes_one make options steps other slots c d h g = absurd h
-
-bytes_one : (options : List Choice) (command : Command) (bytes : List (List ℕ)) (slots : List ℕ) (c d : Decision) → DecidesBytes options command bytes slots c → DecidesBytes options command bytes slots d → c ≡ d
-bytes_one options (run r) bytes slots c d h g = over_bytes_one (performed r.steps) options r.steps bytes slots c d h g
-bytes_one options (ask r) bytes slots c d h g = over_bytes_one (asked_about r.question r.run.steps) options r.run.steps bytes slots c d h.1 g.1
-bytes_one options (price r) (book ∷ schedule ∷ []) slots c d h g = price_one r.steps book schedule c d h g
-bytes_one options (price r) other slots c d h g = absurd h
-bytes_one options (run_revolve r) (program ∷ book ∷ []) slots c d h g = revolve_one options r.steps program None book slots c d h g
-bytes_one options (run_revolve r) (program ∷ journal ∷ book ∷ []) slots c d h g = revolve_one options r.steps program (Some journal) book slots c d h g
-bytes_one options (run_revolve r) other slots c d h g = absurd h
-bytes_one options (plan r) (book ∷ []) slots c d h g = kind_one r.kind r.steps book c d h g
-bytes_one options (plan r) other slots c d h g = absurd h
-bytes_one options (plan_periodic r) (book ∷ []) slots c d h g = periodic_one r.steps r.period book c d h g
-bytes_one options (plan_periodic r) other slots c d h g = absurd h
-bytes_one options (check r) (book ∷ schedule ∷ []) slots c d h g = check_one r.steps book schedule c d h g
-bytes_one options (check r) other slots c d h g = absurd h
-bytes_one options (certify r) (book ∷ schedule ∷ certificate ∷ []) slots c d h g = certify_one r.steps book schedule certificate c d h g
-bytes_one options (certify r) other slots c d h g = absurd h
-bytes_one options (demo r) [] slots c d h g = demo_one r.number r.steps r.slots c d h g
-bytes_one options (demo r) other slots c d h g = absurd h
 
 pub one_decision : (r : Request) (given : List (Option (List ℕ))) (slots : List ℕ) (c d : Decision) → Decides r given slots c → Decides r given slots d → c ≡ d
-one_decision r given slots c d = take_one 1 (inputs_of r.command) given c d _ _ (λ bytes. bytes_one r.options r.command bytes slots c d)
+one_decision r given slots c d = take_one 1 (inputs_of r.command) given c d _ _ (λ bytes. one_decided (table_of r.options r.command bytes slots) (tables_sound r.options r.command bytes slots) c d)
 
 -- ---- what an accepted job is
 
@@ -288,105 +116,8 @@ judge_met steps slots list job Below h = elim h [
 pub need_met : (Holds : Type 0) (e : Ended) (job : Job) (Below : Type 0) → Need Holds e (accept job) Below → Holds × Below
 need_met Holds e job Below h = elim h [ inl n ↦ absurd (accept_refuse job e n.1) | inr y ↦ y ]
 
--- the job is made of a valid list and what it is performed over
-pub record IsMade (make : Maker) (steps : ℕ) (job : Job) : Type 0 where
-  pub first : MachineState
-  pub journal : List (List ℕ)
-  pub slots : List Slots
-  pub list : List Action
-  pub valid : Valid steps slots list
-  pub is : job ≡ make first journal slots list
-
--- a list that is performed is valid, also for a question, whose number is within its bounds; texts are written, or a demonstration is shown
-pub data IsMet (job : Job) : Type 0 where
-  asks : (question : Question) (first : MachineState) (journal : List (List ℕ)) (steps : ℕ) (slots : List Slots) (list : List Action) → IsWithin (question_bound steps question) → Valid steps slots list →
-      job ≡ ask_job question first journal steps slots list → IsMet job
-  performs : (first : MachineState) (journal : List (List ℕ)) (steps : ℕ) (slots : List Slots) (list : List Action) → Valid steps slots list → job ≡ perform first journal steps slots list → IsMet job
-  writes : (texts : List (List ℕ)) → job ≡ write texts → IsMet job
-  shows : (number : ℕ) (first : MachineState) (steps slots : ℕ) → job ≡ demonstrate number first steps slots → IsMet job
-
-over_met : (make : Maker) (options : List Choice) (steps : ℕ) (program : List ℕ) (journal : Option (List ℕ)) (book schedule counts : List ℕ) (job : Job) → DecidesOver make options steps program journal book schedule counts (accept job) → IsMade make steps job
-over_met make options steps program journal book schedule counts job h =
-    let b = read_met _ _ bad_book job _ h in
-    let kept = keep_met steps (slots_of b.0) counts job _ b.1 in
-    let start = read_met _ _ bad_program job _ kept.1 in
-    let items = read_met _ _ bad_journal job _ start.1 in
-    let list = read_met _ _ bad_text job _ items.1 in
-    let valid = judge_met _ _ _ job _ list.1 in
-    record { first = start.0; journal = items.0; slots = slots_of b.0; list = list.0; valid = valid.0; is = ap (job_or job) valid.1 }
-
-over_bytes_met : (make : Maker) (options : List Choice) (steps : ℕ) (bytes : List (List ℕ)) (slots : List ℕ) (job : Job) → DecidesOverBytes make options steps bytes slots (accept job) → IsMade make steps job
-over_bytes_met make options steps (program ∷ book ∷ schedule ∷ []) slots job h = over_met make options steps program None book schedule slots job h
-over_bytes_met make options steps (program ∷ journal ∷ book ∷ schedule ∷ []) slots job h = over_met make options steps program (Some journal) book schedule slots job h
-over_bytes_met make options steps other slots job h = absurd h
-
-revolve_met : (options : List Choice) (steps : ℕ) (program : List ℕ) (journal : Option (List ℕ)) (book counts : List ℕ) (job : Job) → DecidesRunRevolve options steps program journal book counts (accept job) → IsMet job
-revolve_met options steps program journal book counts job h =
-    let b = read_met _ _ bad_book job _ h in
-    let kept = keep_met steps (slots_of b.0) counts job _ b.1 in
-    let plan = need_met _ _ job _ kept.1 in
-    let start = read_met _ _ bad_program job _ plan.1 in
-    let items = read_met _ _ bad_journal job _ start.1 in
-    performs start.0 items.0 steps (slots_of b.0) (revolve_list steps b.0) (book_right steps b.0 plan.0).0 (ap (job_or job) items.1)
-
-plan_met : (steps : ℕ) (book : List ℕ) (job : Job) → DecidesPlanRevolve steps book (accept job) → IsMet job
-plan_met steps book job h =
-    let b = read_met _ _ bad_book job _ h in
-    let plan = need_met _ _ job _ b.1 in
-    writes _ (ap (job_or job) plan.1)
-
-multistage_met : (steps : ℕ) (book : List ℕ) (job : Job) → DecidesPlanMultistage steps book (accept job) → IsMet job
-multistage_met steps book job h =
-    let b = read_met _ _ bad_book job _ h in
-    let two = need_met _ _ job _ b.1 in
-    let plan = need_met _ _ job _ two.1 in
-    writes _ (ap (job_or job) plan.1.1.1.1.1)
-
 pub tabulate_met : (steps : ℕ) (b : BookCosts) (job : Job) (Below : Type 0) → Tabulate steps b (accept job) Below → ((k : ℕ) → k < length b.levels → room b k steps ≤ 64) × Below
 tabulate_met steps b job Below h = elim h [ inl n ↦ absurd (accept_refuse job _ n.1.1) | inr y ↦ y ]
-
-hrevolve_met : (steps : ℕ) (book : List ℕ) (job : Job) → DecidesPlanHrevolve steps book (accept job) → IsMet job
-hrevolve_met steps book job h =
-    let b = read_met _ _ bad_book job _ h in
-    let narrow = tabulate_met steps b.0 job _ b.1 in
-    let plan = need_met _ _ job _ narrow.1 in
-    let read = plan.1.1.1.1 in
-    writes _ (ap (job_or job) read.1.1)
-
-disk_met : (steps : ℕ) (book : List ℕ) (job : Job) → DecidesPlanDisk steps book (accept job) → IsMet job
-disk_met steps book job h =
-    let b = read_met _ _ bad_book job _ h in
-    let few = need_met _ _ job _ b.1 in
-    let two = need_met _ _ job _ few.1 in
-    let unlimited = need_met _ _ job _ two.1 in
-    let read = unlimited.1.1.1.1 in
-    writes _ (ap (job_or job) read.1.1)
-
-kind_met : (kind : PlanKind) (steps : ℕ) (book : List ℕ) (job : Job) → DecidesPlan kind steps book (accept job) → IsMet job
-kind_met Revolve steps book job h = plan_met steps book job h
-kind_met Multistage steps book job h = multistage_met steps book job h
-kind_met Disk steps book job h = disk_met steps book job h
-kind_met Hrevolve steps book job h = hrevolve_met steps book job h
-
-periodic_met : (steps period : ℕ) (book : List ℕ) (job : Job) → DecidesPlanPeriodic steps period book (accept job) → IsMet job
-periodic_met steps period book job h =
-    let b = read_met _ _ bad_book job _ h in
-    let two = need_met _ _ job _ b.1 in
-    let fast = need_met _ _ job _ two.1 in
-    let slow = need_met _ _ job _ fast.1 in
-    writes _ (ap (job_or job) slow.1)
-
-demo_met : (number steps slots : ℕ) (job : Job) → DecidesDemo number steps slots (accept job) → IsMet job
-demo_met number steps slots job h =
-    let plan = need_met _ _ job _ h in
-    shows number plan.1.0 steps slots (ap (job_or job) plan.1.2)
-
-check_met : (steps : ℕ) (book schedule : List ℕ) (job : Job) → DecidesCheck steps book schedule (accept job) → IsMet job
-check_met steps book schedule job h =
-    let b = read_met _ _ bad_book job _ h in
-    let list = read_met _ _ bad_text job _ b.1 in
-    let valid = judge_met _ _ _ job _ list.1 in
-    writes _ (ap (job_or job) valid.1)
 
 -- what a line reads, with what it says
 pub read_said : {A F : Type 0} (IsText : A → Type 0) (HasFault : F → Type 0) (ended : F → Ended) (job : Job) (Below : A → Type 0) → Read IsText HasFault ended (accept job) Below → (x : A) × (IsText x × Below x)
@@ -427,44 +158,12 @@ planned_again steps book job short h =
     let P : Shown → Job → Type 0 = λ shown j. IsSchedule (names_of b.0) (output shown j) (revolve_list steps b.0) × IsCertificateText steps b.0 (output shown j) (certificate_of steps b.0) in
     (b.0, b.1.0, λ shown. subst (P shown) (sym (ap (job_or job) plan.1)) (plan_read_again steps book b.0 short b.1.0 plan.0))
 
-price_met : (steps : ℕ) (book schedule : List ℕ) (job : Job) → DecidesPrice steps book schedule (accept job) → IsMet job
-price_met steps book schedule job h =
-    let b = read_met _ _ bad_book job _ h in
-    let list = read_met _ _ bad_text job _ b.1 in
-    let valid = judge_met _ _ _ job _ list.1 in
-    writes _ (ap (job_or job) valid.1)
-
-certify_met : (steps : ℕ) (book schedule certificate : List ℕ) (job : Job) → DecidesCertify steps book schedule certificate (accept job) → IsMet job
-certify_met steps book schedule certificate job h =
-    let b = read_met _ _ bad_book job _ h in
-    let list = read_met _ _ bad_text job _ b.1 in
-    let valid = judge_met _ _ _ job _ list.1 in
-    let k = read_met _ _ bad_certificate job _ valid.1 in
-    let weighed = weigh_met steps b.0 list.0 k.0 job _ k.1 in
-    writes _ (ap (job_or job) weighed.1)
-
+-- a job that is accepted may be done
 bytes_met : (options : List Choice) (command : Command) (bytes : List (List ℕ)) (slots : List ℕ) (job : Job) → DecidesBytes options command bytes slots (accept job) → IsMet job
-bytes_met options (run r) bytes slots job h =
-    let made = over_bytes_met (performed r.steps) options r.steps bytes slots job h in
-    performs made.first made.journal r.steps made.slots made.list made.valid made.is
-bytes_met options (ask r) bytes slots job h =
-    let made = over_bytes_met (asked_about r.question r.run.steps) options r.run.steps bytes slots job h.1 in
-    asks r.question made.first made.journal r.run.steps made.slots made.list h.0 made.valid made.is
-bytes_met options (price r) (book ∷ schedule ∷ []) slots job h = price_met r.steps book schedule job h
-bytes_met options (price r) other slots job h = absurd h
-bytes_met options (run_revolve r) (program ∷ book ∷ []) slots job h = revolve_met options r.steps program None book slots job h
-bytes_met options (run_revolve r) (program ∷ journal ∷ book ∷ []) slots job h = revolve_met options r.steps program (Some journal) book slots job h
-bytes_met options (run_revolve r) other slots job h = absurd h
-bytes_met options (plan r) (book ∷ []) slots job h = kind_met r.kind r.steps book job h
-bytes_met options (plan r) other slots job h = absurd h
-bytes_met options (plan_periodic r) (book ∷ []) slots job h = periodic_met r.steps r.period book job h
-bytes_met options (plan_periodic r) other slots job h = absurd h
-bytes_met options (check r) (book ∷ schedule ∷ []) slots job h = check_met r.steps book schedule job h
-bytes_met options (check r) other slots job h = absurd h
-bytes_met options (certify r) (book ∷ schedule ∷ certificate ∷ []) slots job h = certify_met r.steps book schedule certificate job h
-bytes_met options (certify r) other slots job h = absurd h
-bytes_met options (demo r) [] slots job h = demo_met r.number r.steps r.slots job h
-bytes_met options (demo r) other slots job h = absurd h
+bytes_met options command bytes slots job h = elim (comes_to (table_of options command bytes slots) (tables_sound options command bytes slots) (accept job) h) [
+  | inl x ↦ absurd (accept_refuse job x.0 x.1.0)
+  | inr x ↦ subst IsMet (sym (ap (job_or job) x.1.0)) x.1.1
+]
 
 -- silent deeds write nothing, and make their forward steps
 pub silent_bytes : (list : List Action) (ds : List Deed) → bytes_written (map silent_deed list ++ ds) ≡ bytes_written ds
@@ -610,152 +309,11 @@ refuse_accept e j h = accept_refuse j e (sym h)
 same_ended : (e f : Ended) → refuse e ≡ refuse f → e ≡ f
 same_ended e f h = ap (ended_or e) h
 
-read_refusing : {A F : Type 0} (IsText : A → Type 0) (HasFault : F → Type 0) (ended : F → Ended) (e : Ended) (Below : A → Type 0) → ((f : F) → HasFault f → IsRefusing (ended f)) → ((x : A) → Below x → IsRefusing e) →
-    Read IsText HasFault ended (refuse e) Below → IsRefusing e
-read_refusing IsText HasFault ended e Below faults below h = elim h [
-  | inl x ↦ subst IsRefusing (sym (same_ended e (ended x.0) x.2)) (faults x.0 x.1)
-  | inr y ↦ below y.0 y.2
-]
-
-judge_refusing_by : (steps : ℕ) (slots : List Slots) (list : List Action) (e : Ended) (Below : Type 0) → (Below → IsRefusing e) → Judge steps slots list (refuse e) Below → IsRefusing e
-judge_refusing_by steps slots list e Below below h = elim h [
-  | inl n ↦ refusing_at e 8 (ap (λ (x : Ended). x.status) (same_ended e _ n.5)) (omega arith) (omega arith)
-  | inr y ↦ below y.1
-]
-
-judge_refusing : (steps : ℕ) (slots : List Slots) (list : List Action) (e : Ended) (job : Job) → Judge steps slots list (refuse e) (refuse e ≡ accept job) → IsRefusing e
-judge_refusing steps slots list e job = judge_refusing_by steps slots list e _ (λ is. absurd (refuse_accept e job is))
-
-plan_line_refusing : (steps : ℕ) (b : BookCosts) (e : Ended) (Below : Type 0) → (Below → IsRefusing e) → Plan steps b (refuse e) Below → IsRefusing e
-plan_line_refusing steps b e Below below h = elim h [
-  | inl n ↦ refusing_at e 11 (ap (λ (x : Ended). x.status) (same_ended e _ n.1)) (omega arith) (omega arith)
-  | inr y ↦ below y.1
-]
-
-over_refusing : (make : Maker) (options : List Choice) (steps : ℕ) (program : List ℕ) (journal : Option (List ℕ)) (book schedule counts : List ℕ) (e : Ended) → DecidesOver make options steps program journal book schedule counts (refuse e) → IsRefusing e
-over_refusing make options steps program journal book schedule counts e =
-    let raw = says_raw options in
-    let stack = stack_pages options in
-    read_refusing _ _ bad_book e _ (λ f h. book_refuses f h.1) (λ b.
-    keep_refusing steps (slots_of b) counts e _ (
-    read_refusing _ _ bad_program e _ (λ f h. program_refuses f (program_fault_is_other raw stack program f h)) (λ start.
-    read_refusing _ _ bad_journal e _ (λ f h. journal_refuses f (journal_fault_is_other journal f h)) (λ items.
-    read_refusing _ _ bad_text e _ (λ f h. text_refuses f (text_fault_is_other (names_of b) schedule f h)) (λ list.
-    judge_refusing steps (slots_of b) list e _)))))
-
-over_bytes_refusing : (make : Maker) (options : List Choice) (steps : ℕ) (bytes : List (List ℕ)) (slots : List ℕ) (e : Ended) → DecidesOverBytes make options steps bytes slots (refuse e) → IsRefusing e
-over_bytes_refusing make options steps (program ∷ book ∷ schedule ∷ []) slots e h = over_refusing make options steps program None book schedule slots e h
-over_bytes_refusing make options steps (program ∷ journal ∷ book ∷ schedule ∷ []) slots e h = over_refusing make options steps program (Some journal) book schedule slots e h
-over_bytes_refusing make options steps other slots e h = absurd h
-
-revolve_refusing : (options : List Choice) (steps : ℕ) (program : List ℕ) (journal : Option (List ℕ)) (book counts : List ℕ) (e : Ended) → DecidesRunRevolve options steps program journal book counts (refuse e) → IsRefusing e
-revolve_refusing options steps program journal book counts e =
-    let raw = says_raw options in
-    let stack = stack_pages options in
-    read_refusing _ _ bad_book e _ (λ f h. book_refuses f h.1) (λ b.
-    keep_refusing steps (slots_of b) counts e _ (
-    plan_line_refusing steps b e _ (
-    read_refusing _ _ bad_program e _ (λ f h. program_refuses f (program_fault_is_other raw stack program f h)) (λ start.
-    read_refusing _ _ bad_journal e _ (λ f h. journal_refuses f (journal_fault_is_other journal f h)) (λ items is.
-    absurd (refuse_accept e _ is))))))
-
-plan_refusing : (steps : ℕ) (book : List ℕ) (e : Ended) → DecidesPlanRevolve steps book (refuse e) → IsRefusing e
-plan_refusing steps book e =
-    read_refusing _ _ bad_book e _ (λ f h. book_refuses f h.1) (λ b.
-    plan_line_refusing steps b e _ (λ is. absurd (refuse_accept e _ is)))
-
--- where a line refuses by a rule of plans
-no_plan_refusing : (Holds : Type 0) (steps room rule : ℕ) (e : Ended) (Below : Type 0) → (Below → IsRefusing e) → Need Holds (no_plan steps room rule) (refuse e) Below → IsRefusing e
-no_plan_refusing Holds steps room rule e Below below h = elim h [
-  | inl n ↦ refusing_at e 11 (ap (λ (x : Ended). x.status) (same_ended e _ n.1)) (omega arith) (omega arith)
-  | inr y ↦ below y.1
-]
-
-multistage_refusing : (steps : ℕ) (book : List ℕ) (e : Ended) → DecidesPlanMultistage steps book (refuse e) → IsRefusing e
-multistage_refusing steps book e =
-    read_refusing _ _ bad_book e _ (λ f h. book_refuses f h.1) (λ b.
-    no_plan_refusing _ _ _ _ e _ (
-    plan_line_refusing steps b e _ (λ is. absurd (refuse_accept e _ is.1.1.1.1))))
-
-tabulate_refusing : (steps : ℕ) (b : BookCosts) (e : Ended) (Below : Type 0) → (Below → IsRefusing e) → Tabulate steps b (refuse e) Below → IsRefusing e
-tabulate_refusing steps b e Below below h = elim h [
-  | inl n ↦ refusing_at e 10 (ap (λ (x : Ended). x.status) (same_ended e _ n.1.1)) (omega arith) (omega arith)
-  | inr y ↦ below y.1
-]
-
-hrevolve_refusing : (steps : ℕ) (book : List ℕ) (e : Ended) → DecidesPlanHrevolve steps book (refuse e) → IsRefusing e
-hrevolve_refusing steps book e =
-    read_refusing _ _ bad_book e _ (λ f h. book_refuses f h.1) (λ b.
-    tabulate_refusing steps b e _ (
-    no_plan_refusing _ _ _ _ e _ (λ read. let list = read.1.1.1 in absurd (refuse_accept e _ list.1.1))))
-
-limit_refusing : (Holds : Type 0) (number bound rule : ℕ) (e : Ended) (Below : Type 0) → (Below → IsRefusing e) → Need Holds (out_of_range number bound rule) (refuse e) Below → IsRefusing e
-limit_refusing Holds number bound rule e Below below h = elim h [
-  | inl n ↦ refusing_at e 10 (ap (λ (x : Ended). x.status) (same_ended e _ n.1)) (omega arith) (omega arith)
-  | inr y ↦ below y.1
-]
-
-disk_refusing : (steps : ℕ) (book : List ℕ) (e : Ended) → DecidesPlanDisk steps book (refuse e) → IsRefusing e
-disk_refusing steps book e =
-    read_refusing _ _ bad_book e _ (λ f h. book_refuses f h.1) (λ b.
-    limit_refusing _ _ _ _ e _ (
-    no_plan_refusing _ _ _ _ e _ (
-    no_plan_refusing _ _ _ _ e _ (λ read. let list = read.1.1.1 in absurd (refuse_accept e _ list.1.1)))))
-
-kind_refusing : (kind : PlanKind) (steps : ℕ) (book : List ℕ) (e : Ended) → DecidesPlan kind steps book (refuse e) → IsRefusing e
-kind_refusing Revolve steps book e = plan_refusing steps book e
-kind_refusing Multistage steps book e = multistage_refusing steps book e
-kind_refusing Disk steps book e = disk_refusing steps book e
-kind_refusing Hrevolve steps book e = hrevolve_refusing steps book e
-
-periodic_refusing : (steps period : ℕ) (book : List ℕ) (e : Ended) → DecidesPlanPeriodic steps period book (refuse e) → IsRefusing e
-periodic_refusing steps period book e =
-    read_refusing _ _ bad_book e _ (λ f h. book_refuses f h.1) (λ b.
-    no_plan_refusing _ _ _ _ e _ (
-    no_plan_refusing _ _ _ _ e _ (
-    no_plan_refusing _ _ _ _ e _ (λ is. absurd (refuse_accept e _ is)))))
-
-demo_refusing : (number steps slots : ℕ) (e : Ended) → DecidesDemo number steps slots (refuse e) → IsRefusing e
-demo_refusing number steps slots e = plan_line_refusing steps (plain slots) e _ (λ is. absurd (refuse_accept e _ is.2))
-
-check_refusing : (steps : ℕ) (book schedule : List ℕ) (e : Ended) → DecidesCheck steps book schedule (refuse e) → IsRefusing e
-check_refusing steps book schedule e =
-    read_refusing _ _ bad_book e _ (λ f h. book_refuses f h.1) (λ b.
-    read_refusing _ _ bad_text e _ (λ f h. text_refuses f (text_fault_is_other (names_of b) schedule f h)) (λ list.
-    judge_refusing steps (slots_of b) list e _))
-
-price_refusing : (steps : ℕ) (book schedule : List ℕ) (e : Ended) → DecidesPrice steps book schedule (refuse e) → IsRefusing e
-price_refusing steps book schedule e =
-    read_refusing _ _ bad_book e _ (λ f h. book_refuses f h.1) (λ b.
-    read_refusing _ _ bad_text e _ (λ f h. text_refuses f (text_fault_is_other (names_of b) schedule f h)) (λ list.
-    judge_refusing steps (slots_of b) list e _))
-
-certify_refusing : (steps : ℕ) (book schedule certificate : List ℕ) (e : Ended) → DecidesCertify steps book schedule certificate (refuse e) → IsRefusing e
-certify_refusing steps book schedule certificate e =
-    read_refusing _ _ bad_book e _ (λ f h. book_refuses f h.1) (λ b.
-    read_refusing _ _ bad_text e _ (λ f h. text_refuses f (text_fault_is_other (names_of b) schedule f h)) (λ list.
-    judge_refusing_by steps (slots_of b) list e _ (
-    read_refusing _ _ bad_certificate e _ (λ f h. certificate_refuses f (certificate_fault_is_other steps b certificate f h)) (λ k.
-    weigh_refusing steps b list k e _ (λ is. absurd (refuse_accept e _ is))))))
-
 pub decided_refusal : (options : List Choice) (command : Command) (bytes : List (List ℕ)) (slots : List ℕ) (e : Ended) → DecidesBytes options command bytes slots (refuse e) → IsRefusing e
-decided_refusal options (run r) bytes slots e h = over_bytes_refusing (performed r.steps) options r.steps bytes slots e h
-decided_refusal options (ask r) bytes slots e h = over_bytes_refusing (asked_about r.question r.run.steps) options r.run.steps bytes slots e h.1
-decided_refusal options (price r) (book ∷ schedule ∷ []) slots e h = price_refusing r.steps book schedule e h
-decided_refusal options (price r) other slots e h = absurd h
-decided_refusal options (run_revolve r) (program ∷ book ∷ []) slots e h = revolve_refusing options r.steps program None book slots e h
-decided_refusal options (run_revolve r) (program ∷ journal ∷ book ∷ []) slots e h = revolve_refusing options r.steps program (Some journal) book slots e h
-decided_refusal options (run_revolve r) other slots e h = absurd h
-decided_refusal options (plan r) (book ∷ []) slots e h = kind_refusing r.kind r.steps book e h
-decided_refusal options (plan r) other slots e h = absurd h
-decided_refusal options (plan_periodic r) (book ∷ []) slots e h = periodic_refusing r.steps r.period book e h
-decided_refusal options (plan_periodic r) other slots e h = absurd h
-decided_refusal options (check r) (book ∷ schedule ∷ []) slots e h = check_refusing r.steps book schedule e h
-decided_refusal options (check r) other slots e h = absurd h
-decided_refusal options (certify r) (book ∷ schedule ∷ certificate ∷ []) slots e h = certify_refusing r.steps book schedule certificate e h
-decided_refusal options (certify r) other slots e h = absurd h
-decided_refusal options (demo r) [] slots e h = demo_refusing r.number r.steps r.slots e h
-decided_refusal options (demo r) other slots e h = absurd h
+decided_refusal options command bytes slots e h = elim (comes_to (table_of options command bytes slots) (tables_sound options command bytes slots) (refuse e) h) [
+  | inl x ↦ subst IsRefusing (sym (same_ended e x.0 x.1.0)) x.1.1
+  | inr x ↦ absurd (refuse_accept e x.0 x.1.0)
+]
 
 -- ---- the lines of a run, and of a judgement
 

@@ -1,5 +1,5 @@
 -- The line of the table of a run that looks at the keepers' slots.
-use Rattle.std.proofs.Common.{◌≡◌, ◌⊎◌, inl, inr, ℕ, zero, suc, ◌<◌, ◌≤◌, List, length, get_or, sym, ◌∙◌, ap, arith}
+use Rattle.std.proofs.Common.{◌≡◌, ◌⊎◌, inl, inr, ℕ, zero, suc, ◌<◌, ◌≤◌, List, length, get_or, refl, sym, ◌∙◌, ap, arith}
 use Rattle.std.proofs.lemmas.Bool.{cases_order}
 use Rattle.level_book.specs.declared.book.Slots.{Slots}
 use Rattle.reverse_runner.specs.KeepersSeen.{HaveRoom}
@@ -56,6 +56,13 @@ keep_one steps slots counts c d Below Other one h g = elim h [
 
 -- ---- what the line comes to
 
+-- it refuses with a status of its own, or the lines below decide
+pub keep_comes_to : (steps : ℕ) (slots : List Slots) (counts : List ℕ) (d : Decision) (Below : Type 0) → Keep steps slots counts d Below → ((e : Ended) × ((d ≡ refuse e) × IsRefusing e)) ⊎ Below
+keep_comes_to steps slots counts d Below h = elim h [
+  | inl few ↦ inl (_, (few.1, refusing_past _ 16 refl (omega arith) (omega arith)))
+  | inr x ↦ elim x.1 [ inl small ↦ inl (_, (small.1.1, refusing_past _ 16 refl (omega arith) (omega arith))) | inr met ↦ inr met.1 ]
+]
+
 -- a job is accepted where the keepers have room, by the lines below
 pub keep_met : (steps : ℕ) (slots : List Slots) (counts : List ℕ) (job : Job) (Below : Type 0) → Keep steps slots counts (accept job) Below → HaveRoom steps slots counts × Below
 keep_met steps slots counts job Below h = elim h [
@@ -63,22 +70,6 @@ keep_met steps slots counts job Below h = elim h [
   | inr x ↦ elim x.1 [
     | inl small ↦ absurd (let is : accept job ≡ refuse (small_keeper small.0 (get_or counts small.0 0)) = small.1.1 in cc)
     | inr met ↦ met
-  ]
-]
-
--- a refusal by this line has a status of its own
-pub keep_refusing : (steps : ℕ) (slots : List Slots) (counts : List ℕ) (e : Ended) (Below : Type 0) → (Below → IsRefusing e) → Keep steps slots counts (refuse e) Below → IsRefusing e
-keep_refusing steps slots counts e Below below h = elim h [
-  | inl few ↦
-      let is : refuse e ≡ refuse (few_keepers (length slots) (length counts)) = few.1 in
-      let same : e ≡ few_keepers (length slots) (length counts) = cc in
-      refusing_past e 16 (ap (λ (x : Ended). x.status) same) (omega arith) (omega arith)
-  | inr x ↦ elim x.1 [
-    | inl small ↦
-        let is : refuse e ≡ refuse (small_keeper small.0 (get_or counts small.0 0)) = small.1.1 in
-        let same : e ≡ small_keeper small.0 (get_or counts small.0 0) = cc in
-        refusing_past e 16 (ap (λ (x : Ended). x.status) same) (omega arith) (omega arith)
-    | inr met ↦ below met.1
   ]
 ]
 

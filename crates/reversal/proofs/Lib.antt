@@ -13,6 +13,8 @@ pub mod Planned
 pub mod Pieces
 pub mod ReadAgain
 pub mod LeastTables
+pub mod Tables
+pub mod Commanding
 pub mod Deciding
 pub mod Answering
 pub mod Drawing

@@ -37,13 +37,10 @@ its_status OutsideClass = refl
 its_status (Inequality entry) = refl
 its_status (ValueDiffers cost value) = refl
 
-pub weigh_refusing : (steps : ℕ) (book : BookCosts) (list : List Action) (k : Certificate) (e : Ended) (Below : Type 0) → (Below → IsRefusing e) → Weigh steps book list k (refuse e) Below → IsRefusing e
-weigh_refusing steps book list k e Below below h = elim h [
-  | inl n ↦
-      let is : refuse e ≡ refuse (not_least n.0) = n.2 in
-      let same : e ≡ not_least n.0 = cc in
-      refusing_past e 15 (ap (λ (x : Ended). x.status) same ∙ its_status n.0) (omega arith) (omega arith)
-  | inr y ↦ below y.1
+pub weigh_comes_to : (steps : ℕ) (book : BookCosts) (list : List Action) (k : Certificate) (d : Decision) (Below : Type 0) → Weigh steps book list k d Below → ((e : Ended) × ((d ≡ refuse e) × IsRefusing e)) ⊎ Below
+weigh_comes_to steps book list k d Below h = elim h [
+  | inl n ↦ inl (not_least n.0, (n.2, refusing_past (not_least n.0) 15 (its_status n.0) (omega arith) (omega arith)))
+  | inr y ↦ inr y.1
 ]
 
 pub weigh_refuses : (steps : ℕ) (book : BookCosts) (list : List Action) (k : Certificate) (e : Ended) (Below : Type 0) → IsUnweighed steps book list k e → (e ≡ no_memory) ⊎ Weigh steps book list k (refuse e) Below

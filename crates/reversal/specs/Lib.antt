@@ -1,3 +1,4 @@
+pub mod Table
 pub mod Decision
 pub mod Deeds
 pub mod Plans

@@ -1,0 +1,233 @@
+-- The table of each command is sound.
+use Rattle.std.proofs.Common.{◌≡◌, ℕ, ◌++◌, Bool, true, List, [], ◌∷◌, Option, None, Some, refl, sym, ◌∙◌, ap, subst, arith}
+use Rattle.plan_types.specs.declared.action.Action.{Action}
+use Rattle.level_book.specs.declared.book.Slots.{Slots}
+use Rattle.level_book.specs.BookCosts.{BookCosts, slots_of, names_of, room}
+use Rattle.level_book.specs.BookFaults.{IsBookText}
+use Rattle.level_book.specs.Valid.{Valid}
+use Rattle.action_text.specs.ScheduleText.{IsSchedule}
+use Rattle.rv_machine.specs.MachineState.{MachineState}
+use Rattle.requests.specs.Request.{Choice}
+use Rattle.requests.specs.Ending.{bad_program, bad_journal, bad_book, bad_text, bad_certificate, no_plan}
+use Rattle.revolve_gen.specs.Written.{revolve_list}
+use Rattle.revolve_gen.proofs.Books.{book_right}
+use Rattle.requests.specs.Request.{says_raw, stack_pages, Command, run, run_revolve, plan, plan_periodic, check, certify, price, ask, demo}
+use Rattle.multistage_gen.proofs.Unique.{plans_unique}
+use Rattle.bound_cert.specs.Thresholds.{IsThresholdOf}
+use Rattle.bound_cert.proofs.Fitting.{one_threshold}
+use Rattle.cert_text.specs.declared.certificate.Certificate.TheVariants as certified
+use Rattle.cert_text.specs.Canonical as certificate_text
+use Rattle.cost_tables.specs.TableRows.{tables_in}
+use Rattle.disk_gen.specs.DiskRows.{disk_tables_in}
+use Rattle.hrevolve_gen.proofs.Greatest.{plan_unique}
+use Rattle.requests.specs.declared.kind.PlanKind.{PlanKind}
+use Rattle.requests.specs.declared.kind.PlanKind.TheVariants.{Revolve, Multistage, Disk, Hrevolve}
+use Rattle.reversal.specs.Plans.{list_pieces}
+use Rattle.reversal.specs.Demo as demonstration
+use Rattle.disk_gen.proofs.DiskUnique.{disk_plan_unique}
+use Rattle.reversal.specs.Deeds.{Job, perform, write, demonstrate}
+use Rattle.reversal.specs.Decision.{accept, HasBookFault, IsStartOf, HasProgramFault, AreItemsOf, HasJournalFault, Maker, performed, asked_about}
+use Rattle.reversal.proofs.Refused.{book_one, book_fault_one, book_excludes, start_one, program_fault_one, start_excludes, items_one, journal_fault_one, items_exclude, list_one, text_fault_one, list_excludes, IsRefusing, refusing_at, program_refuses, journal_refuses, book_refuses, text_refuses, program_fault_is_other, journal_fault_is_other, text_fault_is_other, certificate_one, certificate_fault_one, certificate_excludes, certificate_refuses, certificate_fault_is_other}
+use Rattle.cert_text.specs.Meaning.{IsCertificateText}
+use Rattle.cert_text.specs.Faults.{HasFirstFault as CertificateFirst}
+use Rattle.reversal.proofs.LeastTables.{nested_same, disk_same}
+use Rattle.action_text.specs.Faults.{HasFirstFault}
+use Rattle.reversal.specs.Decision.{over_run, run_revolve_table, plan_revolve_table, plan_multistage_table, plan_disk_table, plan_hrevolve_table, plan_table, plan_periodic_table, check_table, price_table, certify_table, demo_table, no_table, over_bytes, table_of}
+use Rattle.reversal.proofs.Tables.{IsMet, asks, performs, writes, shows, IsRead, IsLast, IsSound}
+
+-- ---- lines that commands share
+
+book_read : (book : List ℕ) → IsRead (IsBookText book) (HasBookFault book) bad_book
+book_read book = record { one = book_one book; fault = book_fault_one book; excludes = book_excludes book; refuses = λ f h. book_refuses f h.1 }
+
+program_read : (raw : Bool) (stack : ℕ) (program : List ℕ) → IsRead (IsStartOf raw stack program) (HasProgramFault raw stack program) bad_program
+program_read raw stack program = record {
+  one = start_one raw stack program;
+  fault = program_fault_one raw stack program;
+  excludes = start_excludes raw stack program;
+  refuses = λ f h. program_refuses f (program_fault_is_other raw stack program f h);
+}
+
+journal_read : (journal : Option (List ℕ)) → IsRead (AreItemsOf journal) (HasJournalFault journal) bad_journal
+journal_read journal = record {
+  one = items_one journal;
+  fault = journal_fault_one journal;
+  excludes = items_exclude journal;
+  refuses = λ f h. journal_refuses f (journal_fault_is_other journal f h);
+}
+
+list_read : (book schedule : List ℕ) (b : BookCosts) → IsBookText book b → IsRead (IsSchedule (names_of b) schedule) (HasFirstFault (names_of b) schedule) bad_text
+list_read book schedule b is = record {
+  one = list_one book b schedule is;
+  fault = text_fault_one book b schedule is;
+  excludes = list_excludes book b schedule is;
+  refuses = λ f h. text_refuses f (text_fault_is_other (names_of b) schedule f h);
+}
+
+certificate_read : (steps : ℕ) (b : BookCosts) (certificate : List ℕ) → IsRead (IsCertificateText steps b certificate) (CertificateFirst steps b certificate) bad_certificate
+certificate_read steps b certificate = record {
+  one = certificate_one steps b certificate;
+  fault = certificate_fault_one steps b certificate;
+  excludes = certificate_excludes steps b certificate;
+  refuses = λ f h. certificate_refuses f (certificate_fault_is_other steps b certificate f h);
+}
+
+-- this job is to be done
+done_last : (job : Job) → IsMet job → IsLast (λ d. d ≡ accept job)
+done_last job met = record { one = λ c d x y. x ∙ sym y; job = λ d x. (job, (x, met)) }
+
+-- ---- the tables
+
+-- no plan, by a rule
+unplanned : (steps room rule : ℕ) → IsRefusing (no_plan steps room rule)
+unplanned steps room rule = refusing_at _ 11 refl (omega arith) (omega arith)
+
+over_run_sound : (make : Maker) (options : List Choice) (steps : ℕ) (program : List ℕ) (journal : Option (List ℕ)) (book schedule counts : List ℕ) →
+    ((start : MachineState) (items : List (List ℕ)) (slots : List Slots) (list : List Action) → Valid steps slots list → IsMet (make start items slots list)) → IsSound (over_run make options steps program journal book schedule counts)
+over_run_sound make options steps program journal book schedule counts met = (
+  book_read book,
+  λ b is. (
+    program_read (says_raw options) (stack_pages options) program,
+    λ start is_start. (
+      journal_read journal,
+      λ items are_items. (
+        list_read book schedule b is,
+        λ list is_list valid.
+            done_last (make start items (slots_of b) list) (met start items (slots_of b) list valid),
+      ),
+    ),
+  ),
+)
+
+run_revolve_sound : (options : List Choice) (steps : ℕ) (program : List ℕ) (journal : Option (List ℕ)) (book counts : List ℕ) → IsSound (run_revolve_table options steps program journal book counts)
+run_revolve_sound options steps program journal book counts = (
+  book_read book,
+  λ b is. (
+    unplanned _ _ _,
+    λ plan. (
+      program_read (says_raw options) (stack_pages options) program,
+      λ start is_start. (
+        journal_read journal,
+        λ items are_items.
+            done_last (perform start items steps (slots_of b) (revolve_list steps b)) (performs start items steps (slots_of b) (revolve_list steps b) (book_right steps b plan).0 refl),
+      ),
+    ),
+  ),
+)
+
+plan_revolve_sound : (steps : ℕ) (book : List ℕ) → IsSound (plan_revolve_table steps book)
+plan_revolve_sound steps book = (book_read book, λ b is. (unplanned _ _ _, λ plan. done_last _ (writes _ refl)))
+
+plan_multistage_sound : (steps : ℕ) (book : List ℕ) → IsSound (plan_multistage_table steps book)
+plan_multistage_sound steps book = (
+  book_read book,
+  λ b is. (
+    unplanned _ _ _,
+    λ two. (
+      unplanned _ _ _,
+      λ plan. record {
+        one = λ c d x y.
+            let list = plans_unique steps b x.0 y.0 x.1.0 y.1.0 in
+            let threshold = one_threshold steps b y.0 x.1.1.0 y.1.1.0 (subst (λ (l : List Action). IsThresholdOf x.1.1.0 steps b l) list x.1.1.1.0) y.1.1.1.0 in
+            x.1.1.1.1 ∙ (λ i. accept (write (list_pieces (names_of b) (list i) ++ certificate_text.pieces (certified.Places (threshold i))))) ∙ sym y.1.1.1.1;
+        job = λ d x. (_, (x.1.1.1.1, writes _ refl));
+      },
+    ),
+  ),
+)
+
+plan_hrevolve_sound : (steps : ℕ) (book : List ℕ) → IsSound (plan_hrevolve_table steps book)
+plan_hrevolve_sound steps book = (
+  book_read book,
+  λ b is narrow. (
+    unplanned _ _ _,
+    λ plan. record {
+      one = λ c d x y.
+          let s = x.1.1.1 in
+          let t = y.1.1.1 in
+          let list = plan_unique steps b (tables_in x.0) (tables_in y.0) s.0 t.0 x.1.1.0 y.1.1.0 s.1.0 t.1.0 in
+          let tables = nested_same steps b x.0 y.0 x.1.0 x.1.1.0 y.1.0 y.1.1.0 in
+          s.1.1 ∙ (λ i. accept (write (list_pieces (names_of b) (list i) ++ certificate_text.pieces (certified.Nested (tables i))))) ∙ sym t.1.1;
+      job = λ d x. (_, (let s = x.1.1.1 in s.1.1, writes _ refl));
+    },
+  ),
+)
+
+plan_disk_sound : (steps : ℕ) (book : List ℕ) → IsSound (plan_disk_table steps book)
+plan_disk_sound steps book = (
+  book_read book,
+  λ b is. (
+    refusing_at _ 10 refl (omega arith) (omega arith),
+    λ few. (
+      unplanned _ _ _,
+      λ two. (
+        unplanned _ _ _,
+        λ unlimited. record {
+          one = λ c d x y.
+              let s = x.1.1.1 in
+              let t = y.1.1.1 in
+              let list = disk_plan_unique steps b (disk_tables_in x.0) (disk_tables_in y.0) s.0 t.0 x.1.1.0 y.1.1.0 s.1.0 t.1.0 in
+              let tables = disk_same steps b x.0 y.0 x.1.0 x.1.1.0 y.1.0 y.1.1.0 in
+              s.1.1 ∙ (λ i. accept (write (list_pieces (names_of b) (list i) ++ certificate_text.pieces (certified.Disk (tables i))))) ∙ sym t.1.1;
+          job = λ d x. (_, (let s = x.1.1.1 in s.1.1, writes _ refl));
+        },
+      ),
+    ),
+  ),
+)
+
+plan_sound : (kind : PlanKind) (steps : ℕ) (book : List ℕ) → IsSound (plan_table kind steps book)
+plan_sound Revolve steps book = plan_revolve_sound steps book
+plan_sound Multistage steps book = plan_multistage_sound steps book
+plan_sound Disk steps book = plan_disk_sound steps book
+plan_sound Hrevolve steps book = plan_hrevolve_sound steps book
+
+plan_periodic_sound : (steps period : ℕ) (book : List ℕ) → IsSound (plan_periodic_table steps period book)
+plan_periodic_sound steps period book = (book_read book, λ b is. (unplanned _ _ _, λ two. (unplanned _ _ _, λ fast. (unplanned _ _ _, λ slow. done_last _ (writes _ refl)))))
+
+check_sound : (steps : ℕ) (book schedule : List ℕ) → IsSound (check_table steps book schedule)
+check_sound steps book schedule = (book_read book, λ b is. (list_read book schedule b is, λ list is_list valid. done_last _ (writes _ refl)))
+
+price_sound : (steps : ℕ) (book schedule : List ℕ) → IsSound (price_table steps book schedule)
+price_sound steps book schedule = (book_read book, λ b is. (list_read book schedule b is, λ list is_list valid. done_last _ (writes _ refl)))
+
+certify_sound : (steps : ℕ) (book schedule certificate : List ℕ) → IsSound (certify_table steps book schedule certificate)
+certify_sound steps book schedule certificate = (book_read book, λ b is. (list_read book schedule b is, λ list is_list valid. (certificate_read steps b certificate, λ c is_certificate. done_last _ (writes _ refl))))
+
+demo_sound : (number steps slots : ℕ) → IsSound (demo_table number steps slots)
+demo_sound number steps slots = (
+  unplanned _ _ _,
+  λ plan. record {
+    one = λ c d x y. x.2 ∙ ap (λ s. accept (demonstrate number s steps slots)) (start_one true 16 (demonstration.program number) x.0 y.0 x.1 y.1) ∙ sym y.2;
+    job = λ d x. (_, (x.2, shows number x.0 steps slots refl));
+  },
+)
+
+none_sound : IsSound no_table
+none_sound = record { one = λ c d x y. absurd x; job = λ d x. absurd x }
+
+over_bytes_sound : (make : Maker) (options : List Choice) (steps : ℕ) (bytes : List (List ℕ)) (slots : List ℕ) →
+    ((start : MachineState) (items : List (List ℕ)) (held : List Slots) (list : List Action) → Valid steps held list → IsMet (make start items held list)) → IsSound (over_bytes make options steps bytes slots)
+over_bytes_sound make options steps (program ∷ book ∷ schedule ∷ []) slots met = over_run_sound make options steps program None book schedule slots met
+over_bytes_sound make options steps (program ∷ journal ∷ book ∷ schedule ∷ []) slots met = over_run_sound make options steps program (Some journal) book schedule slots met
+over_bytes_sound make options steps other slots met = none_sound
+
+pub tables_sound : (options : List Choice) (command : Command) (bytes : List (List ℕ)) (slots : List ℕ) → IsSound (table_of options command bytes slots)
+tables_sound options (run r) bytes slots = over_bytes_sound (performed r.steps) options r.steps bytes slots (λ start items held list valid. performs start items r.steps held list valid refl)
+tables_sound options (ask r) bytes slots =
+    λ within. over_bytes_sound (asked_about r.question r.run.steps) options r.run.steps bytes slots (λ start items held list valid. asks r.question start items r.run.steps held list within valid refl)
+tables_sound options (price r) (book ∷ schedule ∷ []) slots = price_sound r.steps book schedule
+tables_sound options (price r) other slots = none_sound
+tables_sound options (run_revolve r) (program ∷ book ∷ []) slots = run_revolve_sound options r.steps program None book slots
+tables_sound options (run_revolve r) (program ∷ journal ∷ book ∷ []) slots = run_revolve_sound options r.steps program (Some journal) book slots
+tables_sound options (run_revolve r) other slots = none_sound
+tables_sound options (plan r) (book ∷ []) slots = plan_sound r.kind r.steps book
+tables_sound options (plan r) other slots = none_sound
+tables_sound options (plan_periodic r) (book ∷ []) slots = plan_periodic_sound r.steps r.period book
+tables_sound options (plan_periodic r) other slots = none_sound
+tables_sound options (check r) (book ∷ schedule ∷ []) slots = check_sound r.steps book schedule
+tables_sound options (check r) other slots = none_sound
+tables_sound options (certify r) (book ∷ schedule ∷ certificate ∷ []) slots = certify_sound r.steps book schedule certificate
+tables_sound options (certify r) other slots = none_sound
+tables_sound options (demo r) [] slots = demo_sound r.number r.steps r.slots
+tables_sound options (demo r) other slots = none_sound
