@@ -1,0 +1,104 @@
+// Units of one step, of two, and of more than a program takes before it stops.
+ghost use Rattle.std.specs.Prelude.{◌≡◌, ◌<◌, ◌≤◌};
+ghost use Rattle.rv_machine.specs.States.{state_number};
+ghost use Rattle.unit_undo.specs.Leading.{LeadsBack, led_back, HasSteps, IsMadeFor};
+
+use crate::states::first_state;
+use input_journal::{Journal, read_journal};
+use rv_machine::{State, Status, Steps, step};
+use std::alloc::Global;
+use std::marker::Brand;
+use std::process::Abort;
+use std::sync::ledger::{Blank, Ledger};
+use std::test::Fail;
+use unit_undo::Undo;
+
+// Reads the journal two bytes at a time to 0x11fff, over the end of a page, and counts the reads at 0x12004; then exits.
+const COUNTING: [u32; 13] = [
+    0x00012437, 0x00000513, 0xfff40593, 0x00200613, 0x03f00893, 0x00000073, 0x00050a63, 0x00442283,
+    0x00128293, 0x00542223, 0xfddff06f, 0x05d00893, 0x00000073,
+];
+
+const JOURNAL: &[u8] = b"RVJL\x01\0\0\0\x02\0\0\0\x02\0\0\0\x05\x06\x01\0\0\0\x07";
+
+// A unit of steps: the undo list leads back over all states before the last.
+fn take<L: Ledger>(
+    undo: &mut Undo,
+    state: &mut State,
+    journal: &Journal,
+    count: u32,
+    steps: &mut Steps<L>,
+)
+    requires made { IsMadeFor journal.now undo.old }
+    requires few { count ≤ undo.old.unit }
+    ensures has { HasSteps undo.new state.old journal.now count }
+    ensures room { (undo.new.unit ≡ undo.old.unit) × (undo.new.room ≡ undo.old.room) }
+    ensures state { state.new ≡ state_number state.old journal.now count }
+{
+    undo.clear();
+    for _ in 0..count {
+        undo.push(state, journal);
+        step(state, journal, steps);
+    }
+}
+
+// Two states are the same in what the program changes.
+fn check_same(rt: &impl Abort, a: &State, b: &State) {
+    assert_eq!(rt;
+        (a.pc, a.status, a.item, a.offset),
+        (b.pc, b.status, b.item, b.offset)
+    );
+    assert!(rt; a.x == b.x && a.written == b.written);
+    for at in [0x11ffc, 0x12000, 0x12004] {
+        assert!(rt; a.pages.load32(at) == b.pages.load32(at));
+    }
+}
+
+// All states back.
+fn go_back(undo: &mut Undo, state: &mut State)
+    requires { LeadsBack undo.old.entries state.old (led_back undo.old.entries state.old) }
+    ensures { (undo.new.unit ≡ undo.old.unit) × (undo.new.room ≡ undo.old.room) }
+{
+    while undo.count() > 0 {
+        undo.back(state);
+    }
+}
+
+// Goes through so many units, and back over each of them.
+fn go_there_and_back<L: Ledger>(
+    rt: &impl Abort,
+    alloc: Global,
+    journal: &Journal,
+    unit: u32,
+    units: u32,
+    blank: Blank,
+) -> Result<(), Fail>
+    requires name { blank.name ≡ L.name }
+    requires parts { blank.parts ≡ L.parts }
+    requires some { 0 < blank.parts }
+    requires unit { (1 ≤ unit) × (unit ≤ 1024) }
+{
+    let mut steps = Steps::<L>::new(blank);
+    let mut state = first_state(rt, alloc, &[0x10, 0x11, 0x12], &COUNTING, 0)?;
+    let mut undo = Undo::begin(alloc, unit, journal)?;
+    for _ in 0..units {
+        let before = state.clone()?;
+        take(&mut undo, &mut state, journal, unit, &mut steps);
+        assert_eq!(rt; undo.count(), unit);
+        let after = state.clone()?;
+        go_back(&mut undo, &mut state);
+        check_same(rt, &state, &before);
+        state = after;
+    }
+    assert_eq!(rt; (state.pc, state.status), (0x10030, Status::Exited(0)));
+    assert_eq!(rt; (state.item, state.pages.load32(0x12004)), (2, Some(2)));
+    Ok(())
+}
+
+#[test]
+fn units_are_undone(rt: HostRuntime) -> Result<(), Fail> {
+    let journal = read_journal(rt.alloc(), JOURNAL)?;
+    go_there_and_back::<Brand>(&rt, rt.alloc(), &journal, 1, 30, Blank::new(1))?;
+    go_there_and_back::<Brand>(&rt, rt.alloc(), &journal, 2, 15, Blank::new(1))?;
+    go_there_and_back::<Brand>(&rt, rt.alloc(), &journal, 1024, 1, Blank::new(1))
+}
