@@ -1,0 +1,19 @@
+// Laws of the search. Each function does nothing; its contract is the law.
+ghost use Rattle.std.specs.Prelude.{◌≡◌, ℕ, ◌+◌, ◌*◌, ◌<◌, ◌≤◌, Option};
+ghost use Rattle.segment_sweep.specs.Found.{Quest, Found};
+ghost use Rattle.segment_sweep.specs.MarkedRun.{segment_width, last_start};
+
+/// Each quest has one answer: the last place, or that there is none.
+pub fn quests_have_one_answer()
+    ensures some { (q : Quest) → (a : Option ℕ) × Found q a }
+    ensures one { (q : Quest) (a b : Option ℕ) → Found q a → Found q b → a ≡ b }
+{}
+
+/// Segments have the least width with which as many of them as there are workers reach past the state `count`. The last one
+/// begins no later than this state, and has it.
+pub fn segments_reach_past_the_last_state()
+    ensures reach { (count workers : ℕ) → 1 ≤ workers → count < segment_width count workers * workers }
+    ensures least { (count workers width : ℕ) → count < width * workers → segment_width count workers ≤ width }
+    ensures within { (count workers : ℕ) → last_start count workers ≤ count }
+    ensures last { (count workers : ℕ) → count < last_start count workers + segment_width count workers }
+{}

@@ -1,0 +1,115 @@
+// What one worker does, and the word that all of them share.
+ghost use Rattle.std.specs.Prelude.{◌≡◌, ◌+◌, ◌<◌, ◌≤◌, length};
+ghost use Rattle.std.specs.Bool.{Decides};
+ghost use Rattle.sha2.specs.Sha256.{sha256};
+ghost use Rattle.rv_machine.specs.States.{state_number};
+ghost use Rattle.state_image.specs.Image.{image};
+ghost use Rattle.segment_sweep.specs.Found.{Quest};
+ghost use Rattle.segment_sweep.specs.Covering.{Covers, CoversSegment, IsWord, IsQuest, no_quest};
+
+use crate::marks::Marks;
+use input_journal::Journal;
+use plan_types::Gate;
+use rv_machine::{State, Steps, step};
+use state_image::image_digest;
+use std::alloc::AllocError;
+use std::marker::{Brand, PhantomData};
+use std::sync::atomic::Ordering::SeqCst;
+use std::sync::atomic::{AtomicIn, Rule};
+use std::sync::ledger::{Blank, Ledger};
+
+/// What a search looks for. Each search names a quest of its own.
+pub(crate) trait Sought {
+    ghost quest: { Quest };
+}
+
+impl Sought for Brand {
+    ghost quest = { no_quest };
+}
+
+/// The rule of the word that workers share.
+pub(crate) struct Word<K: Sought> {
+    of: PhantomData<K>,
+}
+
+impl<K: Sought> Rule for Word<K> {
+    ghost invariant = { λ word. IsWord K.quest word };
+}
+
+// Whether the image of a state has the digest.
+fn has_digest(state: &State, digest: &[u8; 32]) -> bool
+    ensures { Decides result (sha256 (image state.now) ≡ digest.now) }
+{
+    image_digest(state) == *digest
+}
+
+// Goes through the states from `from` on and below `to`, of which the first is given, and answers the last place among them.
+// Where the word names a place behind them all, it ends, and answers that place.
+fn sweep<K: Sought, G: Gate, L: Ledger>(
+    journal: &Journal,
+    digest: &[u8; 32],
+    gate: &G,
+    word: &AtomicIn<Word<K>>,
+    segment: u32,
+    from: u32,
+    to: u32,
+    mut state: State,
+    blank: Blank,
+) -> Option<u32>
+    requires name { blank.name ≡ L.name }
+    requires parts { blank.parts ≡ L.parts }
+    requires some { 0 < blank.parts }
+    requires journal { journal.now ≡ K.quest.journal }
+    requires digest { digest.now ≡ K.quest.digest }
+    requires within { (from ≤ to) × (to ≤ K.quest.count + 1) × (K.quest.count ≤ 1000000) }
+    requires state { state ≡ state_number K.quest.start K.quest.journal from }
+    ensures { Covers K.quest from to result }
+{
+    let mut steps = Steps::<L>::new(blank);
+    let mut found = None;
+    for n in from..to {
+        let seen = word.load(SeqCst);
+        if seen > to as u64 {
+            return Some((seen - 1) as u32);
+        }
+        gate.enter(segment);
+        if has_digest(&state, digest) {
+            found = Some(n);
+            if seen < n as u64 + 1 {
+                word.store(n as u64 + 1, SeqCst);
+            }
+        }
+        step(&mut state, journal, &mut steps);
+    }
+    found
+}
+
+/// What the worker of the segment with this number gives. It takes memory for its state. Its steps are counted in a count
+/// of their own.
+pub(crate) fn worker<K: Sought, G: Gate>(
+    marks: &Marks,
+    journal: &Journal,
+    digest: &[u8; 32],
+    gate: &G,
+    word: &AtomicIn<Word<K>>,
+    segment: usize,
+) -> Result<Option<u32>, AllocError>
+    requires segment { segment < length marks.now.states }
+    requires quest { IsQuest K.quest marks.now journal.now digest.now }
+    ensures { CoversSegment K.quest marks.now.width segment result }
+{
+    let state = marks.mark(segment).clone()?;
+    let from = segment as u32 * marks.width();
+    let to = from.saturating_add(marks.width()).min(marks.count() + 1);
+    Ok(sweep::<K, G, Brand>(
+        journal,
+        digest,
+        gate,
+        word,
+        segment as u32,
+        from,
+        to,
+        state,
+        Blank::new(1),
+    ))
+}
