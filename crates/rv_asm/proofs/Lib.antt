@@ -1,0 +1,16 @@
+pub mod Steps
+pub mod Seen
+pub mod Names
+pub mod Ties
+pub mod Alike
+pub mod InRange
+pub mod Sayings
+pub mod Whole
+pub mod Digits
+pub mod Unpacked
+pub mod Spelled
+pub mod CanonicalLines
+pub mod Assembled
+pub mod Instructions
+pub mod Passes
+pub mod FirstPass

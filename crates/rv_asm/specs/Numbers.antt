@@ -1,0 +1,68 @@
+-- Numbers, registers and names, by their spelling. A number is decimal digits without a leading zero, with `-` before it
+-- where it is negative, or `0x` and 1 to 8 lower-case hexadecimal digits. One of more than 32 bits is none, since it stands
+-- in no range. The registers are `x0` to `x31`, as the RISC-V unprivileged manual numbers them in its chapter "RV32I Base
+-- Integer Instruction Set", section "Programmers' Model for Base Integer ISA"; the names of its calling convention are none.
+use Rattle.std.specs.Prelude.{ℕ, ◌+◌, ◌-◌, ◌*◌, ◌^◌, ◌==◌, ◌&&◌, ◌||◌, Bool, false, List, [], ◌∷◌, length, Option, Some, None, nat_lt, nat_le, not, option_map, if◌then◌else◌}
+use Rattle.std.specs.Char.{is_ascii_digit, is_ascii_alphabetic, is_ascii_alphanumeric}
+use Rattle.std.specs.List.{list_all}
+use Rattle.rv_asm.specs.declared.number.Signed.{Signed}
+use Rattle.rv_asm.specs.declared.number.Signed.TheVariants.{Plus, Minus}
+
+-- the value of a digit or a lower-case letter up to `f`; 16 for any other byte
+abbrev pub digit : ℕ → ℕ
+digit c = if is_ascii_digit c then c - 48 else (if nat_le 97 c && nat_le c 102 then c - 87 else 16)
+
+-- the number that digits of a base make behind n; none where another byte is among them, or where it has more than 32 bits
+unfoldable pub value_behind : ℕ → ℕ → List ℕ → Option ℕ
+value_behind base n [] = Some n
+value_behind base n (c ∷ cs) =
+    if nat_lt (digit c) base && nat_lt (n * base + digit c) (2 ^ 32) then value_behind base (n * base + digit c) cs else None
+
+-- decimal digits without a leading zero
+unfoldable pub decimal_of : List ℕ → Option ℕ
+decimal_of [] = None
+decimal_of (c ∷ cs) = if c == 48 then (if length cs == 0 then Some 0 else None) else value_behind 10 0 (c ∷ cs)
+
+-- 1 to 8 hexadecimal digits
+unfoldable pub hex_of : List ℕ → Option ℕ
+hex_of digits = if nat_le 1 (length digits) && nat_le (length digits) 8 then value_behind 16 0 digits else None
+
+-- what stands behind a `-`; `-0` is no number
+abbrev pub negative : Option ℕ → Option Signed
+negative None = None
+negative (Some n) = if n == 0 then None else Some (Minus n)
+
+-- the number that a text spells: behind `-`, behind `0x`, or as it stands
+unfoldable pub number_of : List ℕ → Option Signed
+number_of [] = None
+number_of (c ∷ []) = option_map Plus (decimal_of (c ∷ []))
+number_of (c ∷ d ∷ cs) =
+    if c == 45 then negative (decimal_of (d ∷ cs))
+    else (if c == 48 && d == 120 then option_map Plus (hex_of cs)
+    else option_map Plus (decimal_of (c ∷ d ∷ cs)))
+
+-- the register that a text spells: `x` and a number below 32
+abbrev pub below_32 : Option ℕ → Option ℕ
+below_32 None = None
+below_32 (Some n) = if nat_lt n 32 then Some n else None
+
+unfoldable pub register_of : List ℕ → Option ℕ
+register_of [] = None
+register_of (c ∷ cs) = if c == 120 then below_32 (decimal_of cs) else None
+
+-- a token begins as a number does: with a digit or `-`; as a register does: with a letter
+abbrev pub begins_number : List ℕ → Bool
+begins_number [] = false
+begins_number (c ∷ cs) = is_ascii_digit c || c == 45
+
+abbrev pub begins_letter : List ℕ → Bool
+begins_letter [] = false
+begins_letter (c ∷ cs) = is_ascii_alphabetic c
+
+-- a name: 1 to 32 letters, digits and `_`, and no digit first
+abbrev pub is_name_byte : ℕ → Bool
+is_name_byte b = is_ascii_alphanumeric b || b == 95
+
+unfoldable pub is_name : List ℕ → Bool
+is_name [] = false
+is_name (c ∷ cs) = not (is_ascii_digit c) && nat_le (length (c ∷ cs)) 32 && list_all is_name_byte (c ∷ cs)
