@@ -1,11 +1,11 @@
 #!/usr/bin/env python3
 """Goes through all valid schedules for few steps and slots, and compares the least number of forward steps with N + t(N, c).
 
-It shares nothing with the crates: the moves are written out here from docs/FORMATS.md, and the least is found by a search
-over all configurations, so over all lists, those among them that copy between levels, keep what is never needed, or step
-twice. Each book is given by the slots of its levels.
+It shares nothing with the crates: the moves are written out here from the rules of docs/ENDINGS.md, and the least is found
+by a search over all configurations, so over all lists, those among them that copy between levels, keep what is never needed,
+or step twice. Each book is given by the slots of its levels.
 
-    bench/all_lists.py [STEPS]     up to so many steps, 5 where nothing is said
+    examples/all_lists.py [STEPS]     up to so many steps, 5 where nothing is said
 """
 import heapq
 import sys

@@ -1,7 +1,7 @@
 #!/usr/bin/env python3
 """The least cost of a schedule in the nested class, by a search over all of them. It knows no tables.
 
-    python3 bench/nested_search.py N FORWARD REVERSE SLOTS,WRITE,READ [SLOTS,WRITE,READ ..]
+    examples/nested_search.py N FORWARD REVERSE SLOTS,WRITE,READ [SLOTS,WRITE,READ ..]
 
 The levels are given from the fastest on. It prints the least cost, or Never. A state of the search is what a schedule has
 done so far: the state in work, the images that are held in the order of their storing, the steps that are left, whether the
