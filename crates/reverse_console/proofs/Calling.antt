@@ -1,0 +1,98 @@
+-- How a call of a keeper is refused, and what it leaves.
+use Rattle.std.proofs.Common.{◌≡◌, ℕ, ◌<◌, true, false, List, length, Some, None, Option, Result, Ok, Err, OnOk, IfErr, refl, sym, ◌∙◌, subst, arith}
+use Rattle.std.specs.Option.{is_some}
+use Rattle.std.proofs.lemmas.Bool.{false≢true}
+use Rattle.keepers.specs.Counts.{Rose}
+use Rattle.reverse_runner.specs.KeepersSeen.{by_number}
+use Rattle.reverse_runner.specs.Touching.{Remain, OthersRemain, IsCaused, IsKeeping, IsFetching}
+use Rattle.reverse_runner.specs.declared.fault.RunFault.{RunFault}
+use Rattle.reverse_runner.specs.declared.fault.RunFault.TheVariants.{Keeper, Damaged, Visitor, Memory, Ended}
+use Rattle.reverse_console.specs.Marks.{MarkPlan}
+use Rattle.reverse_console.specs.Causes.{KeepersStay, Quiet, HasCause}
+use Rattle.reverse_console.specs.Refusals.{IsOfPutting}
+
+pub if_err_map : {T E : Type 0} (P Q : E → Type 0) (r : Result T E) → ((e : E) → P e → Q e) → IfErr r P → IfErr r Q
+if_err_map P Q (Ok x) f h = tt
+if_err_map P Q (Err e) f h = f e h
+
+-- a call that was done left all counts of faults
+pub quiet_of : {K : Type 0} (faults : K → ℕ) (old new : List K) (r : Result Unit RunFault) → IsCaused faults old new r → OnOk r (Quiet faults old new)
+quiet_of faults old new (Ok x) h = h
+quiet_of faults old new (Err e) h = tt
+
+-- a fault of keeping has its cause
+pub keeping_cause : {K : Type 0} (faults : K → ℕ) (p : MarkPlan) (k : ℕ) (old new : List K) (r : Result Unit RunFault) → k < length p.slots → IsCaused faults old new r → IfErr r (IsKeeping k) → IfErr r (HasCause faults p old new)
+keeping_cause faults p k old new (Ok x) within h is = tt
+keeping_cause faults p k old new (Err (Keeper j)) within h is = (omega (arith, within, is), h)
+keeping_cause faults p k old new (Err (Damaged j put got)) within h is = absurd is
+keeping_cause faults p k old new (Err Visitor) within h is = absurd is
+keeping_cause faults p k old new (Err Memory) within h is = h
+keeping_cause faults p k old new (Err Ended) within h is = absurd is
+
+-- and so has one of fetching
+pub fetching_cause : {K : Type 0} (faults : K → ℕ) (p : MarkPlan) (k : ℕ) (old new : List K) (r : Result Unit RunFault) → k < length p.slots → IsCaused faults old new r → IfErr r (IsFetching k) → IfErr r (HasCause faults p old new)
+fetching_cause faults p k old new (Ok x) within h is = tt
+fetching_cause faults p k old new (Err (Keeper j)) within h is = (omega (arith, within, is), h)
+fetching_cause faults p k old new (Err (Damaged j put got)) within h is = h
+fetching_cause faults p k old new (Err Visitor) within h is = absurd is
+fetching_cause faults p k old new (Err Memory) within h is = h
+fetching_cause faults p k old new (Err Ended) within h is = absurd is
+
+pub of_putting : (k : ℕ) (fault : RunFault) → IsKeeping k fault → IsOfPutting fault
+of_putting k (Keeper j) h = tt
+of_putting k (Damaged j put got) h = absurd h
+of_putting k Visitor h = absurd h
+of_putting k Memory h = tt
+of_putting k Ended h = absurd h
+
+-- the keepers past the levels of the book are as they were
+pub stay_of : {K : Type 0} (slots faults : K → ℕ) (p : MarkPlan) (k : ℕ) (old new : List K) → k < length p.slots → Remain slots faults old new → OthersRemain k old new → KeepersStay slots faults p old new
+stay_of slots faults p k old new within remain others = record {
+  slots_same = remain.slots_same;
+  later = remain.later;
+  others = λ j past. others j (λ e. absurd (omega (arith, within, past, e)));
+}
+
+pub stay_then : {K : Type 0} (slots faults : K → ℕ) (p : MarkPlan) (a b c : List K) → KeepersStay slots faults p a b → KeepersStay slots faults p b c → KeepersStay slots faults p a c
+stay_then slots faults p a b c first second = record {
+  slots_same = second.slots_same ∙ first.slots_same;
+  later = λ k. (let x = first.later k in let y = second.later k in omega (arith, x, y));
+  others = λ k past. second.others k past ∙ first.others k past;
+}
+
+pub stay_still : {K : Type 0} (slots faults : K → ℕ) (p : MarkPlan) (a : List K) → KeepersStay slots faults p a a
+stay_still slots faults p a = record { slots_same = refl; later = λ k. omega arith; others = λ k past. refl }
+
+-- where no count changed before, a cause stays
+pub cause_then : {K : Type 0} (faults : K → ℕ) (p : MarkPlan) (a b c : List K) (fault : RunFault) → Quiet faults a b → HasCause faults p b c fault → HasCause faults p a c fault
+cause_then faults p a b c (Keeper k) quiet h = let same = quiet k in (h.0, (let rose = h.1 in omega (arith, rose, same)))
+cause_then faults p a b c (Damaged k put got) quiet h = λ j. h j ∙ quiet j
+cause_then faults p a b c Visitor quiet h = λ j. h j ∙ quiet j
+cause_then faults p a b c Memory quiet h = λ j. h j ∙ quiet j
+cause_then faults p a b c Ended quiet h = h
+
+-- what a cause says of the counts
+pub keeper_cause : {K : Type 0} (faults : K → ℕ) (p : MarkPlan) (a b : List K) (fault : RunFault) (k : ℕ) → HasCause faults p a b fault → fault ≡ Keeper k → (k < length p.slots) × Rose (by_number 0 faults a k) (by_number 0 faults b k)
+keeper_cause faults p a b fault k h e = let P : RunFault → Type 0 = HasCause faults p a b in subst P e h
+
+pub quiet_else : {K : Type 0} (faults : K → ℕ) (p : MarkPlan) (a b : List K) (fault : RunFault) → HasCause faults p a b fault → ((k : ℕ) → fault ≡ Keeper k → ⊥) → Quiet faults a b
+quiet_else faults p a b (Keeper k) h none = absurd (none k refl)
+quiet_else faults p a b (Damaged k put got) h none = h
+quiet_else faults p a b Visitor h none = h
+quiet_else faults p a b Memory h none = h
+quiet_else faults p a b Ended h none = absurd h
+
+pub not_ended : {K : Type 0} (faults : K → ℕ) (p : MarkPlan) (a b : List K) (fault : RunFault) → HasCause faults p a b fault → fault ≡ Ended → ⊥
+not_ended faults p a b fault h e = let P : RunFault → Type 0 = HasCause faults p a b in subst P e h
+
+pub quiet_at_ok : {K : Type 0} (faults : K → ℕ) (old new : List K) (r : Result Unit RunFault) (x : Unit) → r ≡ Ok x → IsCaused faults old new r → Quiet faults old new
+quiet_at_ok faults old new r x is h = let P : Result Unit RunFault → Type 0 = λ o. IsCaused faults old new o in subst P is h
+
+-- a test whether there is one
+pub none_is_none : {A : Type 0} (o : Option A) → o ≡ None → is_some o ≡ true → ⊥
+none_is_none None e h = false≢true h
+none_is_none (Some x) e h = absurd cc
+
+pub none_from : {A : Type 0} (o : Option A) → is_some o ≡ false → o ≡ None
+none_from None h = refl
+none_from (Some x) h = absurd (false≢true (sym h))

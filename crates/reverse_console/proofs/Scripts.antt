@@ -1,0 +1,266 @@
+-- Orders that are answered one after the other.
+use Rattle.std.proofs.Common.{◌≡◌, ◌≢◌, ℕ, ◌<◌, Bool, true, false, true≢false, List, [], ◌∷◌, ◌++◌, length, take, Option, Some, None, Result, Ok, Err, IfOk, IfErr, OnOk, OnErr, IsErrOf, refl, sym, ◌∙◌, ap, subst, append_assoc, append-nil}
+use Rattle.keepers.specs.Counts.{Rose, raised}
+use Rattle.keepers.specs.Told.{Images, Tells, AddsPrefix}
+use Rattle.rv_machine.specs.MachineState.{MachineState}
+use Rattle.rv_machine.specs.States.{state_number}
+use Rattle.state_image.specs.Line.{line}
+use Rattle.image_store.specs.Shelves.{ShelfState}
+use Rattle.reverse_runner.specs.KeepersSeen.{by_number}
+use Rattle.reverse_runner.specs.declared.line_writer.LineWriter.{LineWriter}
+use Rattle.reverse_runner.specs.declared.fault.RunFault.{RunFault}
+use Rattle.reverse_runner.specs.declared.fault.RunFault.TheVariants.{Keeper, Damaged, Visitor, Memory, Ended}
+use Rattle.reverse_console.specs.declared.order.Order.{Order}
+use Rattle.reverse_console.specs.Answer.{IsAnswer, IsGiven}
+use Rattle.reverse_console.specs.Causes.{Quiet, HasCause}
+use Rattle.reverse_console.specs.ConsoleState.{ConsoleState, GoesOn, source_of}
+use Rattle.reverse_console.specs.Costs.{place_said, Takes}
+use Rattle.reverse_console.specs.Handling.{StandAt}
+use Rattle.reverse_console.specs.Marks.{MarkPlan, mark_count, mark_of}
+use Rattle.reverse_console.specs.Seen.{Source, ComesFrom, IsAnswerSeen, IsMarkDamaged}
+use Rattle.reverse_console.specs.Standing.{Stands}
+use Rattle.reverse_console.specs.ScriptAnswers.{place_after, Moment, IsTextOf, IsShown, IsAnswered, AreAnswered, BreaksOff, writes_at, AreAnswers, answer_text, script_text, BreaksOffIn}
+use Rattle.reverse_console.proofs.Getting.{stand_same}
+use Rattle.reverse_console.proofs.Seeing.{comes_back, damage_back, answer_back}
+
+-- ---- what is written
+
+pub tells_none : (told : Option (List ℕ)) → Tells told told (λ x y. y ≡ x ++ [])
+tells_none None = tt
+tells_none (Some bytes) = sym (append-nil bytes)
+
+pub tells_more : (text piece : List ℕ) (a b c : Option (List ℕ)) → Tells a b (λ x y. y ≡ x ++ text) → Tells b c (λ x y. y ≡ x ++ piece) → Tells a c (λ x y. y ≡ x ++ (text ++ piece))
+tells_more text piece None None None h g = tt
+tells_more text piece None None (Some z) h g = absurd g
+tells_more text piece None (Some y) c h g = absurd h
+tells_more text piece (Some x) None c h g = absurd h
+tells_more text piece (Some x) (Some y) None h g = absurd g
+tells_more text piece (Some x) (Some y) (Some z) h g = g ∙ ap (λ (l : List ℕ). l ++ piece) h ∙ append_assoc x text piece
+
+-- a part of a text after another one
+pub tells_part : (text piece : List ℕ) (a b c : Option (List ℕ)) → Tells a b (λ x y. y ≡ x ++ text) → Tells b c (AddsPrefix piece) → Tells a c (λ x y. AddsPrefix piece (x ++ text) y)
+tells_part text piece None None None h g = tt
+tells_part text piece None None (Some z) h g = absurd g
+tells_part text piece None (Some y) c h g = absurd h
+tells_part text piece (Some x) None c h g = absurd h
+tells_part text piece (Some x) (Some y) None h g = absurd g
+tells_part text piece (Some x) (Some y) (Some z) h g = (g.0, g.1 ∙ ap (λ (l : List ℕ). l ++ take g.0 piece) h)
+
+-- ---- one order
+
+-- the writer's relation for a state that it gets: it writes to the same sink, and in one call the line was added
+abbrev Wrote : {X : Type 0} → (X → Option (List ℕ)) → (X → ℕ) → LineWriter X → ℕ → MachineState → LineWriter X → Type 0
+Wrote told calls w n s v =
+    (v.out.ghost_name ≡ w.out.ghost_name)
+    × Tells (told w.out.now) (told v.out.now) (λ old new. new ≡ old ++ (line n s ++ 10 ∷ []))
+    × (calls v.out.now ≡ raised (calls w.out.now) 1)
+
+-- what a writer wrote of an answer
+pub shown_of : {X : Type 0} (told : X → Option (List ℕ)) (calls : X → ℕ) (from : Source) (answer : Option ℕ) (found : Bool) (place place' : ℕ) (w v : LineWriter X) →
+    IsGiven (Wrote told calls) (λ n s. ComesFrom from (mark_of from.plan n) n s) answer found place place' w v →
+    (v.out.ghost_name ≡ w.out.ghost_name) × IsShown from answer found (calls w.out.now) (calls v.out.now) (told w.out.now) (told v.out.now) × (place' ≡ place_after place answer)
+shown_of told calls from (Some n) found place place' w v h =
+    let s = h.2.0 in
+    let got = h.2.1.1 in
+    (got.0, (h.0, got.2, (line n s ++ 10 ∷ [], ((s, (h.2.1.0, refl)), got.1))), h.1)
+shown_of {X} told calls from None found place place' w v h =
+    (ap (λ (x : LineWriter X). x.out.ghost_name) h.2, (h.0, ap (λ (x : LineWriter X). calls x.out.now) h.2, ap (λ (x : LineWriter X). told x.out.now) h.2), h.1)
+
+-- what was written where a place was found, and where none was
+pub record Shows (from : Source) (answer : Option ℕ) (writes writes' : ℕ) (before after : Option (List ℕ)) : Type 0 where
+  pub text : List ℕ
+  pub says : IsTextOf from answer text
+  pub wrote : writes' ≡ raised writes 1
+  pub told : Tells before after (λ x y. y ≡ x ++ text)
+
+pub shown_some : (from : Source) (answer : Option ℕ) (found : Bool) (writes writes' : ℕ) (before after : Option (List ℕ)) → IsShown from answer found writes writes' before after → found ≡ true → Shows from answer writes writes' before after
+shown_some from (Some n) found writes writes' before after h is = record { text = h.2.0; says = h.2.1.0; wrote = h.1; told = h.2.1.1 }
+shown_some from None found writes writes' before after h is = absurd (true≢false (sym is ∙ h.0))
+
+pub shown_none : (from : Source) (answer : Option ℕ) (found : Bool) (writes writes' : ℕ) (before after : Option (List ℕ)) → IsShown from answer found writes writes' before after → found ≡ false →
+    (answer ≡ None) × (writes' ≡ writes) × (after ≡ before)
+shown_none from (Some n) found writes writes' before after h is = absurd (true≢false (sym h.0 ∙ is))
+shown_none from None found writes writes' before after h is = (refl, h.1, h.2)
+
+-- the writer has the sink that it had
+pub same_names : {X : Type 0} (told : X → Option (List ℕ)) (calls : X → ℕ) (from : Source) (place : ℕ) (order : Order) (place' : ℕ) (r : Result Bool RunFault) (w v : LineWriter X) →
+    IfOk r (λ found. (answer : Option ℕ) × (IsAnswerSeen from place order answer × IsGiven (Wrote told calls) (λ n s. ComesFrom from (mark_of from.plan n) n s) answer found place place' w v)) →
+    (r ≡ Err Visitor → v.out.ghost_name ≡ w.out.ghost_name) → OnErr r (r ≢ Err Visitor → v ≡ w) → v.out.ghost_name ≡ w.out.ghost_name
+same_names told calls from place order place' (Ok found) w v seen missed unseen = (shown_of told calls from seen.0 found place place' w v seen.1.1).0
+same_names {X} told calls from place order place' (Err (Keeper k)) w v seen missed unseen = ap (λ (x : LineWriter X). x.out.ghost_name) (unseen (λ e. cc))
+same_names {X} told calls from place order place' (Err (Damaged k put got)) w v seen missed unseen = ap (λ (x : LineWriter X). x.out.ghost_name) (unseen (λ e. cc))
+same_names told calls from place order place' (Err Visitor) w v seen missed unseen = missed refl
+same_names {X} told calls from place order place' (Err Memory) w v seen missed unseen = ap (λ (x : LineWriter X). x.out.ghost_name) (unseen (λ e. cc))
+same_names {X} told calls from place order place' (Err Ended) w v seen missed unseen = ap (λ (x : LineWriter X). x.out.ghost_name) (unseen (λ e. cc))
+
+-- what a call says at Ok and at a refusal
+pub quiet_if_ok : {T P : Type 0} (r : Result T RunFault) → (((k : ℕ) → r ≢ Err (Keeper k)) → P) → OnOk r P
+quiet_if_ok (Ok x) h = h (λ k e. cc)
+quiet_if_ok (Err e) h = tt
+
+pub cause_if_err : {K T : Type 0} (faults : K → ℕ) (p : MarkPlan) (old new : List K) (r : Result T RunFault) {ended : Bool} →
+    ((k : ℕ) → r ≡ Err (Keeper k) → (k < length p.slots) × Rose (by_number 0 faults old k) (by_number 0 faults new k)) → (((k : ℕ) → r ≢ Err (Keeper k)) → Quiet faults old new) →
+    (IsErrOf r Ended → ended ≡ true) → ended ≡ false → IfErr r (HasCause faults p old new)
+cause_if_err faults p old new (Ok x) rose quiet over lasts = tt
+cause_if_err faults p old new (Err (Keeper k)) rose quiet over lasts = rose k refl
+cause_if_err faults p old new (Err (Damaged k put got)) rose quiet over lasts = quiet (λ k e. cc)
+cause_if_err faults p old new (Err Visitor) rose quiet over lasts = quiet (λ k e. cc)
+cause_if_err faults p old new (Err Memory) rose quiet over lasts = quiet (λ k e. cc)
+cause_if_err faults p old new (Err Ended) rose quiet over lasts = true≢false (sym (over refl) ∙ lasts)
+
+pub goes_always : {T E : Type 0} (P Q R S : Type 0) (r : Result T E) → OnOk r (P × Q) → OnErr r (P × R × S) → P
+goes_always P Q R S (Ok x) h g = h.0
+goes_always P Q R S (Err e) h g = g.0
+
+pub ok_second : {T E : Type 0} (P Q : Type 0) (r : Result T E) → OnOk r (P × Q) → OnOk r Q
+ok_second P Q (Ok x) h = h.1
+ok_second P Q (Err e) h = tt
+
+pub if_ok_at : {T E : Type 0} (P : T → Type 0) (r : Result T E) (x : T) → r ≡ Ok x → IfOk r P → P x
+if_ok_at {T} {E} P r x is h = let Q : Result T E → Type 0 = λ s. IfOk s P in subst Q is h
+
+pub same_err : {T E : Type 0} (r : Result T E) (x y : E) → r ≡ Err x → r ≡ Err y → x ≡ y
+same_err r x y first second = cc
+
+-- ---- one order after another
+
+pub answered_none : (from : Source) (m : Moment) → AreAnswered from [] [] [] m m
+answered_none from m = (refl, refl, refl)
+
+pub answered_more : (from : Source) (orders : List Order) (answers : List (Option ℕ)) (text : List ℕ) (old mid new : Moment) (order : Order) (answer : Option ℕ) (piece : List ℕ) → AreAnswered from orders answers text old mid →
+    IsAnswered from order answer piece mid new → AreAnswered from (orders ++ order ∷ []) (answers ++ answer ∷ []) (text ++ piece) old new
+answered_more from [] answers text old mid new order answer piece are one =
+    let P : Moment → Type 0 = λ m. IsAnswered from order answer piece m new in
+    record {
+      answer = answer;
+      rest = [];
+      front = piece;
+      back = [];
+      mid = new;
+      answers_are = ap (λ (l : List (Option ℕ)). l ++ answer ∷ []) are.0;
+      text_is = ap (λ (t : List ℕ). t ++ piece) are.1 ∙ sym (append-nil piece);
+      first = subst P are.2 one;
+      others = (refl, refl, refl);
+    }
+answered_more from (o ∷ orders) answers text old mid new order answer piece are one = record {
+  answer = are.answer;
+  rest = are.rest ++ answer ∷ [];
+  front = are.front;
+  back = are.back ++ piece;
+  mid = are.mid;
+  answers_are = ap (λ (l : List (Option ℕ)). l ++ answer ∷ []) are.answers_are;
+  text_is = ap (λ (t : List ℕ). t ++ piece) are.text_is ∙ append_assoc are.front are.back piece;
+  first = are.first;
+  others = answered_more from orders are.rest are.back are.mid mid new order answer piece are.others one;
+}
+
+-- where the sink failed, and where it didn't
+pub breaks_of : (from : Source) (place : ℕ) (order : Order) (fault : RunFault) (text : List ℕ) (writes writes' : ℕ) (a b c : Option (List ℕ)) → Tells a b (λ x y. y ≡ x ++ text) →
+    (fault ≡ Visitor → (answer : Option ℕ) × ((piece : List ℕ) × (IsAnswerSeen from place order answer × IsTextOf from answer piece × (writes' ≡ raised writes 1) × Tells b c (AddsPrefix piece)))) →
+    ((fault ≡ Visitor → ⊥) → (c ≡ b) × (writes' ≡ writes)) → BreaksOff from place order fault text a c × (writes' ≡ writes_at fault writes)
+breaks_of from place order (Keeper k) text writes writes' a b c h missed same =
+    let s = same (λ e. cc) in
+    (subst (λ (o : Option (List ℕ)). Tells a o (λ x y. y ≡ x ++ text)) (sym s.0) h, s.1)
+breaks_of from place order (Damaged k put got) text writes writes' a b c h missed same =
+    let s = same (λ e. cc) in
+    (subst (λ (o : Option (List ℕ)). Tells a o (λ x y. y ≡ x ++ text)) (sym s.0) h, s.1)
+breaks_of from place order Visitor text writes writes' a b c h missed same =
+    let m = missed refl in
+    ((m.0, (m.1.0, (m.1.1.0, m.1.1.1, tells_part text m.1.0 a b c h m.1.1.3))), m.1.1.2)
+breaks_of from place order Memory text writes writes' a b c h missed same =
+    let s = same (λ e. cc) in
+    (subst (λ (o : Option (List ℕ)). Tells a o (λ x y. y ≡ x ++ text)) (sym s.0) h, s.1)
+breaks_of from place order Ended text writes writes' a b c h missed same =
+    let s = same (λ e. cc) in
+    (subst (λ (o : Option (List ℕ)). Tells a o (λ x y. y ≡ x ++ text)) (sym s.0) h, s.1)
+
+-- ---- a console that went on
+
+-- what is seen later was seen before
+module _ (old new : ConsoleState) (told told' : ℕ → Option Images) (goes : GoesOn old new) (same : (k : ℕ) → told' k ≡ told k) where
+  -- the later source, in the parts of the one before
+  abbrev later : Source
+  later = record { plan = old.plan; journal = old.journal; levels = record { store = old.store; told = told' }; machine = new.work }
+
+  later_is : source_of new told' ≡ later
+  later_is =
+      ap (λ (p : MarkPlan). let s : Source = record { plan = p; journal = new.journal; levels = record { store = new.store; told = told' }; machine = new.work } in s) goes.plan
+      ∙ ap (λ (j : List (List ℕ)). let s : Source = record { plan = old.plan; journal = j; levels = record { store = new.store; told = told' }; machine = new.work } in s) goes.journal
+      ∙ ap (λ (l : List ShelfState). let s : Source = record { plan = old.plan; journal = old.journal; levels = record { store = l; told = told' }; machine = new.work } in s) goes.store
+
+  comes_there : (i n : ℕ) (s : MachineState) → ComesFrom later i n s → ComesFrom (source_of old told) i n s
+  comes_there i n s = comes_back old.plan old.journal old.store told told' old.work new.work same goes.machine i n s
+
+  pub seen_there : (place : ℕ) (order : Order) (answer : Option ℕ) → IsAnswerSeen (source_of new told') place order answer → IsAnswerSeen (source_of old told) place order answer
+  seen_there place order answer h =
+      answer_back old.plan old.journal old.store told told' old.work new.work same goes.machine place order answer (subst (λ (s : Source). IsAnswerSeen s place order answer) later_is h)
+
+  text_by : (answer : Option ℕ) (text : List ℕ) → IsTextOf later answer text → IsTextOf (source_of old told) answer text
+  text_by (Some n) text h = (h.0, (comes_there (mark_of old.plan n) n h.0 h.1.0, h.1.1))
+  text_by None text h = h
+
+  pub text_there : (answer : Option ℕ) (text : List ℕ) → IsTextOf (source_of new told') answer text → IsTextOf (source_of old told) answer text
+  text_there answer text h = text_by answer text (subst (λ (s : Source). IsTextOf s answer text) later_is h)
+
+  pub damage_there : (k : ℕ) (put got : List ℕ) → IsMarkDamaged (source_of new told') k put got → IsMarkDamaged (source_of old told) k put got
+  damage_there k put got h =
+      damage_back old.plan old.journal old.store told told' old.work new.work same goes.machine k put got (subst (λ (s : Source). IsMarkDamaged s k put got) later_is h)
+
+  pub answered_there : (order : Order) (answer : Option ℕ) (text : List ℕ) (a b : Moment) → IsAnswered (source_of new told') order answer text a b → IsAnswered (source_of old told) order answer text a b
+  answered_there order answer text a b one = record {
+    seen = seen_there a.place order answer one.seen;
+    place = one.place;
+    says = text_there answer text one.says;
+    takes = subst (λ (p : MarkPlan). Takes p (place_said p.count a.place order) a.steps b.steps a.calls b.calls) goes.plan one.takes;
+    wrote = one.wrote;
+  }
+
+  -- it stands where it stood
+  pub stands_there : (first : MachineState) → Stands first old told → Stands first new told'
+  stands_there first stands =
+      let at = stand_same first old.journal old.plan (mark_count old.plan) old.store new.store told told' goes.store same stands.levels in
+      record {
+        machine = goes.machine ∙ stands.machine;
+        levels = subst (λ (j : List (List ℕ)). StandAt first j new.plan (mark_count new.plan) new.store told') (sym goes.journal) (subst (λ (p : MarkPlan). StandAt first old.journal p (mark_count p) new.store told') (sym goes.plan) at);
+      }
+
+-- it goes on from where it went
+pub goes_then : (a b c : ConsoleState) → GoesOn a b → GoesOn b c → GoesOn a c
+goes_then a b c first second = record {
+  machine = second.machine ∙ first.machine;
+  plan = second.plan ∙ first.plan;
+  store = second.store ∙ first.store;
+  journal = second.journal ∙ first.journal;
+}
+
+-- ---- in a run
+
+module _ (first : MachineState) (from : Source) (states : (i n : ℕ) (s : MachineState) → ComesFrom from i n s → s ≡ state_number first from.journal n)
+    (sees : (place : ℕ) (order : Order) (answer : Option ℕ) → IsAnswerSeen from place order answer → IsAnswer first from.journal from.plan.count place order answer) where
+  text_in_run : (answer : Option ℕ) (text : List ℕ) → IsTextOf from answer text → text ≡ answer_text first from.journal answer
+  text_in_run (Some n) text h = h.1.1 ∙ ap (λ (s : MachineState). line n s ++ 10 ∷ []) (states (mark_of from.plan n) n h.0 h.1.0)
+  text_in_run None text h = h
+
+  pub in_run : (orders : List Order) (answers : List (Option ℕ)) (text : List ℕ) (old new : Moment) → AreAnswered from orders answers text old new →
+      AreAnswers first from.journal from.plan.count old.place orders answers new.place × (text ≡ script_text first from.journal answers)
+  in_run [] answers text old new are = ((are.0, ap (λ (m : Moment). m.place) are.2), are.1 ∙ sym (ap (script_text first from.journal) are.0))
+  in_run (order ∷ orders) answers text old new are =
+      let rest = in_run orders are.rest are.back are.mid new are.others in
+      let P : ℕ → Type 0 = λ p. AreAnswers first from.journal from.plan.count p orders are.rest new.place in (
+        (are.answer, (are.rest, (are.answers_are, sees old.place order are.answer are.first.seen, subst P are.first.place rest.0))),
+        are.text_is
+            ∙ ap (λ (t : List ℕ). t ++ are.back) (text_in_run are.answer are.front are.first.says)
+            ∙ ap (λ (t : List ℕ). answer_text first from.journal are.answer ++ t) rest.1
+            ∙ sym (ap (script_text first from.journal) are.answers_are),
+      )
+
+  pub breaks_in_run : (place : ℕ) (order : Order) (fault : RunFault) (text : List ℕ) (answers : List (Option ℕ)) (a c : Option (List ℕ)) → text ≡ script_text first from.journal answers →
+      BreaksOff from place order fault text a c → BreaksOffIn first from.journal from.plan.count place order fault answers a c
+  breaks_in_run place order (Keeper k) text answers a c is h = subst (λ (t : List ℕ). Tells a c (λ x y. y ≡ x ++ t)) is h
+  breaks_in_run place order (Damaged k put got) text answers a c is h = subst (λ (t : List ℕ). Tells a c (λ x y. y ≡ x ++ t)) is h
+  breaks_in_run place order Visitor text answers a c is h =
+      let T : List ℕ → Type 0 = λ t. Tells a c (λ x y. AddsPrefix h.1.0 (x ++ t) y) in
+      let Q : List ℕ → Type 0 = λ t. Tells a c (λ x y. AddsPrefix t (x ++ script_text first from.journal answers) y) in
+      (h.0, (sees place order h.0 h.1.1.0, subst Q (text_in_run h.0 h.1.0 h.1.1.1) (subst T is h.1.1.2)))
+  breaks_in_run place order Memory text answers a c is h = subst (λ (t : List ℕ). Tells a c (λ x y. y ≡ x ++ t)) is h
+  breaks_in_run place order Ended text answers a c is h = subst (λ (t : List ℕ). Tells a c (λ x y. y ≡ x ++ t)) is h

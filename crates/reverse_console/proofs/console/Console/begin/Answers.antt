@@ -1,0 +1,51 @@
+use Rattle.std.proofs.Common.{◌<◌, ◌≤◌, List, length, map, Err, sym, ◌∙◌, ap, subst}
+use Rattle.std.proofs.lemmas.Result.{IfErr-at_err, err_from_is_err_and}
+use Rattle.level_book.specs.declared.book.Slots.{Slots}
+use Rattle.rv_pages.specs.Memory.{page_numbers}
+use Rattle.rv_machine.specs.MachineState.{MachineState}
+use Rattle.image_store.specs.Shelves.{ShelfState, no_pairs_on}
+use Rattle.reverse_runner.specs.KeepersSeen.{told_by, HaveRoom}
+use Rattle.reverse_console.specs.Marks.{MarkPlan, span, mark_count}
+use Rattle.reverse_console.specs.Causes.{HasCause}
+use Rattle.reverse_console.specs.Handling.{AreSet, StandAt}
+use Rattle.reverse_console.proofs.Calling.{quiet_else}
+use Rattle.reverse_console.proofs.Getting.{at_ok}
+use Rattle.reverse_console.proofs.Setting.{none_set, none_stand}
+use Rattle.reverse_console.proofs.console.Console.begin.Goals as goal
+
+pub set_marks-requires-clause-set : goal.set_marks-requires-clause-set
+set_marks-requires-clause-set g c =
+    let p = c.new-marks.result in
+    let e = c.in-Ok.ensures.store ∙ ap (λ (s : List Slots). no_pairs_on s c.span.result) c.book.ensures ∙ ap (no_pairs_on p.slots) c.span.ensures.value in
+    subst (AreSet p 0) (sym e) (none_set p)
+
+pub set_marks-requires-clause-room : goal.set_marks-requires-clause-room
+set_marks-requires-clause-room g c = subst (λ (q : MarkPlan). HaveRoom (span q) q.slots (map g.K.Keeper.slot_count c.args.keepers.now.items)) (sym c.new-marks.ensures) c.requires.room
+
+pub returns-in_err-set_marks-clause-keepers_quiet : goal.returns-in_err-set_marks-clause-keepers_quiet
+returns-in_err-set_marks-clause-keepers_quiet g c never =
+    let q = err_from_is_err_and c.from_residual.result c.from_residual.ensures.1 in
+    let H = HasCause g.K.Keeper.fault_count c.new-marks.result c.args.keepers.now.items c.set_marks.new.keepers.items in
+    quiet_else g.K.Keeper.fault_count c.new-marks.result c.args.keepers.now.items c.set_marks.new.keepers.items q.0 (subst H (sym q.2) (IfErr-at_err H c.in_err-set_marks.was c.set_marks.ensures.cause)) (λ k e. never k (q.1 ∙ ap Err e))
+
+pub returns-in_err-set_marks-clause-others : goal.returns-in_err-set_marks-clause-others
+returns-in_err-set_marks-clause-others g c k past = c.set_marks.ensures.stay.others k (subst (λ (q : MarkPlan). length q.slots ≤ k) (sym c.new-marks.ensures) past)
+
+pub returns-clause-others : goal.returns-clause-others
+returns-clause-others g c k past = c.set_marks.ensures.stay.others k (subst (λ (q : MarkPlan). length q.slots ≤ k) (sym c.new-marks.ensures) past)
+
+pub returns-clause-stands : goal.returns-clause-stands
+returns-clause-stands g c tells =
+    let p = c.new-marks.result in
+    let j = c.args.journal in
+    let told = told_by g.K.Keeper.told c.args.keepers.now.items in
+    let told' = told_by g.K.Keeper.told c.set_marks.new.keepers.items in
+    let desk = c.in-Ok.desk in
+    let e = c.in-Ok.ensures.store ∙ ap (λ (s : List Slots). no_pairs_on s c.span.result) c.book.ensures ∙ ap (no_pairs_on p.slots) c.span.ensures.value in
+    let none = none_stand desk.work j p told (λ k lt. tells k (subst (λ (q : MarkPlan). k < length q.slots) c.new-marks.ensures lt)) in
+    let start = subst (λ (s : List ShelfState). StandAt desk.work j p 0 s told) (sym e) none in
+    let all = at_ok c.set_marks.result _ c.in_ok-set_marks.was (c.set_marks.ensures.stand start) in
+    record {
+      machine = c.set_marks.ensures.machine ∙ ap (λ (s : MachineState). page_numbers s.memory) c.in-Ok.ensures.work;
+      levels = subst (λ (s : MachineState). StandAt s j p (mark_count p) c.set_marks.new.desk.store told') c.in-Ok.ensures.work all;
+    }

@@ -1,0 +1,166 @@
+use Rattle.std.proofs.Common.{◌≡◌, ℕ, ◌+◌, ◌-◌, ◌<◌, sym, ◌∙◌, ap, subst, arith}
+use Rattle.std.proofs.lemmas.Result.{IfErr-at_err, err_from_is_err_and}
+use Rattle.rv_machine.specs.MachineState.{MachineState}
+use Rattle.rv_machine.specs.States.{state_number}
+use Rattle.rv_pages.specs.Memory.{page_numbers}
+use Rattle.rv_machine.proofs.Runs.{state_number_keeps_pages}
+use Rattle.reverse_runner.specs.KeepersSeen.{calls_to, told_by, Called, HaveRoom}
+use Rattle.reverse_console.specs.Costs.{puts_of}
+use Rattle.reverse_console.specs.Marks.{marked, mark_count, span, stride}
+use Rattle.reverse_console.specs.Causes.{HasCause}
+use Rattle.reverse_console.specs.Handling.{AreSet, StandAt}
+use Rattle.reverse_console.specs.Refusals.{IsOfPutting}
+use Rattle.reverse_console.proofs.Calling.{stay_then, cause_then}
+use Rattle.reverse_console.proofs.Getting.{err_at, at_ok}
+use Rattle.reverse_console.proofs.Numbers.{first_known, marked_first, marked_within, one_less}
+use Rattle.reverse_console.proofs.Putting.{puts_more, puts_none, puts_within, next_state, same_mark}
+use Rattle.reverse_console.proofs.going.set_marks.Goals as goal
+
+pub set_mark-requires-clause-known : goal.set_mark-requires-clause-known
+set_mark-requires-clause-known g c = first_known c.args.marks.now
+
+pub loop-mark-init : goal.loop-mark-init
+loop-mark-init g c =
+    let p = c.args.marks.now in
+    let done = c.in_ok-set_mark.ensures in
+    let old = (calls_to g.K.Keeper.put_count g.K.Keeper.get_count g.K.Keeper.free_count c.args.keepers.now.items) in
+    let first : marked p (1 - 1) ≡ 0 = marked_first p in
+    let some = first_known p in
+    let told = told_by g.K.Keeper.told in
+    let stand_first = λ (stands : StandAt c.args.desk.now.work c.args.journal.now p 0 c.args.desk.now.store (told c.args.keepers.now.items)).
+    at_ok c.set_mark.result _ c.in_ok-set_mark.was (c.set_mark.ensures.stand c.args.desk.now.work c.args.journal.now stands (sym (ap (state_number c.args.desk.now.work c.args.journal.now) (marked_first p)))) in
+    record {
+      set = done.set;
+      stand = λ stands. stand_first stands;
+      work = c.set_mark.ensures.work ∙ sym (ap (state_number c.args.desk.now.work c.args.journal.now) first);
+      fits = c.set_mark.ensures.fits;
+      counted = omega (arith, first);
+      called = puts_more p 0 old old (calls_to g.K.Keeper.put_count g.K.Keeper.get_count g.K.Keeper.free_count c.set_mark.new.keepers.items) (puts_none p old) c.set_mark.ensures.called;
+      stay = c.set_mark.ensures.stay;
+      quiet = done.quiet;
+      known = omega (arith, some);
+    }
+
+pub loop-mark-preserved : goal.loop-mark-preserved
+loop-mark-preserved g c =
+    let p = c.args.marks.now in
+    let so_far = c.loop-mark.invariant in
+    let i = c.loop-mark.mark in
+    let done = c.in_ok-set_next.ensures in
+    let told = told_by g.K.Keeper.told in
+    let some : 0 < i = omega arith in
+    let work = next_state c.args.desk.now.work c.args.journal.now p i c.loop-mark.desk.work c.set_next.new.desk.work some so_far.work c.set_next.ensures.work in
+    let here = same_mark p i in
+    let step = one_less p i some in
+    let below : i < mark_count p = omega (arith, c.number-mark-end.ensures) in
+    record {
+      set = done.set;
+      stand = λ stands. at_ok c.set_next.result _ c.in_ok-set_next.was (c.set_next.ensures.stand c.args.desk.now.work c.args.journal.now (so_far.stand stands) work);
+      work = work ∙ sym (ap (state_number c.args.desk.now.work c.args.journal.now) here);
+      fits = c.set_next.ensures.fits;
+      counted = omega (arith, so_far.counted, c.set_next.ensures.counted, step, here);
+      called = puts_more p i (calls_to g.K.Keeper.put_count g.K.Keeper.get_count g.K.Keeper.free_count c.args.keepers.now.items) (calls_to g.K.Keeper.put_count g.K.Keeper.get_count g.K.Keeper.free_count c.loop-mark.keepers.items) (calls_to g.K.Keeper.put_count g.K.Keeper.get_count g.K.Keeper.free_count c.set_next.new.keepers.items) so_far.called c.set_next.ensures.called;
+      stay = stay_then g.K.Keeper.slot_count g.K.Keeper.fault_count p c.args.keepers.now.items c.loop-mark.keepers.items c.set_next.new.keepers.items so_far.stay c.set_next.ensures.stay;
+      quiet = λ j. done.quiet j ∙ so_far.quiet j;
+      known = omega (arith, below);
+    }
+
+pub returns-in_err-set_mark-clause-counted_at_most : goal.returns-in_err-set_mark-clause-counted_at_most
+returns-in_err-set_mark-clause-counted_at_most g c = (omega arith, omega arith)
+
+pub returns-in_err-set_mark-clause-machine : goal.returns-in_err-set_mark-clause-machine
+returns-in_err-set_mark-clause-machine g c = ap (λ (s : MachineState). page_numbers s.memory) c.set_mark.ensures.work
+
+pub returns-in_err-set_mark-clause-called_at_most : goal.returns-in_err-set_mark-clause-called_at_most
+returns-in_err-set_mark-clause-called_at_most g c =
+    let p = c.args.marks.now in
+    let old = (calls_to g.K.Keeper.put_count g.K.Keeper.get_count g.K.Keeper.free_count c.args.keepers.now.items) in
+    let some = first_known p in
+    puts_within p 1 (mark_count p) old (calls_to g.K.Keeper.put_count g.K.Keeper.get_count g.K.Keeper.free_count c.set_mark.new.keepers.items) (omega (arith, some)) (puts_more p 0 old old (calls_to g.K.Keeper.put_count g.K.Keeper.get_count g.K.Keeper.free_count c.set_mark.new.keepers.items) (puts_none p old) c.set_mark.ensures.called)
+
+pub returns-in_err-set_mark-clause-cause : goal.returns-in_err-set_mark-clause-cause
+returns-in_err-set_mark-clause-cause g c =
+    let q = err_from_is_err_and c.from_residual.result c.from_residual.ensures.1 in
+    let H = HasCause g.K.Keeper.fault_count c.args.marks.now c.args.keepers.now.items c.set_mark.new.keepers.items in
+    err_at H c.from_residual.result q.0 q.1 (subst H (sym q.2) (IfErr-at_err H c.in_err-set_mark.was c.set_mark.ensures.cause))
+
+pub returns-in_err-set_mark-clause-putting : goal.returns-in_err-set_mark-clause-putting
+returns-in_err-set_mark-clause-putting g c =
+    let q = err_from_is_err_and c.from_residual.result c.from_residual.ensures.1 in
+    err_at IsOfPutting c.from_residual.result q.0 q.1 (subst IsOfPutting (sym q.2) (IfErr-at_err IsOfPutting c.in_err-set_mark.was c.set_mark.ensures.putting))
+
+pub returns-in_err-set_next-clause-machine : goal.returns-in_err-set_next-clause-machine
+returns-in_err-set_next-clause-machine g c =
+    ap (λ (s : MachineState). page_numbers s.memory) c.set_next.ensures.work ∙ state_number_keeps_pages c.loop-mark.desk.work c.args.journal.now (stride c.args.marks.now) ∙ ap (λ (s : MachineState). page_numbers s.memory) c.loop-mark.invariant.work ∙ state_number_keeps_pages c.args.desk.now.work c.args.journal.now (marked c.args.marks.now (c.loop-mark.mark - 1))
+
+pub returns-in_err-set_next-clause-counted_at_most : goal.returns-in_err-set_next-clause-counted_at_most
+returns-in_err-set_next-clause-counted_at_most g c =
+    let p = c.args.marks.now in
+    let i = c.loop-mark.mark in
+    let some : 0 < i = omega arith in
+    let step = one_less p i some in
+    let below : i < mark_count p = omega (arith, c.number-mark-end.ensures) in
+    let last = marked_within p i (mark_count p - 1) (omega (arith, below)) in
+    (omega (arith, c.loop-mark.invariant.counted, c.set_next.ensures.counted), omega (arith, c.loop-mark.invariant.counted, c.set_next.ensures.counted, step, last))
+
+pub returns-in_err-set_next-clause-called_at_most : goal.returns-in_err-set_next-clause-called_at_most
+returns-in_err-set_next-clause-called_at_most g c =
+    let p = c.args.marks.now in
+    let i = c.loop-mark.mark in
+    let old = (calls_to g.K.Keeper.put_count g.K.Keeper.get_count g.K.Keeper.free_count c.args.keepers.now.items) in
+    let below : i < mark_count p = omega (arith, c.number-mark-end.ensures) in
+    puts_within p (i + 1) (mark_count p) old (calls_to g.K.Keeper.put_count g.K.Keeper.get_count g.K.Keeper.free_count c.set_next.new.keepers.items) (omega (arith, below)) (puts_more p i old (calls_to g.K.Keeper.put_count g.K.Keeper.get_count g.K.Keeper.free_count c.loop-mark.keepers.items) (calls_to g.K.Keeper.put_count g.K.Keeper.get_count g.K.Keeper.free_count c.set_next.new.keepers.items) c.loop-mark.invariant.called c.set_next.ensures.called)
+
+pub returns-in_err-set_next-clause-stay : goal.returns-in_err-set_next-clause-stay
+returns-in_err-set_next-clause-stay g c = stay_then g.K.Keeper.slot_count g.K.Keeper.fault_count c.args.marks.now c.args.keepers.now.items c.loop-mark.keepers.items c.set_next.new.keepers.items c.loop-mark.invariant.stay c.set_next.ensures.stay
+
+pub returns-in_err-set_next-clause-cause : goal.returns-in_err-set_next-clause-cause
+returns-in_err-set_next-clause-cause g c =
+    let q = err_from_is_err_and c.from_residual-in_err-set_next.result c.from_residual-in_err-set_next.ensures.1 in
+    let p = c.args.marks.now in
+    let f = g.K.Keeper.fault_count in
+    let H = HasCause f p c.loop-mark.keepers.items c.set_next.new.keepers.items in
+    let J = HasCause f p c.args.keepers.now.items c.set_next.new.keepers.items in
+    let cause = subst H (sym q.2) (IfErr-at_err H c.in_err-set_next.was c.set_next.ensures.cause) in
+    err_at J c.from_residual-in_err-set_next.result q.0 q.1 (cause_then f p c.args.keepers.now.items c.loop-mark.keepers.items c.set_next.new.keepers.items q.0 c.loop-mark.invariant.quiet cause)
+
+pub returns-in_err-set_next-clause-putting : goal.returns-in_err-set_next-clause-putting
+returns-in_err-set_next-clause-putting g c =
+    let q = err_from_is_err_and c.from_residual-in_err-set_next.result c.from_residual-in_err-set_next.ensures.1 in
+    err_at IsOfPutting c.from_residual-in_err-set_next.result q.0 q.1 (subst IsOfPutting (sym q.2) (IfErr-at_err IsOfPutting c.in_err-set_next.was c.set_next.ensures.putting))
+
+pub returns-clause-set : goal.returns-clause-set
+returns-clause-set g c =
+    let all : c.loop-mark.mark ≡ mark_count c.args.marks.now = omega (arith, c.number-mark-end.ensures, c.loop-mark.invariant.known) in
+    subst (λ (i : ℕ). AreSet c.args.marks.now i c.loop-mark.desk.store) all c.loop-mark.invariant.set
+
+pub returns-clause-stand : goal.returns-clause-stand
+returns-clause-stand g c stands =
+    let all : c.loop-mark.mark ≡ mark_count c.args.marks.now = omega (arith, c.number-mark-end.ensures, c.loop-mark.invariant.known) in
+    subst (λ (i : ℕ). StandAt c.args.desk.now.work c.args.journal.now c.args.marks.now i c.loop-mark.desk.store (told_by g.K.Keeper.told c.loop-mark.keepers.items)) all (c.loop-mark.invariant.stand stands)
+
+pub returns-clause-machine : goal.returns-clause-machine
+returns-clause-machine g c = ap (λ (s : MachineState). page_numbers s.memory) c.loop-mark.invariant.work ∙ state_number_keeps_pages c.args.desk.now.work c.args.journal.now (marked c.args.marks.now (c.loop-mark.mark - 1))
+
+pub returns-clause-counted : goal.returns-clause-counted
+returns-clause-counted g c =
+    let all : c.loop-mark.mark ≡ mark_count c.args.marks.now = omega (arith, c.number-mark-end.ensures, c.loop-mark.invariant.known) in
+    let same = ap (λ (i : ℕ). marked c.args.marks.now (i - 1)) all in
+    omega (arith, c.loop-mark.invariant.counted, same)
+
+pub returns-clause-counted_at_most : goal.returns-clause-counted_at_most
+returns-clause-counted_at_most g c =
+    let all : c.loop-mark.mark ≡ mark_count c.args.marks.now = omega (arith, c.number-mark-end.ensures, c.loop-mark.invariant.known) in
+    let same = ap (λ (i : ℕ). marked c.args.marks.now (i - 1)) all in
+    (omega (arith, c.loop-mark.invariant.counted), omega (arith, c.loop-mark.invariant.counted, same))
+
+pub returns-clause-called : goal.returns-clause-called
+returns-clause-called g c =
+    let all : c.loop-mark.mark ≡ mark_count c.args.marks.now = omega (arith, c.number-mark-end.ensures, c.loop-mark.invariant.known) in
+    subst (λ (i : ℕ). Called (puts_of c.args.marks.now i) (calls_to g.K.Keeper.put_count g.K.Keeper.get_count g.K.Keeper.free_count c.args.keepers.now.items) (calls_to g.K.Keeper.put_count g.K.Keeper.get_count g.K.Keeper.free_count c.loop-mark.keepers.items)) all c.loop-mark.invariant.called
+
+pub returns-clause-called_at_most : goal.returns-clause-called_at_most
+returns-clause-called_at_most g c = puts_within c.args.marks.now c.loop-mark.mark (mark_count c.args.marks.now) (calls_to g.K.Keeper.put_count g.K.Keeper.get_count g.K.Keeper.free_count c.args.keepers.now.items) (calls_to g.K.Keeper.put_count g.K.Keeper.get_count g.K.Keeper.free_count c.loop-mark.keepers.items) c.loop-mark.invariant.known c.loop-mark.invariant.called
+
+pub set_next-requires-clause-room : goal.set_next-requires-clause-room
+set_next-requires-clause-room g c = subst (HaveRoom (span c.args.marks.now) c.args.marks.now.slots) (sym c.loop-mark.invariant.stay.slots_same) c.requires.room

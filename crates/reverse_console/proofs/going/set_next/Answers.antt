@@ -1,0 +1,24 @@
+use Rattle.std.proofs.Common.{sym, ◌∙◌, ap, subst, arith}
+use Rattle.std.specs.Vec.{vec_capacity}
+use Rattle.rv_machine.specs.States.{state_number}
+use Rattle.reverse_runner.specs.KeepersSeen.{told_by}
+use Rattle.reverse_console.specs.Handling.{AreSet, StandAt}
+use Rattle.reverse_console.proofs.Getting.{fits_on}
+use Rattle.reverse_console.proofs.going.set_next.Goals as goal
+
+pub set_mark-requires-clause-set : goal.set_mark-requires-clause-set
+set_mark-requires-clause-set g c = subst (λ s. AreSet c.args.marks.now c.args.mark s) (sym c.advance.ensures.store) c.requires.set
+
+pub set_mark-requires-clause-fits : goal.set_mark-requires-clause-fits
+set_mark-requires-clause-fits g c =
+    let same = ap vec_capacity c.advance.ensures.buffer in
+    fits_on c.args.desk.now c.advance.new.self (sym c.advance.ensures.pages) (omega (arith, same)) c.requires.fits
+
+pub returns-clause-stand : goal.returns-clause-stand
+returns-clause-stand g c first journal stands work =
+    let told = told_by g.K.Keeper.told c.args.keepers.now.items in
+    c.set_mark.ensures.stand first journal (subst (λ s. StandAt first journal c.args.marks.now c.args.mark s told) (sym c.advance.ensures.store) stands) (sym c.set_mark.ensures.work ∙ work)
+
+pub returns-clause-work : goal.returns-clause-work
+returns-clause-work g c =
+    c.set_mark.ensures.work ∙ c.advance.ensures.work ∙ ap (state_number c.args.desk.now.work c.args.journal.now) c.stride.ensures

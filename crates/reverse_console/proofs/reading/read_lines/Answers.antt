@@ -1,0 +1,31 @@
+use Rattle.std.proofs.Common.{[], length, sym, ap, subst, ◌∙◌, arith}
+use Rattle.reverse_console.specs.declared.fault.ScriptFault.{ScriptFault}
+use Rattle.action_text.specs.ScheduleText.{lines}
+use Rattle.reverse_console.specs.ScriptReading.{orders_from, Fails, script_of}
+use Rattle.reverse_console.proofs.ScriptWhole.{step_ok, step_err, step_end, one_more_order}
+use Rattle.action_text.proofs.ManyLines.{lines_few}
+use Rattle.reverse_console.proofs.reading.read_lines.Goals as goal
+
+pub overflow_add-number : goal.overflow_add-number
+overflow_add-number c = omega (arith, ap length c.in-Some.ensures.value, c.lines.invariant.number, lines_few c.args.bytes.now, c.requires)
+
+pub returns-in-Err-clause-read : goal.returns-in-Err-clause-read
+unfolding script_of
+returns-in-Err-clause-read c =
+    subst (λ (e : ScriptFault). Fails e (orders_from c.args.count [] 1 (lines c.args.bytes.now))) (sym c.at.ensures)
+    (sym c.lines.invariant.read ∙ step_err c.args.count c.lines.orders.items c.lines.number c.in-Some.text.now c.next.new.self c.lines.lines c.in-Err.fault c.in-Some.ensures.value c.in-Err.ensures)
+
+pub lines-preserved : goal.lines-preserved
+lines-preserved c = record {
+  read = step_ok c.args.count c.lines.orders.items c.add.new.orders.items c.lines.number c.in-Some.text.now c.next.new.self c.lines.lines c.in-Ok.found c.in-Some.ensures.value c.in-Ok.ensures c.in_ok-add.ensures.added
+      ∙ c.lines.invariant.read;
+  number = omega (arith, ap length c.in-Some.ensures.value, c.lines.invariant.number);
+  few = omega (arith, ap length c.in_ok-add.ensures.added, one_more_order c.lines.orders.items c.in-Ok.found, c.lines.invariant.few);
+}
+
+pub returns-clause-read : goal.returns-clause-read
+unfolding script_of
+returns-clause-read c = sym c.lines.invariant.read ∙ step_end c.args.count c.lines.orders.items c.lines.number c.lines.lines c.in_default.ensures.value.0
+
+pub returns-clause-few : goal.returns-clause-few
+returns-clause-few c = omega (arith, c.lines.invariant.few, c.lines.invariant.number, lines_few c.args.bytes.now, c.requires)

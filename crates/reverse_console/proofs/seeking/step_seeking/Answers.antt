@@ -1,0 +1,15 @@
+use Rattle.std.proofs.Common.{◌↔◌, IsTrue, sym, subst}
+use Rattle.reverse_console.specs.declared.order.Sought.{Sought}
+use Rattle.reverse_console.specs.Seeking.{Meets}
+use Rattle.reverse_console.proofs.Stepping.{differ_changes, changes_differ}
+use Rattle.reverse_console.proofs.seeking.step_seeking.Goals as goal
+
+pub returns-in-Change-clause-meets : goal.returns-in-Change-clause-meets
+returns-in-Change-clause-meets g c =
+    let P : Sought → Type 0 = λ s. IsTrue c.some_differ.result ↔ Meets s c.args.journal.now c.args.work.now in
+    let before = c.bytes_of_word-before.ensures in
+    let after = c.bytes_of_word.ensures in
+    subst P (sym c.in-Change.is) (
+      λ t. differ_changes c.args.journal.now c.in-Change.word c.args.work.now c.advance-in-Change.new.work c.bytes_of_word-before.result c.bytes_of_word.result before after c.advance-in-Change.ensures.work (c.some_differ.ensures.0 t),
+      λ h. c.some_differ.ensures.1 (changes_differ c.args.journal.now c.in-Change.word c.args.work.now c.advance-in-Change.new.work c.bytes_of_word-before.result c.bytes_of_word.result before after c.advance-in-Change.ensures.work h),
+    )

@@ -1,0 +1,46 @@
+-- What an order takes: machine steps, and images that are got.
+use Rattle.std.specs.Prelude.{◌≡◌, ℕ, ◌+◌, ◌-◌, ◌*◌, ◌==◌, ◌≤◌, min, List, length, count_by, Option, None, Some}
+use Rattle.reverse_runner.specs.KeepersSeen.{Calls, Called, CalledAtMost}
+use Rattle.reverse_runner.specs.Touching.{one_get}
+use Rattle.revolve_gen.specs.Places.{places_on}
+use Rattle.reverse_console.specs.declared.order.Order.{Order}
+use Rattle.reverse_console.specs.declared.order.Order.TheVariants.{Back, Step, Goto}
+use Rattle.reverse_console.specs.Marks.{MarkPlan, mark_level, mark_of, mark, mark_count, stride}
+
+-- each of the first i marks is put on its level
+abbrev pub puts_of : MarkPlan → ℕ → Calls
+puts_of p i = record { puts = λ k. places_on (mark_level p) k i; gets = λ _. 0; frees = λ _. 0 }
+
+-- each of some marks is got from its level
+abbrev pub gets_of : MarkPlan → List ℕ → Calls
+gets_of p marks = record { puts = λ _. 0; gets = λ k. count_by (λ i. mark_level p i == k) marks; frees = λ _. 0 }
+
+-- the new place of an order that says it itself; the others look for it in the states of the run
+abbrev pub place_said : ℕ → ℕ → Order → Option ℕ
+place_said count place (Back k) = Some (place - k)
+place_said count place (Step k) = Some (min (place + k) count)
+place_said count place (Goto k) = Some k
+place_said count place _ = None
+
+-- so many marks at most were got, and no other call was made
+pub record GotAtMost (p : MarkPlan) (most : ℕ) (calls calls' : Calls) : Type 0 where
+  pub marks : List ℕ
+  pub few : length marks ≤ most
+  pub called : Called (gets_of p marks) calls calls'
+
+-- at least one mark was got, and no other call was made
+pub record GotSome (p : MarkPlan) (calls calls' : Calls) : Type 0 where
+  pub marks : List ℕ
+  pub some : 1 ≤ length marks
+  pub called : Called (gets_of p marks) calls calls'
+
+-- an order that says its place takes the steps from the last mark that isn't above it, and gets that mark
+abbrev pub Takes : MarkPlan → Option ℕ → ℕ → ℕ → Calls → Calls → Type 0
+Takes p (Some n) steps steps' calls calls' = (steps' ≡ steps + (n - mark p n)) × Called (one_get (mark_level p (mark_of p n))) calls calls'
+Takes p None steps steps' calls calls' = (steps ≤ steps') × (steps' ≤ steps + (p.count + 2 * stride p)) × GotAtMost p (mark_count p + 2) calls calls'
+
+-- what a refused order took is no more
+abbrev pub TakesAtMost : MarkPlan → Option ℕ → ℕ → ℕ → Calls → Calls → Type 0
+TakesAtMost p (Some n) steps steps' calls calls' =
+    (steps ≤ steps') × (steps' ≤ steps + (n - mark p n)) × CalledAtMost (one_get (mark_level p (mark_of p n))) calls calls'
+TakesAtMost p None steps steps' calls calls' = (steps ≤ steps') × (steps' ≤ steps + (p.count + 2 * stride p)) × GotAtMost p (mark_count p + 2) calls calls'

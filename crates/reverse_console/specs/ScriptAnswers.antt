@@ -1,0 +1,148 @@
+-- What the orders of a script answer, one after the other, and what is written of it: by the bytes that were fetched, and in
+-- the run for which a console stands.
+use Rattle.std.specs.Prelude.{◌≡◌, ℕ, ◌-◌, ◌<◌, Bool, true, false, List, [], ◌∷◌, ◌++◌, take, slice_get, Option, Some, None, codes}
+use Rattle.std.specs.List.{flat_map}
+use Rattle.keepers.specs.Counts.{raised}
+use Rattle.keepers.specs.Told.{Tells, AddsPrefix}
+use Rattle.rv_machine.specs.MachineState.{MachineState}
+use Rattle.rv_machine.specs.States.{state_number}
+use Rattle.state_image.specs.Line.{line}
+use Rattle.reverse_runner.specs.KeepersSeen.{Calls}
+use Rattle.reverse_runner.specs.declared.fault.RunFault.{RunFault}
+use Rattle.reverse_runner.specs.declared.fault.RunFault.TheVariants.{Visitor}
+use Rattle.reverse_console.specs.declared.order.Order.{Order}
+use Rattle.reverse_console.specs.Answer.{IsAnswer}
+use Rattle.reverse_console.specs.ConsoleState.{ConsoleState}
+use Rattle.reverse_console.specs.Costs.{place_said, Takes, TakesAtMost}
+use Rattle.reverse_console.specs.Marks.{mark_of}
+use Rattle.reverse_console.specs.Seen.{Source, ComesFrom, IsAnswerSeen}
+
+-- the place after an answer
+abbrev pub place_after : ℕ → Option ℕ → ℕ
+place_after place (Some n) = n
+place_after place None = place
+
+-- ---- by the bytes
+
+-- between two orders: the place, how many steps were taken, how often the keepers were called, and how often the sink was
+pub record Moment : Type 0 where
+  pub place : ℕ
+  pub steps : ℕ
+  pub calls : Calls
+  pub writes : ℕ
+
+abbrev pub moment : ConsoleState → ℕ → Calls → ℕ → Moment
+moment c steps calls writes = record { place = c.place; steps = steps; calls = calls; writes = writes }
+
+-- what is written of an answer: the line of a state that came from the mark of the new place, with its number, or `none`
+abbrev pub IsTextOf : Source → Option ℕ → List ℕ → Type 0
+IsTextOf from (Some n) text = (s : MachineState) × (ComesFrom from (mark_of from.plan n) n s × (text ≡ line n s ++ 10 ∷ []))
+IsTextOf from None text = text ≡ codes "none\n"
+
+-- the line was written where there is a new place, in one call, and else nothing
+abbrev pub IsShown : Source → Option ℕ → Bool → ℕ → ℕ → Option (List ℕ) → Option (List ℕ) → Type 0
+IsShown from (Some n) found writes writes' before after =
+    (found ≡ true) × (writes' ≡ raised writes 1) × ((text : List ℕ) × (IsTextOf from (Some n) text × Tells before after (λ x y. y ≡ x ++ text)))
+IsShown from None found writes writes' before after = (found ≡ false) × (writes' ≡ writes) × (after ≡ before)
+
+-- an order was answered, and its text was written in one call
+pub record IsAnswered (from : Source) (order : Order) (answer : Option ℕ) (text : List ℕ) (old new : Moment) : Type 0 where
+  pub seen : IsAnswerSeen from old.place order answer
+  pub place : new.place ≡ place_after old.place answer
+  pub says : IsTextOf from answer text
+  pub takes : Takes from.plan (place_said from.plan.count old.place order) old.steps new.steps old.calls new.calls
+  pub wrote : new.writes ≡ raised old.writes 1
+
+-- the first of some orders was answered, and then the others were
+pub record IsAnsweredFirst (from : Source) (order : Order)
+    (Others : List (Option ℕ) → List ℕ → Moment → Moment → Type 0) (answers : List (Option ℕ)) (text : List ℕ) (old new : Moment) : Type 0 where
+  pub answer : Option ℕ
+  pub rest : List (Option ℕ)
+  pub front : List ℕ
+  pub back : List ℕ
+  pub mid : Moment
+  pub answers_are : answers ≡ answer ∷ rest
+  pub text_is : text ≡ front ++ back
+  pub first : IsAnswered from order answer front old mid
+  pub others : Others rest back mid new
+
+-- orders were answered, each from the place where the one before it led, with the texts of their answers
+abbrev pub AreAnswered : Source → List Order → List (Option ℕ) → List ℕ → Moment → Moment → Type 0
+AreAnswered from [] answers text old new = (answers ≡ []) × (text ≡ []) × (new ≡ old)
+AreAnswered from (order ∷ orders) answers text old new = IsAnsweredFirst from order (AreAnswered from orders) answers text old new
+
+-- orders were answered, and just their texts were written
+pub record AreWritten (from : Source) (orders : List Order) (old new : Moment) (before after : Option (List ℕ)) : Type 0 where
+  pub answers : List (Option ℕ)
+  pub text : List ℕ
+  pub are : AreAnswered from orders answers text old new
+  pub written : Tells before after (λ x y. y ≡ x ++ text)
+
+-- where the sink failed, a part of the text of an answer to the order was written behind the others, and else nothing
+abbrev pub BreaksOff : Source → ℕ → Order → RunFault → List ℕ → Option (List ℕ) → Option (List ℕ) → Type 0
+BreaksOff from place order Visitor text before after =
+    (answer : Option ℕ) × ((piece : List ℕ) × (IsAnswerSeen from place order answer
+    × IsTextOf from answer piece × Tells before after (λ x y. AddsPrefix piece (x ++ text) y)))
+BreaksOff from place order _ text before after = Tells before after (λ x y. y ≡ x ++ text)
+
+-- the sink was called once more where it failed, and else not
+abbrev pub writes_at : RunFault → ℕ → ℕ
+writes_at Visitor n = raised n 1
+writes_at _ n = n
+
+-- The orders before this one were answered, and it was not; they are counted from 1.
+pub record IsBrokenOff (from : Source) (orders : List Order) (at : ℕ) (fault : RunFault) (old new : Moment) (before after : Option (List ℕ)) : Type 0 where
+  pub from_one : 0 < at
+  pub order : Order
+  pub there : slice_get orders (at - 1) ≡ Some order
+  pub answers : List (Option ℕ)
+  pub text : List ℕ
+  pub mid : Moment
+  pub are : AreAnswered from (take (at - 1) orders) answers text old mid
+  pub stays : new.place ≡ mid.place
+  pub took : TakesAtMost from.plan (place_said from.plan.count mid.place order) mid.steps new.steps mid.calls new.calls
+  pub wrote : new.writes ≡ writes_at fault mid.writes
+  pub breaks : BreaksOff from mid.place order fault text before after
+
+-- ---- in a run
+
+-- The answers to orders, each from the place where the one before it led, and the place after them. The answers are those of
+-- an index into the states of the run.
+abbrev pub AreAnswers : MachineState → List (List ℕ) → ℕ → ℕ → List Order → List (Option ℕ) → ℕ → Type 0
+AreAnswers first journal count place [] answers end = (answers ≡ []) × (end ≡ place)
+AreAnswers first journal count place (order ∷ orders) answers end =
+    (answer : Option ℕ)
+    × ((rest : List (Option ℕ))
+    × ((answers ≡ answer ∷ rest) × IsAnswer first journal count place order answer × AreAnswers first journal count (place_after place answer) orders rest end))
+
+-- what is written of an answer: the line of the state with its number, or `none`
+abbrev pub answer_text : MachineState → List (List ℕ) → Option ℕ → List ℕ
+answer_text first journal (Some n) = line n (state_number first journal n) ++ 10 ∷ []
+answer_text first journal None = codes "none\n"
+
+abbrev pub script_text : MachineState → List (List ℕ) → List (Option ℕ) → List ℕ
+script_text first journal answers = flat_map (answer_text first journal) answers
+
+-- orders have these answers in a run, and just their lines were written
+pub record AreWrittenIn (first : MachineState) (journal : List (List ℕ)) (count place : ℕ)
+    (orders : List Order) (end : ℕ) (before after : Option (List ℕ)) : Type 0 where
+  pub answers : List (Option ℕ)
+  pub are : AreAnswers first journal count place orders answers end
+  pub written : Tells before after (λ x y. y ≡ x ++ script_text first journal answers)
+
+-- where the sink failed, a part of the next answer was written after them, and else nothing
+abbrev pub BreaksOffIn : MachineState → List (List ℕ) → ℕ → ℕ → Order → RunFault → List (Option ℕ) → Option (List ℕ) → Option (List ℕ) → Type 0
+BreaksOffIn first journal count place order Visitor answers before after =
+    (answer : Option ℕ) × (IsAnswer first journal count place order answer
+    × Tells before after (λ x y. AddsPrefix (answer_text first journal answer) (x ++ script_text first journal answers) y))
+BreaksOffIn first journal count place order _ answers before after = Tells before after (λ x y. y ≡ x ++ script_text first journal answers)
+
+-- The orders before this one were answered, and it was not; they are counted from 1.
+pub record IsBrokenOffIn (first : MachineState) (journal : List (List ℕ)) (count place : ℕ) (orders : List Order)
+    (at : ℕ) (fault : RunFault) (end : ℕ) (before after : Option (List ℕ)) : Type 0 where
+  pub from_one : 0 < at
+  pub order : Order
+  pub there : slice_get orders (at - 1) ≡ Some order
+  pub answers : List (Option ℕ)
+  pub are : AreAnswers first journal count place (take (at - 1) orders) answers end
+  pub breaks : BreaksOffIn first journal count end order fault answers before after

@@ -1,0 +1,275 @@
+// A console.
+ghost use Rattle.std.specs.Prelude.{◌≡◌, ◌≢◌, ◌+◌, ◌-◌, ◌*◌, ◌<◌, ◌≤◌, ◌↔◌, ℕ, List, [], true, false, length, map, max, slice_get, Option, Some, None, Ok, Err, IfOk, IfErr, OnOk, OnErr, IsErrOf, IsSome};
+ghost use Rattle.keepers.specs.Counts.{Rose};
+ghost use Rattle.keepers.specs.Told.{Images};
+ghost use Rattle.level_book.specs.BookCosts.{slots_of, total_room};
+ghost use Rattle.rv_machine.specs.MachineState.{MachineState, IsMachineState};
+ghost use Rattle.rv_machine.specs.States.{state_number};
+ghost use Rattle.reverse_runner.specs.KeepersSeen.{by_number, told_by, calls_to, HaveRoom, Called, CalledAtMost};
+ghost use Rattle.reverse_runner.specs.SessionState.{SamePages};
+ghost use Rattle.reverse_console.specs.Answer.{IsAnswer, IsOrder, IsGiven};
+ghost use Rattle.reverse_console.specs.ConsoleState.{GoesOn, source_of};
+ghost use Rattle.reverse_console.specs.Costs.{puts_of, place_said, GotAtMost, GotSome, Takes, TakesAtMost};
+ghost use Rattle.reverse_console.specs.Marks.{MarkPlan, span, stride, marked, mark, mark_count, mark_of};
+ghost use Rattle.reverse_console.specs.Handling.{IsReady, source, Gets};
+ghost use Rattle.reverse_console.specs.Refusals.{IsOfPutting};
+ghost use Rattle.reverse_console.specs.Seen.{ComesFrom, IsAnswerSeen, IsMarkDamaged};
+ghost use Rattle.reverse_console.specs.Standing.{Stands};
+ghost use Rattle.reverse_console.specs.declared.order.Order.{Order as AnOrder};
+
+use crate::desk::Desk;
+use crate::going::{go, set_marks};
+use crate::marks::Marks;
+use crate::order::{Order, Sought};
+use crate::seeking::{first_after, last_before};
+use input_journal::Journal;
+use keepers::Keeper;
+use level_book::Book;
+use reverse_runner::{RunFault, Visitor};
+use rv_machine::{State, Steps};
+use std::alloc::Global;
+use std::marker::Model;
+use std::sync::ledger::Ledger;
+
+/// A run that is moved about in.
+#[derive(Drop)]
+pub struct Console {
+    marks: Marks,
+    desk: Desk,
+    journal: Journal,
+    place: u32,
+    ended: bool,
+}
+
+impl Model for Console {
+    ghost use Rattle.reverse_console.specs.ConsoleState.{ConsoleState, console_code};
+
+    ghost Value = { ConsoleState };
+
+    ghost coded = { console_code };
+
+    ghost use Rattle.reverse_console.specs.ConsoleFields.{console_state, IsConsole};
+
+    ghost view = { console_state };
+
+    ghost invariant = { IsConsole };
+}
+
+impl Console {
+    /// A console at state 0.
+    pub fn begin<K: Keeper, L: Ledger>(
+        alloc: Global,
+        start: State,
+        journal: Journal,
+        count: u32,
+        book: Book,
+        keepers: &mut Vec<K>,
+        steps: &mut Steps<L>,
+    ) -> Result<Console, RunFault>
+        requires count { count ≤ 1000000 }
+        requires slots { 1 ≤ total_room book (max count 1) }
+        requires room { HaveRoom (max count 1) (slots_of book) (map K.slot_count keepers.old.items) }
+
+        // It is at state 0, and stands for the run over keepers that tell.
+        ensures begun { IfOk result (λ c. (c.plan ≡ (record { slots = slots_of book; count = count })) × (c.journal ≡ journal) × (c.place ≡ 0) × (c.ended ≡ false)) }
+        ensures stands { ((k : ℕ) → k < length (slots_of book) → IsSome (told_by K.told keepers.old.items k)) → IfOk result (λ c. Stands start c (told_by K.told keepers.new.items)) }
+
+        // It puts each mark on its level, and takes the steps to the last one.
+        ensures counted { OnOk result (steps.new ≡ steps.old + marked (record { slots = slots_of book; count = count }) (mark_count (record { slots = slots_of book; count = count }) - 1)) }
+        ensures called { OnOk result (Called (puts_of (record { slots = slots_of book; count = count }) (mark_count (record { slots = slots_of book; count = count }))) (calls_to K.put_count K.get_count K.free_count keepers.old.items) (calls_to K.put_count K.get_count K.free_count keepers.new.items)) }
+
+        // What was done up to a refusal, and its cause.
+        ensures counted_at_most { (steps.old ≤ steps.new) × (steps.new ≤ steps.old + marked (record { slots = slots_of book; count = count }) (mark_count (record { slots = slots_of book; count = count }) - 1)) }
+        ensures called_at_most { CalledAtMost (puts_of (record { slots = slots_of book; count = count }) (mark_count (record { slots = slots_of book; count = count }))) (calls_to K.put_count K.get_count K.free_count keepers.old.items) (calls_to K.put_count K.get_count K.free_count keepers.new.items) }
+        ensures putting { IfErr result IsOfPutting }
+        ensures keeper_cause { (k : ℕ) → result ≡ Err (RunFault.Keeper k) → (k < length (slots_of book)) × Rose (by_number 0 K.fault_count keepers.old.items k) (by_number 0 K.fault_count keepers.new.items k) }
+        ensures keepers_quiet { ((k : ℕ) → result ≢ Err (RunFault.Keeper k)) → (j : ℕ) → by_number 0 K.fault_count keepers.new.items j ≡ by_number 0 K.fault_count keepers.old.items j }
+        ensures keepers_later { (k : ℕ) → by_number 0 K.fault_count keepers.old.items k ≤ by_number 0 K.fault_count keepers.new.items k }
+
+        // The keepers have the slots that they had, and those past the levels of the book are as they were.
+        ensures slots { map K.slot_count keepers.new.items ≡ map K.slot_count keepers.old.items }
+        ensures others { (k : ℕ) → length (slots_of book) ≤ k → slice_get keepers.new.items k ≡ slice_get keepers.old.items k }
+    {
+        let marks = Marks::new(book, count);
+        let Ok(mut desk) = Desk::begin(alloc, start, marks.book(), marks.span()) else {
+            return Err(RunFault::Memory);
+        };
+        set_marks(&mut desk, &marks, &journal, keepers, steps)?;
+        Ok(Console {
+            marks,
+            desk,
+            journal,
+            place: 0,
+            ended: false,
+        })
+    }
+
+    /// The number of the state where it is.
+    pub fn place(&self) -> u32
+        ensures { result ≡ self.now.place }
+    {
+        self.place
+    }
+
+    /// Does nothing. Its contract is a law: where the console stands for a run, the states that come from marks are those of
+    /// the run with their numbers, and the answers that are seen are those of the run.
+    pub fn sees_its_run(&self)
+        ensures states { (first : MachineState) (told : ℕ → Option Images) → IsMachineState first → Stands first self.now told → (i n : ℕ) (s : MachineState) → ComesFrom (source_of self.now told) i n s → s ≡ state_number first self.now.journal n }
+        ensures answers { (first : MachineState) (told : ℕ → Option Images) → IsMachineState first → Stands first self.now told → (place : ℕ) (order : AnOrder) (answer : Option ℕ) → IsAnswerSeen (source_of self.now told) place order answer → IsAnswer first self.now.journal self.now.plan.count place order answer }
+    {
+        self.marks.are_roomy();
+        self.marks.have_room();
+        self.journal.is_recorded();
+    }
+
+    /// Answers an order.
+    pub fn perform<K: Keeper, V: Visitor, L: Ledger>(
+        &mut self,
+        order: &Order,
+        keepers: &mut Vec<K>,
+        visitor: &mut V,
+        steps: &mut Steps<L>,
+    ) -> Result<bool, RunFault>
+        requires order { self.old.ended ≡ false → IsOrder self.old.plan.count order.now }
+        requires room { self.old.ended ≡ false → HaveRoom (span self.old.plan) self.old.plan.slots (map K.slot_count keepers.old.items) }
+
+        // A console that has ended does nothing.
+        ensures ended { IsErrOf result RunFault.Ended ↔ (self.old.ended ≡ true) }
+        ensures inert { result ≡ Err RunFault.Ended → (self.new ≡ self.old) × (keepers.new ≡ keepers.old) × (visitor.new ≡ visitor.old) × (steps.new ≡ steps.old) }
+
+        // The answer, where the console stands for a run, and that it stands for it from then on.
+        ensures answer { (first : MachineState) → IsMachineState first → Stands first self.old (told_by K.told keepers.old.items) → IfOk result (λ found. (new : Option ℕ) × (IsAnswer first self.old.journal self.old.plan.count self.old.place order.now new
+            × IsGiven (λ before n s after. V.got before n s self.old.journal after) (λ n s. s ≡ state_number first self.old.journal n) new found self.old.place self.new.place visitor.old visitor.new)) }
+        ensures stands { (first : MachineState) → IsMachineState first → Stands first self.old (told_by K.told keepers.old.items) → OnOk result (Stands first self.new (told_by K.told keepers.new.items)) }
+
+        // The answer by the bytes that were fetched, also where it stands for none.
+        ensures seen { IfOk result (λ found. (new : Option ℕ) × (IsAnswerSeen (source_of self.old (told_by K.told keepers.old.items)) self.old.place order.now new
+            × IsGiven (λ before n s after. V.got before n s self.old.journal after) (λ n s. ComesFrom (source_of self.old (told_by K.told keepers.old.items)) (mark_of self.old.plan n) n s) new found self.old.place self.new.place visitor.old visitor.new)) }
+
+        // What it took.
+        ensures takes { OnOk result (Takes self.old.plan (place_said self.old.plan.count self.old.place order.now) steps.old steps.new (calls_to K.put_count K.get_count K.free_count keepers.old.items) (calls_to K.put_count K.get_count K.free_count keepers.new.items)) }
+        ensures goes_on { OnOk result (GoesOn self.old self.new × (self.new.ended ≡ false)) }
+
+        // What stands after a refusal.
+        ensures over { OnErr result (GoesOn self.old self.new × (self.new.place ≡ self.old.place) × (self.new.ended ≡ true)) }
+        ensures took_at_most { OnErr result (TakesAtMost self.old.plan (place_said self.old.plan.count self.old.place order.now) steps.old steps.new (calls_to K.put_count K.get_count K.free_count keepers.old.items) (calls_to K.put_count K.get_count K.free_count keepers.new.items)) }
+        ensures misses { result ≡ Err RunFault.Visitor → (n : ℕ) × ((s : MachineState) × (IsAnswerSeen (source_of self.old (told_by K.told keepers.old.items)) self.old.place order.now (Some n) × ComesFrom (source_of self.old (told_by K.told keepers.old.items)) (mark_of self.old.plan n) n s × V.missed visitor.old n s self.old.journal visitor.new)) }
+        ensures misses_state { (first : MachineState) → IsMachineState first → Stands first self.old (told_by K.told keepers.old.items) → result ≡ Err RunFault.Visitor → (n : ℕ) × (IsAnswer first self.old.journal self.old.plan.count self.old.place order.now (Some n) × V.missed visitor.old n (state_number first self.old.journal n) self.old.journal visitor.new) }
+        ensures unseen { OnErr result (result ≢ Err RunFault.Visitor → visitor.new ≡ visitor.old) }
+
+        // The cause of each refusal.
+        ensures keeper_cause { (k : ℕ) → result ≡ Err (RunFault.Keeper k) → (k < length self.old.plan.slots) × Rose (by_number 0 K.fault_count keepers.old.items k) (by_number 0 K.fault_count keepers.new.items k) }
+        ensures keepers_quiet { ((k : ℕ) → result ≢ Err (RunFault.Keeper k)) → (j : ℕ) → by_number 0 K.fault_count keepers.new.items j ≡ by_number 0 K.fault_count keepers.old.items j }
+        ensures keepers_later { (k : ℕ) → by_number 0 K.fault_count keepers.old.items k ≤ by_number 0 K.fault_count keepers.new.items k }
+        ensures damaged { (k : ℕ) (put got : List ℕ) → result ≡ Err (RunFault.Damaged k put got) → IsMarkDamaged (source_of self.old (told_by K.told keepers.old.items)) k put got }
+        ensures undamaged { (first : MachineState) → IsMachineState first → Stands first self.old (told_by K.told keepers.old.items) → (k : ℕ) (put got : List ℕ) → result ≢ Err (RunFault.Damaged k put got) }
+        ensures cause { result ≡ Err RunFault.Visitor → Rose (V.fault_count visitor.old) (V.fault_count visitor.new) }
+        ensures quiet { result ≢ Err RunFault.Visitor → V.fault_count visitor.new ≡ V.fault_count visitor.old }
+        ensures later { V.fault_count visitor.old ≤ V.fault_count visitor.new }
+        ensures wants { result ≡ Err RunFault.Memory → GotSome self.old.plan (calls_to K.put_count K.get_count K.free_count keepers.old.items) (calls_to K.put_count K.get_count K.free_count keepers.new.items) }
+
+        // The keepers tell what they told and have the slots that they had, and those past the levels of the book are as they were.
+        ensures same { (k : ℕ) → told_by K.told keepers.new.items k ≡ told_by K.told keepers.old.items k }
+        ensures slots { map K.slot_count keepers.new.items ≡ map K.slot_count keepers.old.items }
+        ensures others { (k : ℕ) → length self.old.plan.slots ≤ k → slice_get keepers.new.items k ≡ slice_get keepers.old.items k }
+    {
+        if self.ended {
+            return Err(RunFault::Ended);
+        }
+        self.marks.are_roomy();
+        self.marks.have_room();
+        self.journal.is_recorded();
+        let outcome = answer(
+            &mut self.desk,
+            &self.marks,
+            &self.journal,
+            &mut self.place,
+            order,
+            keepers,
+            visitor,
+            steps,
+        );
+        self.ended = outcome.is_err();
+        outcome
+    }
+}
+
+// Finds the new place of an order, and goes there, where there is one.
+fn answer<K: Keeper, V: Visitor, L: Ledger>(
+    desk: &mut Desk,
+    marks: &Marks,
+    journal: &Journal,
+    place: &mut u32,
+    order: &Order,
+    keepers: &mut Vec<K>,
+    visitor: &mut V,
+    steps: &mut Steps<L>,
+) -> Result<bool, RunFault>
+    requires within { place.old ≤ marks.now.count }
+    requires order { IsOrder marks.now.count order.now }
+    requires ready { IsReady marks.now desk.old (map K.slot_count keepers.old.items) }
+    ensures seen { IfOk result (λ found. (new : Option ℕ) × (IsAnswerSeen (source marks.now journal.now desk.old (told_by K.told keepers.old.items)) place.old order.now new
+        × IsGiven (λ before n s after. V.got before n s journal.now after) (λ n s. ComesFrom (source marks.now journal.now desk.old (told_by K.told keepers.old.items)) (mark_of marks.now n) n s) new found place.old place.new visitor.old visitor.new)) }
+    ensures within { place.new ≤ marks.now.count }
+    ensures stays { OnErr result (place.new ≡ place.old) }
+    ensures misses { result ≡ Err RunFault.Visitor → (n : ℕ) × ((s : MachineState) × (IsAnswerSeen (source marks.now journal.now desk.old (told_by K.told keepers.old.items)) place.old order.now (Some n) × ComesFrom (source marks.now journal.now desk.old (told_by K.told keepers.old.items)) (mark_of marks.now n) n s × V.missed visitor.old n s journal.now visitor.new)) }
+    ensures unseen { OnErr result (result ≢ Err RunFault.Visitor → visitor.new ≡ visitor.old) }
+    ensures gets { Gets K.told K.put_count K.get_count K.free_count K.slot_count K.fault_count marks.now journal.now (mark_count marks.now + 1) result desk.old desk.new keepers.old.items keepers.new.items }
+    ensures takes { OnOk result (Takes marks.now (place_said marks.now.count place.old order.now) steps.old steps.new (calls_to K.put_count K.get_count K.free_count keepers.old.items) (calls_to K.put_count K.get_count K.free_count keepers.new.items)) }
+    ensures took_at_most { OnErr result (TakesAtMost marks.now (place_said marks.now.count place.old order.now) steps.old steps.new (calls_to K.put_count K.get_count K.free_count keepers.old.items) (calls_to K.put_count K.get_count K.free_count keepers.new.items)) }
+    ensures cause { result ≡ Err RunFault.Visitor → Rose (V.fault_count visitor.old) (V.fault_count visitor.new) }
+    ensures quiet { result ≢ Err RunFault.Visitor → V.fault_count visitor.new ≡ V.fault_count visitor.old }
+    ensures later { V.fault_count visitor.old ≤ V.fault_count visitor.new }
+{
+    marks.have_room();
+    let found = new_place(desk, marks, journal, *place, order, keepers, steps)?;
+    match found {
+        Some(n) => {
+            go(desk, marks, journal, n, keepers, visitor, steps)?;
+            *place = n;
+            Ok(true)
+        }
+        None => Ok(false),
+    }
+}
+
+// The new place of an order, where there is one.
+fn new_place<K: Keeper, L: Ledger>(
+    desk: &mut Desk,
+    marks: &Marks,
+    journal: &Journal,
+    place: u32,
+    order: &Order,
+    keepers: &mut Vec<K>,
+    steps: &mut Steps<L>,
+) -> Result<Option<u32>, RunFault>
+    requires within { place ≤ marks.now.count }
+    requires order { IsOrder marks.now.count order.now }
+    requires ready { IsReady marks.now desk.old (map K.slot_count keepers.old.items) }
+    ensures seen { IfOk result (IsAnswerSeen (source marks.now journal.now desk.old (told_by K.told keepers.old.items)) place order.now) }
+    ensures said { (n : ℕ) → place_said marks.now.count place order.now ≡ Some n → (result ≡ Ok (Some n)) × (desk.new ≡ desk.old) × (keepers.new.items ≡ keepers.old.items) × (steps.new ≡ steps.old) }
+    ensures gets { Gets K.told K.put_count K.get_count K.free_count K.slot_count K.fault_count marks.now journal.now (mark_count marks.now) result desk.old desk.new keepers.old.items keepers.new.items }
+    ensures counted { (steps.old ≤ steps.new) × (steps.new ≤ steps.old + marks.now.count) }
+    ensures silent { result ≢ Err RunFault.Visitor }
+{
+    match *order {
+        Order::Back(k) => Ok(Some(place.saturating_sub(k))),
+        Order::Step(k) => Ok(Some(place.saturating_add(k).min(marks.steps()))),
+        Order::Goto(k) => Ok(Some(k)),
+        Order::BackTo(address) => {
+            let sought = Sought::Pc(address);
+            last_before(desk, marks, journal, &sought, place, keepers, steps)
+        }
+        Order::RunTo(address) => {
+            first_after(desk, marks, journal, address, place, keepers, steps)
+        }
+        Order::BackChange(word) => {
+            let sought = Sought::Change(word);
+            last_before(desk, marks, journal, &sought, place, keepers, steps)
+        }
+        Order::BackWrite(word) => {
+            let sought = Sought::Write(word);
+            last_before(desk, marks, journal, &sought, place, keepers, steps)
+        }
+    }
+}

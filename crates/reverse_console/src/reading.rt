@@ -1,0 +1,69 @@
+// From a script to its orders.
+ghost use Rattle.std.specs.Prelude.{◌≡◌, ◌≢◌, ◌⊎◌, ◌≤◌, ◌<◌, ◌^◌, ◌++◌, ℕ, List, [], length, slice_get, Some, MatchResult, IfOk, IfErr, OnOk};
+ghost use Rattle.std.specs.Vec.{vec_len};
+ghost use Rattle.std.specs.Option.{option_to_list};
+ghost use Rattle.reverse_console.specs.declared.order.Order.{Order as AnOrder};
+ghost use Rattle.reverse_console.specs.declared.fault.ScriptFault.{ScriptFault as AFault};
+ghost use Rattle.reverse_console.specs.Answer.{IsOrder};
+ghost use Rattle.reverse_console.specs.Script.{IsScript};
+ghost use Rattle.reverse_console.specs.ScriptFaults.{HasFirstFault};
+ghost use Rattle.reverse_console.specs.ScriptReading.{script_of, GivesUnlessMemory};
+
+use crate::fault::ScriptFault;
+use crate::line::line;
+use crate::order::Order;
+use crate::text::Lines;
+use std::alloc::Global;
+
+/// The orders of a script, for a console in a run of so many steps, or the first fault. It goes through the text once, and
+/// takes memory for the list alone.
+pub fn read_orders(alloc: Global, bytes: &[u8], count: u32) -> Result<Vec<Order>, ScriptFault>
+    requires few { length bytes.now < 2 ^ 31 }
+    requires count { count ≤ 1000000 }
+    // What is read is said so, and what is said so is read, unless memory runs out.
+    ensures found { IfOk result (λ orders. IsScript count bytes.now orders.items) }
+    ensures only { (orders : List AnOrder) → IsScript count bytes.now orders →
+        MatchResult result (λ v. v.items ≡ orders) (λ e. e ≡ ScriptFault.Memory) }
+
+    // What is refused has that fault first, and what has a fault is refused for it, unless memory runs out.
+    ensures refused { IfErr result (λ e. e ≢ ScriptFault.Memory → HasFirstFault count bytes.now e) }
+    ensures first { (e : AFault) → HasFirstFault count bytes.now e →
+        MatchResult result (λ _. ⊥) (λ answer. (answer ≡ e) ⊎ (answer ≡ ScriptFault.Memory)) }
+
+    // Each order may be given to the console, and there are no more than can be counted.
+    ensures orders { IfOk result (λ orders. (i : ℕ) (order : AnOrder) → slice_get orders.items i ≡ Some order → IsOrder count order) }
+    ensures few { IfOk result (λ orders. vec_len orders < 2 ^ 32) }
+{
+    read_lines(alloc, bytes, count)
+}
+
+#[tactic(auto, unfolding(crate::specs::ScriptReading::script_of))]
+fn read_lines(alloc: Global, bytes: &[u8], count: u32) -> Result<Vec<Order>, ScriptFault>
+    requires { length bytes.now < 2 ^ 31 }
+    ensures read { GivesUnlessMemory (λ orders. orders.items) result (script_of count bytes.now) }
+    ensures few { IfOk result (λ orders. vec_len orders < 2 ^ 32) }
+{
+    let mut orders = Vec::new(alloc);
+    let mut lines = Lines::new(bytes);
+    let mut number = 1;
+    'lines: while let Some(text) = lines.next() {
+        let found = match line(text, count) {
+            Ok(found) => found,
+            Err(fault) => return Err(fault.at(number)),
+        };
+        add(&mut orders, found)?;
+        number += 1;
+    }
+    Ok(orders)
+}
+
+// Adds an order to a list, if there is one.
+fn add(orders: &mut Vec<Order>, found: Option<Order>) -> Result<(), ScriptFault>
+    ensures added { OnOk result (orders.new.items ≡ orders.old.items ++ option_to_list found) }
+    ensures memory { IfErr result (λ e. e ≡ ScriptFault.Memory) }
+{
+    if let Some(order) = found {
+        orders.push(order)?;
+    }
+    Ok(())
+}

@@ -1,0 +1,170 @@
+// How a state is sought in a run from its marks.
+ghost use Rattle.std.specs.Prelude.{◌≡◌, ◌≢◌, ◌+◌, ◌-◌, ◌<◌, ◌≤◌, ◌↔◌, ℕ, List, length, map, Err, OnOk, IfOk, IfErr, IsTrue};
+ghost use Rattle.rv_machine.specs.MachineState.{MachineState, IsMachineState};
+ghost use Rattle.rv_machine.specs.States.{state_number};
+ghost use Rattle.rv_machine.specs.StepTable.{next};
+ghost use Rattle.reverse_runner.specs.KeepersSeen.{told_by};
+ghost use Rattle.reverse_runner.specs.SessionState.{SamePages};
+ghost use Rattle.reverse_queries.specs.Queries.{IsLast};
+ghost use Rattle.reverse_console.specs.Answer.{IsFirst};
+ghost use Rattle.reverse_console.specs.Marks.{mark_count};
+ghost use Rattle.reverse_console.specs.Handling.{IsReady, source, Gets};
+ghost use Rattle.reverse_console.specs.Seeking.{Meets, IsSought, MeetsFrom};
+ghost use Rattle.reverse_console.specs.Seen.{HasPc, IsLastSeen, IsFirstSeen};
+
+use crate::desk::{Desk, advance};
+use crate::going::recall;
+use crate::marks::Marks;
+use crate::memory_word::{bytes_of_word, some_differ};
+use crate::order::Sought;
+use input_journal::Journal;
+use keepers::Keeper;
+use reverse_runner::RunFault;
+use rv_machine::{State, Steps, wrote};
+use std::sync::ledger::Ledger;
+
+// Takes a step, and says whether what is sought holds of the state before it.
+fn step_seeking<L: Ledger>(
+    work: &mut State,
+    journal: &Journal,
+    sought: &Sought,
+    steps: &mut Steps<L>,
+) -> bool
+    requires { IsSought sought.now }
+    ensures meets { IsTrue result ↔ Meets sought.now journal.now work.old }
+    ensures next { work.new ≡ next work.old journal.now }
+    ensures mapped { SamePages work.new work.old }
+    ensures counted { steps.new ≡ steps.old + 1 }
+{
+    match *sought {
+        Sought::Pc(address) => {
+            let here = work.pc == address;
+            advance(work, journal, 1, steps);
+            here
+        }
+        Sought::Change(word) => {
+            let before = bytes_of_word(work, word);
+            advance(work, journal, 1, steps);
+            some_differ(&before, &bytes_of_word(work, word))
+        }
+        Sought::Write(word) => {
+            let writes = wrote(work, journal, word);
+            advance(work, journal, 1, steps);
+            writes
+        }
+    }
+}
+
+// The last state from one number on and below another of which what is sought holds. The state in work has the first number
+// before, and the other one after it.
+fn seek_last<L: Ledger>(
+    work: &mut State,
+    journal: &Journal,
+    sought: &Sought,
+    from: u32,
+    to: u32,
+    steps: &mut Steps<L>,
+) -> Option<u32>
+    requires order { from ≤ to }
+    requires sought { IsSought sought.now }
+    ensures last { IsLast (MeetsFrom sought.now journal.now work.old from) to result }
+    ensures mapped { SamePages work.new work.old }
+    ensures counted { steps.new ≡ steps.old + (to - from) }
+{
+    let mut last = None;
+    for n in from..to {
+        if step_seeking(work, journal, sought, steps) {
+            last = Some(n);
+        }
+    }
+    last
+}
+
+// The first state above one number and up to another whose next instruction stands at an address. The state in work has the
+// first number before.
+fn seek_first<L: Ledger>(
+    work: &mut State,
+    journal: &Journal,
+    address: u32,
+    from: u32,
+    to: u32,
+    steps: &mut Steps<L>,
+) -> Option<u32>
+    requires order { from ≤ to }
+    ensures first { IsFirst (λ n. HasPc address (state_number work.old journal.now (n - from))) from to result }
+    ensures mapped { SamePages work.new work.old }
+    ensures counted { (steps.old ≤ steps.new) × (steps.new ≤ steps.old + (to - from)) }
+{
+    for n in from..to {
+        advance(work, journal, 1, steps);
+        if work.pc == address {
+            return Some(n + 1);
+        }
+    }
+    None
+}
+
+// The last state below a place of which what is sought holds.
+pub(crate) fn last_before<K: Keeper, L: Ledger>(
+    desk: &mut Desk,
+    marks: &Marks,
+    journal: &Journal,
+    sought: &Sought,
+    place: u32,
+    keepers: &mut Vec<K>,
+    steps: &mut Steps<L>,
+) -> Result<Option<u32>, RunFault>
+    requires within { place ≤ marks.now.count }
+    requires sought { IsSought sought.now }
+    requires ready { IsReady marks.now desk.old (map K.slot_count keepers.old.items) }
+    ensures seen { IfOk result (IsLastSeen (source marks.now journal.now desk.old (told_by K.told keepers.old.items)) (Meets sought.now journal.now) place) }
+    ensures gets { Gets K.told K.put_count K.get_count K.free_count K.slot_count K.fault_count marks.now journal.now (mark_count marks.now) result desk.old desk.new keepers.old.items keepers.new.items }
+    ensures counted { (steps.old ≤ steps.new) × (steps.new ≤ steps.old + place) }
+    ensures silent { result ≢ Err RunFault.Visitor }
+{
+    marks.have_room();
+    let mut end = place;
+    let mut left = marks.below(place);
+    while left > 0 {
+        left -= 1;
+        let from = marks.marked(left);
+        recall(desk, marks, journal, left, keepers)?;
+        let last = seek_last(&mut desk.work, journal, sought, from, end, steps);
+        if last.is_some() {
+            return Ok(last);
+        }
+        end = from;
+    }
+    Ok(None)
+}
+
+// The first state above a place whose next instruction stands at an address.
+pub(crate) fn first_after<K: Keeper, L: Ledger>(
+    desk: &mut Desk,
+    marks: &Marks,
+    journal: &Journal,
+    address: u32,
+    place: u32,
+    keepers: &mut Vec<K>,
+    steps: &mut Steps<L>,
+) -> Result<Option<u32>, RunFault>
+    requires within { place ≤ marks.now.count }
+    requires ready { IsReady marks.now desk.old (map K.slot_count keepers.old.items) }
+    ensures seen { IfOk result (IsFirstSeen (source marks.now journal.now desk.old (told_by K.told keepers.old.items)) (HasPc address) place marks.now.count) }
+    ensures gets { Gets K.told K.put_count K.get_count K.free_count K.slot_count K.fault_count marks.now journal.now (mark_count marks.now) result desk.old desk.new keepers.old.items keepers.new.items }
+    ensures counted { (steps.old ≤ steps.new) × (steps.new ≤ steps.old + marks.now.count) }
+    ensures silent { result ≢ Err RunFault.Visitor }
+{
+    marks.have_room();
+    let mark = marks.of(place);
+    recall(desk, marks, journal, mark, keepers)?;
+    desk.advance(journal, place - marks.marked(mark), steps);
+    Ok(seek_first(
+        &mut desk.work,
+        journal,
+        address,
+        place,
+        marks.steps(),
+        steps,
+    ))
+}
