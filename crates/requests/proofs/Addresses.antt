@@ -1,5 +1,5 @@
--- An address is read from its word, and from no other.
-use Rattle.std.proofs.Common.{◌≡◌, ℕ, zero, suc, ◌^◌, ◌<◌, ◌++◌, cond, List, Err, Some, None, refl, sym, ◌∙◌, ap, arith}
+-- An address is read from its word, and from no other, and so is a digest.
+use Rattle.std.proofs.Common.{◌≡◌, ℕ, zero, suc, ◌^◌, ◌<◌, ◌++◌, cond, List, length, Err, Some, None, refl, sym, ◌∙◌, ap, subst, arith}
 use Rattle.std.specs.Prelude.{codes, Ok}
 use Rattle.std.specs.Int.{w32, to_be_bytes, from_be_bytes}
 use Rattle.std.specs.Result.{result_ok}
@@ -8,12 +8,12 @@ use Rattle.std.specs.Prelude.{Result}
 use Rattle.std.proofs.lemmas.Nat.{from_be_bytes-to_be_bytes_4}
 use Rattle.std.proofs.lemmas.Option.{same_Some}
 use Rattle.std.proofs.lemmas.Slice.Eq.{bytes_eq-Decides}
-use Rattle.hex.specs.Hex.{IsBytes, decode_sized}
+use Rattle.hex.specs.Hex.{IsBytes, encode_lower, decode_sized}
 use Rattle.hex.proofs.HexLemmas.{decode_sized-encode_lower, decode_sized-ok, decode_sized-twice, decode_of-ok}
 use Rattle.state_image.specs.Line.{hex_word}
 use Rattle.requests.specs.Reading.{◌>>=◌, after_of}
-use Rattle.requests.specs.Operands.{address_word}
-use Rattle.requests.specs.Forms.{address_of}
+use Rattle.requests.specs.Operands.{address_word, IsDigest}
+use Rattle.requests.specs.Forms.{address_of, digest_of}
 use Rattle.requests.proofs.Steps.{passed_then, bind_some}
 use Rattle.requests.proofs.Texts.{after_again, after_taken}
 
@@ -54,3 +54,25 @@ address_read word a e =
       after_taken (codes "0x") word digits.0 digits.1 ∙ ap (λ t. codes "0x" ++ t) (sym text ∙ ap hex_word same),
       omega (arith, small, same),
     )
+
+-- ---- digests
+
+pub digest_again : (bytes : List ℕ) → IsDigest bytes → digest_of (encode_lower bytes) ≡ Some bytes
+unfolding digest_of
+digest_again bytes h =
+    ap (λ r. result_ok r >>= λ got. cond (bytes_eq (encode_lower got) (encode_lower bytes)) (Some got) None) (decode_sized-encode_lower bytes 32 h.0 h.1)
+    ∙ ap (λ b. cond b (Some bytes) None) ((bytes_eq-Decides (encode_lower bytes) (encode_lower bytes)).1 refl)
+
+pub digest_read : (word bytes : List ℕ) → digest_of word ≡ Some bytes → (word ≡ encode_lower bytes) × IsDigest bytes
+unfolding digest_of
+digest_read word bytes e =
+    let got = bind_some (result_ok (decode_sized word 32)) _ bytes e in
+    let spelled = passed_then (bytes_eq (encode_lower got.0) word) _ bytes got.2 in
+    let same = same_Some got.0 bytes spelled.1 in
+    let is = result_some (decode_sized word 32) got.0 got.1 in
+    let long = decode_sized-ok word 32 got.0 is in
+    let decoded = decode_of-ok word got.0 (sym (decode_sized-twice word 32 long) ∙ is) in
+    let text = (bytes_eq-Decides (encode_lower got.0) word).0 spelled.0 in
+    let half = decoded.2 in
+    let size : length got.0 ≡ 32 = omega (arith, long, half) in
+    (sym text ∙ ap encode_lower same, subst IsDigest same (size, decoded.3))

@@ -12,8 +12,8 @@ use Rattle.requests.specs.declared.kind.PlanKind.TheVariants.{Revolve, Multistag
 use Rattle.requests.specs.declared.question.Question.{Question}
 use Rattle.requests.specs.declared.question.Question.TheVariants.{State, LastWrite, LastChange}
 use Rattle.requests.specs.Reading.{◌>>=◌}
-use Rattle.requests.specs.Request.{Run, Command, run, run_revolve, plan, plan_periodic, check, certify, price, ask, demo, command_words, CanBeSpelled}
-use Rattle.requests.specs.Forms.{Place, fixed, named, named_or_none, schedule_named, numbered, addressed, Value, word_at, Allows, taken, front_taken, Values, words_at, AllAllowed, all_taken, Form, form_taken, forms, first_of, command_of, run_form, run_revolve_form, plan_form, periodic_form, check_form, certify_form, price_form, ask_form, demo_form}
+use Rattle.requests.specs.Request.{Run, Command, run, run_revolve, plan, plan_periodic, check, certify, price, ask, find, demo, command_words, CanBeSpelled}
+use Rattle.requests.specs.Forms.{Place, fixed, named, named_or_none, schedule_named, numbered, addressed, digested, Value, word_at, Allows, taken, front_taken, Values, words_at, AllAllowed, all_taken, Form, form_taken, forms, first_of, command_of, run_form, run_revolve_form, plan_form, periodic_form, check_form, certify_form, price_form, ask_form, find_form, demo_form}
 use Rattle.requests.proofs.Forming.{with_value}
 use Rattle.requests.proofs.Placed.{taken_again, taken_read}
 use Rattle.requests.proofs.Steps.{bind_some, and_parts, none_so, other_text}
@@ -50,7 +50,7 @@ abbrev IsRight : Form → Type 0
 IsRight f = (vs : Values f.places) → (command_words (f.make vs) ≡ words_at f.places vs) × (AllAllowed f.places vs → CanBeSpelled (f.make vs))
 
 forms_right : AllByRecursion IsRight forms
-forms_right = (λ vs. (refl, λ h. h), (λ vs. (refl, λ h. h), (λ vs. (refl, λ h. h), (λ vs. (refl, λ h. h), (λ vs. (refl, λ h. h), (λ vs. (refl, λ h. h), (λ vs. (refl, λ h. h), (λ vs. (refl, λ h. h), (λ vs. (refl, λ h. h), (λ vs. (refl, λ h. h), (λ vs. (refl, λ h. h), (λ vs. (refl, λ h. h), (λ vs. (refl, λ h. h), (λ vs. (refl, λ h. h), tt))))))))))))))
+forms_right = (λ vs. (refl, λ h. h), (λ vs. (refl, λ h. h), (λ vs. (refl, λ h. h), (λ vs. (refl, λ h. h), (λ vs. (refl, λ h. h), (λ vs. (refl, λ h. h), (λ vs. (refl, λ h. h), (λ vs. (refl, λ h. h), (λ vs. (refl, λ h. h), (λ vs. (refl, λ h. h), (λ vs. (refl, λ h. h), (λ vs. (refl, λ h. h), (λ vs. (refl, λ h. h), (λ vs. (refl, λ h. h), (λ vs. (refl, λ h. h), tt)))))))))))))))
 
 -- the words are those of a command
 pub record IsCommand (words : List (List ℕ)) (c : Command) : Type 0 where
@@ -88,6 +88,7 @@ differs named_or_none other = false
 differs schedule_named other = bytes_eq other (codes "@revolve")
 differs numbered other = false
 differs addressed other = false
+differs digested other = false
 
 abbrev place_apart : Place → Place → Bool
 place_apart p (fixed text) = differs p text
@@ -96,6 +97,7 @@ place_apart p named_or_none = false
 place_apart p schedule_named = false
 place_apart p numbered = false
 place_apart p addressed = false
+place_apart p digested = false
 
 -- the number of places differs, or what may stand at one of them
 abbrev apart : List Place → List Place → Bool
@@ -113,6 +115,7 @@ differs_none schedule_named text v h e =
     ap (λ b. cond {A = Option (Unit {0})} b (Some tt) None) (other_text v text (λ same. h.1 (same ∙ is)))
 differs_none numbered text v h e = absurd (false≢true e)
 differs_none addressed text v h e = absurd (false≢true e)
+differs_none digested text v h e = absurd (false≢true e)
 
 place_none : (p q : Place) (v : Value p) → Allows p v → place_apart p q ≡ true → taken q (word_at p v) ≡ None
 place_none p (fixed text) v h e = differs_none p text v h e
@@ -121,6 +124,7 @@ place_none p named_or_none v h e = absurd (false≢true e)
 place_none p schedule_named v h e = absurd (false≢true e)
 place_none p numbered v h e = absurd (false≢true e)
 place_none p addressed v h e = absurd (false≢true e)
+place_none p digested v h e = absurd (false≢true e)
 
 apart_none : (ps qs : List Place) (vs : Values ps) → AllAllowed ps vs → apart ps qs ≡ true → all_taken qs (words_at ps vs) ≡ None
 unfolding front_taken
@@ -191,4 +195,5 @@ command_again (check c) h = again (take 7 forms) check_form (drop 8 forms) (tt, 
 command_again (certify c) h = again (take 8 forms) certify_form (drop 9 forms) (tt, (c.book, (c.schedule, (c.certificate, (c.steps, tt))))) h refl
 command_again (price c) h = again (take 9 forms) price_form (drop 10 forms) (tt, (c.book, (c.schedule, (c.steps, tt)))) h refl
 command_again (ask c) h = asked c.question c.run h
-command_again (demo c) h = again (take 13 forms) demo_form [] (tt, (c.number, (c.steps, (c.slots, tt)))) h refl
+command_again (find c) h = again (take 13 forms) find_form (drop 14 forms) (tt, (tt, (c.program, (c.journal, (c.steps, (c.digest, tt)))))) h refl
+command_again (demo c) h = again (take 14 forms) demo_form [] (tt, (c.number, (c.steps, (c.slots, tt)))) h refl

@@ -8,8 +8,8 @@ use Rattle.std.proofs.lemmas.Slice.Eq.{bytes_eq-Decides}
 use Rattle.requests.specs.Reading.{◌>>=◌, number_at}
 use Rattle.requests.specs.ChoiceReading.{number_of}
 use Rattle.requests.specs.Operands.{IsName, IsScheduleName, MayBeNamed, word_or_dash}
-use Rattle.requests.specs.Forms.{Place, fixed, named, named_or_none, schedule_named, numbered, addressed, Value, word_at, Allows, is_name, is_schedule_name, name_or_none, taken}
-use Rattle.requests.proofs.Addresses.{address_again, address_read}
+use Rattle.requests.specs.Forms.{Place, fixed, named, named_or_none, schedule_named, numbered, addressed, digested, Value, word_at, Allows, is_name, is_schedule_name, name_or_none, taken}
+use Rattle.requests.proofs.Addresses.{address_again, address_read, digest_again, digest_read}
 use Rattle.requests.proofs.Decimal.{number_again, number_taken}
 use Rattle.requests.proofs.Steps.{passed_then, bind_some, is_not, and_parts, and_both, empty, other_text, same_text}
 
@@ -74,6 +74,7 @@ taken_again named_or_none v h =
 taken_again schedule_named v h = ap (λ b. cond b (Some v) None) (schedule_name_is v h)
 taken_again numbered v h = number_of_again v h
 taken_again addressed v h = address_again v h
+taken_again digested v h = digest_again v h
 
 pub taken_read : (p : Place) (word : List ℕ) (v : Value p) → taken p word ≡ Some v → (word ≡ word_at p v) × Allows p v
 taken_read (fixed text) word v e = let is = passed_then (bytes_eq word text) (Some tt) v e in ((bytes_eq-Decides word text).0 is.0, tt)
@@ -92,3 +93,4 @@ taken_read schedule_named word v e =
     (same, subst IsScheduleName same (schedule_name_was word is.0))
 taken_read numbered word v e = number_of_read word v e
 taken_read addressed word v e = address_read word v e
+taken_read digested word v e = digest_read word v e

@@ -9,7 +9,7 @@ use Rattle.std.proofs.lemmas.Bool.{eqb-true, leb-true, leb-false}
 use Rattle.std.proofs.lemmas.Fmt.{decimal_digit}
 use Rattle.std.proofs.lemmas.List.{length-append, length-drop, take_all}
 use Rattle.requests.specs.declared.places.KeepAt.TheVariants.{Folder}
-use Rattle.requests.specs.Request.{Choice, raw, stack, workers, files, files_front, option_word, is_raw, is_stack, is_workers, is_files, AreOptions, command_words, Request, Says}
+use Rattle.requests.specs.Request.{Choice, raw, stack, workers, units, files, files_front, option_word, is_raw, is_stack, is_workers, is_units, is_files, AreOptions, command_words, Request, Says}
 use Rattle.requests.specs.Bounds.{option_numbers, IsWithin}
 use Rattle.requests.specs.Places.{levels, place_from, places_of, folder_said, folder_at}
 use Rattle.requests.proofs.Requests.{counted}
@@ -23,23 +23,25 @@ level_counts (suc (suc zero)) h = refl
 level_counts (suc (suc (suc zero))) h = refl
 level_counts (suc (suc (suc (suc k)))) h = absurd (omega arith)
 
--- options with levels within their bounds are of seven kinds
+-- options with levels within their bounds are of eight kinds
 kinds : (options : List Choice) → AllByRecursion IsWithin (flat_map option_numbers options) →
-    length options ≡ count_by is_raw options + count_by is_stack options + count_by is_workers options
+    length options ≡ count_by is_raw options + count_by is_stack options + count_by is_workers options + count_by is_units options
     + count_by (is_files 0) options + count_by (is_files 1) options + count_by (is_files 2) options + count_by (is_files 3) options
 kinds [] h = refl
 kinds (raw ∷ options) h =
-    omega (arith, kinds options h, counted is_raw raw options, counted is_stack raw options, counted is_workers raw options, counted (is_files 0) raw options, counted (is_files 1) raw options, counted (is_files 2) raw options, counted (is_files 3) raw options)
+    omega (arith, kinds options h, counted is_raw raw options, counted is_stack raw options, counted is_workers raw options, counted is_units raw options, counted (is_files 0) raw options, counted (is_files 1) raw options, counted (is_files 2) raw options, counted (is_files 3) raw options)
 kinds (stack n ∷ options) h =
-    omega (arith, kinds options h.1, counted is_raw (stack n) options, counted is_stack (stack n) options, counted is_workers (stack n) options, counted (is_files 0) (stack n) options, counted (is_files 1) (stack n) options, counted (is_files 2) (stack n) options, counted (is_files 3) (stack n) options)
+    omega (arith, kinds options h.1, counted is_raw (stack n) options, counted is_stack (stack n) options, counted is_workers (stack n) options, counted is_units (stack n) options, counted (is_files 0) (stack n) options, counted (is_files 1) (stack n) options, counted (is_files 2) (stack n) options, counted (is_files 3) (stack n) options)
 kinds (workers n ∷ options) h =
-    omega (arith, kinds options h.1, counted is_raw (workers n) options, counted is_stack (workers n) options, counted is_workers (workers n) options, counted (is_files 0) (workers n) options, counted (is_files 1) (workers n) options, counted (is_files 2) (workers n) options, counted (is_files 3) (workers n) options)
+    omega (arith, kinds options h.1, counted is_raw (workers n) options, counted is_stack (workers n) options, counted is_workers (workers n) options, counted is_units (workers n) options, counted (is_files 0) (workers n) options, counted (is_files 1) (workers n) options, counted (is_files 2) (workers n) options, counted (is_files 3) (workers n) options)
+kinds (units n ∷ options) h =
+    omega (arith, kinds options h.1, counted is_raw (units n) options, counted is_stack (units n) options, counted is_workers (units n) options, counted is_units (units n) options, counted (is_files 0) (units n) options, counted (is_files 1) (units n) options, counted (is_files 2) (units n) options, counted (is_files 3) (units n) options)
 kinds (files k folder ∷ options) h =
-    omega (arith, kinds options h.1, level_counts k (h.0).1, counted is_raw (files k folder) options, counted is_stack (files k folder) options, counted is_workers (files k folder) options, counted (is_files 0) (files k folder) options, counted (is_files 1) (files k folder) options, counted (is_files 2) (files k folder) options, counted (is_files 3) (files k folder) options)
+    omega (arith, kinds options h.1, level_counts k (h.0).1, counted is_raw (files k folder) options, counted is_stack (files k folder) options, counted is_workers (files k folder) options, counted is_units (files k folder) options, counted (is_files 0) (files k folder) options, counted (is_files 1) (files k folder) options, counted (is_files 2) (files k folder) options, counted (is_files 3) (files k folder) options)
 
-pub few_options : (options : List Choice) → AreOptions options → AllByRecursion IsWithin (flat_map option_numbers options) → length options ≤ 7
+pub few_options : (options : List Choice) → AreOptions options → AllByRecursion IsWithin (flat_map option_numbers options) → length options ≤ 8
 few_options options are within =
-    omega (arith, kinds options within, are.one_raw, are.one_stack, are.one_workers, are.one_folder 0, are.one_folder 1, are.one_folder 2, are.one_folder 3)
+    omega (arith, kinds options within, are.one_raw, are.one_stack, are.one_workers, are.one_units, are.one_folder 0, are.one_folder 1, are.one_folder 2, are.one_folder 3)
 
 -- ---- where a folder's name begins
 
@@ -53,6 +55,7 @@ pub here : (level word : ℕ) (c : Choice) (options : List Choice) → is_files 
 here level word raw options e = absurd cc
 here level word (stack pages) options e = absurd cc
 here level word (workers count) options e = absurd cc
+here level word (units count) options e = absurd cc
 here level word (files k folder) options e = ap (λ b. cond b (Folder word (length (files_front level))) (place_from level (word + 1) options)) e
 
 -- and another is passed over
@@ -60,6 +63,7 @@ pub further : (level word : ℕ) (c : Choice) (options : List Choice) → is_fil
 further level word raw options e = refl
 further level word (stack pages) options e = refl
 further level word (workers count) options e = refl
+further level word (units count) options e = refl
 further level word (files k folder) options e = ap (λ b. cond b (Folder word (length (files_front level))) (place_from level (word + 1) options)) e
 
 -- ---- the folders stand there
@@ -103,6 +107,7 @@ folder_behind level [] front behind = refl
 folder_behind level (raw ∷ options) front behind = one_further level raw options front behind (λ f. folder_behind level options f behind)
 folder_behind level (stack pages ∷ options) front behind = one_further level (stack pages) options front behind (λ f. folder_behind level options f behind)
 folder_behind level (workers count ∷ options) front behind = one_further level (workers count) options front behind (λ f. folder_behind level options f behind)
+folder_behind level (units count ∷ options) front behind = one_further level (units count) options front behind (λ f. folder_behind level options f behind)
 folder_behind level (files k folder ∷ options) front behind = by_level level k folder options front behind (λ f. folder_behind level options f behind) (level == k) refl
 
 pub folders_said : (words : List (List ℕ)) (r : Request) → Says words r → map (folder_at words) (places_of r.options) ≡ map (λ level. folder_said level r.options) levels

@@ -4,7 +4,7 @@ use Rattle.std.specs.Option.{MatchOption}
 use Rattle.std.specs.List.{AllByRecursion, flat_map}
 use Rattle.requests.specs.declared.ended.Ended.{Ended}
 use Rattle.requests.specs.declared.bounds.Bounded.{Bounded}
-use Rattle.requests.specs.Request.{Choice, raw, stack, workers, files, stack_pages, worker_count}
+use Rattle.requests.specs.Request.{Choice, raw, stack, workers, units, files, stack_pages, worker_count, unit_count}
 use Rattle.requests.specs.Bounds.{option_numbers, IsWithin, RefusesFirst}
 use Rattle.requests.proofs.Requests.{all_both}
 
@@ -36,6 +36,7 @@ stack_within [] h = (omega arith, omega arith)
 stack_within (raw ∷ options) h = stack_within options h
 stack_within (stack pages ∷ options) h = h.0
 stack_within (workers count ∷ options) h = stack_within options h.1
+stack_within (units count ∷ options) h = stack_within options h.1
 stack_within (files level folder ∷ options) h = stack_within options h.1
 
 -- and there are as many workers
@@ -44,4 +45,14 @@ workers_within [] h = (omega arith, omega arith)
 workers_within (raw ∷ options) h = workers_within options h
 workers_within (stack pages ∷ options) h = workers_within options h.1
 workers_within (workers count ∷ options) h = h.0
+workers_within (units count ∷ options) h = workers_within options h.1
 workers_within (files level folder ∷ options) h = workers_within options h.1
+
+-- and a unit as many instructions
+pub unit_within : (options : List Choice) → AllByRecursion IsWithin (flat_map option_numbers options) → (1 ≤ unit_count options) × (unit_count options ≤ 1024)
+unit_within [] h = (omega arith, omega arith)
+unit_within (raw ∷ options) h = unit_within options h
+unit_within (stack pages ∷ options) h = unit_within options h.1
+unit_within (workers count ∷ options) h = unit_within options h.1
+unit_within (units count ∷ options) h = h.0
+unit_within (files level folder ∷ options) h = unit_within options h.1

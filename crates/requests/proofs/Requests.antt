@@ -9,8 +9,8 @@ use Rattle.std.proofs.lemmas.List.Sums.{sum_by-append}
 use Rattle.std.proofs.lemmas.Slice.Eq.{bytes_eq-Decides}
 use Rattle.requests.specs.declared.request.Request as in_memory
 use Rattle.requests.specs.Reading.{Gives, ◌>>=◌, with_or, after_of, number_at}
-use Rattle.requests.specs.Request.{Choice, raw, stack, workers, files, files_front, option_word, is_raw, is_stack, is_workers, is_files, FitsWord, AreOptions, Command, run, run_revolve, plan, plan_periodic, check, certify, price, ask, demo, command_words, Request, Says}
-use Rattle.requests.specs.ChoiceReading.{number_of, stack_of, workers_of, files_of, choice_of, first_choice, options_at, behind_options, is_like, are_single}
+use Rattle.requests.specs.Request.{Choice, raw, stack, workers, units, files, files_front, option_word, is_raw, is_stack, is_workers, is_units, is_files, FitsWord, AreOptions, Command, run, run_revolve, plan, plan_periodic, check, certify, price, ask, find, demo, command_words, Request, Says}
+use Rattle.requests.specs.ChoiceReading.{number_of, stack_of, workers_of, unit_of, files_of, choice_of, first_choice, options_at, behind_options, is_like, are_single}
 use Rattle.requests.specs.Forms.{command_of}
 use Rattle.requests.specs.RequestReading.{request_read, request_of}
 use Rattle.requests.proofs.Commands.{command_again, command_read}
@@ -32,17 +32,28 @@ files_again level folder small named =
     ∙ ap (λ o. o >>= λ name. cond (length name == 0) None (Some (files level name))) (after_again (codes ":") folder)
     ∙ ap (λ b. cond b None (Some (files level folder))) (is_not (length folder == 0) (λ e. named (empty folder e)))
 
+-- what an option is that isn't that of workers, and that isn't that of the stack
+abbrev behind_workers : List ℕ → Option Choice
+behind_workers word = with_or (after_of (codes "--unit=") word) unit_of (after_of (codes "--files=") word >>= files_of)
+
+abbrev behind_stack : List ℕ → Option Choice
+behind_stack word = with_or (after_of (codes "--workers=") word) workers_of (behind_workers word)
+
 pub choice_again : (c : Choice) → FitsWord c → choice_of (option_word c) ≡ Some c
 unfolding choice_of after_of
 choice_again raw h = refl
 choice_again (stack pages) h =
     let rest = after_again (codes "--stack=") (decimal pages) in
-    ap (λ o. with_or o stack_of (with_or (after_of (codes "--workers=") (codes "--stack=" ++ decimal pages)) workers_of (after_of (codes "--files=") (codes "--stack=" ++ decimal pages) >>= files_of))) rest
+    ap (λ o. with_or o stack_of (behind_stack (codes "--stack=" ++ decimal pages))) rest
     ∙ ap (λ o. o >>= λ pages. Some (stack pages)) (number_of_again pages h)
 choice_again (workers count) h =
     let rest = after_again (codes "--workers=") (decimal count) in
-    ap (λ o. with_or o workers_of (after_of (codes "--files=") (codes "--workers=" ++ decimal count) >>= files_of)) rest
+    ap (λ o. with_or o workers_of (behind_workers (codes "--workers=" ++ decimal count))) rest
     ∙ ap (λ o. o >>= λ count. Some (workers count)) (number_of_again count h)
+choice_again (units count) h =
+    let rest = after_again (codes "--unit=") (decimal count) in
+    ap (λ o. with_or o unit_of (after_of (codes "--files=") (codes "--unit=" ++ decimal count) >>= files_of)) rest
+    ∙ ap (λ o. o >>= λ count. Some (units count)) (number_of_again count h)
 choice_again (files level folder) h =
     ap choice_of (behind_files level folder)
     ∙ ap (λ o. o >>= files_of) (after_again (codes "--files=") (decimal level ++ (codes ":" ++ folder)))
@@ -68,6 +79,14 @@ workers_read word text c e is =
     let P : Choice → Type 0 = λ x. IsWordOf word x in
     subst P same (after_taken (codes "--workers=") word text e ∙ ap (λ r. codes "--workers=" ++ r) said.0, said.1)
 
+unit_read : (word text : List ℕ) (c : Choice) → after_of (codes "--unit=") word ≡ Some text → unit_of text ≡ Some c → IsWordOf word c
+unit_read word text c e is =
+    let number = bind_some (number_of text) _ c is in
+    let same = same_Some (units number.0) c number.2 in
+    let said = number_of_read text number.0 number.1 in
+    let P : Choice → Type 0 = λ x. IsWordOf word x in
+    subst P same (after_taken (codes "--unit=") word text e ∙ ap (λ r. codes "--unit=" ++ r) said.0, said.1)
+
 files_read : (word text : List ℕ) (c : Choice) → after_of (codes "--files=") word ≡ Some text → files_of text ≡ Some c → IsWordOf word c
 files_read word text c e is =
     let number = bind_some (number_at 18446744073709551615 text) _ c is in
@@ -83,14 +102,17 @@ files_read word text c e is =
       (omega (arith, said.small), λ none. false≢true (sym some.0 ∙ ap (λ l. length l == 0) none)),
     )
 
-last_read : (word : List ℕ) (c : Choice) (o : Option (List ℕ)) → after_of (codes "--workers=") word ≡ o → with_or o workers_of (after_of (codes "--files=") word >>= files_of) ≡ Some c → IsWordOf word c
-last_read word c (Some text) e is = workers_read word text c e is
+last_read : (word : List ℕ) (c : Choice) (o : Option (List ℕ)) → after_of (codes "--unit=") word ≡ o → with_or o unit_of (after_of (codes "--files=") word >>= files_of) ≡ Some c → IsWordOf word c
+last_read word c (Some text) e is = unit_read word text c e is
 last_read word c None e is = let step = bind_some (after_of (codes "--files=") word) files_of c is in files_read word step.0 c step.1 step.2
 
-other_read : (word : List ℕ) (c : Choice) (o : Option (List ℕ)) → after_of (codes "--stack=") word ≡ o →
-    with_or o stack_of (with_or (after_of (codes "--workers=") word) workers_of (after_of (codes "--files=") word >>= files_of)) ≡ Some c → IsWordOf word c
+later_read : (word : List ℕ) (c : Choice) (o : Option (List ℕ)) → after_of (codes "--workers=") word ≡ o → with_or o workers_of (behind_workers word) ≡ Some c → IsWordOf word c
+later_read word c (Some text) e is = workers_read word text c e is
+later_read word c None e is = last_read word c (after_of (codes "--unit=") word) refl is
+
+other_read : (word : List ℕ) (c : Choice) (o : Option (List ℕ)) → after_of (codes "--stack=") word ≡ o → with_or o stack_of (behind_stack word) ≡ Some c → IsWordOf word c
 other_read word c (Some text) e is = stack_read word text c e is
-other_read word c None e is = last_read word c (after_of (codes "--workers=") word) refl is
+other_read word c None e is = later_read word c (after_of (codes "--workers=") word) refl is
 
 pub choice_read : (word : List ℕ) (c : Choice) → choice_of word ≡ Some c → IsWordOf word c
 unfolding choice_of
@@ -136,24 +158,35 @@ raw_kind : IsKind is_raw
 raw_kind raw e = refl
 raw_kind (stack pages) e = absurd (false≢true e)
 raw_kind (workers count) e = absurd (false≢true e)
+raw_kind (units count) e = absurd (false≢true e)
 raw_kind (files level folder) e = absurd (false≢true e)
 
 stack_kind : IsKind is_stack
 stack_kind raw e = absurd (false≢true e)
 stack_kind (stack pages) e = refl
 stack_kind (workers count) e = absurd (false≢true e)
+stack_kind (units count) e = absurd (false≢true e)
 stack_kind (files level folder) e = absurd (false≢true e)
 
 workers_kind : IsKind is_workers
 workers_kind raw e = absurd (false≢true e)
 workers_kind (stack pages) e = absurd (false≢true e)
 workers_kind (workers count) e = refl
+workers_kind (units count) e = absurd (false≢true e)
 workers_kind (files level folder) e = absurd (false≢true e)
+
+unit_kind : IsKind is_units
+unit_kind raw e = absurd (false≢true e)
+unit_kind (stack pages) e = absurd (false≢true e)
+unit_kind (workers count) e = absurd (false≢true e)
+unit_kind (units count) e = refl
+unit_kind (files level folder) e = absurd (false≢true e)
 
 files_kind : (level : ℕ) → IsKind (is_files level)
 files_kind level raw e = absurd (false≢true e)
 files_kind level (stack pages) e = absurd (false≢true e)
 files_kind level (workers count) e = absurd (false≢true e)
+files_kind level (units count) e = absurd (false≢true e)
 files_kind level (files k folder) e = ap is_files (sym (eqb-true level k e))
 
 -- where each option is single, a kind stands at most once
@@ -175,6 +208,7 @@ first_alone : (c : Choice) (options : List Choice) → AreOptions (c ∷ options
 first_alone raw options h = alone is_raw raw options refl h.one_raw
 first_alone (stack pages) options h = alone is_stack (stack pages) options refl h.one_stack
 first_alone (workers count) options h = alone is_workers (workers count) options refl h.one_workers
+first_alone (units count) options h = alone is_units (units count) options refl h.one_units
 first_alone (files level folder) options h = alone (is_files level) (files level folder) options (eq-eqb level level refl) (h.one_folder level)
 
 others : (c : Choice) (options : List Choice) → AreOptions (c ∷ options) → AreOptions options
@@ -182,6 +216,7 @@ others c options h = record {
   one_raw = omega (arith, counted is_raw c options, h.one_raw);
   one_stack = omega (arith, counted is_stack c options, h.one_stack);
   one_workers = omega (arith, counted is_workers c options, h.one_workers);
+  one_units = omega (arith, counted is_units c options, h.one_units);
   one_folder = λ level. omega (arith, counted (is_files level) c options, h.one_folder level);
   fit = h.fit.1;
 }
@@ -195,6 +230,7 @@ single_options options e fit = record {
   one_raw = single_counts is_raw raw_kind options e;
   one_stack = single_counts is_stack stack_kind options e;
   one_workers = single_counts is_workers workers_kind options e;
+  one_units = single_counts is_units unit_kind options e;
   one_folder = λ level. single_counts (is_files level) (files_kind level) options e;
   fit = fit;
 }
@@ -282,6 +318,7 @@ no_option (ask c) = (codes "ask", _, refl, refl)
 no_option (run_revolve c) = (codes "run", _, refl, refl)
 no_option (plan c) = (codes "plan", _, refl, refl)
 no_option (plan_periodic c) = (codes "plan", _, refl, refl)
+no_option (find c) = (codes "ask", _, refl, refl)
 no_option (demo c) = (codes "demo", _, refl, refl)
 
 pub said_is_read : (words : List (List ℕ)) (r : Request) → Says words r → request_read words ≡ Some r

@@ -3,11 +3,11 @@ use Rattle.std.specs.Prelude.{◌≡◌, ◌⊎◌, ℕ, ◌≤◌, ◌++◌, Li
 use Rattle.std.specs.List.{AllByRecursion, flat_map}
 use Rattle.requests.specs.declared.ended.Ended.{Ended}
 use Rattle.requests.specs.declared.bounds.Bounded.{Bounded}
-use Rattle.requests.specs.Operands.{Limit, within, bounds_of}
-use Rattle.requests.specs.Request.{Choice, raw, stack, workers, files, Command, operands, Request, Says}
+use Rattle.requests.specs.Operands.{Limit, within, bounds_of, products_of}
+use Rattle.requests.specs.Request.{Choice, raw, stack, workers, units, files, unit_count, Command, operands, Request, Says}
 use Rattle.requests.specs.Ending.{no_request, out_of_range}
 
--- The limits of the numbers of options: rule 3 is the number of workers, 4 the number of the stack's pages, and 5 a level.
+-- The limits of the numbers of options: rule 3 is the number of workers, 4 the number of the stack's pages, 5 a level, and 12 a unit.
 abbrev pub stack_limit : Limit
 stack_limit = record { least = 1; greatest = 1024; rule = 4 }
 
@@ -17,19 +17,23 @@ workers_limit = record { least = 1; greatest = 64; rule = 3 }
 abbrev pub level_limit : Limit
 level_limit = record { least = 0; greatest = 3; rule = 5 }
 
+abbrev pub unit_limit : Limit
+unit_limit = record { least = 1; greatest = 1024; rule = 12 }
+
 abbrev pub option_numbers : Choice → List Bounded
 option_numbers raw = []
 option_numbers (stack pages) = within stack_limit pages ∷ []
 option_numbers (workers count) = within workers_limit count ∷ []
+option_numbers (units count) = within unit_limit count ∷ []
 option_numbers (files level folder) = within level_limit level ∷ []
 
--- the numbers of a command
-abbrev pub command_numbers : Command → List Bounded
-command_numbers c = flat_map bounds_of (operands c)
+-- the numbers of a command, whose steps are units of so many instructions: those of its operands, and then their products
+abbrev pub command_numbers : (unit : ℕ) → Command → List Bounded
+command_numbers unit c = flat_map (bounds_of unit) (operands c) ++ flat_map (products_of unit) (operands c)
 
 -- the numbers of a request, in the order of the words, which is that in which they are tested
 abbrev pub numbers : Request → List Bounded
-numbers r = flat_map option_numbers r.options ++ command_numbers r.command
+numbers r = flat_map option_numbers r.options ++ command_numbers (unit_count r.options) r.command
 
 abbrev pub IsWithin : Bounded → Type 0
 IsWithin n = (n.least ≤ n.number) × (n.number ≤ n.greatest)

@@ -4,9 +4,9 @@ use Rattle.std.specs.Prelude.{ℕ, ◌==◌, Bool, true, not, ◌&&◌, if◌the
 use Rattle.std.specs.List.{list_any}
 use Rattle.std.specs.Str.{bytes_eq}
 use Rattle.requests.specs.declared.options.Choice as in_memory
-use Rattle.requests.specs.declared.options.Choice.TheVariants.{Raw, Stack, Workers, Files}
+use Rattle.requests.specs.declared.options.Choice.TheVariants.{Raw, Stack, Workers, Unit, Files}
 use Rattle.requests.specs.Reading.{◌>>=◌, with_or, after_of, number_at}
-use Rattle.requests.specs.Request.{Choice, raw, stack, workers, files, is_raw, is_stack, is_workers, is_files}
+use Rattle.requests.specs.Request.{Choice, raw, stack, workers, units, files, is_raw, is_stack, is_workers, is_units, is_files}
 
 -- the number that a whole word is
 unfoldable pub number_of : List ℕ → Option ℕ
@@ -20,6 +20,10 @@ stack_of text = number_of text >>= λ pages. Some (stack pages)
 abbrev pub workers_of : List ℕ → Option Choice
 workers_of text = number_of text >>= λ count. Some (workers count)
 
+-- the option of units, likewise
+abbrev pub unit_of : List ℕ → Option Choice
+unit_of text = number_of text >>= λ count. Some (units count)
+
 -- the option of a level's files, likewise
 abbrev pub files_of : List ℕ → Option Choice
 files_of text =
@@ -29,7 +33,10 @@ files_of text =
 unfoldable pub choice_of : List ℕ → Option Choice
 choice_of word =
     if bytes_eq word (codes "--raw") then Some raw
-    else with_or (after_of (codes "--stack=") word) stack_of (with_or (after_of (codes "--workers=") word) workers_of (after_of (codes "--files=") word >>= files_of))
+    else with_or (after_of (codes "--stack=") word) stack_of
+    (with_or (after_of (codes "--workers=") word) workers_of
+    (with_or (after_of (codes "--unit=") word) unit_of
+    (after_of (codes "--files=") word >>= files_of)))
 
 -- the option that the first word is, and the words behind it
 abbrev pub first_choice : List (List ℕ) → Option (Choice × List (List ℕ))
@@ -51,6 +58,7 @@ abbrev pub is_like : Choice → Choice → Bool
 is_like raw = is_raw
 is_like (stack pages) = is_stack
 is_like (workers count) = is_workers
+is_like (units count) = is_units
 is_like (files level folder) = is_files level
 
 abbrev pub are_single : List Choice → Bool
@@ -62,4 +70,5 @@ abbrev pub as_choice : in_memory.Choice → Choice
 as_choice Raw = raw
 as_choice (Stack pages) = stack pages
 as_choice (Workers count) = workers count
+as_choice (Unit count) = units count
 as_choice (Files level folder) = files level folder.now

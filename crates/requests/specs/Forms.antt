@@ -5,7 +5,7 @@ use Rattle.std.specs.Int.{from_be_bytes, w32}
 use Rattle.std.specs.Option.{option_or}
 use Rattle.std.specs.Result.{result_ok}
 use Rattle.std.specs.Str.{bytes_eq}
-use Rattle.hex.specs.Hex.{decode_sized}
+use Rattle.hex.specs.Hex.{encode_lower, decode_sized}
 use Rattle.state_image.specs.Line.{hex_word}
 use Rattle.requests.specs.declared.kind.PlanKind.{PlanKind}
 use Rattle.requests.specs.declared.kind.PlanKind.TheVariants.{Revolve, Multistage, Disk, Hrevolve}
@@ -13,13 +13,13 @@ use Rattle.requests.specs.declared.question.Question.{Question}
 use Rattle.requests.specs.declared.question.Question.TheVariants.{State, LastWrite, LastChange}
 use Rattle.requests.specs.Reading.{◌>>=◌, after_of}
 use Rattle.requests.specs.ChoiceReading.{number_of}
-use Rattle.requests.specs.Operands.{IsName, IsScheduleName, MayBeNamed, IsNumber, IsAddress, word_or_dash, address_word}
-use Rattle.requests.specs.Request.{Command, run, run_revolve, plan, plan_periodic, check, certify, price, ask, demo, kind_word}
+use Rattle.requests.specs.Operands.{IsName, IsScheduleName, MayBeNamed, IsNumber, IsAddress, IsDigest, word_or_dash, address_word}
+use Rattle.requests.specs.Request.{Command, run, run_revolve, plan, plan_periodic, check, certify, price, ask, find, demo, kind_word}
 
 -- ---- places
 
--- what stands at a place of a form: a word of its own, a name, a name that may be left out, the name of a schedule, a number or
--- an address
+-- what stands at a place of a form: a word of its own, a name, a name that may be left out, the name of a schedule, a number, an
+-- address or a digest
 pub data Place : Type 0 where
   fixed : List ℕ → Place
   named : Place
@@ -27,6 +27,7 @@ pub data Place : Type 0 where
   schedule_named : Place
   numbered : Place
   addressed : Place
+  digested : Place
 
 abbrev pub Value : Place → Type 0
 Value (fixed text) = Unit {0}
@@ -35,6 +36,7 @@ Value named_or_none = Option (List ℕ)
 Value schedule_named = List ℕ
 Value numbered = ℕ
 Value addressed = ℕ
+Value digested = List ℕ
 
 abbrev pub word_at : (p : Place) → Value p → List ℕ
 word_at (fixed text) v = text
@@ -43,6 +45,7 @@ word_at named_or_none v = word_or_dash v
 word_at schedule_named v = v
 word_at numbered v = decimal v
 word_at addressed v = address_word v
+word_at digested v = encode_lower v
 
 abbrev pub Allows : (p : Place) → Value p → Type 0
 Allows (fixed text) v = Unit {0}
@@ -51,6 +54,7 @@ Allows named_or_none v = MayBeNamed v
 Allows schedule_named v = IsScheduleName v
 Allows numbered v = IsNumber v
 Allows addressed v = IsAddress v
+Allows digested v = IsDigest v
 
 -- ---- what a place takes
 
@@ -70,6 +74,10 @@ address_of word =
     after_of (codes "0x") word >>= λ digits. result_ok (decode_sized digits 4) >>= λ bytes.
     if bytes_eq (hex_word (from_be_bytes w32 bytes)) digits then Some (from_be_bytes w32 bytes) else None
 
+-- the digest that a word is, which is spelled so
+unfoldable pub digest_of : List ℕ → Option (List ℕ)
+digest_of word = result_ok (decode_sized word 32) >>= λ bytes. if bytes_eq (encode_lower bytes) word then Some bytes else None
+
 abbrev pub taken : (p : Place) → List ℕ → Option (Value p)
 taken (fixed text) word = if bytes_eq word text then Some tt else None
 taken named word = if is_name word then Some word else None
@@ -77,6 +85,7 @@ taken named_or_none word = if is_name word then Some (name_or_none word) else No
 taken schedule_named word = if is_schedule_name word then Some word else None
 taken numbered word = number_of word
 taken addressed word = address_of word
+taken digested word = digest_of word
 
 -- what a place takes of the first word, and the words behind it
 unfoldable pub front_taken : (p : Place) → List (List ℕ) → Option (Value p × List (List ℕ))
@@ -176,6 +185,12 @@ ask_form word p question = record {
   });
 }
 
+abbrev pub find_form : Form
+find_form = record {
+  places = fixed (codes "ask") ∷ fixed (codes "find") ∷ named ∷ named_or_none ∷ numbered ∷ digested ∷ [];
+  make = λ v. find (record { program = v.1.1.0; journal = v.1.1.1.0; steps = v.1.1.1.1.0; digest = v.1.1.1.1.1.0 });
+}
+
 abbrev pub demo_form : Form
 demo_form = record {
   places = fixed (codes "demo") ∷ numbered ∷ numbered ∷ numbered ∷ [];
@@ -186,7 +201,7 @@ abbrev pub forms : List Form
 forms =
     run_revolve_form ∷ run_form ∷ plan_form Revolve ∷ plan_form Multistage ∷ plan_form Disk ∷ plan_form Hrevolve ∷ periodic_form
     ∷ check_form ∷ certify_form ∷ price_form ∷ ask_form (codes "state") numbered State ∷ ask_form (codes "last-write") addressed LastWrite
-    ∷ ask_form (codes "last-change") addressed LastChange ∷ demo_form ∷ []
+    ∷ ask_form (codes "last-change") addressed LastChange ∷ find_form ∷ demo_form ∷ []
 
 -- what was found before, or what the first of these forms takes that takes all words
 abbrev pub first_of : Option Command → List Form → List (List ℕ) → Option Command

@@ -1,7 +1,8 @@
 -- The kinds of operand of a command, a row each in the definitions below: how a value is spelled, when it may be spelled, within
 -- which bounds its number has to be, and which input its name is that of. All that words, bounds and inputs say of a command follows
 -- from its operands.
-use Rattle.std.specs.Prelude.{◌≢◌, ℕ, ◌<◌, ◌^◌, ◌++◌, List, [], ◌∷◌, codes, decimal, Option, None, Some}
+use Rattle.std.specs.Prelude.{◌≡◌, ◌≢◌, ℕ, ◌*◌, ◌<◌, ◌^◌, ◌++◌, List, [], ◌∷◌, length, codes, decimal, Option, None, Some}
+use Rattle.hex.specs.Hex.{IsBytes, encode_lower}
 use Rattle.state_image.specs.Line.{hex_word}
 use Rattle.requests.specs.declared.bounds.Bounded.{Bounded}
 use Rattle.requests.specs.declared.question.Question.{Question}
@@ -28,10 +29,14 @@ pub data Operand : Type 0 where
   a_book : List ℕ → Operand
   a_schedule : List ℕ → Operand
   a_certificate : List ℕ → Operand
+  -- a number of steps of a run that a list goes over, each of them a unit of instructions
+  run_steps : ℕ → Operand
   -- a number within limits
   a_number : Limit → ℕ → Operand
   -- what is asked of a run of so many steps: the number of a state, or the address of a word in the machine's memory
   a_question : ℕ → Question → Operand
+  -- a digest of 32 bytes
+  a_digest : List ℕ → Operand
 
 -- ---- spelling
 
@@ -50,7 +55,7 @@ question_number (State place) = decimal place
 question_number (LastWrite address) = address_word address
 question_number (LastChange address) = address_word address
 
--- and so are other numbers
+-- and so are other numbers; a digest is 64 lower-case hexadecimal digits, the high one of each byte first
 abbrev pub word_of : Operand → List ℕ
 word_of (the_word text) = text
 word_of (a_program name) = name
@@ -58,8 +63,10 @@ word_of (a_journal name) = word_or_dash name
 word_of (a_book name) = name
 word_of (a_schedule name) = name
 word_of (a_certificate name) = name
+word_of (run_steps n) = decimal n
 word_of (a_number limit n) = decimal n
 word_of (a_question steps question) = question_number question
+word_of (a_digest bytes) = encode_lower bytes
 
 -- ---- what may be spelled
 
@@ -88,6 +95,10 @@ IsQuestion (State place) = IsNumber place
 IsQuestion (LastWrite address) = IsAddress address
 IsQuestion (LastChange address) = IsAddress address
 
+-- the bytes of a digest are 32
+abbrev pub IsDigest : List ℕ → Type 0
+IsDigest bytes = (length bytes ≡ 32) × IsBytes bytes
+
 abbrev pub CanStand : Operand → Type 0
 CanStand (the_word text) = Unit {0}
 CanStand (a_program name) = IsName name
@@ -95,8 +106,10 @@ CanStand (a_journal name) = MayBeNamed name
 CanStand (a_book name) = IsName name
 CanStand (a_schedule name) = IsScheduleName name
 CanStand (a_certificate name) = IsName name
+CanStand (run_steps n) = IsNumber n
 CanStand (a_number limit n) = IsNumber n
 CanStand (a_question steps question) = IsQuestion question
+CanStand (a_digest bytes) = IsDigest bytes
 
 -- ---- bounds
 
@@ -104,28 +117,44 @@ CanStand (a_question steps question) = IsQuestion question
 abbrev pub within : Limit → ℕ → Bounded
 within limit n = record { number = n; least = limit.least; greatest = limit.greatest; rule = limit.rule }
 
--- rule 6: a state is one of the run
+-- rule 1: a number of steps
+abbrev pub steps_limit : Limit
+steps_limit = record { least = 0; greatest = 1000000; rule = 1 }
+
+-- rule 13: the instructions of a run that a list goes over
+abbrev pub instructions_limit : Limit
+instructions_limit = record { least = 0; greatest = 1000000; rule = 13 }
+
+-- rule 6: a state is one of the run, of which this is the last
 abbrev pub place_limit : ℕ → Limit
-place_limit steps = record { least = 0; greatest = steps; rule = 6 }
+place_limit last = record { least = 0; greatest = last; rule = 6 }
 
 -- rule 7: behind an address three more have to be
 abbrev pub address_limit : Limit
 address_limit = record { least = 0; greatest = 4294967292; rule = 7 }
 
 abbrev pub question_bound : ℕ → Question → Bounded
-question_bound steps (State place) = within (place_limit steps) place
-question_bound steps (LastWrite address) = within address_limit address
-question_bound steps (LastChange address) = within address_limit address
+question_bound last (State place) = within (place_limit last) place
+question_bound last (LastWrite address) = within address_limit address
+question_bound last (LastChange address) = within address_limit address
 
-abbrev pub bounds_of : Operand → List Bounded
-bounds_of (the_word text) = []
-bounds_of (a_program name) = []
-bounds_of (a_journal name) = []
-bounds_of (a_book name) = []
-bounds_of (a_schedule name) = []
-bounds_of (a_certificate name) = []
-bounds_of (a_number limit n) = within limit n ∷ []
-bounds_of (a_question steps question) = question_bound steps question ∷ []
+-- a step of a schedule is a unit of so many instructions
+abbrev pub bounds_of : (unit : ℕ) → Operand → List Bounded
+bounds_of unit (the_word text) = []
+bounds_of unit (a_program name) = []
+bounds_of unit (a_journal name) = []
+bounds_of unit (a_book name) = []
+bounds_of unit (a_schedule name) = []
+bounds_of unit (a_certificate name) = []
+bounds_of unit (run_steps n) = within steps_limit n ∷ []
+bounds_of unit (a_number limit n) = within limit n ∷ []
+bounds_of unit (a_question steps question) = question_bound (unit * steps) question ∷ []
+bounds_of unit (a_digest bytes) = []
+
+-- the product of a number and the unit, where it has bounds of its own
+abbrev pub products_of : (unit : ℕ) → Operand → List Bounded
+products_of unit (run_steps n) = within instructions_limit (unit * n) ∷ []
+products_of unit _ = []
 
 -- ---- inputs
 
@@ -157,5 +186,7 @@ inputs_named (a_journal name) = journal_inputs name
 inputs_named (a_book name) = book_input name ∷ []
 inputs_named (a_schedule name) = schedule_input name ∷ []
 inputs_named (a_certificate name) = certificate_input name ∷ []
+inputs_named (run_steps n) = []
 inputs_named (a_number limit n) = []
 inputs_named (a_question steps question) = []
+inputs_named (a_digest bytes) = []

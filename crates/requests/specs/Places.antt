@@ -3,7 +3,7 @@ use Rattle.std.specs.Prelude.{ℕ, ◌+◌, ◌-◌, ◌==◌, if◌then◌else�
 use Rattle.std.specs.Option.{option_map}
 use Rattle.requests.specs.declared.places.KeepAt.{KeepAt}
 use Rattle.requests.specs.declared.places.KeepAt.TheVariants.{Memory, Folder}
-use Rattle.requests.specs.Request.{Choice, raw, stack, workers, files, files_front}
+use Rattle.requests.specs.Request.{Choice, raw, stack, workers, units, files, files_front}
 
 abbrev pub levels : List ℕ
 levels = 0 ∷ 1 ∷ 2 ∷ 3 ∷ []
@@ -15,6 +15,7 @@ place_from level word [] = Memory
 place_from level word (raw ∷ options) = place_from level (word + 1) options
 place_from level word (stack pages ∷ options) = place_from level (word + 1) options
 place_from level word (workers count ∷ options) = place_from level (word + 1) options
+place_from level word (units count ∷ options) = place_from level (word + 1) options
 place_from level word (files k folder ∷ options) = if level == k then Folder word (length (files_front level)) else place_from level (word + 1) options
 
 -- the places of all levels, where words are counted from 1
@@ -30,6 +31,7 @@ folder_said level [] = None
 folder_said level (raw ∷ options) = folder_said level options
 folder_said level (stack pages ∷ options) = folder_said level options
 folder_said level (workers count ∷ options) = folder_said level options
+folder_said level (units count ∷ options) = folder_said level options
 folder_said level (files k folder ∷ options) = if level == k then Some folder else folder_said level options
 
 -- What stands at a place of the words. These are counted from 1 in a place, so that one less is never cut off.

@@ -13,6 +13,7 @@
 --     ask state PROGRAM JOURNAL BOOK SCHEDULE N PLACE
 --     ask last-write PROGRAM JOURNAL BOOK SCHEDULE N ADDRESS
 --     ask last-change PROGRAM JOURNAL BOOK SCHEDULE N ADDRESS
+--     ask find PROGRAM JOURNAL N DIGEST
 --     demo NUMBER N SLOTS
 use Rattle.std.specs.Prelude.{◌≡◌, ℕ, ◌≤◌, ◌==◌, Bool, true, false, List, [], ◌∷◌, ◌++◌, codes, decimal, map, count_by, Option}
 use Rattle.std.specs.List.{AllByRecursion, list_any}
@@ -21,16 +22,18 @@ use Rattle.requests.specs.declared.kind.PlanKind.{PlanKind}
 use Rattle.requests.specs.declared.kind.PlanKind.TheVariants.{Revolve, Multistage, Disk, Hrevolve}
 use Rattle.requests.specs.declared.question.Question.{Question}
 use Rattle.requests.specs.declared.question.Question.TheVariants.{State, LastWrite, LastChange}
-use Rattle.requests.specs.Operands.{Limit, Operand, the_word, a_program, a_journal, a_book, a_schedule, a_certificate, a_number, a_question, word_of, IsName, IsNumber, CanStand}
+pub use Rattle.requests.specs.Operands.{steps_limit}
+use Rattle.requests.specs.Operands.{Limit, Operand, the_word, a_program, a_journal, a_book, a_schedule, a_certificate, run_steps, a_number, a_question, a_digest, word_of, IsName, IsNumber, CanStand}
 
 -- ---- options
 
--- That the program is raw words, how many pages the stack has, how many workers fill tables of costs, and that a level's images
--- are kept in files of a folder. An option that is added is a case here, and in each definition by cases on options.
+-- That the program is raw words, how many pages the stack has, how many workers fill tables of costs, how many instructions a step of a
+-- schedule is, and that a level's images are kept in files of a folder. An option that is added is a case here, and in each definition by cases on options.
 pub data Choice : Type 0 where
   raw : Choice
   stack : (pages : ℕ) → Choice
   workers : (count : ℕ) → Choice
+  units : (count : ℕ) → Choice
   files : (level : ℕ) → (folder : List ℕ) → Choice
 
 -- what stands before the name of the folder
@@ -41,31 +44,43 @@ abbrev pub option_word : Choice → List ℕ
 option_word raw = codes "--raw"
 option_word (stack pages) = codes "--stack=" ++ decimal pages
 option_word (workers count) = codes "--workers=" ++ decimal count
+option_word (units count) = codes "--unit=" ++ decimal count
 option_word (files level folder) = files_front level ++ folder
 
 abbrev pub is_raw : Choice → Bool
 is_raw raw = true
 is_raw (stack pages) = false
 is_raw (workers count) = false
+is_raw (units count) = false
 is_raw (files level folder) = false
 
 abbrev pub is_stack : Choice → Bool
 is_stack raw = false
 is_stack (stack pages) = true
 is_stack (workers count) = false
+is_stack (units count) = false
 is_stack (files level folder) = false
 
 abbrev pub is_workers : Choice → Bool
 is_workers raw = false
 is_workers (stack pages) = false
 is_workers (workers count) = true
+is_workers (units count) = false
 is_workers (files level folder) = false
+
+abbrev pub is_units : Choice → Bool
+is_units raw = false
+is_units (stack pages) = false
+is_units (workers count) = false
+is_units (units count) = true
+is_units (files level folder) = false
 
 -- whether it is the option of this level's files
 abbrev pub is_files : ℕ → Choice → Bool
 is_files level raw = false
 is_files level (stack pages) = false
 is_files level (workers count) = false
+is_files level (units count) = false
 is_files level (files k folder) = level == k
 
 -- ---- commands
@@ -121,6 +136,13 @@ pub record Ask : Type 0 where
   pub question : Question
   pub run : Run
 
+-- to find the last state of a run that has a digest, without a schedule
+pub record Find : Type 0 where
+  pub program : List ℕ
+  pub journal : Option (List ℕ)
+  pub steps : ℕ
+  pub digest : List ℕ
+
 -- to run a program that is made from a number backward by the list of Revolve, with so many slots of memory
 pub record Demo : Type 0 where
   pub number : ℕ
@@ -137,6 +159,7 @@ pub data Command : Type 0 where
   certify : Certify → Command
   price : Price → Command
   ask : Ask → Command
+  find : Find → Command
   demo : Demo → Command
 
 -- the word of a kind of plans
@@ -154,8 +177,6 @@ question_word (LastChange address) = codes "last-change"
 
 -- The limits of numbers. Rule 1 is the number of steps, 2 a period, 10 a number of slots, and 11 the number that a program is made
 -- from, which has 32 bits.
-abbrev pub steps_limit : Limit
-steps_limit = record { least = 0; greatest = 1000000; rule = 1 }
 
 -- plans over costs are read from tables, which are kept small
 abbrev pub plan_limit : PlanKind → Limit
@@ -177,10 +198,10 @@ seed_limit = record { least = 0; greatest = 4294967295; rule = 11 }
 abbrev pub operands : Command → List Operand
 operands (run c) =
     the_word (codes "run") ∷ a_program c.program ∷ a_journal c.journal ∷ a_book c.book ∷ a_schedule c.schedule
-    ∷ a_number steps_limit c.steps ∷ []
+    ∷ run_steps c.steps ∷ []
 operands (run_revolve c) =
     the_word (codes "run") ∷ a_program c.program ∷ a_journal c.journal ∷ a_book c.book ∷ the_word (codes "@revolve")
-    ∷ a_number steps_limit c.steps ∷ []
+    ∷ run_steps c.steps ∷ []
 operands (plan c) = the_word (codes "plan") ∷ the_word (kind_word c.kind) ∷ a_book c.book ∷ a_number (plan_limit c.kind) c.steps ∷ []
 operands (plan_periodic c) =
     the_word (codes "plan") ∷ the_word (codes "periodic") ∷ a_book c.book ∷ a_number steps_limit c.steps ∷ a_number period_limit c.period ∷ []
@@ -190,7 +211,10 @@ operands (certify c) =
 operands (price c) = the_word (codes "cost") ∷ a_book c.book ∷ a_schedule c.schedule ∷ a_number steps_limit c.steps ∷ []
 operands (ask c) =
     the_word (codes "ask") ∷ the_word (question_word c.question) ∷ a_program c.run.program ∷ a_journal c.run.journal ∷ a_book c.run.book
-    ∷ a_schedule c.run.schedule ∷ a_number steps_limit c.run.steps ∷ a_question c.run.steps c.question ∷ []
+    ∷ a_schedule c.run.schedule ∷ run_steps c.run.steps ∷ a_question c.run.steps c.question ∷ []
+operands (find c) =
+    the_word (codes "ask") ∷ the_word (codes "find") ∷ a_program c.program ∷ a_journal c.journal ∷ a_number steps_limit c.steps
+    ∷ a_digest c.digest ∷ []
 operands (demo c) = the_word (codes "demo") ∷ a_number seed_limit c.number ∷ a_number steps_limit c.steps ∷ a_number slots_limit c.slots ∷ []
 
 abbrev pub command_words : Command → List (List ℕ)
@@ -215,6 +239,7 @@ abbrev pub FitsWord : Choice → Type 0
 FitsWord raw = Unit {0}
 FitsWord (stack pages) = IsNumber pages
 FitsWord (workers count) = IsNumber count
+FitsWord (units count) = IsNumber count
 FitsWord (files level folder) = IsNumber level × IsName folder
 
 -- each option stands at most once, and that of files once for each level
@@ -222,6 +247,7 @@ pub record AreOptions (options : List Choice) : Type 0 where
   pub one_raw : count_by is_raw options ≤ 1
   pub one_stack : count_by is_stack options ≤ 1
   pub one_workers : count_by is_workers options ≤ 1
+  pub one_units : count_by is_units options ≤ 1
   pub one_folder : (level : ℕ) → count_by (is_files level) options ≤ 1
   pub fit : AllByRecursion FitsWord options
 
@@ -247,6 +273,7 @@ stack_pages [] = 16
 stack_pages (raw ∷ options) = stack_pages options
 stack_pages (stack pages ∷ options) = pages
 stack_pages (workers count ∷ options) = stack_pages options
+stack_pages (units count ∷ options) = stack_pages options
 stack_pages (files level folder ∷ options) = stack_pages options
 
 -- how many workers fill tables of costs: one where nothing is said
@@ -255,4 +282,14 @@ worker_count [] = 1
 worker_count (raw ∷ options) = worker_count options
 worker_count (stack pages ∷ options) = worker_count options
 worker_count (workers count ∷ options) = count
+worker_count (units count ∷ options) = worker_count options
 worker_count (files level folder ∷ options) = worker_count options
+
+-- how many instructions a step of a schedule is: one where nothing is said
+abbrev pub unit_count : List Choice → ℕ
+unit_count [] = 1
+unit_count (raw ∷ options) = unit_count options
+unit_count (stack pages ∷ options) = unit_count options
+unit_count (workers count ∷ options) = unit_count options
+unit_count (units count ∷ options) = count
+unit_count (files level folder ∷ options) = unit_count options

@@ -1,5 +1,5 @@
 -- No public clause cites this file. The request that the reader of words gives, and the request that one in memory is.
-use Rattle.std.specs.Prelude.{ℕ, if◌then◌else◌, List, Option, None, Some}
+use Rattle.std.specs.Prelude.{ℕ, ◌*◌, if◌then◌else◌, List, [], ◌∷◌, Option, None, Some}
 use Rattle.std.specs.Option.{option_map}
 use Rattle.requests.specs.declared.request.Run as run_in_memory
 use Rattle.requests.specs.declared.request.RunRevolve as run_revolve_in_memory
@@ -9,14 +9,25 @@ use Rattle.requests.specs.declared.request.Check as check_in_memory
 use Rattle.requests.specs.declared.request.Certify as certify_in_memory
 use Rattle.requests.specs.declared.request.Price as price_in_memory
 use Rattle.requests.specs.declared.request.Ask as ask_in_memory
+use Rattle.requests.specs.declared.request.Find as find_in_memory
 use Rattle.requests.specs.declared.request.Demo as demo_in_memory
 use Rattle.requests.specs.declared.request.Command as command_in_memory
 use Rattle.requests.specs.declared.request.Command.TheVariants as the_command
 use Rattle.requests.specs.declared.request.Request as in_memory
+use Rattle.requests.specs.declared.bounds.Bounded.{Bounded}
+use Rattle.requests.specs.declared.question.Question.{Question}
+use Rattle.requests.specs.Operands.{within, steps_limit, instructions_limit, question_bound}
 use Rattle.requests.specs.Reading.{◌>>=◌}
 use Rattle.requests.specs.Forms.{command_of}
-use Rattle.requests.specs.Request.{Run, RunRevolve, PlanFor, PlanPeriodic, Check, Certify, Price, Ask, Demo, Command, run, run_revolve, plan, plan_periodic, check, certify, price, ask, demo, Request}
+use Rattle.requests.specs.Request.{Run, RunRevolve, PlanFor, PlanPeriodic, Check, Certify, Price, Ask, Find, Demo, Command, run, run_revolve, plan, plan_periodic, check, certify, price, ask, find, demo, Request}
 use Rattle.requests.specs.ChoiceReading.{options_at, behind_options, are_single}
+
+-- the numbers of a run of so many steps, each of them a unit, and of a question about one
+abbrev pub run_numbers : (unit steps : ℕ) → List Bounded
+run_numbers unit steps = within steps_limit steps ∷ within instructions_limit (unit * steps) ∷ []
+
+abbrev pub asked_numbers : (unit steps : ℕ) → Question → List Bounded
+asked_numbers unit steps question = within steps_limit steps ∷ question_bound (unit * steps) question ∷ within instructions_limit (unit * steps) ∷ []
 
 -- the request that the words say
 unfoldable pub request_read : List (List ℕ) → Option Request
@@ -51,6 +62,9 @@ as_price c = record { book = c.book.now; schedule = c.schedule.now; steps = c.st
 abbrev pub as_ask : ask_in_memory.Ask → Ask
 as_ask c = record { question = c.question; run = as_run c.run }
 
+abbrev pub as_find : find_in_memory.Find → Find
+as_find c = record { program = c.program.now; journal = option_map (λ name. name.now) c.journal; steps = c.steps; digest = c.digest }
+
 abbrev pub as_demo : demo_in_memory.Demo → Demo
 as_demo c = record { number = c.number; steps = c.steps; slots = c.slots }
 
@@ -63,6 +77,7 @@ as_command (the_command.Check c) = check (as_check c)
 as_command (the_command.Certify c) = certify (as_certify c)
 as_command (the_command.Price c) = price (as_price c)
 as_command (the_command.Ask c) = ask (as_ask c)
+as_command (the_command.Find c) = find (as_find c)
 as_command (the_command.Demo c) = demo (as_demo c)
 
 abbrev pub request_of : in_memory.Request → Request

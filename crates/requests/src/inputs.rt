@@ -6,11 +6,11 @@ ghost use Rattle.keepers.specs.Told.{WhereTold};
 ghost use Rattle.requests.specs.Operands.{program_input, journal_input, book_input, schedule_input, certificate_input};
 ghost use Rattle.requests.specs.Inputs.{inputs_of, names};
 ghost use Rattle.requests.specs.InputReading.{input_of, all, Reads, Stops};
-ghost use Rattle.requests.specs.Request.{run as run_command, run_revolve as run_revolve_command};
-ghost use Rattle.requests.specs.RequestReading.{as_run, as_run_revolve, as_command};
+ghost use Rattle.requests.specs.Request.{run as run_command, run_revolve as run_revolve_command, find as find_command};
+ghost use Rattle.requests.specs.RequestReading.{as_run, as_run_revolve, as_find, as_command};
 
 use crate::ended::Ended;
-use crate::request::{Command, Run, RunRevolve};
+use crate::request::{Command, Find, Run, RunRevolve};
 use keepers::{InputFault, Inputs, Whole};
 use std::alloc::Global;
 
@@ -92,7 +92,8 @@ pub fn read_inputs<I: Inputs>(
     command: &Command<'_>,
     inputs: &mut I,
 ) -> Result<Vec<Vec<u8>>, Ended>
-    ensures read { IfOk result (λ v. Reads (inputs_of (as_command command.now)) (I.told inputs.old) (I.asked inputs.old) (I.asked inputs.new) (all (map (λ bytes. bytes.items) v.items))) }
+    ensures read { IfOk result (λ v. Reads (inputs_of (as_command command.now)) (I.told inputs.old) (I.asked inputs.old) (I.asked inputs.new)
+        (all (map (λ bytes. bytes.items) v.items))) }
     ensures stops { IfErr result (λ e. Stops (inputs_of (as_command command.now)) (I.told inputs.old) e (I.asked inputs.old) (I.asked inputs.new)) }
     ensures asked { (k : ℕ) × (I.asked inputs.new ≡ I.asked inputs.old ++ take k (names (inputs_of (as_command command.now)))) }
     ensures quiet { IfOk result (λ _. I.fault_count inputs.new ≡ I.fault_count inputs.old) }
@@ -121,6 +122,7 @@ pub fn read_inputs<I: Inputs>(
             read_all(alloc, &wanted, inputs)
         }
         Command::Ask(ask) => read_run_inputs(alloc, &ask.run, inputs),
+        Command::Find(find) => read_find_inputs(alloc, find, inputs),
         Command::Demo(_) => read_all(alloc, &[], inputs),
     }
 }
@@ -131,7 +133,8 @@ fn read_run_inputs<I: Inputs>(
     run: &Run<'_>,
     inputs: &mut I,
 ) -> Result<Vec<Vec<u8>>, Ended>
-    ensures read { IfOk result (λ v. Reads (inputs_of (run_command (as_run run.now))) (I.told inputs.old) (I.asked inputs.old) (I.asked inputs.new) (all (map (λ bytes. bytes.items) v.items))) }
+    ensures read { IfOk result (λ v. Reads (inputs_of (run_command (as_run run.now))) (I.told inputs.old) (I.asked inputs.old) (I.asked inputs.new)
+        (all (map (λ bytes. bytes.items) v.items))) }
     ensures stops { IfErr result (λ e. Stops (inputs_of (run_command (as_run run.now))) (I.told inputs.old) e (I.asked inputs.old) (I.asked inputs.new)) }
     ensures asked { (k : ℕ) × (I.asked inputs.new ≡ I.asked inputs.old ++ take k (names (inputs_of (run_command (as_run run.now))))) }
     ensures quiet { IfOk result (λ _. I.fault_count inputs.new ≡ I.fault_count inputs.old) }
@@ -156,8 +159,10 @@ fn read_run_revolve_inputs<I: Inputs>(
     run: &RunRevolve<'_>,
     inputs: &mut I,
 ) -> Result<Vec<Vec<u8>>, Ended>
-    ensures read { IfOk result (λ v. Reads (inputs_of (run_revolve_command (as_run_revolve run.now))) (I.told inputs.old) (I.asked inputs.old) (I.asked inputs.new) (all (map (λ bytes. bytes.items) v.items))) }
-    ensures stops { IfErr result (λ e. Stops (inputs_of (run_revolve_command (as_run_revolve run.now))) (I.told inputs.old) e (I.asked inputs.old) (I.asked inputs.new)) }
+    ensures read { IfOk result (λ v. Reads (inputs_of (run_revolve_command (as_run_revolve run.now))) (I.told inputs.old) (I.asked inputs.old)
+        (I.asked inputs.new) (all (map (λ bytes. bytes.items) v.items))) }
+    ensures stops { IfErr result (λ e. Stops (inputs_of (run_revolve_command (as_run_revolve run.now))) (I.told inputs.old) e (I.asked inputs.old)
+        (I.asked inputs.new)) }
     ensures asked { (k : ℕ) × (I.asked inputs.new ≡ I.asked inputs.old ++ take k (names (inputs_of (run_revolve_command (as_run_revolve run.now))))) }
     ensures quiet { IfOk result (λ _. I.fault_count inputs.new ≡ I.fault_count inputs.old) }
     ensures cause { IfErr result (λ e. e.status ≡ 3 → Rose (I.fault_count inputs.old) (I.fault_count inputs.new)) }
@@ -171,13 +176,35 @@ fn read_run_revolve_inputs<I: Inputs>(
     }
 }
 
+// The same for the search of a run.
+fn read_find_inputs<I: Inputs>(
+    alloc: Global,
+    find: &Find<'_>,
+    inputs: &mut I,
+) -> Result<Vec<Vec<u8>>, Ended>
+    ensures read { IfOk result (λ v. Reads (inputs_of (find_command (as_find find.now))) (I.told inputs.old) (I.asked inputs.old) (I.asked inputs.new)
+        (all (map (λ bytes. bytes.items) v.items))) }
+    ensures stops { IfErr result (λ e. Stops (inputs_of (find_command (as_find find.now))) (I.told inputs.old) e (I.asked inputs.old) (I.asked inputs.new)) }
+    ensures asked { (k : ℕ) × (I.asked inputs.new ≡ I.asked inputs.old ++ take k (names (inputs_of (find_command (as_find find.now))))) }
+    ensures quiet { IfOk result (λ _. I.fault_count inputs.new ≡ I.fault_count inputs.old) }
+    ensures cause { IfErr result (λ e. e.status ≡ 3 → Rose (I.fault_count inputs.old) (I.fault_count inputs.new)) }
+    ensures no_cause { IfErr result (λ e. e.status ≢ 3 → I.fault_count inputs.new ≡ I.fault_count inputs.old) }
+{
+    let program = program_input(find.program);
+    match find.journal {
+        Some(name) => read_all(alloc, &[program, journal_input(name)], inputs),
+        None => read_all(alloc, &[program], inputs),
+    }
+}
+
 // Reads the wanted inputs, one after the other.
 fn read_all<I: Inputs>(
     alloc: Global,
     wanted: &[Input<'_>],
     inputs: &mut I,
 ) -> Result<Vec<Vec<u8>>, Ended>
-    ensures read { IfOk result (λ v. Reads (map input_of wanted.now) (I.told inputs.old) (I.asked inputs.old) (I.asked inputs.new) (all (map (λ bytes. bytes.items) v.items))) }
+    ensures read { IfOk result (λ v. Reads (map input_of wanted.now) (I.told inputs.old) (I.asked inputs.old) (I.asked inputs.new)
+        (all (map (λ bytes. bytes.items) v.items))) }
     ensures stops { IfErr result (λ e. Stops (map input_of wanted.now) (I.told inputs.old) e (I.asked inputs.old) (I.asked inputs.new)) }
     ensures asked { (k : ℕ) × (I.asked inputs.new ≡ I.asked inputs.old ++ take k (names (map input_of wanted.now))) }
     ensures quiet { IfOk result (λ _. I.fault_count inputs.new ≡ I.fault_count inputs.old) }
@@ -202,8 +229,10 @@ fn read_input<I: Inputs>(
     input: &Input<'_>,
     inputs: &mut I,
 ) -> Result<Vec<u8>, Refusal>
-    ensures there { IfOk result (λ bytes. (length bytes.items ≤ input.now.limit) × WhereTold (I.told inputs.old) (λ files. finmap.get files input.now.name.now ≡ Some bytes.items)) }
-    ensures longer { IsErrOf result Refusal.TooLong → (bytes : List ℕ) × (input.now.limit < length bytes) × WhereTold (I.told inputs.old) (λ files. finmap.get files input.now.name.now ≡ Some bytes) }
+    ensures there { IfOk result (λ bytes. (length bytes.items ≤ input.now.limit)
+        × WhereTold (I.told inputs.old) (λ files. finmap.get files input.now.name.now ≡ Some bytes.items)) }
+    ensures longer { IsErrOf result Refusal.TooLong → (bytes : List ℕ) × (input.now.limit < length bytes)
+        × WhereTold (I.told inputs.old) (λ files. finmap.get files input.now.name.now ≡ Some bytes) }
     ensures same { I.told inputs.new ≡ I.told inputs.old }
     ensures asks { result ≢ Err Refusal.Memory → I.asked inputs.new ≡ I.asked inputs.old ++ input.now.name.now ∷ [] }
     ensures may_ask { (k : ℕ) × (I.asked inputs.new ≡ I.asked inputs.old ++ take k (input.now.name.now ∷ [])) }

@@ -1,7 +1,7 @@
 // The words of a command, taken one after the other.
 ghost use Rattle.std.specs.Prelude.{◌≡◌, ◌⊎◌, ℕ, List, ◌∷◌, [], map, None, Some, MatchOption, option_map};
 ghost use Rattle.requests.specs.Reading.{Gives};
-ghost use Rattle.requests.specs.Forms.{fixed, named, named_or_none, schedule_named, numbered, addressed, address_of, finished, Takes};
+ghost use Rattle.requests.specs.Forms.{fixed, named, named_or_none, schedule_named, numbered, addressed, digested, address_of, digest_of, finished, Takes};
 
 use crate::options::number_in;
 use crate::request::Command;
@@ -33,7 +33,8 @@ impl<'a> Operands<'a> {
 
     // The next word. Where there is none, nothing is taken any more.
     fn next(&mut self) -> Option<&'a [u8]>
-        ensures { MatchOption result ((self.new ≡ None) × ((self.old ≡ None) ⊎ (self.old ≡ Some []))) (λ word. (words : List (List ℕ)) × ((self.old ≡ Some (word.now ∷ words)) × (self.new ≡ Some words))) }
+        ensures { MatchOption result ((self.new ≡ None) × ((self.old ≡ None) ⊎ (self.old ≡ Some []))) (λ word. (words : List (List ℕ))
+            × ((self.old ≡ Some (word.now ∷ words)) × (self.new ≡ Some words))) }
     {
         match self.rest {
             Some([word, behind @ ..]) => {
@@ -128,6 +129,20 @@ impl<'a> Operands<'a> {
         }
     }
 
+    /// Takes a digest.
+    #[tactic(auto, unfolding(crate::specs::Forms::front_taken))]
+    pub fn digest(&mut self) -> [u8; 32]
+        ensures { Takes digested self.old result self.new }
+    {
+        match self.next().and_then(read_digest) {
+            Some(digest) => digest,
+            None => {
+                self.rest = None;
+                [0; 32]
+            }
+        }
+    }
+
     /// The command that was taken, if each word was taken.
     pub fn finish(self, command: Command<'a>) -> Option<Command<'a>>
         ensures { result ≡ finished self.entry command.entry }
@@ -136,6 +151,22 @@ impl<'a> Operands<'a> {
             Some([]) => Some(command),
             _ => None,
         }
+    }
+}
+
+// The digest that a word is.
+#[tactic(auto, unfolding(crate::specs::Forms::digest_of))]
+fn read_digest(word: &[u8]) -> Option<[u8; 32]>
+    ensures { Gives (λ d. d) result (digest_of word.now) }
+{
+    let mut digest = [0; 32];
+    hex::decode_to_slice(word, &mut digest).ok()?;
+    let mut canonical = [0; 64];
+    hex::encode_to_slice(&digest, &mut canonical).unwrap();
+    if canonical.as_slice() == word {
+        Some(digest)
+    } else {
+        None
     }
 }
 

@@ -1,9 +1,9 @@
 // The options of a command line.
 ghost use Rattle.std.specs.Prelude.{◌≡◌, map};
 ghost use Rattle.std.specs.List.{list_any};
-ghost use Rattle.requests.specs.Request.{is_files, says_raw, stack_pages, worker_count};
+ghost use Rattle.requests.specs.Request.{is_files, says_raw, stack_pages, worker_count, unit_count};
 ghost use Rattle.requests.specs.Reading.{Gives};
-ghost use Rattle.requests.specs.ChoiceReading.{number_of, stack_of, workers_of, files_of, choice_of, first_choice, options_at, behind_options, is_like, are_single, as_choice};
+ghost use Rattle.requests.specs.ChoiceReading.{number_of, stack_of, workers_of, unit_of, files_of, choice_of, first_choice, options_at, behind_options, is_like, are_single, as_choice};
 
 use crate::number::decimal_at;
 use crate::text::after;
@@ -18,6 +18,8 @@ pub enum Choice<'a> {
     Stack(u64),
     /// So many workers fill tables of costs.
     Workers(u64),
+    /// A step of a schedule is so many instructions.
+    Unit(u64),
     /// The images of this level are kept in files of the folder with this name.
     Files(u64, &'a [u8]),
 }
@@ -31,6 +33,7 @@ impl Choice<'_> {
             Choice::Raw => matches!(other, Choice::Raw),
             Choice::Stack(_) => matches!(other, Choice::Stack(_)),
             Choice::Workers(_) => matches!(other, Choice::Workers(_)),
+            Choice::Unit(_) => matches!(other, Choice::Unit(_)),
             Choice::Files(level, _) => other.is_files(*level),
         }
     }
@@ -51,6 +54,9 @@ const STACK_PAGES: u64 = 16;
 
 // How many workers there are where nothing is said.
 const WORKERS: u64 = 1;
+
+// How many instructions a step of a schedule is where nothing is said.
+const UNIT: u64 = 1;
 
 /// Options in the order of the words. They take no memory: they are the words, and are read again where they are asked for.
 #[derive(Debug, Drop)]
@@ -124,6 +130,20 @@ impl<'a> Options<'a> {
         }
         WORKERS
     }
+
+    /// How many instructions a step of a schedule is.
+    pub fn unit_count(&self) -> u64
+        ensures { result ≡ unit_count self.now }
+    {
+        let mut rest = self.words();
+        while let Some((choice, behind)) = next_option(rest) {
+            if let Choice::Unit(count) = choice {
+                return count;
+            }
+            rest = behind;
+        }
+        UNIT
+    }
 }
 
 // Whether an option of the same kind is among those at the front of the words.
@@ -165,6 +185,14 @@ fn workers_in(text: &[u8]) -> Option<Choice<'_>>
     Some(Choice::Workers(count))
 }
 
+// The option of units, likewise.
+fn unit_in(text: &[u8]) -> Option<Choice<'_>>
+    ensures { Gives as_choice result (unit_of text.now) }
+{
+    let count = number_in(text)?;
+    Some(Choice::Unit(count))
+}
+
 // The option of a level's files, likewise.
 fn files_in(text: &[u8]) -> Option<Choice<'_>>
     ensures { Gives as_choice result (files_of text.now) }
@@ -191,6 +219,9 @@ fn choice_in(word: &[u8]) -> Option<Choice<'_>>
     }
     if let Some(text) = after(word, b"--workers=") {
         return workers_in(text);
+    }
+    if let Some(text) = after(word, b"--unit=") {
+        return unit_in(text);
     }
     let text = after(word, b"--files=")?;
     files_in(text)

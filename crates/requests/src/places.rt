@@ -42,7 +42,8 @@ pub fn keeper_places(words: &Words) -> [KeepAt; 4]
     ensures refused { (e : Ended) → RefusesWords (words_of words.now) e → result ≡ all_in_memory }
 
     // What stands there are the folders that the options say.
-    ensures folders { (r : ARequest) → Asks (words_of words.now) r → map (folder_at (words_of words.now)) result ≡ map (λ level. folder_said level r.options) levels }
+    ensures folders { (r : ARequest) → Asks (words_of words.now) r →
+        map (folder_at (words_of words.now)) result ≡ map (λ level. folder_said level r.options) levels }
 {
     let Some(request) = read_request(&words.list) else {
         return [KeepAt::Memory; 4];
@@ -55,7 +56,7 @@ pub fn keeper_places(words: &Words) -> [KeepAt; 4]
 
 // The places of all levels, by the options at the front of the words.
 fn places(words: &[Vec<u8>]) -> [KeepAt; 4]
-    requires { length (options_at (map (λ w. w.items) words.now)) ≤ 7 }
+    requires { length (options_at (map (λ w. w.items) words.now)) ≤ 8 }
     ensures { result ≡ places_of (options_at (map (λ w. w.items) words.now)) }
 {
     [
@@ -72,7 +73,7 @@ const FOLDER_START: u32 = 10;
 // Where the images of this level are kept, by the options at the front of the words.
 fn place(level: u64, words: &[Vec<u8>]) -> KeepAt
     requires level { level < 4 }
-    requires few { length (options_at (map (λ w. w.items) words.now)) ≤ 7 }
+    requires few { length (options_at (map (λ w. w.items) words.now)) ≤ 8 }
     ensures { result ≡ place_from level 1 (options_at (map (λ w. w.items) words.now)) }
 {
     let mut word = 1;

@@ -3,14 +3,14 @@ ghost use Rattle.std.specs.Prelude.{◌≡◌, map, codes};
 ghost use Rattle.requests.specs.Reading.{Gives};
 ghost use Rattle.requests.specs.Request.{kind_word};
 ghost use Rattle.requests.specs.declared.question.Question.TheVariants as about;
-ghost use Rattle.requests.specs.Forms.{numbered, addressed, run_form, run_revolve_form, plan_form, periodic_form, check_form, certify_form, price_form, ask_form, demo_form, form_taken, command_of};
+ghost use Rattle.requests.specs.Forms.{numbered, addressed, run_form, run_revolve_form, plan_form, periodic_form, check_form, certify_form, price_form, ask_form, find_form, demo_form, form_taken, command_of};
 ghost use Rattle.requests.specs.RequestReading.{as_command};
 
 use crate::kind::PlanKind;
 use crate::operands::Operands;
 use crate::question::Question;
 use crate::request::{
-    Ask, Certify, Check, Command, Demo, PlanFor, PlanPeriodic, Price, Run, RunRevolve,
+    Ask, Certify, Check, Command, Demo, Find, PlanFor, PlanPeriodic, Price, Run, RunRevolve,
 };
 
 /// The command that the words behind the options are.
@@ -30,6 +30,7 @@ pub fn read_command(words: &[Vec<u8>]) -> Option<Command<'_>>
         .or(read_ask_state(words))
         .or(read_ask_last_write(words))
         .or(read_ask_last_change(words))
+        .or(read_find(words))
         .or(read_demo(words))
 }
 
@@ -205,6 +206,24 @@ fn read_ask_last_change(words: &[Vec<u8>]) -> Option<Command<'_>>
     };
     let question = Question::LastChange(words.address());
     words.finish(Command::Ask(Ask { question, run }))
+}
+
+fn read_find(words: &[Vec<u8>]) -> Option<Command<'_>>
+    ensures { Gives as_command result (form_taken find_form (map (λ w. w.items) words.now)) }
+{
+    let mut words = Operands::of(words);
+    words.word(b"ask");
+    words.word(b"find");
+    let program = words.name();
+    let journal = words.name_or_dash();
+    let steps = words.number();
+    let digest = words.digest();
+    words.finish(Command::Find(Find {
+        program,
+        journal,
+        steps,
+        digest,
+    }))
 }
 
 fn read_demo(words: &[Vec<u8>]) -> Option<Command<'_>>

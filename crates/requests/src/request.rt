@@ -1,12 +1,12 @@
 // What the words ask for: options and a command, as a value that borrows the names.
-ghost use Rattle.std.specs.Prelude.{◌≡◌, map, IfSome, IfNone, MatchOption};
+ghost use Rattle.std.specs.Prelude.{◌≡◌, ◌≤◌, map, IfSome, IfNone, MatchOption};
 ghost use Rattle.std.specs.List.{AllByRecursion, flat_map};
-ghost use Rattle.requests.specs.Operands.{within, question_bound};
-ghost use Rattle.requests.specs.Request.{Request as ARequest, Says, steps_limit, plan_limit, period_limit, slots_limit, seed_limit};
-ghost use Rattle.requests.specs.Bounds.{stack_limit, workers_limit, level_limit, numbers, option_numbers, command_numbers, IsWithin, RefusesFirst};
+ghost use Rattle.requests.specs.Operands.{steps_limit, instructions_limit, within, question_bound};
+ghost use Rattle.requests.specs.Request.{Request as ARequest, Says, plan_limit, period_limit, slots_limit, seed_limit};
+ghost use Rattle.requests.specs.Bounds.{stack_limit, workers_limit, unit_limit, level_limit, numbers, option_numbers, command_numbers, IsWithin, RefusesFirst};
 ghost use Rattle.requests.specs.Reading.{Gives};
 ghost use Rattle.requests.specs.ChoiceReading.{options_at, as_choice};
-ghost use Rattle.requests.specs.RequestReading.{request_read, as_command, request_of};
+ghost use Rattle.requests.specs.RequestReading.{run_numbers, asked_numbers, request_read, as_command, request_of};
 
 use crate::bounds::{Bounded, first_outside};
 use crate::ended::Ended;
@@ -18,6 +18,9 @@ use plan_types::{MOST_SLOTS, MOST_STEPS};
 
 // The address of the last word in the machine's memory.
 const LAST_WORD: u64 = 0xffff_fffc;
+
+// The most instructions that a step of a schedule is.
+const MOST_UNIT: u64 = 1024;
 
 /// What the words ask for.
 #[derive(Debug, Drop)]
@@ -45,6 +48,8 @@ pub enum Command<'a> {
     Price(Price<'a>),
     /// To ask something of a run.
     Ask(Ask<'a>),
+    /// To find the last state of a run that has a digest.
+    Find(Find<'a>),
     /// To run a program that is made from a number.
     Demo(Demo),
 }
@@ -117,6 +122,15 @@ pub struct Ask<'a> {
     pub run: Run<'a>,
 }
 
+/// To find the last of the states of a run over so many steps whose image has this SHA-256.
+#[derive(Clone, Copy, Debug)]
+pub struct Find<'a> {
+    pub program: &'a [u8],
+    pub journal: Option<&'a [u8]>,
+    pub steps: u64,
+    pub digest: [u8; 32],
+}
+
 /// To run a program that is made from a number backward by the list of Revolve, over so many steps, with so many slots of
 /// memory.
 #[derive(Clone, Copy, Debug)]
@@ -150,6 +164,18 @@ fn workers_bound(count: u64) -> Bounded
     }
 }
 
+// The bounds of a unit.
+fn unit_bound(count: u64) -> Bounded
+    ensures { result ≡ within unit_limit count }
+{
+    Bounded {
+        number: count,
+        least: 1,
+        greatest: MOST_UNIT,
+        rule: 12,
+    }
+}
+
 // The bounds of a level.
 fn level_bound(level: u64) -> Bounded
     ensures { result ≡ within level_limit level }
@@ -171,6 +197,18 @@ fn steps_bound(steps: u64) -> Bounded
         least: 0,
         greatest: MOST_STEPS as u64,
         rule: 1,
+    }
+}
+
+// The bounds of the instructions of a run that a list goes over.
+fn instructions_bound(instructions: u64) -> Bounded
+    ensures { result ≡ within instructions_limit instructions }
+{
+    Bounded {
+        number: instructions,
+        least: 0,
+        greatest: MOST_STEPS as u64,
+        rule: 13,
     }
 }
 
@@ -207,15 +245,15 @@ fn period_bound(period: u64) -> Bounded
     }
 }
 
-// The bounds of the number of a question about a run of so many steps.
-fn question_bound(steps: u64, question: Question) -> Bounded
-    ensures { result ≡ question_bound steps question }
+// The bounds of the number of a question about a run whose last state has this number.
+fn question_bound(last: u64, question: Question) -> Bounded
+    ensures { result ≡ question_bound last question }
 {
     match question {
         Question::State(place) => Bounded {
             number: place,
             least: 0,
-            greatest: steps,
+            greatest: last,
             rule: 6,
         },
         Question::LastWrite(address) | Question::LastChange(address) => Bounded {
@@ -258,14 +296,15 @@ impl Request<'_> {
     {
         match options_refusal(self.options.words()) {
             Some(refusal) => Some(refusal),
-            None => self.command.refusal(),
+            None => self.command.refusal(self.options.unit_count()),
         }
     }
 }
 
 // The same for the numbers of the options at the front of the words.
 fn options_refusal(words: &[Vec<u8>]) -> Option<Ended>
-    ensures { MatchOption result (AllByRecursion IsWithin (flat_map option_numbers (options_at (map (λ w. w.items) words.now)))) (RefusesFirst (flat_map option_numbers (options_at (map (λ w. w.items) words.now)))) }
+    ensures { MatchOption result (AllByRecursion IsWithin (flat_map option_numbers (options_at (map (λ w. w.items) words.now))))
+        (RefusesFirst (flat_map option_numbers (options_at (map (λ w. w.items) words.now)))) }
 {
     let mut rest = words;
     while let Some((choice, behind)) = next_option(rest) {
@@ -286,19 +325,22 @@ impl Choice<'_> {
             Choice::Raw => None,
             Choice::Stack(pages) => first_outside(&[stack_bound(*pages)]),
             Choice::Workers(count) => first_outside(&[workers_bound(*count)]),
+            Choice::Unit(count) => first_outside(&[unit_bound(*count)]),
             Choice::Files(level, _) => first_outside(&[level_bound(*level)]),
         }
     }
 }
 
 impl Command<'_> {
-    // The same for the numbers of a command.
-    fn refusal(&self) -> Option<Ended>
-        ensures { MatchOption result (AllByRecursion IsWithin (command_numbers (as_command self.now))) (RefusesFirst (command_numbers (as_command self.now))) }
+    // The same for the numbers of a command, whose steps are units of so many instructions.
+    fn refusal(&self, unit: u64) -> Option<Ended>
+        requires { unit ≤ 1024 }
+        ensures { MatchOption result (AllByRecursion IsWithin (command_numbers unit (as_command self.now)))
+            (RefusesFirst (command_numbers unit (as_command self.now))) }
     {
         match self {
-            Command::Run(run) => first_outside(&[steps_bound(run.steps)]),
-            Command::RunRevolve(run) => first_outside(&[steps_bound(run.steps)]),
+            Command::Run(run) => run_refusal(unit, run.steps),
+            Command::RunRevolve(run) => run_refusal(unit, run.steps),
             Command::Plan(plan) => first_outside(&[plan_bound(plan.kind, plan.steps)]),
             Command::PlanPeriodic(plan) => {
                 first_outside(&[steps_bound(plan.steps), period_bound(plan.period)])
@@ -306,15 +348,38 @@ impl Command<'_> {
             Command::Check(check) => first_outside(&[steps_bound(check.steps)]),
             Command::Certify(certify) => first_outside(&[steps_bound(certify.steps)]),
             Command::Price(price) => first_outside(&[steps_bound(price.steps)]),
-            Command::Ask(ask) => {
-                let steps = ask.run.steps;
-                first_outside(&[steps_bound(steps), question_bound(steps, ask.question)])
-            }
+            Command::Ask(ask) => question_refusal(unit, ask.run.steps, ask.question),
+            Command::Find(find) => first_outside(&[steps_bound(find.steps)]),
             Command::Demo(demo) => first_outside(&[
                 seed_bound(demo.number),
                 steps_bound(demo.steps),
                 slots_bound(demo.slots),
             ]),
+        }
+    }
+}
+
+// The same for the steps of a run, each of them a unit.
+fn run_refusal(unit: u64, steps: u64) -> Option<Ended>
+    requires { unit ≤ 1024 }
+    ensures { MatchOption result (AllByRecursion IsWithin (run_numbers unit steps)) (RefusesFirst (run_numbers unit steps)) }
+{
+    match first_outside(&[steps_bound(steps)]) {
+        Some(refusal) => Some(refusal),
+        None => first_outside(&[instructions_bound(unit * steps)]),
+    }
+}
+
+// The same for a question about such a run.
+fn question_refusal(unit: u64, steps: u64, question: Question) -> Option<Ended>
+    requires { unit ≤ 1024 }
+    ensures { MatchOption result (AllByRecursion IsWithin (asked_numbers unit steps question)) (RefusesFirst (asked_numbers unit steps question)) }
+{
+    match first_outside(&[steps_bound(steps)]) {
+        Some(refusal) => Some(refusal),
+        None => {
+            let last = unit * steps;
+            first_outside(&[question_bound(last, question), instructions_bound(last)])
         }
     }
 }

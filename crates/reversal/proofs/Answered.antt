@@ -8,9 +8,7 @@ use Rattle.plan_types.specs.declared.action.Action.TheVariants.{Forward, Reverse
 use Rattle.level_book.specs.declared.book.Slots.{Slots}
 use Rattle.level_book.specs.Valid.{Valid}
 use Rattle.level_book.specs.CostFold.{steps_of, forward}
-use Rattle.rv_machine.specs.MachineState.{MachineState}
 use Rattle.reverse_runner.specs.Handed.{numbers_from, handed_by, handed, countdown}
-use Rattle.reversal.proofs.Progress.{one_times}
 use Rattle.reverse_runner.proofs.Handing.{valid_hands}
 use Rattle.reverse_runner.specs.KeepersSeen.{calls_of}
 use Rattle.reverse_queries.specs.Queries.{hands_out, front_to, up_to}
@@ -19,7 +17,10 @@ use Rattle.requests.specs.declared.question.Question.TheVariants.{State, LastWri
 use Rattle.requests.specs.Operands.{question_bound}
 use Rattle.requests.specs.Bounds.{IsWithin}
 use Rattle.reversal.specs.Output.{line_of}
-use Rattle.reversal.specs.Deeds.{Deed, States, Shown, ask, deed_for, unseen_deed, writing, answer_text, deeds, output, steps_taken, bytes_of, bytes_written, writes_made, steps_made}
+use Rattle.reversal.specs.Deeds.{Deed, States, deed_for, unseen_deed, writing, bytes_of, bytes_written, writes_made, steps_made}
+use Rattle.reversal.specs.Course.{Shown}
+use Rattle.reversal.specs.CommandAsk.{answer_text, asking}
+use Rattle.reversal.specs.Job.{Run, last_of}
 
 -- ---- one state
 
@@ -76,9 +77,9 @@ front_writes states unit steps place [] h = absurd h
 front_writes states unit steps place (a ∷ rest) h = by_cases (hands_out unit steps place a) refl (front_writes states unit steps place rest)
   where
     by_cases : (b : Bool) → hands_out unit steps place a ≡ b → (IsIn place (handed unit steps rest) → writes_made (map (deed_for states unit steps place) (front_to unit steps place rest)) ≡ 1) → writes_made (map (deed_for states unit steps place) (front_to unit steps place (a ∷ rest))) ≡ 1
-    by_cases true e later = ap (λ b. writes_made (record { pieces = cond b (line_of states place ∷ []) []; steps = unit * steps_of a; calls = calls_of a } ∷ map (deed_for states unit steps place) (cond b [] (front_to unit steps place rest)))) e
+    by_cases true e later = ap (λ b. writes_made (record { pieces = cond b (line_of states place ∷ []) []; steps = unit * steps_of a; spent = 0; calls = calls_of a } ∷ map (deed_for states unit steps place) (cond b [] (front_to unit steps place rest)))) e
     by_cases false e later =
-        ap (λ b. writes_made (record { pieces = cond b (line_of states place ∷ []) []; steps = unit * steps_of a; calls = calls_of a } ∷ map (deed_for states unit steps place) (cond b [] (front_to unit steps place rest)))) e
+        ap (λ b. writes_made (record { pieces = cond b (line_of states place ∷ []) []; steps = unit * steps_of a; spent = 0; calls = calls_of a } ∷ map (deed_for states unit steps place) (cond b [] (front_to unit steps place rest)))) e
         ∙ (let sum = sum_by-cons (λ (d : Deed). length d.pieces) (unseen_deed unit a) (map (deed_for states unit steps place) (front_to unit steps place rest)) in
         let one = later (hands_or unit steps place a (handed unit steps rest) e h) in
         omega (arith, sum, one))
@@ -101,12 +102,11 @@ text_bytes unit list text = unseen_bytes unit list (writing (text ∷ []) ∷ []
 
 -- ---- both
 
-pub bytes_asked : (shown : Shown) (question : Question) (first : MachineState) (journal : List (List ℕ)) (steps : ℕ) (slots : List Slots) (list : List Action) → IsWithin (question_bound steps question) → Valid steps slots list →
-    bytes_written (deeds shown (ask question first journal steps slots list)) ≡ output shown (ask question first journal steps slots list)
-bytes_asked shown (State place) first journal steps slots list within valid =
-    place_bytes shown.states 1 steps place slots list (let le = within.1 in omega (arith, le)) valid
-bytes_asked shown (LastWrite address) first journal steps slots list within valid = text_bytes 1 (up_to 1 steps shown.answer list) (answer_text shown.answer)
-bytes_asked shown (LastChange address) first journal steps slots list within valid = text_bytes 1 (up_to 1 steps shown.answer list) (answer_text shown.answer)
+pub bytes_asked : (shown : Shown) (question : Question) (run : Run) → IsWithin (question_bound (last_of run) question) → Valid run.steps run.slots run.list →
+    bytes_written ((asking question run).deeds shown) ≡ (asking question run).output shown
+bytes_asked shown (State place) run within valid = place_bytes shown.states run.unit run.steps place run.slots run.list within.1 valid
+bytes_asked shown (LastWrite address) run within valid = text_bytes run.unit (up_to run.unit run.steps shown.answer run.list) (answer_text shown.answer)
+bytes_asked shown (LastChange address) run within valid = text_bytes run.unit (up_to run.unit run.steps shown.answer run.list) (answer_text shown.answer)
 
 -- deeds of actions take their steps
 pub steps_of_deeds : (unit : ℕ) (f : Action → Deed) → ((a : Action) → (f a).steps ≡ unit * steps_of a) → (list : List Action) → steps_made (map f list) ≡ unit * forward list
@@ -124,8 +124,7 @@ unseen_steps unit list text =
     sum_by-append (λ (d : Deed). d.steps) (map (unseen_deed unit) list) (writing (text ∷ []) ∷ [])
     ∙ (let same = steps_of_deeds unit (unseen_deed unit) (λ a. refl) list in omega (arith, same))
 
-pub steps_asked : (shown : Shown) (question : Question) (first : MachineState) (journal : List (List ℕ)) (steps : ℕ) (slots : List Slots) (list : List Action) →
-    steps_made (deeds shown (ask question first journal steps slots list)) ≡ steps_taken shown (ask question first journal steps slots list)
-steps_asked shown (State place) first journal steps slots list = steps_of_deeds 1 (deed_for shown.states 1 steps place) (λ a. refl) (front_to 1 steps place list) ∙ one_times (forward (front_to 1 steps place list))
-steps_asked shown (LastWrite address) first journal steps slots list = unseen_steps 1 (up_to 1 steps shown.answer list) (answer_text shown.answer) ∙ one_times (forward (up_to 1 steps shown.answer list))
-steps_asked shown (LastChange address) first journal steps slots list = unseen_steps 1 (up_to 1 steps shown.answer list) (answer_text shown.answer) ∙ one_times (forward (up_to 1 steps shown.answer list))
+pub steps_asked : (shown : Shown) (question : Question) (run : Run) → steps_made ((asking question run).deeds shown) ≡ (asking question run).steps shown
+steps_asked shown (State place) run = steps_of_deeds run.unit (deed_for shown.states run.unit run.steps place) (λ a. refl) (front_to run.unit run.steps place run.list)
+steps_asked shown (LastWrite address) run = unseen_steps run.unit (up_to run.unit run.steps shown.answer run.list) (answer_text shown.answer)
+steps_asked shown (LastChange address) run = unseen_steps run.unit (up_to run.unit run.steps shown.answer run.list) (answer_text shown.answer)

@@ -6,9 +6,12 @@ use Rattle.requests.specs.Ending.{no_memory, too_long as longer}
 use Rattle.requests.specs.Request.{Request, Says}
 use Rattle.requests.specs.Inputs.{Input, inputs_of, FailsAtInput}
 use Rattle.requests.specs.InputReading.{all, too_long, Reads, Stops}
-use Rattle.reversal.specs.Deeds.{Job, Shown, Moment, HaltsShowing}
+use Rattle.reversal.specs.Job.{Job}
+use Rattle.reversal.specs.Course.{Shown, HaltsShowing, Course, Ends}
+use Rattle.reversal.specs.Moment.{Moment}
 use Rattle.reversal.specs.JobReading.{Works}
-use Rattle.reversal.specs.Decision.{Decision, refuse, accept, DecidesBytes, Comes, JobEnds, EndsBy}
+use Rattle.reversal.specs.Table.{Decision, refuse, accept}
+use Rattle.reversal.specs.Decision.{DecidesBytes, Comes, EndsBy, course_of}
 use Rattle.requests.proofs.Requests.{one_request}
 use Rattle.reversal.proofs.Refused.{refusing_at}
 use Rattle.reversal.proofs.Deciding.{read_decides, long_decides, refuse_by, decided_refusal}
@@ -94,8 +97,8 @@ working_at e status is above = record { not_words = λ x. absurd (omega (arith, 
 working_done : (e : Ended) → e.status ≡ 0 → IsWorking e
 working_done e is = record { not_words = λ x. absurd (omega (arith, x, is)); not_input = λ x. absurd (omega (arith, x, is)) }
 
-ends_working : (shown : Shown) (job : Job) (e : Ended) (old new : Moment) → JobEnds shown job e old new → IsWorking e × (e.status ≢ 17)
-ends_working shown job e old new h = elim h [
+ends_working : (course : Course) (shown : Shown) (e : Ended) (old new : Moment) → Ends course shown e old new → IsWorking e × (e.status ≢ 17)
+ends_working course shown e old new h = elim h [
   | inl finished ↦ let status = ap (λ (y : Ended). y.status) finished.0 in (working_done e status, λ x. absurd (omega (arith, x, status)))
   | inr more ↦ elim more [
     | inl sink ↦ let status = ap (λ (y : Ended). y.status) sink.1 in (working_at e 14 status (omega arith), λ x. absurd (omega (arith, x, status)))
@@ -112,15 +115,15 @@ works_ends job e old new h n17 = elim h [
   | inr memory ↦ absurd (n17 (ap (λ (y : Ended). y.status) memory.0))
 ]
 
-pub works_halts : (job : Job) (e : Ended) (old new : Moment) → Works job e old new → e.status ≡ 17 → (e ≡ no_memory) × HaltsShowing job old new
+pub works_halts : (job : Job) (e : Ended) (old new : Moment) → Works job e old new → e.status ≡ 17 → (e ≡ no_memory) × HaltsShowing (course_of job) old new
 works_halts job e old new h is = elim h [
-  | inl ends ↦ absurd ((ends_working ends.0 job e old new ends.1.1).1 is)
+  | inl ends ↦ absurd ((ends_working (course_of job) ends.0 e old new ends.1.1).1 is)
   | inr memory ↦ memory
 ]
 
 pub works_not : (job : Job) (e : Ended) (old new : Moment) → Works job e old new → IsWorking e
 works_not job e old new h = elim h [
-  | inl ends ↦ (ends_working ends.0 job e old new ends.1.1).0
+  | inl ends ↦ (ends_working (course_of job) ends.0 e old new ends.1.1).0
   | inr memory ↦ working_at e 17 (ap (λ (y : Ended). y.status) memory.0) (omega arith)
 ]
 

@@ -1,46 +1,47 @@
 -- What was done of a question: the actions of a list, up to one that was refused, or all of them, and then its answer.
-use Rattle.std.proofs.Common.{◌≡◌, ◌≢◌, ◌⊎◌, inl, inr, ℕ, zero, suc, ◌+◌, ◌*◌, ◌^◌, ◌<◌, ◌≤◌, ◌++◌, ◌==◌, ◌&&◌, Bool, true, false, cond, List, [], ◌∷◌, length, map, take, append-nil, Option, None, Some, refl, sym, ◌∙◌, ap, subst, arith, slice_get, sum_by}
+use Rattle.std.proofs.Common.{◌≡◌, ◌≢◌, ◌⊎◌, ℕ, zero, suc, ◌+◌, ◌*◌, ◌^◌, ◌<◌, ◌≤◌, ◌++◌, ◌==◌, ◌&&◌, Bool, true, false, cond, List, [], ◌∷◌, length, map, take, append-nil, Option, None, Some, refl, sym, ◌∙◌, ap, subst, arith, slice_get, sum_by, inl, inr}
 use Rattle.std.proofs.lemmas.Bool.{eqb-true, eq-eqb, le-leb, lt-ltb}
 use Rattle.std.proofs.lemmas.List.{take-map, take_all, take_at}
 use Rattle.std.proofs.lemmas.List.Sums.{sum_by-cons, sum_by-append}
 use Rattle.std.proofs.lemmas.Option.{none-some, same_Some}
-use Rattle.std.proofs.Math.Nat.{min-eq_left}
 use Rattle.plan_types.specs.declared.action.Action.{Action}
 use Rattle.plan_types.specs.declared.action.Action.TheVariants.{Forward, Reverse, Copy, Move, EndForward, EndReverse}
-use Rattle.level_book.specs.declared.book.Slots.{Slots}
 use Rattle.level_book.specs.Valid.{Valid}
 use Rattle.level_book.specs.CostFold.{steps_of, forward, writes, reads}
-use Rattle.keepers.specs.Counts.{raised}
+use Rattle.keepers.specs.Counts.{raised, Rose}
 use Rattle.keepers.specs.Told.{Tells, AddsPrefix}
 use Rattle.rv_machine.specs.MachineState.{MachineState}
-use Rattle.rv_machine.specs.States.{state_number}
 use Rattle.reverse_runner.specs.declared.fault.RunFault.{RunFault}
 use Rattle.reverse_runner.specs.declared.fault.RunFault.TheVariants.{Keeper, Damaged, Visitor, Memory, Ended}
 use Rattle.reverse_runner.specs.Handed.{numbers_from, handed_by}
-use Rattle.reverse_runner.specs.KeepersSeen.{Calls, Called, CalledBetween, calls_of}
+use Rattle.reverse_runner.specs.KeepersSeen.{Calls, calls_of, Called, CalledBetween}
 use Rattle.reverse_runner.specs.Acts.{Holdings}
 use Rattle.reverse_runner.specs.SessionState.{SessionState, holdings_of}
-use Rattle.reverse_runner.specs.Standing.{begun, IsDamage}
+use Rattle.reverse_runner.specs.Standing.{begun}
 use Rattle.schedule_rules.proofs.Judging.{take_one_more}
-use Rattle.reverse_queries.specs.Queries.{IsLast, hands_out, front_to, up_to}
-use Rattle.reverse_queries.specs.OnTheWay.{GoesThrough, IsFoundOn}
+use Rattle.reverse_queries.specs.Queries.{hands_out, front_to, up_to, IsLast}
 use Rattle.reverse_queries.specs.Performing.{calls_of_all, done_after, IsOut, FaultFits, RefusedIn}
 use Rattle.requests.specs.declared.ended.Ended.{Ended as Ending}
-use Rattle.requests.specs.declared.question.Question.{Question}
-use Rattle.requests.specs.declared.question.Question.TheVariants.{State}
-use Rattle.reversal.specs.Output.{line_of, Adds}
 use Rattle.requests.specs.Ending.{done, stopped}
-use Rattle.reversal.specs.Deeds.{Job, Deed, States, Shown, ask, deed_for, unseen_deed, writing, answer_text, deeds, bytes_of, bytes_written, writes_made, steps_made, calls_made, Moment, Did, BreaksOff, ComesTo, held_at_start, IsShown, IsShownNext, IsFound, IsAnswered, AllTell, output, steps_taken, shown_place}
-use Rattle.reversal.specs.JobReading.{Works, fault_ending}
-use Rattle.reversal.proofs.Doing.{tells_nothing, raised_none, did_then, did_one, is_until_first, did_until, failed_at, damaged_at, halted_at}
 use Rattle.requests.proofs.Lists.{get_map}
-use Rattle.reversal.proofs.Silent.{get_front, take_front, uncalled}
-use Rattle.reversal.proofs.Demonstrating.{behind}
+use Rattle.std.proofs.Math.Nat.{min-eq_left}
+use Rattle.reversal.specs.Job.{Run, last_of, state_of}
+use Rattle.reversal.specs.Output.{line_of, Adds}
+use Rattle.reversal.specs.Moment.{Moment, KeepersAreQuiet, NothingFails, SinkFails, KeeperFails, AllTell}
+use Rattle.reversal.specs.Deeds.{Deed, States, deed_for, unseen_deed, writing, CallsSome, bytes_of, bytes_written, writes_made, steps_made, calls_made, Did}
+use Rattle.reversal.specs.Going.{AreOfRun, GoesOver, ComesTo, ComesToDamage, SameLevels, AllLevels, SparesNext, IsFound}
+use Rattle.reversal.specs.Course.{Shown, Course, BreaksOff, EndsShowing}
+use Rattle.reversal.specs.CommandAsk.{asking_state, answer_text, IsLastStep, asking_last}
+use Rattle.reversal.specs.JobReading.{WorksBy, fault_ending, run_from}
 use Rattle.reversal.proofs.Pieces.{not_called}
+use Rattle.reversal.proofs.Answered.{place_writes, place_bytes, steps_of_deeds}
+use Rattle.reversal.proofs.Doing.{tells_nothing, raised_none, did_then, did_one, is_until_first, failed_at, damaged_at, halted_at}
+use Rattle.reversal.proofs.Silent.{uncalled, get_front, take_front}
 use Rattle.reversal.proofs.Performing.{gets_pair}
+use Rattle.reversal.proofs.Progress.{FaultCounts}
+use Rattle.reversal.proofs.Demonstrating.{behind}
 use Rattle.reversal.proofs.Showing.{settled, settled_at}
-use Rattle.reversal.proofs.Progress.{one_times}
-use Rattle.reversal.proofs.Answered.{steps_of_deeds, place_bytes, place_writes}
+use Rattle.reverse_queries.specs.OnTheWay.{IsFoundOn}
 
 -- ---- how many actions were performed
 
@@ -148,13 +149,15 @@ broken_at unit f are list more i next a c at silent unwritten told wrote counted
     let L : List Deed → Type 0 = λ ds. CalledBetween (calls_made ds) (calls_made (take (i + 1) (map f list ++ more))) a.calls c.calls in
     let H : List Deed → Type 0 = λ ds. CalledBetween (calls_made (take i (map f list))) (calls_made ds) a.calls c.calls in
     let M : List Deed → Type 0 = λ ds. CalledBetween (calls_made ds) (calls_made (map f (take (i + 1) list))) a.calls c.calls in
+    let steps = counted ∙ ap (λ n. a.steps + n) (sym (ap steps_made (front ∙ take-map f i list) ∙ steps_mapped unit f are (take i list))) in
     let between = between_mapped unit f are (take i list) (take (i + 1) list) a.calls c.calls called in (
       record {
         next = f next;
         there = get_front (map f list) more i (f next) there;
         added = subst T (sym (ap bytes_written front ∙ silent)) (tells_nothing a.told c.told told);
         wrote = wrote ∙ raised_none a.writes ∙ ap (raised a.writes) (sym (ap writes_made front ∙ unwritten));
-        counted = counted ∙ ap (λ n. a.steps + n) (sym (ap steps_made (front ∙ take-map f i list) ∙ steps_mapped unit f are (take i list)));
+        steps_least = omega (arith, steps);
+        steps_most = omega (arith, steps);
         called = subst L (sym front) (subst H (sym (take-map f (i + 1) list) ∙ sym front_more) (subst M (sym (take-map f i list)) between));
       },
       refl,
@@ -219,85 +222,97 @@ out_calls_none unit steps n EndReverse i h = absurd (none-some n h)
 out_calls_none unit steps n EndForward i h = refl
 out_calls_none unit steps n (Reverse from to) i h = refl
 
-module _ (question : Question) (first : MachineState) (journal : List (List ℕ)) (steps : ℕ) (slots : List Slots) (list : List Action) where
-  abbrev pub job : Job
-  job = ask question first journal steps slots list
+-- ---- a question that was refused
 
+-- a session at the start of a run
+abbrev pub fresh : Run → SessionState
+fresh run = begun run.first run.journal run.unit run.steps run.slots
+
+-- what a session that had just begun says of a list of the run's that it refused
+abbrev pub Refused : (Action → Holdings → Type 0) → Run → List Action → RunFault → SessionState → Moment → Moment → Type 0
+Refused Misses run list fault new a c = RefusedIn Misses list fault (fresh run) new a.images a.steps c.steps a.calls c.calls
+
+-- a course that goes over the list of a run, and says nothing of the levels
+record IsAskedOver (run : Run) (course : Course) : Type 1 where
+  damage : (i k : ℕ) (put got : List ℕ) (a : Moment) → ComesToDamage run i k put got a → course.damage i k put got a
+  wants : (d : Deed) → CallsSome d → course.may_want d
+  holds : (Same : SameLevels) (shown : Shown) (i : ℕ) (a c : Moment) → course.holds Same shown i a c
+  levels : (a : Moment) → AllTell course.levels a.images → AllTell (length run.slots) a.images
+
+module _ (run : Run) (course : Course) (over : IsAskedOver run course) (shown : Shown) (a c : Moment) (shows : course.shows shown a) where
   -- by storage, or for want of memory
-  refused_by : (shown : Shown) (fault : RunFault) (ds : List Deed) (i : ℕ) (d : Deed) (a c : Moment) → deeds shown job ≡ ds → IsShown job shown a → ((breaks : BreaksOff ds i a c) × (breaks.next ≡ d)) →
-      (Misses : Action → Holdings → Type 0) (next : Action) (held : Holdings) (states : States) → d.calls ≡ calls_of next → FaultFits Misses fault next held → slice_get list i ≡ Some next →
-      GoesThrough 1 steps journal (take i list) (held_at_start first journal steps slots a) held states → fault ≢ Visitor →
-      ((k : ℕ) (put got : List ℕ) → fault ≡ Damaged k put got → AllTell (length slots) a.images → ⊥) → Works job (fault_ending (i + 1) fault) a c
-  refused_by shown (Keeper k) ds i d a c are is_shown broke Misses next held states same fits there through seen silent =
-      let P : List Deed → Type 0 = λ es. (breaks : BreaksOff es i a c) × (breaks.next ≡ d) in
+  refused_by : (fault : RunFault) (i : ℕ) (d : Deed) → ((breaks : BreaksOff (course.deeds shown) i a c) × (breaks.next ≡ d)) → (Misses : Action → Holdings → Type 0) (next : Action) (held : Holdings) (states : States) →
+      d.calls ≡ calls_of next → FaultFits Misses fault next held → slice_get run.list i ≡ Some next → GoesOver run (take i run.list) a held states → fault ≢ Visitor →
+      ((k : ℕ) (put got : List ℕ) → fault ≡ Damaged k put got → AllTell (length run.slots) a.images → ⊥) → FaultCounts fault a c → WorksBy course (fault_ending (i + 1) fault) a c
+  refused_by (Keeper k) i d broke Misses next held states same fits there through seen silent counts =
       let C : Calls → Type 0 = λ x. 0 < x.puts k + x.gets k + x.frees k in
-      inl (shown, (is_shown, inr (inr (inl (i, k, refl, failed_at shown job i k d a c (subst P (sym are) broke) (subst C (sym same) fits) tt)))))
-  refused_by shown (Damaged k put got) ds i d a c are is_shown broke Misses next held states same fits there through seen silent =
-      let P : List Deed → Type 0 = λ es. (breaks : BreaksOff es i a c) × (breaks.next ≡ d) in
+      let fails : KeeperFails k a c = record { sink = counts.sink_quiet seen; keeper = counts.keeper k refl } in
+      inl (shown, (shows, inr (inr (inl (i, k, refl, failed_at course shown i d a c broke k (subst C (sym same) fits) (over.holds SparesNext shown i a c) fails)))))
+  refused_by (Damaged k put got) i d broke Misses next held states same fits there through seen silent counts =
       let C : Calls → Type 0 = λ x. 0 < x.gets k in
-      let damaged : ComesTo (λ action holds. IsDamage action holds k put got) first journal steps slots list i a =
-      record { held = held; states = states; through = through; next = next; there = there; holds = fits } in
-      inl (shown, (is_shown, inr (inr (inr (i, k, put, got, refl, damaged_at shown job i k put got d a c (subst P (sym are) broke) (subst C (sym same) (gets_pair (λ n. first) 1 steps next fits.number k fits.pair)) damaged (silent k put got refl) tt)))))
-  refused_by shown Visitor ds i d a c are is_shown broke Misses next held states same fits there through seen silent = absurd (seen refl)
-  refused_by shown Memory ds i d a c are is_shown broke Misses next held states same fits there through seen silent =
-      let P : List Deed → Type 0 = λ es. (breaks : BreaksOff es i a c) × (breaks.next ≡ d) in
+      let comes : ComesToDamage run i k put got a = record { held = held; states = states; through = through; next = next; there = there; holds = fits } in
+      let gets = subst C (sym same) (gets_pair (λ n. run.first) run.unit run.steps next fits.number k fits.pair) in
+      let quiet : NothingFails a c = record { sink = counts.sink_quiet seen; keepers = counts.keepers_quiet (λ j e. cc) } in
+      inl (shown, (shows, inr (inr (inr (i, k, put, got, refl, damaged_at course shown i d a c broke k put got gets (over.damage i k put got a comes) (λ tells. silent k put got refl (over.levels a tells)) (over.holds AllLevels shown i a c) quiet)))))
+  refused_by Visitor i d broke Misses next held states same fits there through seen silent counts = absurd (seen refl)
+  refused_by Memory i d broke Misses next held states same fits there through seen silent counts =
       let C : Calls → Type 0 = λ x. (k : ℕ) × (0 < x.puts k + x.gets k + x.frees k) in
-      inr (refl, (shown, (is_shown, halted_at shown job i d a c (subst P (sym are) broke) (subst C (sym same) fits) tt)))
-  refused_by shown Ended ds i d a c are is_shown broke Misses next held states same fits there through seen silent = absurd fits
+      let quiet : NothingFails a c = record { sink = counts.sink_quiet seen; keepers = counts.keepers_quiet (λ j e. cc) } in
+      inr (refl, (shown, (shows, (i, halted_at course shown i d a c broke (over.wants d (subst C (sym same) fits)) (over.holds SparesNext shown i a c) quiet))))
+  refused_by Ended i d broke Misses next held states same fits there through seen silent counts = absurd fits
 
-  -- ---- a state
+-- ---- a state
 
-  -- what is shown where one state is this one
-  abbrev with_state : ℕ → MachineState → Shown
-  with_state n s = record { states = settled (state_number first journal) n s; answer = None }
+state_over : (place : ℕ) (run : Run) → IsAskedOver run (asking_state place run)
+state_over place run = record { damage = λ i k put got a h. h; wants = λ d h. h; holds = λ Same shown i a c. tt; levels = λ a h. h }
+
+module _ (run : Run) (place : ℕ) where
+  abbrev front : List Action
+  front = front_to run.unit run.steps place run.list
+
+  -- what is shown where its state is this one
+  abbrev with_state : MachineState → Shown
+  with_state s = record { states = settled (state_of run) place s; answer = None }
 
   -- over keepers that tell it is that of the run
-  with_state_shown : (n : ℕ) (s : MachineState) (a : Moment) → (AllTell (length slots) a.images → s ≡ state_number first journal n) → IsShown job (with_state n s) a
-  with_state_shown n s a is tells m within = by_cases (m == n) refl
+  with_state_shown : (s : MachineState) (a : Moment) → (AllTell (length run.slots) a.images → s ≡ state_of run place) → AreOfRun run (with_state s).states a
+  with_state_shown s a is tells m within = by_cases (m == place) refl
     where
-      by_cases : (b : Bool) → (m == n) ≡ b → settled (state_number first journal) n s m ≡ state_number first journal m
-      by_cases true e = ap (λ b. cond b s (state_number first journal m)) e ∙ is tells ∙ ap (state_number first journal) (sym (eqb-true m n e))
-      by_cases false e = ap (λ b. cond b s (state_number first journal m)) e
+      by_cases : (b : Bool) → (m == place) ≡ b → settled (state_of run) place s m ≡ state_of run m
+      by_cases true e = ap (λ b. cond b s (state_of run m)) e ∙ is tells ∙ ap (state_of run) (sym (eqb-true m place e))
+      by_cases false e = ap (λ b. cond b s (state_of run m)) e
 
-  -- the run's own states, and no answer
-  abbrev of_run : Shown
-  of_run = record { states = state_number first journal; answer = None }
-
-module _ (first : MachineState) (journal : List (List ℕ)) (steps : ℕ) (slots : List Slots) (list : List Action) where
   -- its list was refused by storage or for want of memory
-  pub state_refused : (Misses : Action → Holdings → Type 0) (place : ℕ) (fault : RunFault) (new : SessionState) (a c : Moment)
-      (refused : RefusedIn Misses (front_to 1 steps place list) fault (begun first journal 1 steps slots) new a.images a.steps c.steps a.calls c.calls) → c.told ≡ a.told → c.writes ≡ a.writes →
-      fault ≢ Visitor → ((k : ℕ) (put got : List ℕ) → fault ≡ Damaged k put got → AllTell (length slots) a.images → ⊥) →
-      Works (ask (State place) first journal steps slots list) (fault_ending (refused.place + 1) fault) a c
-  state_refused Misses place fault new a c refused told wrote seen silent =
-      let states = state_number first journal in
-      let f = deed_for states 1 steps place in
-      let front = front_to 1 steps place list in
-      let quiet = hands_first 1 steps place refused.place list refused.within f (place_silent states 1 steps place) in
-      let broke = broken_at 1 f (place_deeds states 1 steps place) front [] refused.place refused.next a c refused.there quiet.0 quiet.1 told wrote refused.counted refused.called in
-      let is = front_is 1 steps place list refused.place refused.next refused.there in
-      let T : List Action → Type 0 = λ l. GoesThrough 1 steps journal l (held_at_start first journal steps slots a) refused.held refused.states in
-      refused_by (State place) first journal steps slots list (of_run (State place) first journal steps slots list) fault (map f front ++ []) refused.place (f refused.next) a c (sym (append-nil (map f front))) (λ tells n within. refl) broke
-      Misses refused.next refused.held refused.states refl refused.fits is.0 (subst T is.1 refused.through) seen silent
+  state_refused : (Misses : Action → Holdings → Type 0) (fault : RunFault) (new : SessionState) (a c : Moment) (refused : Refused Misses run front fault new a c) → c.told ≡ a.told → c.writes ≡ a.writes → fault ≢ Visitor →
+      ((k : ℕ) (put got : List ℕ) → fault ≡ Damaged k put got → AllTell (length run.slots) a.images → ⊥) → FaultCounts fault a c → WorksBy (asking_state place run) (fault_ending (refused.place + 1) fault) a c
+  state_refused Misses fault new a c refused told wrote seen silent counts =
+      let shown : Shown = record { states = state_of run; answer = None } in
+      let f = deed_for shown.states run.unit run.steps place in
+      let quiet = hands_first run.unit run.steps place refused.place run.list refused.within f (place_silent shown.states run.unit run.steps place) in
+      let broke = broken_at run.unit f (place_deeds shown.states run.unit run.steps place) front [] refused.place refused.next a c refused.there quiet.0 quiet.1 told wrote refused.counted refused.called in
+      let is = front_is run.unit run.steps place run.list refused.place refused.next refused.there in
+      let T : List Action → Type 0 = λ l. GoesOver run l a refused.held refused.states in
+      let B : List Deed → Type 0 = λ ds. (breaks : BreaksOff ds refused.place a c) × (breaks.next ≡ f refused.next) in
+      refused_by run (asking_state place run) (state_over place run) shown a c (λ tells n within. refl) fault refused.place (f refused.next) (subst B (append-nil (map f front)) broke)
+      Misses refused.next refused.held refused.states refl refused.fits is.0 (subst T is.1 refused.through) seen silent counts
 
   -- its line was written in part
-  pub state_missed : (Misses : Action → Holdings → Type 0) (place : ℕ) (new : SessionState) (a c : Moment) (s : MachineState)
-      (refused : RefusedIn Misses (front_to 1 steps place list) Visitor (begun first journal 1 steps slots) new a.images a.steps c.steps a.calls c.calls) → IsOut 1 steps place s refused.next refused.held →
-      (AllTell (length slots) a.images → s ≡ state_number first journal place) → Tells a.told c.told (AddsPrefix (line_of (λ _. s) place)) → c.writes ≡ raised a.writes 1 →
-      Works (ask (State place) first journal steps slots list) (fault_ending (refused.place + 1) Visitor) a c
-  state_missed Misses place new a c s refused out is part once =
-      let shown = with_state (State place) first journal steps slots list place s in
-      let f = deed_for shown.states 1 steps place in
-      let front = front_to 1 steps place list in
+  state_missed : (Misses : Action → Holdings → Type 0) (new : SessionState) (a c : Moment) (s : MachineState) (refused : Refused Misses run front Visitor new a c) → IsOut run.unit run.steps place s refused.next refused.held →
+      (AllTell (length run.slots) a.images → s ≡ state_of run place) → Tells a.told c.told (AddsPrefix (line_of (λ _. s) place)) → c.writes ≡ raised a.writes 1 → SinkFails a c →
+      WorksBy (asking_state place run) (fault_ending (refused.place + 1) Visitor) a c
+  state_missed Misses new a c s refused out is part once fails =
+      let shown = with_state s in
+      let f = deed_for shown.states run.unit run.steps place in
+      let are = place_deeds shown.states run.unit run.steps place in
       let i = refused.place in
-      let quiet = hands_first 1 steps place i list refused.within f (place_silent shown.states 1 steps place) in
+      let quiet = hands_first run.unit run.steps place i run.list refused.within f (place_silent shown.states run.unit run.steps place) in
       let at = get_map f front i refused.next refused.there in
-      let pieces : (f refused.next).pieces ≡ line_of shown.states place ∷ [] = ap (λ b. cond b (line_of shown.states place ∷ []) []) (out_hands 1 steps place refused.next out.place out.number) in
-      let settled_so : shown.states place ≡ s = settled_at (state_number first journal) place s in
+      let pieces : (f refused.next).pieces ≡ line_of shown.states place ∷ [] = ap (λ b. cond b (line_of shown.states place ∷ []) []) (out_hands run.unit run.steps place refused.next out.place out.number) in
+      let settled_so : shown.states place ≡ s = settled_at (state_of run) place s in
       let same : line_of (λ _. s) place ≡ line_of shown.states place = ap (λ x. line_of (λ _. x) place) (sym settled_so) in
       let T : List ℕ → Type 0 = λ l. Tells a.told c.told (AddsPrefix l) in
-      let b : Moment = record { told = a.told; writes = a.writes; steps = c.steps; calls = c.calls; images = c.images } in
-      let none = out_calls_none 1 steps place refused.next out.place out.number in
+      let b : Moment = record { told = a.told; writes = a.writes; faults = a.faults; steps = c.steps; calls = c.calls; images = c.images; keeper_faults = a.keeper_faults } in
+      let none = out_calls_none run.unit run.steps place refused.next out.place out.number in
       let N : Calls → Type 0 = λ x. (k : ℕ) → (x.puts k ≡ 0) × (x.gets k ≡ 0) × (x.frees k ≡ 0) in
       let zeros = subst N (sym none) (λ k. (refl, refl, refl)) in
       let last = take_one_more front i refused.next refused.there in
@@ -312,213 +327,134 @@ module _ (first : MachineState) (journal : List (List ℕ)) (steps : ℕ) (slots
       let before : Did (take i (map f front)) a b = record {
         added = (let P : List ℕ → Type 0 = λ l. Tells a.told a.told (Adds l) in subst P (sym quiet.0) (tells_nothing a.told a.told refl));
         wrote = raised_none a.writes ∙ ap (raised a.writes) (sym quiet.1);
-        counted = refused.counted ∙ ap (λ n. a.steps + n) (sym (ap steps_made (take-map f i front) ∙ steps_mapped 1 f (place_deeds shown.states 1 steps place) (take i front)));
-        called = (let P : List Deed → Type 0 = λ ds. Called (calls_made ds) a.calls c.calls in subst P (sym (take-map f i front)) (called_mapped 1 f (place_deeds shown.states 1 steps place) (take i front) a.calls c.calls called));
+        counted = refused.counted ∙ ap (λ n. a.steps + n) (sym (ap steps_made (take-map f i front) ∙ steps_mapped run.unit f are (take i front)));
+        called = (let P : List Deed → Type 0 = λ ds. Called (calls_made ds) a.calls c.calls in subst P (sym (take-map f i front)) (called_mapped run.unit f are (take i front) a.calls c.calls called));
       } in
-      let front_so = front_is 1 steps place list i refused.next refused.there in
-      let G : List Action → Type 0 = λ l. GoesThrough 1 steps journal l (held_at_start first journal steps slots a) refused.held refused.states in
-      let O : MachineState → Type 0 = λ x. IsOut 1 steps place x refused.next refused.held in
-      let shows : ComesTo (IsOut 1 steps place (shown.states place)) first journal steps slots list i a =
+      let front_so = front_is run.unit run.steps place run.list i refused.next refused.there in
+      let G : List Action → Type 0 = λ l. GoesOver run l a refused.held refused.states in
+      let O : MachineState → Type 0 = λ x. IsOut run.unit run.steps place x refused.next refused.held in
+      let comes : ComesTo (IsOut run.unit run.steps place (shown.states place)) run i a =
       record { held = refused.held; states = refused.states; through = subst G front_so.1 refused.through; next = refused.next; there = front_so.0; holds = subst O (sym settled_so) out } in
-      inl (
-        shown,
-        (
-          with_state_shown (State place) first journal steps slots list place s a is,
-          inr (inl (
-            i,
-            refl,
-            did_until shown (ask (State place) first journal steps slots list) (map f front) i a c refl
-                (is_until_first (map f front) i (f refused.next) (line_of shown.states place) a b c at (ap (λ l. slice_get l 0) pieces) before (subst T same part) once refl (uncalled c.calls)) shows tt,
-          )),
-        ),
-      )
+      let until = is_until_first (map f front) i (f refused.next) (line_of shown.states place) a b c at (ap (λ l. slice_get l 0) pieces) before (subst T same part) once refl (uncalled c.calls) in
+      inl (shown, (with_state_shown s a is, inr (inl (i, refl, record { until = until; answered = comes; held = tt; fails = fails }))))
 
   -- the list was refused
-  pub state_ended : (Misses : Action → Holdings → Type 0) (place : ℕ) (fault : RunFault) (new : SessionState) (a c : Moment)
-      (refused : RefusedIn Misses (front_to 1 steps place list) fault (begun first journal 1 steps slots) new a.images a.steps c.steps a.calls c.calls) →
-      (fault ≢ Visitor → (c.told ≡ a.told) × (c.writes ≡ a.writes)) →
+  pub state_ended : (Misses : Action → Holdings → Type 0) (fault : RunFault) (new : SessionState) (a c : Moment) (refused : Refused Misses run front fault new a c) → (fault ≢ Visitor → (c.told ≡ a.told) × (c.writes ≡ a.writes)) →
       ((next : Action) (held : Holdings) → Misses next held →
-      (s : MachineState) × (IsOut 1 steps place s next held × (AllTell (length slots) a.images → s ≡ state_number first journal place) × Tells a.told c.told (AddsPrefix (line_of (λ _. s) place)) × (c.writes ≡ raised a.writes 1))) →
-      ((k : ℕ) (put got : List ℕ) → fault ≡ Damaged k put got → AllTell (length slots) a.images → ⊥) →
-      Works (ask (State place) first journal steps slots list) (fault_ending (refused.place + 1) fault) a c
-  state_ended Misses place Visitor new a c refused unseen misses silent =
-      let missed = misses refused.next refused.held refused.fits in state_missed Misses place new a c missed.0 refused missed.1.0 missed.1.1 missed.1.2 missed.1.3
-  state_ended Misses place (Keeper k) new a c refused unseen misses silent =
-      let same = unseen (λ e. cc) in state_refused Misses place (Keeper k) new a c refused same.0 same.1 (λ e. cc) silent
-  state_ended Misses place (Damaged k put got) new a c refused unseen misses silent =
-      let same = unseen (λ e. cc) in state_refused Misses place (Damaged k put got) new a c refused same.0 same.1 (λ e. cc) silent
-  state_ended Misses place Memory new a c refused unseen misses silent =
-      let same = unseen (λ e. cc) in state_refused Misses place Memory new a c refused same.0 same.1 (λ e. cc) silent
-  state_ended Misses place Ended new a c refused unseen misses silent =
-      let same = unseen (λ e. cc) in state_refused Misses place Ended new a c refused same.0 same.1 (λ e. cc) silent
+      (s : MachineState) × (IsOut run.unit run.steps place s next held × (AllTell (length run.slots) a.images → s ≡ state_of run place) × Tells a.told c.told (AddsPrefix (line_of (λ _. s) place)) × (c.writes ≡ raised a.writes 1))) →
+      ((k : ℕ) (put got : List ℕ) → fault ≡ Damaged k put got → AllTell (length run.slots) a.images → ⊥) → FaultCounts fault a c → WorksBy (asking_state place run) (fault_ending (refused.place + 1) fault) a c
+  state_ended Misses Visitor new a c refused unseen misses silent counts =
+      let missed = misses refused.next refused.held refused.fits in
+      state_missed Misses new a c missed.0 refused missed.1.0 missed.1.1 missed.1.2 missed.1.3 (record { sink = counts.sink refl; keepers = counts.keepers_quiet (λ j e. cc) })
+  state_ended Misses (Keeper k) new a c refused unseen misses silent counts =
+      let same = unseen (λ e. cc) in state_refused Misses (Keeper k) new a c refused same.0 same.1 (λ e. cc) silent counts
+  state_ended Misses (Damaged k put got) new a c refused unseen misses silent counts =
+      let same = unseen (λ e. cc) in state_refused Misses (Damaged k put got) new a c refused same.0 same.1 (λ e. cc) silent counts
+  state_ended Misses Memory new a c refused unseen misses silent counts =
+      let same = unseen (λ e. cc) in state_refused Misses Memory new a c refused same.0 same.1 (λ e. cc) silent counts
+  state_ended Misses Ended new a c refused unseen misses silent counts =
+      let same = unseen (λ e. cc) in state_refused Misses Ended new a c refused same.0 same.1 (λ e. cc) silent counts
 
   -- its line was written
-  pub state_done : (place : ℕ) (a c : Moment) (states : States) (last : Holdings) → place ≤ steps → Valid steps slots list → c.images ≡ last.levels.told →
-      GoesThrough 1 steps journal (front_to 1 steps place list) (held_at_start first journal steps slots a) last states → (AllTell (length slots) a.images → states place ≡ state_number first journal place) →
-      Tells a.told c.told (Adds (line_of states place)) → c.writes ≡ raised a.writes 1 →
-      c.steps ≡ a.steps + forward (front_to 1 steps place list) → Called (calls_of_all (front_to 1 steps place list)) a.calls c.calls → Works (ask (State place) first journal steps slots list) done a c
-  state_done place a c states last within valid seen through is added once counted called =
+  pub state_done : (a c : Moment) (states : States) (last : Holdings) → place ≤ last_of run → Valid run.steps run.slots run.list → c.images ≡ last.levels.told → GoesOver run front a last states →
+      (AllTell (length run.slots) a.images → states place ≡ state_of run place) → Tells a.told c.told (Adds (line_of states place)) → c.writes ≡ raised a.writes 1 → c.steps ≡ a.steps + run.unit * forward front →
+      Called (calls_of_all front) a.calls c.calls → NothingFails a c → EndsShowing (asking_state place run) done a c
+  state_done a c states last within valid seen through is added once counted called quiet =
       let s = states place in
-      let shown = with_state (State place) first journal steps slots list place s in
-      let f = deed_for shown.states 1 steps place in
-      let front = front_to 1 steps place list in
-      let settled_so : shown.states place ≡ s = settled_at (state_number first journal) place s in
+      let shown = with_state s in
+      let f = deed_for shown.states run.unit run.steps place in
+      let are = place_deeds shown.states run.unit run.steps place in
+      let settled_so : shown.states place ≡ s = settled_at (state_of run) place s in
       let same : line_of (λ _. s) place ≡ line_of shown.states place = ap (λ x. line_of (λ _. x) place) (sym settled_so) in
       let T : List ℕ → Type 0 = λ l. Tells a.told c.told (Adds l) in
       let whole = subst T same added in
-      let below : place ≤ 1 * steps = omega (arith, within) in
-      let bytes = place_bytes shown.states 1 steps place slots list below valid in
-      let one = place_writes shown.states 1 steps place slots list below valid in
-      inl (
-        shown,
-        (
-          with_state_shown (State place) first journal steps slots list place s a is,
-          inl (
-            refl,
-            record {
-              did = record {
-                added = subst T (sym bytes) whole;
-                wrote = once ∙ ap (raised a.writes) (sym one);
-                counted = counted ∙ ap (λ n. a.steps + n) (sym (steps_mapped 1 f (place_deeds shown.states 1 steps place) front ∙ one_times (forward front)));
-                called = called_mapped 1 f (place_deeds shown.states 1 steps place) front a.calls c.calls called;
-              };
-              output_whole = whole;
-              stepped = counted;
-              answered = (last, seen, record { states = states; through = through; holds = sym settled_so });
-              went = tt;
-            },
-          ),
-        ),
-      )
+      let did : Did (map f front) a c = record {
+        added = subst T (sym (place_bytes shown.states run.unit run.steps place run.slots run.list within valid)) whole;
+        wrote = once ∙ ap (raised a.writes) (sym (place_writes shown.states run.unit run.steps place run.slots run.list within valid));
+        counted = counted ∙ ap (λ n. a.steps + n) (sym (steps_mapped run.unit f are front));
+        called = called_mapped run.unit f are front a.calls c.calls called;
+      } in
+      (shown, (with_state_shown s a is, inl (refl, record { did = did; output_whole = whole; stepped = counted; answered = (last, seen, record { states = states; through = through; holds = sym settled_so }); held = tt; quiet = quiet })))
 
 -- ---- the last step that does something
 
-module _ (question : Question) (first : MachineState) (journal : List (List ℕ)) (steps : ℕ) (slots : List Slots) (list : List Action)
-    (are : (shown : Shown) → deeds shown (ask question first journal steps slots list) ≡ map (unseen_deed 1) (up_to 1 steps shown.answer list) ++ writing (answer_text shown.answer ∷ []) ∷ []) where
+last_over : (Holds : States → ℕ → Type 0) (run : Run) → IsAskedOver run (asking_last Holds run)
+last_over Holds run = record { damage = λ i k put got a h. h; wants = λ d h. h; holds = λ Same shown i a c. tt; levels = λ a h. h }
+
+module _ (run : Run) (Holds : States → ℕ → Type 0) where
   abbrev with_answer : Option ℕ → Shown
-  with_answer answer = record { states = state_number first journal; answer = answer }
+  with_answer answer = record { states = state_of run; answer = answer }
 
-  -- the list was refused
-  pub step_refused : (Misses : Action → Holdings → Type 0) (fault : RunFault) (new : SessionState) (a c : Moment)
-      (refused : RefusedIn Misses list fault (begun first journal 1 steps slots) new a.images a.steps c.steps a.calls c.calls) → c.told ≡ a.told → c.writes ≡ a.writes →
-      fault ≢ Visitor → ((k : ℕ) (put got : List ℕ) → fault ≡ Damaged k put got → AllTell (length slots) a.images → ⊥) →
-      Works (ask question first journal steps slots list) (fault_ending (refused.place + 1) fault) a c
-  step_refused Misses fault new a c refused told wrote seen silent =
-      let quiet = unseen_silent 1 refused.place list in
-      let broke = broken_at 1 (unseen_deed 1) (unseen_deeds 1) list (writing (answer_text None ∷ []) ∷ []) refused.place refused.next a c refused.there quiet.0 quiet.1 told wrote refused.counted refused.called in
-      refused_by question first journal steps slots list (with_answer None) fault (map (unseen_deed 1) list ++ writing (answer_text None ∷ []) ∷ []) refused.place (unseen_deed 1 refused.next) a c (are (with_answer None)) (λ tells n within. refl) broke
-      Misses refused.next refused.held refused.states refl refused.fits refused.there refused.through seen silent
-
-  -- what was done before the answer is written
-  abbrev between : Moment → Moment → Moment
-  between a c = record { told = a.told; writes = a.writes; steps = c.steps; calls = c.calls; images = a.images }
-
-  did_unseen : (front : List Action) (a c : Moment) → c.steps ≡ a.steps + forward front → Called (calls_of_all front) a.calls c.calls → Did (map (unseen_deed 1) front) a (between a c)
-  did_unseen front a c counted called =
-      let silent = unseen_all front in record {
-        added = (let P : List ℕ → Type 0 = λ l. Tells a.told a.told (Adds l) in subst P (sym silent.0) (tells_nothing a.told a.told refl));
-        wrote = raised_none a.writes ∙ ap (raised a.writes) (sym silent.1);
-        counted = counted ∙ ap (λ n. a.steps + n) (sym (steps_mapped 1 (unseen_deed 1) (unseen_deeds 1) front ∙ one_times (forward front)));
-        called = called_mapped 1 (unseen_deed 1) (unseen_deeds 1) front a.calls c.calls called;
-      }
-    where
-      unseen_all : (l : List Action) → (bytes_written (map (unseen_deed 1) l) ≡ []) × (writes_made (map (unseen_deed 1) l) ≡ 0)
-      unseen_all l =
-          let all = take_all (length (map (unseen_deed 1) l)) (map (unseen_deed 1) l) (omega arith) in
-          let silent = unseen_silent 1 (length (map (unseen_deed 1) l)) l in
-          (ap bytes_written (sym all) ∙ silent.0, ap writes_made (sym all) ∙ silent.1)
-
-  -- the answer was written
-  pub step_done : (answer : Option ℕ) (a c : Moment) → IsAnswered (ask question first journal steps slots list) (with_answer answer) a c → Tells a.told c.told (Adds (answer_text answer)) → c.writes ≡ raised a.writes 1 →
-      c.steps ≡ a.steps + forward (up_to 1 steps answer list) → Called (calls_of_all (up_to 1 steps answer list)) a.calls c.calls →
-      output (with_answer answer) (ask question first journal steps slots list) ≡ answer_text answer → steps_taken (with_answer answer) (ask question first journal steps slots list) ≡ forward (up_to 1 steps answer list) →
-      Works (ask question first journal steps slots list) done a c
-  step_done answer a c answered added once counted called text_is steps_are =
-      let shown = with_answer answer in
-      let front = up_to 1 steps answer list in
-      let text = answer_text answer in
-      let b = between a c in
-      let T : List ℕ → Type 0 = λ l. Tells a.told c.told (Adds l) in
-      let D : List Deed → Type 0 = λ ds. Did ds a c in
-      inl (
-        shown,
-        (
-          (λ tells n within. refl),
-          inl (
-            refl,
-            record {
-              did = subst D (sym (are shown)) (did_then (map (unseen_deed 1) front) (writing (text ∷ []) ∷ []) a b c (did_unseen front a c counted called)
-                  (did_one (writing (text ∷ [])) b c text 1 (append-nil text) refl added once (omega arith) (not_called c.calls)));
-              output_whole = subst T (sym text_is) added;
-              stepped = counted ∙ ap (λ n. a.steps + n) (sym steps_are);
-              answered = answered;
-              went = tt;
-            },
-          ),
-        ),
-      )
-
-  -- it was written in part
-  pub step_stopped : (answer : Option ℕ) (a c : Moment) → IsAnswered (ask question first journal steps slots list) (with_answer answer) a c →
-      ((n : ℕ) → IsAnswered (ask question first journal steps slots list) (with_answer answer) a c → IsShownNext (ask question first journal steps slots list) (with_answer answer) n a c) →
-      Tells a.told c.told (AddsPrefix (answer_text answer)) → c.writes ≡ raised a.writes 1 →
-      c.steps ≡ a.steps + forward (up_to 1 steps answer list) → Called (calls_of_all (up_to 1 steps answer list)) a.calls c.calls →
-      ((n : ℕ) → shown_place (ask question first journal steps slots list) n ≡ 0) → Works (ask question first journal steps slots list) (stopped 0) a c
-  step_stopped answer a c answered shows part once counted called at_none =
-      let shown = with_answer answer in
-      let front = up_to 1 steps answer list in
-      let text = answer_text answer in
-      let b = between a c in
-      let silent = map (unseen_deed 1) front in
-      let last = writing (text ∷ []) in
-      let i = length silent in
-      let D : List Deed → Type 0 = λ ds. Did ds a b in
-      let before = subst D (sym (take_at silent (last ∷ []) i refl)) (did_unseen front a c counted called) in
-      inl (
-        shown,
-        (
-          (λ tells n within. refl),
-          inr (inl (
-            i,
-            ap stopped (sym (at_none (i + 1))),
-            did_until shown (ask question first journal steps slots list) (silent ++ last ∷ []) i a c (are shown)
-                (is_until_first (silent ++ last ∷ []) i last text a b c (behind silent last []) refl before part once refl (uncalled c.calls)) (shows i answered) tt,
-          )),
-        ),
-      )
-
-  -- the whole of it was written, or a part
-  pub step_told : (answer : Option ℕ) (e : Ending) (a c : Moment) → IsAnswered (ask question first journal steps slots list) (with_answer answer) a c →
-      ((n : ℕ) → IsAnswered (ask question first journal steps slots list) (with_answer answer) a c → IsShownNext (ask question first journal steps slots list) (with_answer answer) n a c) →
-      ((e ≡ done) × Tells a.told c.told (Adds (answer_text answer))) ⊎ ((e ≡ stopped 0) × Tells a.told c.told (AddsPrefix (answer_text answer))) → c.writes ≡ raised a.writes 1 →
-      c.steps ≡ a.steps + forward (up_to 1 steps answer list) → Called (calls_of_all (up_to 1 steps answer list)) a.calls c.calls →
-      output (with_answer answer) (ask question first journal steps slots list) ≡ answer_text answer → steps_taken (with_answer answer) (ask question first journal steps slots list) ≡ forward (up_to 1 steps answer list) →
-      ((n : ℕ) → shown_place (ask question first journal steps slots list) n ≡ 0) → Works (ask question first journal steps slots list) e a c
-  step_told answer e a c answered shows ends once counted called text_is steps_are at_none =
-      let E : Ending → Type 0 = λ x. Works (ask question first journal steps slots list) x a c in
-      elim ends [
-        | inl whole ↦ subst E (sym whole.0) (step_done answer a c answered whole.1 once counted called text_is steps_are)
-        | inr part ↦ subst E (sym part.0) (step_stopped answer a c answered shows part.1 once counted called at_none)
-      ]
-
-  -- the list was refused, which nothing had been done of before
-  pub step_over : (fault : RunFault) (new : SessionState) (e : Ending) (a c : Moment) → length list ≤ 16777216 →
-      RefusedIn (λ action held. ⊥) list fault (begun first journal 1 steps slots) new a.images a.steps c.steps a.calls c.calls →
-      e ≡ fault_ending (new.done + 1) fault → c.told ≡ a.told → c.writes ≡ a.writes →
-      fault ≢ Visitor → ((k : ℕ) (put got : List ℕ) → fault ≡ Damaged k put got → AllTell (length slots) a.images → ⊥) → Works (ask question first journal steps slots list) e a c
-  step_over fault new e a c few refused ending told wrote seen silent =
+  -- its list was refused, of which nothing had been done before
+  pub last_refused : (fault : RunFault) (new : SessionState) (e : Ending) (a c : Moment) → length run.list ≤ 16777216 → Refused (λ action held. ⊥) run run.list fault new a c → e ≡ fault_ending (new.done + 1) fault →
+      c.told ≡ a.told → c.writes ≡ a.writes → fault ≢ Visitor → ((k : ℕ) (put got : List ℕ) → fault ≡ Damaged k put got → AllTell (length run.slots) a.images → ⊥) → FaultCounts fault a c → WorksBy (asking_last Holds run) e a c
+  last_refused fault new e a c few refused ending told wrote seen silent counts =
+      let f = unseen_deed run.unit in
+      let quiet = unseen_silent run.unit refused.place run.list in
+      let text = writing (answer_text None ∷ []) ∷ [] in
+      let broke = broken_at run.unit f (unseen_deeds run.unit) run.list text refused.place refused.next a c refused.there quiet.0 quiet.1 told wrote refused.counted refused.called in
       let count = refused.done ∙ performed_so_far refused.place (omega (arith, refused.within, few)) in
-      let E : Ending → Type 0 = λ x. Works (ask question first journal steps slots list) x a c in
-      subst E (sym (ending ∙ ap (λ n. fault_ending (n + 1) fault) count)) (step_refused (λ action held. ⊥) fault new a c refused told wrote seen silent)
+      let E : Ending → Type 0 = λ x. WorksBy (asking_last Holds run) x a c in
+      subst E (sym (ending ∙ ap (λ n. fault_ending (n + 1) fault) count))
+      (refused_by run (asking_last Holds run) (last_over Holds run) (with_answer None) a c (λ tells n within. refl) fault refused.place (f refused.next) broke
+      (λ action held. ⊥) refused.next refused.held refused.states refl refused.fits refused.there refused.through seen silent counts)
+
+  -- the list was performed as far as the answer takes it, and then the answer was written, or a part of it
+  module _ (answer : Option ℕ) (a c : Moment) (answered : IsLastStep Holds run answer a c) (once : c.writes ≡ raised a.writes 1) (counted : c.steps ≡ a.steps + run.unit * forward (up_to run.unit run.steps answer run.list))
+      (called : Called (calls_of_all (up_to run.unit run.steps answer run.list)) a.calls c.calls) where
+    abbrev performed : List Action
+    performed = up_to run.unit run.steps answer run.list
+
+    abbrev silent : List Deed
+    silent = map (unseen_deed run.unit) performed
+
+    -- before the answer was written
+    abbrev between : Moment
+    between = record { told = a.told; writes = a.writes; faults = a.faults; steps = c.steps; calls = c.calls; images = a.images; keeper_faults = a.keeper_faults }
+
+    did_unseen : Did silent a between
+    did_unseen =
+        let all = take_all (length silent) silent (omega arith) in
+        let none = unseen_silent run.unit (length silent) performed in
+        let P : List ℕ → Type 0 = λ l. Tells a.told a.told (Adds l) in
+        record {
+          added = subst P (sym (ap bytes_written (sym all) ∙ none.0)) (tells_nothing a.told a.told refl);
+          wrote = raised_none a.writes ∙ ap (raised a.writes) (sym (ap writes_made (sym all) ∙ none.1));
+          counted = counted ∙ ap (λ n. a.steps + n) (sym (steps_mapped run.unit (unseen_deed run.unit) (unseen_deeds run.unit) performed));
+          called = called_mapped run.unit (unseen_deed run.unit) (unseen_deeds run.unit) performed a.calls c.calls called;
+        }
+
+    last_done : Tells a.told c.told (Adds (answer_text answer)) → NothingFails a c → EndsShowing (asking_last Holds run) done a c
+    last_done added quiet =
+        let text = answer_text answer in
+        let last = writing (text ∷ []) in
+        let did = did_then silent (last ∷ []) a between c did_unseen (did_one last between c text 1 (append-nil text) refl added once (omega arith) (not_called c.calls)) in
+        (with_answer answer, ((λ tells n within. refl), inl (refl, record { did = did; output_whole = added; stepped = counted; answered = answered; held = tt; quiet = quiet })))
+
+    last_stopped : Tells a.told c.told (AddsPrefix (answer_text answer)) → SinkFails a c → EndsShowing (asking_last Holds run) (stopped 0) a c
+    last_stopped part fails =
+        let text = answer_text answer in
+        let last = writing (text ∷ []) in
+        let i = length silent in
+        let D : List Deed → Type 0 = λ ds. Did ds a between in
+        let before = subst D (sym (take_at silent (last ∷ []) i refl)) did_unseen in
+        let until = is_until_first (silent ++ last ∷ []) i last text a between c (behind silent last []) refl before part once refl (uncalled c.calls) in
+        (with_answer answer, ((λ tells n within. refl), inr (inl (i, refl, record { until = until; answered = answered; held = tt; fails = fails }))))
+
+    -- the whole of it was written, or a part
+    pub last_told : (e : Ending) → ((e ≡ done) × Tells a.told c.told (Adds (answer_text answer)) × (c.faults ≡ a.faults)) ⊎ ((e ≡ stopped 0) × Tells a.told c.told (AddsPrefix (answer_text answer)) × Rose a.faults c.faults) →
+        KeepersAreQuiet a c → WorksBy (asking_last Holds run) e a c
+    last_told e ends keepers =
+        let E : Ending → Type 0 = λ x. WorksBy (asking_last Holds run) x a c in
+        elim ends [
+          | inl whole ↦ subst E (sym whole.0) (inl (last_done whole.1 (record { sink = whole.2; keepers = keepers })))
+          | inr part ↦ subst E (sym part.0) (inl (last_stopped part.1 (record { sink = part.2; keepers = keepers })))
+        ]
 
 -- the answer was found by the states that a session handed out that had just begun
-pub is_found : (Holds : States → ℕ → Type 0) (old new : SessionState) (list : List Action) (answer : Option ℕ) (a c : Moment) → old ≡ begun old.work old.journal 1 old.situation.steps old.situation.slots →
+pub is_found : (Holds : States → ℕ → Type 0) (old new : SessionState) (list : List Action) (answer : Option ℕ) (a c : Moment) → old ≡ begun old.work old.journal old.unit old.situation.steps old.situation.slots →
     IsFoundOn (λ states. IsLast (Holds states) (old.unit * old.situation.steps) answer) old.unit old.situation.steps old.journal (up_to old.unit old.situation.steps answer list) (holdings_of old a.images) (holdings_of new c.images) →
-    IsFound (λ states. IsLast (Holds states) old.situation.steps answer) old.work old.journal old.situation.steps old.situation.slots list answer a c
+    IsFound (λ states. IsLast (Holds states) (old.unit * old.situation.steps) answer) (run_from old list) answer a c
 is_found Holds old new list answer a c is found =
-    let steps = old.situation.steps in
-    let one : old.unit ≡ 1 = ap (λ (s : SessionState). s.unit) is in
-    let U : ℕ → Type 0 = λ u. IsFoundOn (λ states. IsLast (Holds states) (u * steps) answer) u steps old.journal (up_to u steps answer list) (holdings_of old a.images) (holdings_of new c.images) in
-    let N : ℕ → Type 0 = λ n. IsFoundOn (λ states. IsLast (Holds states) n answer) 1 steps old.journal (up_to 1 steps answer list) (holdings_of old a.images) (holdings_of new c.images) in
-    let P : Holdings → Type 0 = λ h. IsFoundOn (λ states. IsLast (Holds states) steps answer) 1 steps old.journal (up_to 1 steps answer list) h (holdings_of new c.images) in
-    (holdings_of new c.images, refl, subst P (ap (λ s. holdings_of s a.images) is) (subst N (one_times steps) (subst U one found)))
+    let P : Holdings → Type 0 = λ h. IsFoundOn (λ states. IsLast (Holds states) (old.unit * old.situation.steps) answer) old.unit old.situation.steps old.journal (up_to old.unit old.situation.steps answer list) h (holdings_of new c.images) in
+    (holdings_of new c.images, refl, subst P (ap (λ (s : SessionState). holdings_of s a.images) is) found)

@@ -31,8 +31,9 @@ use Rattle.disk_gen.specs.DiskPlans.{HasDiskPlan}
 use Rattle.disk_gen.specs.DiskWritten.{HeldPart, finally, again, DiskPart, alone, parted, fast_tables, ReadsHeld, ReadsDisk, IsDiskWritten}
 use Rattle.disk_gen.proofs.DiskCosts.{written_disk_costs}
 use Rattle.disk_gen.proofs.DiskWhole.{written_in_class}
-use Rattle.reversal.specs.Deeds.{Job, write}
-use Rattle.reversal.specs.Decision.{accept, DecidesPlanDisk, DecidesPlanHrevolve, DecidesPlanMultistage}
+use Rattle.reversal.specs.Job.{Job, write}
+use Rattle.reversal.specs.Table.{accept}
+use Rattle.reversal.specs.CommandPlan.{DecidesPlanDisk, DecidesPlanHrevolve, DecidesPlanMultistage}
 use Rattle.requests.specs.Ending.{bad_book}
 use Rattle.reversal.specs.Plans.{list_pieces}
 use Rattle.reversal.specs.WrittenPlans.{SaysAgain}

@@ -1,5 +1,5 @@
 -- A request comes to a decision: no table has a hole.
-use Rattle.std.proofs.Common.{◌≡◌, ◌⊎◌, inl, inr, ℕ, zero, suc, ◌+◌, ◌<◌, ◌≤◌, ◌++◌, Bool, true, false, List, [], ◌∷◌, length, Option, None, Some, slice_get, slice_index_or, refl, subst, arith}
+use Rattle.std.proofs.Common.{◌*◌, ◌≡◌, ◌⊎◌, inl, inr, ℕ, zero, suc, ◌+◌, ◌<◌, ◌≤◌, ◌++◌, Bool, true, false, List, [], ◌∷◌, length, Option, None, Some, slice_get, slice_index_or, refl, subst, arith}
 use Rattle.std.specs.Prelude.{codes, decimal}
 use Rattle.std.specs.List.{AllByRecursion, flat_map}
 use Rattle.std.proofs.lemmas.Bool.{cases_lt, cases_eq}
@@ -50,15 +50,24 @@ use Rattle.requests.specs.Ending.{few_keepers, small_keeper, unreadable, too_lon
 use Rattle.requests.specs.declared.bounds.Bounded.{Bounded}
 use Rattle.requests.specs.declared.kind.PlanKind.{PlanKind}
 use Rattle.requests.specs.declared.kind.PlanKind.TheVariants.{Revolve, Multistage, Disk, Hrevolve}
-use Rattle.requests.specs.Request.{Choice, Run, RunRevolve, Command, run, run_revolve, plan, plan_periodic, check, certify, price, ask, demo, plan_limit, says_raw, stack_pages}
-use Rattle.requests.specs.Operands.{within, journal_inputs, program_input, book_input, schedule_input, certificate_input, question_bound}
+use Rattle.requests.specs.Request.{Choice, Run, RunRevolve, Find, Command, run, run_revolve, plan, plan_periodic, check, certify, price, ask, find, demo, worker_count, plan_limit, says_raw, stack_pages, unit_count}
+use Rattle.requests.specs.Operands.{within, journal_inputs, journal_input, program_input, book_input, schedule_input, certificate_input, question_bound}
 use Rattle.requests.specs.Bounds.{option_numbers, command_numbers, IsWithin}
 use Rattle.requests.specs.Inputs.{Input, inputs_of}
 use Rattle.reversal.specs.Plans.{list_pieces, plan_pieces}
 use Rattle.reversal.specs.Pricing.{list_report}
-use Rattle.reversal.specs.Deeds.{write, perform, demonstrate}
+use Rattle.reversal.specs.Job.{Run as ARun, Job, write, perform, ask as ask_job, seek, demonstrate}
 use Rattle.reversal.specs.Contents.{AreBytes, IsContent, DecisionsExist}
-use Rattle.reversal.specs.Decision.{Decision, refuse, accept, Need, Read, Judge, Keep, Take, Plan, Tabulate, HasBookFault, IsStartOf, HasProgramFault, AreItemsOf, HasJournalFault, Maker, performed, asked_about, DecidesOver, DecidesOverBytes, DecidesRunRevolve, DecidesPlan, DecidesPlanRevolve, DecidesPlanMultistage, DecidesPlanDisk, DecidesPlanHrevolve, DecidesPlanPeriodic, DecidesCheck, DecidesPrice, Weigh, DecidesCertify, DecidesDemo, DecidesBytes, least_line}
+use Rattle.reversal.specs.Table.{Decision, refuse, accept, Need, Read, Judge, Keep, Plan, Tabulate, Weigh, Decided}
+use Rattle.reversal.specs.Decision.{Take, DecidesBytes}
+use Rattle.reversal.specs.Fronts.{HasBookFault, IsStartOf, HasProgramFault, AreItemsOf, HasJournalFault, DecidesOver, DecidesOverBytes, in_units}
+use Rattle.reversal.specs.CommandFind.{find_table}
+use Rattle.reversal.specs.CommandRun.{DecidesRunRevolve}
+use Rattle.reversal.specs.CommandPlan.{DecidesPlan, DecidesPlanRevolve, DecidesPlanMultistage, DecidesPlanDisk, DecidesPlanHrevolve, DecidesPlanPeriodic}
+use Rattle.reversal.specs.CommandCheck.{DecidesCheck}
+use Rattle.reversal.specs.CommandCost.{DecidesPrice}
+use Rattle.reversal.specs.CommandCertify.{DecidesCertify, least_line}
+use Rattle.reversal.specs.CommandDemo.{DecidesDemo}
 use Rattle.reversal.proofs.BookTexts.{some_level, within_limits}
 use Rattle.reversal.proofs.DemoStart.{demo_start}
 
@@ -189,7 +198,7 @@ list_comes book bytes b Below is below = read_comes (IsSchedule (names_of b) byt
 
 -- ---- the tables
 
-pub over_comes : (make : Maker) (options : List Choice) (steps : ℕ) (program : List ℕ) (journal : Option (List ℕ)) (book schedule counts : List ℕ) → IsContent journal → AreBytes book →
+pub over_comes : (make : ARun → Job) (options : List Choice) (steps : ℕ) (program : List ℕ) (journal : Option (List ℕ)) (book schedule counts : List ℕ) → IsContent journal → AreBytes book →
     SomeDecision (DecidesOver make options steps program journal book schedule counts)
 over_comes make options steps program journal book schedule counts content are =
     let raw = says_raw options in
@@ -199,7 +208,7 @@ over_comes make options steps program journal book schedule counts content are =
     read_comes (IsStartOf raw stack program) (HasProgramFault raw stack program) bad_program _ (start_or_its_fault raw stack program) (λ start is_start.
     read_comes (AreItemsOf journal) (HasJournalFault journal) bad_journal _ (items_or_fault journal content) (λ items are_items.
     list_comes book schedule b _ is_book (λ list.
-    judge_comes steps (slots_of b) list _ (λ valid. (accept (make start items (slots_of b) list), refl)))))))
+    judge_comes steps (slots_of b) list _ (λ valid. (accept (make (in_units (unit_count options) start items steps (slots_of b) list)), refl)))))))
 
 pub revolve_comes : (options : List Choice) (steps : ℕ) (program : List ℕ) (journal : Option (List ℕ)) (book counts : List ℕ) → IsContent journal → AreBytes book →
     SomeDecision (DecidesRunRevolve options steps program journal book counts)
@@ -211,7 +220,12 @@ revolve_comes options steps program journal book counts content are =
     plan_comes steps b _ (λ plan.
     read_comes (IsStartOf raw stack program) (HasProgramFault raw stack program) bad_program _ (start_or_its_fault raw stack program) (λ start is_start.
     read_comes (AreItemsOf journal) (HasJournalFault journal) bad_journal _ (items_or_fault journal content) (λ items are_items.
-    (accept (perform start items steps (slots_of b) (revolve_list steps b)), refl))))))
+    (accept (perform (in_units (unit_count options) start items steps (slots_of b) (revolve_list steps b))), refl))))))
+
+pub find_comes : (options : List Choice) (steps : ℕ) (digest program : List ℕ) (journal : Option (List ℕ)) → IsContent journal → SomeDecision (Decided (find_table options steps digest program journal))
+find_comes options steps digest program journal content =
+    read_comes (IsStartOf (says_raw options) (stack_pages options) program) (HasProgramFault (says_raw options) (stack_pages options) program) bad_program _ (start_or_its_fault (says_raw options) (stack_pages options) program) (λ start is_start.
+    read_comes (AreItemsOf journal) (HasJournalFault journal) bad_journal _ (items_or_fault journal content) (λ items are_items. (accept (seek start items steps (worker_count options) digest), refl)))
 
 pub plan_revolve_comes : (steps : ℕ) (book : List ℕ) → AreBytes book → SomeDecision (DecidesPlanRevolve steps book)
 plan_revolve_comes steps book are =
@@ -323,14 +337,14 @@ demo_comes number steps slots =
 
 -- ---- by the bytes of the inputs, as many as there are
 
-three_bytes : (make : Maker) (options : List Choice) (steps : ℕ) (slots : List ℕ) (bytes : List (List ℕ)) → length bytes ≡ 3 → AllByRecursion AreBytes bytes → SomeDecision (DecidesOverBytes make options steps bytes slots)
+three_bytes : (make : ARun → Job) (options : List Choice) (steps : ℕ) (slots : List ℕ) (bytes : List (List ℕ)) → length bytes ≡ 3 → AllByRecursion AreBytes bytes → SomeDecision (DecidesOverBytes make options steps bytes slots)
 three_bytes make options steps slots [] e are = absurd (omega (arith, e))
 three_bytes make options steps slots (p ∷ []) e are = absurd (omega (arith, e))
 three_bytes make options steps slots (p ∷ b ∷ []) e are = absurd (omega (arith, e))
 three_bytes make options steps slots (p ∷ b ∷ s ∷ []) e are = over_comes make options steps p None b s slots tt are.1.0
 three_bytes make options steps slots (p ∷ b ∷ s ∷ x ∷ rest) e are = absurd (omega (arith, e))
 
-four_bytes : (make : Maker) (options : List Choice) (steps : ℕ) (slots : List ℕ) (bytes : List (List ℕ)) → length bytes ≡ 4 → AllByRecursion AreBytes bytes → SomeDecision (DecidesOverBytes make options steps bytes slots)
+four_bytes : (make : ARun → Job) (options : List Choice) (steps : ℕ) (slots : List ℕ) (bytes : List (List ℕ)) → length bytes ≡ 4 → AllByRecursion AreBytes bytes → SomeDecision (DecidesOverBytes make options steps bytes slots)
 four_bytes make options steps slots [] e are = absurd (omega (arith, e))
 four_bytes make options steps slots (p ∷ []) e are = absurd (omega (arith, e))
 four_bytes make options steps slots (p ∷ j ∷ []) e are = absurd (omega (arith, e))
@@ -349,12 +363,12 @@ run_revolve_inputs journal c = program_input c.program ∷ (journal_inputs journ
 beside_come : (Holds : Type 0) (Below : Decision → Type 0) → Holds → SomeDecision Below → SomeDecision (λ d. Holds × Below d)
 beside_come Holds Below holds d = (d.0, (holds, d.1))
 
-run_given : (make : Maker) (options : List Choice) (steps : ℕ) (slots : List ℕ) (journal : Option (List ℕ)) (c : Run) (given : List (Option (List ℕ))) → AllByRecursion IsContent given →
+run_given : (make : ARun → Job) (options : List Choice) (steps : ℕ) (slots : List ℕ) (journal : Option (List ℕ)) (c : Run) (given : List (Option (List ℕ))) → AllByRecursion IsContent given →
     SomeDecision (λ d. Take 1 (run_inputs journal c) given d (λ bytes. DecidesOverBytes make options steps bytes slots d))
 run_given make options steps slots None c given contents = take_comes 1 (run_inputs None c) given (λ bytes d. DecidesOverBytes make options steps bytes slots d) contents (three_bytes make options steps slots)
 run_given make options steps slots (Some journal) c given contents = take_comes 1 (run_inputs (Some journal) c) given (λ bytes d. DecidesOverBytes make options steps bytes slots d) contents (four_bytes make options steps slots)
 
-ask_given : (Holds : Type 0) → Holds → (make : Maker) (options : List Choice) (steps : ℕ) (slots : List ℕ) (journal : Option (List ℕ)) (c : Run) (given : List (Option (List ℕ))) → AllByRecursion IsContent given →
+ask_given : (Holds : Type 0) → Holds → (make : ARun → Job) (options : List Choice) (steps : ℕ) (slots : List ℕ) (journal : Option (List ℕ)) (c : Run) (given : List (Option (List ℕ))) → AllByRecursion IsContent given →
     SomeDecision (λ d. Take 1 (run_inputs journal c) given d (λ bytes. Holds × DecidesOverBytes make options steps bytes slots d))
 ask_given Holds holds make options steps slots None c given contents =
     take_comes 1 (run_inputs None c) given (λ bytes d. Holds × DecidesOverBytes make options steps bytes slots d) contents
@@ -380,6 +394,22 @@ revolve_given : (options : List Choice) (c : RunRevolve) (slots : List ℕ) (jou
     SomeDecision (λ d. Take 1 (run_revolve_inputs journal c) given d (λ bytes. DecidesBytes options (run_revolve c) bytes slots d))
 revolve_given options c slots None given contents = take_comes 1 (run_revolve_inputs None c) given (λ bytes d. DecidesBytes options (run_revolve c) bytes slots d) contents (revolve_two options c slots)
 revolve_given options c slots (Some journal) given contents = take_comes 1 (run_revolve_inputs (Some journal) c) given (λ bytes d. DecidesBytes options (run_revolve c) bytes slots d) contents (revolve_three options c slots)
+
+find_given : (options : List Choice) (c : Find) (slots : List ℕ) (journal : Option (List ℕ)) (given : List (Option (List ℕ))) → AllByRecursion IsContent given →
+    SomeDecision (λ d. Take 1 (program_input c.program ∷ (journal_inputs journal ++ [])) given d (λ bytes. DecidesBytes options (find c) bytes slots d))
+find_given options c slots None given contents = take_comes 1 (program_input c.program ∷ []) given (λ bytes d. DecidesBytes options (find c) bytes slots d) contents of_one
+  where
+    of_one : (bytes : List (List ℕ)) → length bytes ≡ 1 → AllByRecursion AreBytes bytes → SomeDecision (DecidesBytes options (find c) bytes slots)
+    of_one [] e are = absurd (omega (arith, e))
+    of_one (p ∷ []) e are = find_comes options c.steps c.digest p None tt
+    of_one (p ∷ x ∷ rest) e are = absurd (omega (arith, e))
+find_given options c slots (Some journal) given contents = take_comes 1 (program_input c.program ∷ journal_input journal ∷ []) given (λ bytes d. DecidesBytes options (find c) bytes slots d) contents of_two
+  where
+    of_two : (bytes : List (List ℕ)) → length bytes ≡ 2 → AllByRecursion AreBytes bytes → SomeDecision (DecidesBytes options (find c) bytes slots)
+    of_two [] e are = absurd (omega (arith, e))
+    of_two (p ∷ []) e are = absurd (omega (arith, e))
+    of_two (p ∷ j ∷ []) e are = find_comes options c.steps c.digest p (Some j) are.1.0
+    of_two (p ∷ j ∷ x ∷ rest) e are = absurd (omega (arith, e))
 
 -- a command of one, two or three inputs
 one_given : (Table : List (List ℕ) → Decision → Type 0) (a : Input) (given : List (Option (List ℕ))) → AllByRecursion IsContent given → ((x : List ℕ) → AreBytes x → SomeDecision (Table (x ∷ []))) →
@@ -414,9 +444,9 @@ three_given Table a b c given contents table = take_comes 1 (a ∷ b ∷ c ∷ [
 
 -- ---- all commands
 
-command_comes : (options : List Choice) (command : Command) (given : List (Option (List ℕ))) (slots : List ℕ) → AllByRecursion IsWithin (command_numbers command) → AllByRecursion IsContent given →
+command_comes : (options : List Choice) (command : Command) (given : List (Option (List ℕ))) (slots : List ℕ) → AllByRecursion IsWithin (command_numbers (unit_count options) command) → AllByRecursion IsContent given →
     SomeDecision (λ d. Take 1 (inputs_of command) given d (λ bytes. DecidesBytes options command bytes slots d))
-command_comes options (run c) given slots within contents = run_given (performed c.steps) options c.steps slots c.journal c given contents
+command_comes options (run c) given slots within contents = run_given perform options c.steps slots c.journal c given contents
 command_comes options (run_revolve c) given slots within contents = revolve_given options c slots c.journal given contents
 command_comes options (plan c) given slots within contents =
     one_given (λ bytes d. DecidesBytes options (plan c) bytes slots d) (book_input c.book) given contents (λ book are. kind_comes c.kind c.steps book within.0 are)
@@ -430,7 +460,8 @@ command_comes options (certify c) given slots within contents =
 command_comes options (price c) given slots within contents =
     two_given (λ bytes d. DecidesBytes options (price c) bytes slots d) (book_input c.book) (schedule_input c.schedule) given contents (λ book schedule are. price_comes c.steps book schedule are)
 command_comes options (ask c) given slots within contents =
-    ask_given (IsWithin (question_bound c.run.steps c.question)) within.1.0 (asked_about c.question c.run.steps) options c.run.steps slots c.run.journal c.run given contents
+    ask_given (IsWithin (question_bound (unit_count options * c.run.steps) c.question)) within.1.0 (ask_job c.question) options c.run.steps slots c.run.journal c.run given contents
+command_comes options (find c) given slots within contents = find_given options c slots c.journal given contents
 command_comes options (demo c) given slots within contents = demo_comes c.number c.steps c.slots
 
 -- the numbers of a command are among those of its request
@@ -440,4 +471,4 @@ all_behind (x ∷ xs) ys all = all_behind xs ys all.1
 
 pub decision_exists : DecisionsExist
 decision_exists r within given contents slots =
-    command_comes r.options r.command given slots (all_behind (flat_map option_numbers r.options) (command_numbers r.command) within) contents
+    command_comes r.options r.command given slots (all_behind (flat_map option_numbers r.options) (command_numbers (unit_count r.options) r.command) within) contents

@@ -1,17 +1,14 @@
 -- The table of each command is sound.
-use Rattle.std.proofs.Common.{◌≡◌, ℕ, ◌++◌, Bool, true, List, [], ◌∷◌, Option, None, Some, refl, sym, ◌∙◌, ap, subst, arith}
+use Rattle.std.proofs.Common.{◌≡◌, ℕ, ◌++◌, Bool, true, List, [], ◌∷◌, Option, None, Some, refl, sym, ◌∙◌, ap, subst, arith, ◌*◌}
 use Rattle.plan_types.specs.declared.action.Action.{Action}
-use Rattle.level_book.specs.declared.book.Slots.{Slots}
 use Rattle.level_book.specs.BookCosts.{BookCosts, slots_of, names_of, room}
 use Rattle.level_book.specs.BookFaults.{IsBookText}
 use Rattle.level_book.specs.Valid.{Valid}
 use Rattle.action_text.specs.ScheduleText.{IsSchedule}
-use Rattle.rv_machine.specs.MachineState.{MachineState}
-use Rattle.requests.specs.Request.{Choice}
+use Rattle.requests.specs.Request.{Choice, says_raw, stack_pages, unit_count, Command, run, run_revolve, plan, plan_periodic, check, certify, price, ask, find, demo, worker_count}
 use Rattle.requests.specs.Ending.{bad_program, bad_journal, bad_book, bad_text, bad_certificate, no_plan}
 use Rattle.revolve_gen.specs.Written.{revolve_list}
 use Rattle.revolve_gen.proofs.Books.{book_right}
-use Rattle.requests.specs.Request.{says_raw, stack_pages, Command, run, run_revolve, plan, plan_periodic, check, certify, price, ask, demo}
 use Rattle.multistage_gen.proofs.Unique.{plans_unique}
 use Rattle.bound_cert.specs.Thresholds.{IsThresholdOf}
 use Rattle.bound_cert.proofs.Fitting.{one_threshold}
@@ -25,15 +22,25 @@ use Rattle.requests.specs.declared.kind.PlanKind.TheVariants.{Revolve, Multistag
 use Rattle.reversal.specs.Plans.{list_pieces}
 use Rattle.reversal.specs.Demo as demonstration
 use Rattle.disk_gen.proofs.DiskUnique.{disk_plan_unique}
-use Rattle.reversal.specs.Deeds.{Job, perform, write, demonstrate}
-use Rattle.reversal.specs.Decision.{accept, HasBookFault, IsStartOf, HasProgramFault, AreItemsOf, HasJournalFault, Maker, performed, asked_about}
+use Rattle.reversal.specs.Job.{Run, Job, perform, ask as ask_job, write, demonstrate}
+use Rattle.reversal.specs.Table.{accept}
+use Rattle.reversal.specs.Fronts.{HasBookFault, IsStartOf, HasProgramFault, AreItemsOf, HasJournalFault, over_run, no_table, over_bytes, in_units}
+use Rattle.reversal.specs.Decision.{table_of}
 use Rattle.reversal.proofs.Refused.{book_one, book_fault_one, book_excludes, start_one, program_fault_one, start_excludes, items_one, journal_fault_one, items_exclude, list_one, text_fault_one, list_excludes, IsRefusing, refusing_at, program_refuses, journal_refuses, book_refuses, text_refuses, program_fault_is_other, journal_fault_is_other, text_fault_is_other, certificate_one, certificate_fault_one, certificate_excludes, certificate_refuses, certificate_fault_is_other}
 use Rattle.cert_text.specs.Meaning.{IsCertificateText}
 use Rattle.cert_text.specs.Faults.{HasFirstFault as CertificateFirst}
 use Rattle.reversal.proofs.LeastTables.{nested_same, disk_same}
 use Rattle.action_text.specs.Faults.{HasFirstFault}
-use Rattle.reversal.specs.Decision.{over_run, run_revolve_table, plan_revolve_table, plan_multistage_table, plan_disk_table, plan_hrevolve_table, plan_table, plan_periodic_table, check_table, price_table, certify_table, demo_table, no_table, over_bytes, table_of}
-use Rattle.reversal.proofs.Tables.{IsMet, asks, performs, writes, shows, IsRead, IsLast, IsSound}
+use Rattle.reversal.specs.CommandFind.{find_table}
+use Rattle.reversal.specs.CommandRun.{run_revolve_table}
+use Rattle.reversal.specs.CommandPlan.{plan_revolve_table, plan_multistage_table, plan_disk_table, plan_hrevolve_table, plan_table, plan_periodic_table}
+use Rattle.reversal.specs.CommandCheck.{check_table}
+use Rattle.reversal.specs.CommandCost.{price_table}
+use Rattle.reversal.specs.CommandCertify.{certify_table}
+use Rattle.reversal.specs.CommandDemo.{demo_table}
+use Rattle.reversal.proofs.Tables.{IsMet, asks, performs, seeks, writes, shows, IsRead, IsLast, IsSound}
+use Rattle.requests.specs.Bounds.{IsWithin}
+use Rattle.requests.specs.Operands.{question_bound}
 
 -- ---- lines that commands share
 
@@ -82,8 +89,8 @@ done_last job met = record { one = λ c d x y. x ∙ sym y; job = λ d x. (job, 
 unplanned : (steps room rule : ℕ) → IsRefusing (no_plan steps room rule)
 unplanned steps room rule = refusing_at _ 11 refl (omega arith) (omega arith)
 
-over_run_sound : (make : Maker) (options : List Choice) (steps : ℕ) (program : List ℕ) (journal : Option (List ℕ)) (book schedule counts : List ℕ) →
-    ((start : MachineState) (items : List (List ℕ)) (slots : List Slots) (list : List Action) → Valid steps slots list → IsMet (make start items slots list)) → IsSound (over_run make options steps program journal book schedule counts)
+over_run_sound : (make : Run → Job) (options : List Choice) (steps : ℕ) (program : List ℕ) (journal : Option (List ℕ)) (book schedule counts : List ℕ) →
+    ((run : Run) → run.steps ≡ steps → run.unit ≡ unit_count options → Valid run.steps run.slots run.list → IsMet (make run)) → IsSound (over_run make options steps program journal book schedule counts)
 over_run_sound make options steps program journal book schedule counts met = (
   book_read book,
   λ b is. (
@@ -93,7 +100,7 @@ over_run_sound make options steps program journal book schedule counts met = (
       λ items are_items. (
         list_read book schedule b is,
         λ list is_list valid.
-            done_last (make start items (slots_of b) list) (met start items (slots_of b) list valid),
+            done_last (make (in_units (unit_count options) start items steps (slots_of b) list)) (met (in_units (unit_count options) start items steps (slots_of b) list) refl refl valid),
       ),
     ),
   ),
@@ -109,7 +116,7 @@ run_revolve_sound options steps program journal book counts = (
       λ start is_start. (
         journal_read journal,
         λ items are_items.
-            done_last (perform start items steps (slots_of b) (revolve_list steps b)) (performs start items steps (slots_of b) (revolve_list steps b) (book_right steps b plan).0 refl),
+            done_last _ (performs (in_units (unit_count options) start items steps (slots_of b) (revolve_list steps b)) (book_right steps b plan).0 refl),
       ),
     ),
   ),
@@ -203,19 +210,32 @@ demo_sound number steps slots = (
   },
 )
 
+find_sound : (options : List Choice) (steps : ℕ) (digest program : List ℕ) (journal : Option (List ℕ)) → IsSound (find_table options steps digest program journal)
+find_sound options steps digest program journal = (
+  program_read (says_raw options) (stack_pages options) program,
+  λ start is_start. (
+    journal_read journal,
+    λ items are_items. done_last _ (seeks start items steps (worker_count options) digest refl),
+  ),
+)
+
 none_sound : IsSound no_table
 none_sound = record { one = λ c d x y. absurd x; job = λ d x. absurd x }
 
-over_bytes_sound : (make : Maker) (options : List Choice) (steps : ℕ) (bytes : List (List ℕ)) (slots : List ℕ) →
-    ((start : MachineState) (items : List (List ℕ)) (held : List Slots) (list : List Action) → Valid steps held list → IsMet (make start items held list)) → IsSound (over_bytes make options steps bytes slots)
+over_bytes_sound : (make : Run → Job) (options : List Choice) (steps : ℕ) (bytes : List (List ℕ)) (slots : List ℕ) →
+    ((run : Run) → run.steps ≡ steps → run.unit ≡ unit_count options → Valid run.steps run.slots run.list → IsMet (make run)) → IsSound (over_bytes make options steps bytes slots)
 over_bytes_sound make options steps (program ∷ book ∷ schedule ∷ []) slots met = over_run_sound make options steps program None book schedule slots met
 over_bytes_sound make options steps (program ∷ journal ∷ book ∷ schedule ∷ []) slots met = over_run_sound make options steps program (Some journal) book schedule slots met
 over_bytes_sound make options steps other slots met = none_sound
 
 pub tables_sound : (options : List Choice) (command : Command) (bytes : List (List ℕ)) (slots : List ℕ) → IsSound (table_of options command bytes slots)
-tables_sound options (run r) bytes slots = over_bytes_sound (performed r.steps) options r.steps bytes slots (λ start items held list valid. performs start items r.steps held list valid refl)
+tables_sound options (run r) bytes slots = over_bytes_sound perform options r.steps bytes slots (λ run steps unit valid. performs run valid refl)
 tables_sound options (ask r) bytes slots =
-    λ within. over_bytes_sound (asked_about r.question r.run.steps) options r.run.steps bytes slots (λ start items held list valid. asks r.question start items r.run.steps held list within valid refl)
+    λ within. over_bytes_sound (ask_job r.question) options r.run.steps bytes slots (λ run steps unit valid.
+    asks r.question run (subst (λ n. IsWithin (question_bound n r.question)) (sym (λ i. unit i * steps i)) within) valid refl)
+tables_sound options (find r) (program ∷ []) slots = find_sound options r.steps r.digest program None
+tables_sound options (find r) (program ∷ journal ∷ []) slots = find_sound options r.steps r.digest program (Some journal)
+tables_sound options (find r) other slots = none_sound
 tables_sound options (price r) (book ∷ schedule ∷ []) slots = price_sound r.steps book schedule
 tables_sound options (price r) other slots = none_sound
 tables_sound options (run_revolve r) (program ∷ book ∷ []) slots = run_revolve_sound options r.steps program None book slots

@@ -13,11 +13,10 @@ use Rattle.action_text.specs.ScheduleText.{IsSchedule}
 use Rattle.rv_machine.specs.MachineState.{MachineState}
 use Rattle.reverse_runner.specs.KeepersSeen.{HaveRoom}
 use Rattle.requests.specs.declared.ended.Ended.{Ended}
-use Rattle.requests.specs.Request.{Choice}
+use Rattle.requests.specs.Request.{Choice, says_raw, stack_pages, unit_count, Command, Request}
 use Rattle.requests.specs.Ending.{no_memory, unreadable, too_long as longer, bad_program, bad_journal, bad_book, bad_text, invalid, bad_certificate, out_of_range, no_plan}
 use Rattle.revolve_gen.specs.Plans.{HasPlan}
 use Rattle.revolve_gen.specs.Written.{revolve_list}
-use Rattle.requests.specs.Request.{says_raw, stack_pages, Command, Request}
 use Rattle.requests.specs.Inputs.{Input, inputs_of}
 use Rattle.requests.specs.InputReading.{Reading, all, too_long, not_there, with_front, reading}
 use Rattle.multistage_gen.specs.Planned.{IsMultistageList}
@@ -40,8 +39,18 @@ use Rattle.reversal.specs.Pricing.{list_report}
 use Rattle.level_book.specs.declared.book.Slots.TheVariants.{Unlimited}
 use Rattle.level_book.specs.DiskUnderTable.{IsGreatestDisk}
 use Rattle.disk_gen.specs.DiskWritten.{IsDiskWritten}
-use Rattle.reversal.specs.Deeds.{Job, perform, ask as ask_job, write, demonstrate, Shown, deeds, silent_deed, writing, Deed, bytes_of, bytes_written, steps_made, output, steps_taken}
-use Rattle.reversal.specs.Decision.{Decision, refuse, accept, Need, Read, Judge, Keep, Take, Plan, IsFirstWide, Tabulate, DecidesRunRevolve, DecidesPlanRevolve, DecidesPlanMultistage, DecidesPlanDisk, DecidesPlanHrevolve, DecidesPlanPeriodic, HasBookFault, IsStartOf, HasProgramFault, AreItemsOf, HasJournalFault, Maker, DecidesOver, DecidesPrice, DecidesCheck, DecidesCertify, DecidesBytes, Decides, least_line}
+use Rattle.reversal.specs.Job.{Run, Job, perform, ask as ask_job, seek, write, demonstrate}
+use Rattle.reversal.specs.Course.{Shown}
+use Rattle.reversal.specs.Deeds.{silent_deed, writing, Deed, bytes_of, bytes_written, steps_made}
+use Rattle.reversal.specs.Table.{Decision, refuse, accept, Need, Read, Judge, Keep, Plan, IsFirstWide, Tabulate}
+use Rattle.reversal.specs.Decision.{Take, DecidesBytes, Decides, table_of, course_of}
+use Rattle.reversal.specs.CommandAsk.{answer_text}
+use Rattle.reversal.specs.CommandRun.{DecidesRunRevolve}
+use Rattle.reversal.specs.CommandPlan.{DecidesPlanRevolve, DecidesPlanMultistage, DecidesPlanDisk, DecidesPlanHrevolve, DecidesPlanPeriodic}
+use Rattle.reversal.specs.Fronts.{HasBookFault, IsStartOf, HasProgramFault, AreItemsOf, HasJournalFault, DecidesOver, in_units}
+use Rattle.reversal.specs.CommandCost.{DecidesPrice}
+use Rattle.reversal.specs.CommandCheck.{DecidesCheck}
+use Rattle.reversal.specs.CommandCertify.{DecidesCertify, least_line}
 use Rattle.reversal.specs.JobReading.{IsRefusal, IsUnweighed}
 use Rattle.reversal.proofs.Refused.{IsRefusing}
 use Rattle.cert_text.specs.declared.certificate.Certificate.{Certificate}
@@ -55,11 +64,10 @@ use Rattle.reversal.proofs.BookTexts.{some_level, costs_rise}
 use Rattle.reversal.proofs.Weighing.{weigh_met, weigh_refuses}
 use Rattle.reversal.proofs.Keeping.{keep_refuses, keep_accepts, keep_passes}
 use Rattle.action_text.specs.Faults.{HasFirstFault}
-use Rattle.reversal.proofs.Progress.{bytes_of_run, steps_of_run}
 use Rattle.reversal.proofs.Answered.{bytes_asked, steps_asked}
-use Rattle.reversal.specs.Decision.{table_of}
-use Rattle.reversal.proofs.Tables.{IsMet, asks, performs, writes, shows, one_decided, comes_to}
+use Rattle.reversal.proofs.Tables.{IsMet, asks, performs, seeks, writes, shows, one_decided, comes_to}
 use Rattle.reversal.proofs.Commanding.{tables_sound}
+use Rattle.reversal.proofs.Performing.{bytes_performed, steps_performed}
 
 -- ---- a decision is unique
 
@@ -151,11 +159,11 @@ planned_least steps book job h =
 
 -- and it is read again as it was written
 pub planned_again : (steps : ℕ) (book : List ℕ) (job : Job) → steps ≤ 1000000 → DecidesPlanRevolve steps book (accept job) →
-    (b : BookCosts) × IsBookText book b × ((shown : Shown) → IsSchedule (names_of b) (output shown job) (revolve_list steps b) × IsCertificateText steps b (output shown job) (certificate_of steps b))
+    (b : BookCosts) × IsBookText book b × ((shown : Shown) → IsSchedule (names_of b) ((course_of job).output shown) (revolve_list steps b) × IsCertificateText steps b ((course_of job).output shown) (certificate_of steps b))
 planned_again steps book job short h =
     let b = read_said (IsBookText book) _ bad_book job _ h in
     let plan = need_met _ _ job _ b.1.1 in
-    let P : Shown → Job → Type 0 = λ shown j. IsSchedule (names_of b.0) (output shown j) (revolve_list steps b.0) × IsCertificateText steps b.0 (output shown j) (certificate_of steps b.0) in
+    let P : Shown → Job → Type 0 = λ shown j. IsSchedule (names_of b.0) ((course_of j).output shown) (revolve_list steps b.0) × IsCertificateText steps b.0 ((course_of j).output shown) (certificate_of steps b.0) in
     (b.0, b.1.0, λ shown. subst (P shown) (sym (ap (job_or job) plan.1)) (plan_read_again steps book b.0 short b.1.0 plan.0))
 
 -- a job that is accepted may be done
@@ -173,30 +181,33 @@ silent_bytes (a ∷ list) ds = silent_bytes list ds
 pub silent_steps : (list : List Action) → steps_made (map silent_deed list) ≡ forward list
 silent_steps list = fold-map (λ n (d : Deed). n + d.steps) silent_deed 0 list
 
-met_output : (job : Job) → IsMet job → (shown : Shown) → bytes_written (deeds shown job) ≡ output shown job
-met_output job (performs first journal steps slots list valid is) shown =
-    let P : Job → Type 0 = λ j. bytes_written (deeds shown j) ≡ output shown j in
-    subst P (sym is) (bytes_of_run shown.states steps slots list valid)
-met_output job (asks question first journal steps slots list within valid is) shown =
-    let P : Job → Type 0 = λ j. bytes_written (deeds shown j) ≡ output shown j in
-    subst P (sym is) (bytes_asked shown question first journal steps slots list within valid)
-met_output job (writes texts is) shown =
-    let P : Job → Type 0 = λ j. bytes_written (deeds shown j) ≡ output shown j in
-    subst P (sym is) (append-nil (bytes_of texts))
+-- what a job's deeds write is its output
+abbrev WritesOutput : Shown → Job → Type 0
+WritesOutput shown job = bytes_written ((course_of job).deeds shown) ≡ (course_of job).output shown
+
+-- what a search writes is its answer
+seek_output : (text : List ℕ) → (text ++ []) ++ [] ≡ text
+seek_output text = append-nil (text ++ []) ∙ append-nil text
+
+met_output : (job : Job) → IsMet job → (shown : Shown) → WritesOutput shown job
+met_output job (performs run valid is) shown = subst (WritesOutput shown) (sym is) (bytes_performed shown.states run.unit run.steps run.slots run.list valid)
+met_output job (asks question run within valid is) shown = subst (WritesOutput shown) (sym is) (bytes_asked shown question run within valid)
+met_output job (seeks first journal steps workers digest is) shown = subst (WritesOutput shown) (sym is) (seek_output (answer_text shown.answer))
+met_output job (writes texts is) shown = subst (WritesOutput shown) (sym is) (append-nil (bytes_of texts))
 met_output job (shows number first steps slots is) shown =
-    let P : Job → Type 0 = λ j. bytes_written (deeds shown j) ≡ output shown j in
     let text = demonstration.summary number first steps slots in
-    subst P (sym is) (silent_bytes (demonstration.demo_list steps slots) (writing (text ∷ []) ∷ []) ∙ append-nil (text ++ []) ∙ append-nil text)
+    subst (WritesOutput shown) (sym is) (silent_bytes (demonstration.demo_list steps slots) (writing (text ∷ []) ∷ []) ∙ append-nil (text ++ []) ∙ append-nil text)
 
 -- the deeds of a job that was decided write its output
-pub deeds_output : (r : Request) (given : List (Option (List ℕ))) (slots : List ℕ) (job : Job) → Decides r given slots (accept job) → (shown : Shown) → bytes_written (deeds shown job) ≡ output shown job
+pub deeds_output : (r : Request) (given : List (Option (List ℕ))) (slots : List ℕ) (job : Job) → Decides r given slots (accept job) → (shown : Shown) → WritesOutput shown job
 deeds_output r given slots job h =
     let met = take_met 1 (inputs_of r.command) given job (λ bytes. DecidesBytes r.options r.command bytes slots (accept job)) h in
     met_output job (bytes_met r.options r.command met.0 slots job met.1)
 
-pub deeds_steps : (shown : Shown) (job : Job) → steps_made (deeds shown job) ≡ steps_taken shown job
-deeds_steps shown (perform first journal steps slots list) = steps_of_run shown.states steps list
-deeds_steps shown (ask_job question first journal steps slots list) = steps_asked shown question first journal steps slots list
+pub deeds_steps : (shown : Shown) (job : Job) → steps_made ((course_of job).deeds shown) ≡ (course_of job).steps shown
+deeds_steps shown (perform run) = steps_performed shown.states run.unit run.steps run.list
+deeds_steps shown (ask_job question run) = steps_asked shown question run
+deeds_steps shown (seek first journal steps workers digest) = omega arith
 deeds_steps shown (write texts) = refl
 deeds_steps shown (demonstrate number first steps slots) =
     sum_by-append (λ (d : Deed). d.steps) (map silent_deed (demonstration.demo_list steps slots)) (writing (demonstration.summary number first steps slots ∷ []) ∷ [])
@@ -317,21 +328,21 @@ decided_refusal options command bytes slots e h = elim (comes_to (table_of optio
 
 -- ---- the lines of a run, and of a judgement
 
-pub over_by_book : (make : Maker) (options : List Choice) (steps : ℕ) (program : List ℕ) (journal : Option (List ℕ)) (book schedule counts : List ℕ) (e : Ended) → IsRefusal (HasBookFault book) bad_book e → (e ≡ no_memory) ⊎ DecidesOver make options steps program journal book schedule counts (refuse e)
+pub over_by_book : (make : Run → Job) (options : List Choice) (steps : ℕ) (program : List ℕ) (journal : Option (List ℕ)) (book schedule counts : List ℕ) (e : Ended) → IsRefusal (HasBookFault book) bad_book e → (e ≡ no_memory) ⊎ DecidesOver make options steps program journal book schedule counts (refuse e)
 over_by_book make options steps program journal book schedule counts e h = read_refuses (IsBookText book) (HasBookFault book) bad_book e _ h
 
-pub over_by_keepers : (make : Maker) (options : List Choice) (steps : ℕ) (program : List ℕ) (journal : Option (List ℕ)) (book schedule counts : List ℕ) (e : Ended) (b : BookCosts) → IsBookText book b → Keep steps (slots_of b) counts (refuse e) ⊥ →
+pub over_by_keepers : (make : Run → Job) (options : List Choice) (steps : ℕ) (program : List ℕ) (journal : Option (List ℕ)) (book schedule counts : List ℕ) (e : Ended) (b : BookCosts) → IsBookText book b → Keep steps (slots_of b) counts (refuse e) ⊥ →
     (e ≡ no_memory) ⊎ DecidesOver make options steps program journal book schedule counts (refuse e)
 over_by_keepers make options steps program journal book schedule counts e b is_book h = inr (inr (b, is_book, keep_refuses steps (slots_of b) counts (refuse e) _ h))
 
-pub over_by_program : (make : Maker) (options : List Choice) (steps : ℕ) (program : List ℕ) (journal : Option (List ℕ)) (book schedule counts : List ℕ) (e : Ended) (b : BookCosts) → IsBookText book b → HaveRoom steps (slots_of b) counts → IsRefusal (HasProgramFault (says_raw options) (stack_pages options) program) bad_program e →
+pub over_by_program : (make : Run → Job) (options : List Choice) (steps : ℕ) (program : List ℕ) (journal : Option (List ℕ)) (book schedule counts : List ℕ) (e : Ended) (b : BookCosts) → IsBookText book b → HaveRoom steps (slots_of b) counts → IsRefusal (HasProgramFault (says_raw options) (stack_pages options) program) bad_program e →
     (e ≡ no_memory) ⊎ DecidesOver make options steps program journal book schedule counts (refuse e)
 over_by_program make options steps program journal book schedule counts e b is_book room h =
     read_passes (IsBookText book) (HasBookFault book) bad_book e _ b is_book
     (keep_passes steps (slots_of b) counts e _ room
     (read_refuses (IsStartOf (says_raw options) (stack_pages options) program) (HasProgramFault (says_raw options) (stack_pages options) program) bad_program e _ h))
 
-pub over_by_journal : (make : Maker) (options : List Choice) (steps : ℕ) (program : List ℕ) (journal : Option (List ℕ)) (book schedule counts : List ℕ) (e : Ended) (b : BookCosts) (start : MachineState) → IsBookText book b → HaveRoom steps (slots_of b) counts → IsStartOf (says_raw options) (stack_pages options) program start →
+pub over_by_journal : (make : Run → Job) (options : List Choice) (steps : ℕ) (program : List ℕ) (journal : Option (List ℕ)) (book schedule counts : List ℕ) (e : Ended) (b : BookCosts) (start : MachineState) → IsBookText book b → HaveRoom steps (slots_of b) counts → IsStartOf (says_raw options) (stack_pages options) program start →
     IsRefusal (HasJournalFault journal) bad_journal e → (e ≡ no_memory) ⊎ DecidesOver make options steps program journal book schedule counts (refuse e)
 over_by_journal make options steps program journal book schedule counts e b start is_book room is_start h =
     read_passes (IsBookText book) (HasBookFault book) bad_book e _ b is_book
@@ -339,7 +350,7 @@ over_by_journal make options steps program journal book schedule counts e b star
     (read_passes (IsStartOf (says_raw options) (stack_pages options) program) (HasProgramFault (says_raw options) (stack_pages options) program) bad_program e _ start is_start
     (read_refuses (AreItemsOf journal) (HasJournalFault journal) bad_journal e _ h)))
 
-pub over_by_text : (make : Maker) (options : List Choice) (steps : ℕ) (program : List ℕ) (journal : Option (List ℕ)) (book schedule counts : List ℕ) (e : Ended) (b : BookCosts) (start : MachineState) (items : List (List ℕ)) → IsBookText book b → HaveRoom steps (slots_of b) counts → IsStartOf (says_raw options) (stack_pages options) program start →
+pub over_by_text : (make : Run → Job) (options : List Choice) (steps : ℕ) (program : List ℕ) (journal : Option (List ℕ)) (book schedule counts : List ℕ) (e : Ended) (b : BookCosts) (start : MachineState) (items : List (List ℕ)) → IsBookText book b → HaveRoom steps (slots_of b) counts → IsStartOf (says_raw options) (stack_pages options) program start →
     AreItemsOf journal items → IsRefusal (HasFirstFault (names_of b) schedule) bad_text e → (e ≡ no_memory) ⊎ DecidesOver make options steps program journal book schedule counts (refuse e)
 over_by_text make options steps program journal book schedule counts e b start items is_book room is_start are_items h =
     read_passes (IsBookText book) (HasBookFault book) bad_book e _ b is_book
@@ -348,7 +359,7 @@ over_by_text make options steps program journal book schedule counts e b start i
     (read_passes (AreItemsOf journal) (HasJournalFault journal) bad_journal e _ items are_items
     (read_refuses (IsSchedule (names_of b) schedule) (HasFirstFault (names_of b) schedule) bad_text e _ h))))
 
-pub over_by_rules : (make : Maker) (options : List Choice) (steps : ℕ) (program : List ℕ) (journal : Option (List ℕ)) (book schedule counts : List ℕ) (e : Ended) (b : BookCosts) (start : MachineState) (items : List (List ℕ)) (list : List Action) → IsBookText book b → HaveRoom steps (slots_of b) counts →
+pub over_by_rules : (make : Run → Job) (options : List Choice) (steps : ℕ) (program : List ℕ) (journal : Option (List ℕ)) (book schedule counts : List ℕ) (e : Ended) (b : BookCosts) (start : MachineState) (items : List (List ℕ)) (list : List Action) → IsBookText book b → HaveRoom steps (slots_of b) counts →
     IsStartOf (says_raw options) (stack_pages options) program start → AreItemsOf journal items → IsSchedule (names_of b) schedule list → IsBroken steps (slots_of b) list e → (e ≡ no_memory) ⊎ DecidesOver make options steps program journal book schedule counts (refuse e)
 over_by_rules make options steps program journal book schedule counts e b start items list is_book room is_start are_items is_list h =
     read_passes (IsBookText book) (HasBookFault book) bad_book e _ b is_book
@@ -358,9 +369,9 @@ over_by_rules make options steps program journal book schedule counts e b start 
     (read_passes (IsSchedule (names_of b) schedule) (HasFirstFault (names_of b) schedule) bad_text e _ list is_list
     (judge_refuses steps (slots_of b) list e _ h)))))
 
-pub over_accepted : (make : Maker) (options : List Choice) (steps : ℕ) (program : List ℕ) (journal : Option (List ℕ)) (book schedule counts : List ℕ) (b : BookCosts) (start : MachineState) (items : List (List ℕ)) (list : List Action) → IsBookText book b → HaveRoom steps (slots_of b) counts →
+pub over_accepted : (make : Run → Job) (options : List Choice) (steps : ℕ) (program : List ℕ) (journal : Option (List ℕ)) (book schedule counts : List ℕ) (b : BookCosts) (start : MachineState) (items : List (List ℕ)) (list : List Action) → IsBookText book b → HaveRoom steps (slots_of b) counts →
     IsStartOf (says_raw options) (stack_pages options) program start → AreItemsOf journal items → IsSchedule (names_of b) schedule list → Valid steps (slots_of b) list →
-    DecidesOver make options steps program journal book schedule counts (accept (make start items (slots_of b) list))
+    DecidesOver make options steps program journal book schedule counts (accept (make (in_units (unit_count options) start items steps (slots_of b) list)))
 over_accepted make options steps program journal book schedule counts b start items list is_book room is_start are_items is_list valid =
     inr (b, is_book, keep_accepts steps (slots_of b) counts _ _ room (inr (start, is_start, inr (items, are_items, inr (list, is_list, inr (valid, refl))))))
 
@@ -396,7 +407,7 @@ revolve_by_journal options steps program journal book counts e b start is_book r
     (read_refuses (AreItemsOf journal) (HasJournalFault journal) bad_journal e _ h))))
 
 pub revolve_accepted : (options : List Choice) (steps : ℕ) (program : List ℕ) (journal : Option (List ℕ)) (book counts : List ℕ) (b : BookCosts) (start : MachineState) (items : List (List ℕ)) → IsBookText book b → HaveRoom steps (slots_of b) counts → HasPlan steps (total_room b steps) →
-    IsStartOf (says_raw options) (stack_pages options) program start → AreItemsOf journal items → DecidesRunRevolve options steps program journal book counts (accept (perform start items steps (slots_of b) (revolve_list steps b)))
+    IsStartOf (says_raw options) (stack_pages options) program start → AreItemsOf journal items → DecidesRunRevolve options steps program journal book counts (accept (perform (in_units (unit_count options) start items steps (slots_of b) (revolve_list steps b))))
 revolve_accepted options steps program journal book counts b start items is_book room has is_start are_items =
     inr (b, is_book, keep_accepts steps (slots_of b) counts _ _ room (inr (has, inr (start, is_start, inr (items, are_items, refl)))))
 

@@ -7,7 +7,10 @@ use Rattle.keepers.specs.Told.{Tells, AddsPrefix}
 use Rattle.schedule_rules.proofs.Judging.{take_one_more}
 use Rattle.reverse_runner.specs.KeepersSeen.{Calls, Called, CalledAtMost}
 use Rattle.reversal.specs.Output.{Adds}
-use Rattle.reversal.specs.Deeds.{Deed, bytes_of, bytes_written, writes_made, steps_made, calls_made, Moment, Did, DidUntil, BreaksOff, AddsAndPart, Job, Shown, deeds, IsShownNext, SparesNext, AllLevels, WentThrough, CallsLevel, FailsAt, IsDamagedIn, DamagedAt, Halts, MayWant, AllTell, levels_of}
+use Rattle.reversal.specs.Moment.{Moment, NothingFails, KeeperFails, AllTell}
+use Rattle.reversal.specs.Deeds.{Deed, CallsLevel, bytes_of, bytes_written, writes_made, calls_made, Did}
+use Rattle.reversal.specs.Going.{AllLevels, SparesNext}
+use Rattle.reversal.specs.Course.{Shown, Course, AddsAndPart, DidUntil, BreaksOff, FailsAt, DamagedAt, Halts}
 
 -- what is told after two calls
 pub tells_then : {A : Type 0} (x y z : Option A) (P Q R : A → A → Type 0) → ((a b c : A) → P a b → Q b c → R a c) → Tells x y P → Tells y z Q → Tells x z R
@@ -112,21 +115,10 @@ still_called m a b c called none = record {
   free_calls = λ k. let h = called.free_calls k in let n = none.free_calls k in omega (arith, h, n.0, n.1);
 }
 
--- So many deeds of a list were done, and of the next one some pieces, and a part of the one behind them.
-pub record IsUntil (ds : List Deed) (performed : ℕ) (old new : Moment) : Type 0 where
-  pub deed : Deed
-  pub there : slice_get ds performed ≡ Some deed
-  pub whole : ℕ
-  pub piece : List ℕ
-  pub next : slice_get deed.pieces whole ≡ Some piece
-  pub added : Tells old.told new.told (AddsAndPart (bytes_written (take performed ds) ++ bytes_of (take whole deed.pieces)) piece)
-  pub wrote : new.writes ≡ raised old.writes (writes_made (take performed ds) + (whole + 1))
-  pub counted : new.steps ≡ old.steps + steps_made (take performed ds)
-  pub called : Called (calls_made (take performed ds)) old.calls new.calls
-
+-- of the next deed some pieces were written, and a part of the one behind them
 pub is_until : (ds : List Deed) (i : ℕ) (d : Deed) (whole : ℕ) (piece : List ℕ) (a b c : Moment) → slice_get ds i ≡ Some d → slice_get d.pieces whole ≡ Some piece →
     Did (take i ds) a b → Tells b.told c.told (AddsAndPart (bytes_of (take whole d.pieces)) piece) → c.writes ≡ raised b.writes (whole + 1) → c.steps ≡ b.steps →
-    CalledAtMost (record { puts = λ _. 0; gets = λ _. 0; frees = λ _. 0 }) b.calls c.calls → IsUntil ds i a c
+    CalledAtMost (record { puts = λ _. 0; gets = λ _. 0; frees = λ _. 0 }) b.calls c.calls → DidUntil ds i a c
 is_until ds i d whole piece a b c at next before part wrote still uncalled =
     let front = bytes_written (take i ds) in
     let some = bytes_of (take whole d.pieces) in
@@ -148,29 +140,11 @@ is_until ds i d whole piece a b c at next before part wrote still uncalled =
 -- of the first piece a part
 pub is_until_first : (ds : List Deed) (i : ℕ) (d : Deed) (piece : List ℕ) (a b c : Moment) → slice_get ds i ≡ Some d → slice_get d.pieces 0 ≡ Some piece →
     Did (take i ds) a b → Tells b.told c.told (AddsPrefix piece) → c.writes ≡ raised b.writes 1 → c.steps ≡ b.steps →
-    CalledAtMost (record { puts = λ _. 0; gets = λ _. 0; frees = λ _. 0 }) b.calls c.calls → IsUntil ds i a c
+    CalledAtMost (record { puts = λ _. 0; gets = λ _. 0; frees = λ _. 0 }) b.calls c.calls → DidUntil ds i a c
 is_until_first ds i d piece a b c at next before part wrote still uncalled =
     is_until ds i d 0 piece a b c at next before
     (tells_so b.told c.told (AddsPrefix piece) (AddsAndPart [] piece) (λ x y p. (p.0, p.1 ∙ ap (λ l. l ++ take p.0 piece) (sym (append-nil x)))) part)
     wrote still uncalled
-
--- the same of the deeds of a job
-pub did_until : (shown : Shown) (job : Job) (ds : List Deed) (i : ℕ) (a c : Moment) → deeds shown job ≡ ds → IsUntil ds i a c → IsShownNext job shown i a c → WentThrough AllLevels shown job i a c → DidUntil shown job i a c
-did_until shown job ds i a c are until shows went =
-    let h = subst (λ (es : List Deed). IsUntil es i a c) (sym are) until in
-    record {
-      deed = h.deed;
-      there = h.there;
-      whole = h.whole;
-      piece = h.piece;
-      next = h.next;
-      added = h.added;
-      wrote = h.wrote;
-      counted = h.counted;
-      called = h.called;
-      shows = shows;
-      went = went;
-    }
 
 -- the sum over one deed more
 one_more : (f : Deed → ℕ) (ds : List Deed) (i : ℕ) (d : Deed) → slice_get ds i ≡ Some d → sum_by f (take (i + 1) ds) ≡ sum_by f (take i ds) + f d
@@ -190,7 +164,8 @@ broke_off ds i d a b c at before told writes steps called =
         there = at;
         added = subst P (sym told) before.added;
         wrote = writes ∙ before.wrote;
-        counted = steps ∙ before.counted;
+        steps_least = let same = steps ∙ before.counted in omega (arith, same);
+        steps_most = let same = steps ∙ before.counted in omega (arith, same);
         called = record {
           put_calls = λ k. (
             low_part (a.calls.puts k) (b.calls.puts k) (c.calls.puts k) ((calls_made (take i ds)).puts k) (before.called.put_calls k) (called.put_calls k).0,
@@ -212,19 +187,21 @@ broke_off ds i d a b c at before told writes steps called =
       refl,
     )
 
--- the keeper of a level that the deed calls failed there
-pub failed_at : (shown : Shown) (job : Job) (i level : ℕ) (d : Deed) (a c : Moment) → ((breaks : BreaksOff (deeds shown job) i a c) × (breaks.next ≡ d)) → CallsLevel d level → WentThrough SparesNext shown job i a c → FailsAt shown job i level a c
-failed_at shown job i level d a c broke calls went =
-    let C : Deed → Type 0 = λ e. CallsLevel e level in
-    record { breaks = broke.0; calls = subst C (sym broke.1) calls; went = went }
+-- ---- how a course ends in a deed that broke off
 
--- an image of a level that the deed gets was damaged there
-pub damaged_at : (shown : Shown) (job : Job) (i level : ℕ) (put got : List ℕ) (d : Deed) (a c : Moment) → ((breaks : BreaksOff (deeds shown job) i a c) × (breaks.next ≡ d)) → 0 < d.calls.gets level →
-    IsDamagedIn job i level put got a → (AllTell (levels_of job) a.images → ⊥) → WentThrough AllLevels shown job i a c → DamagedAt shown job i level put got a c
-damaged_at shown job i level put got d a c broke gets damaged silent went =
-    let C : Deed → Type 0 = λ e. 0 < e.calls.gets level in
-    record { breaks = broke.0; gets = subst C (sym broke.1) gets; damaged = damaged; silent = silent; went = went }
+module _ (course : Course) (shown : Shown) (i : ℕ) (d : Deed) (a c : Moment) (broke : (breaks : BreaksOff (course.deeds shown) i a c) × (breaks.next ≡ d)) where
+  -- the keeper of a level that the deed calls failed there
+  pub failed_at : (level : ℕ) → CallsLevel d level → course.holds SparesNext shown i a c → KeeperFails level a c → FailsAt course shown i level a c
+  failed_at level calls held fails =
+      let C : Deed → Type 0 = λ e. CallsLevel e level in
+      record { breaks = broke.0; calls = subst C (sym broke.1) calls; held = held; fails = fails }
 
--- the deed wanted memory
-pub halted_at : (shown : Shown) (job : Job) (i : ℕ) (d : Deed) (a c : Moment) → ((breaks : BreaksOff (deeds shown job) i a c) × (breaks.next ≡ d)) → MayWant job d → WentThrough SparesNext shown job i a c → Halts shown job a c
-halted_at shown job i d a c broke wants went = record { performed = i; breaks = broke.0; wants = subst (MayWant job) (sym broke.1) wants; went = went }
+  -- an image of a level that the deed gets was damaged there
+  pub damaged_at : (level : ℕ) (put got : List ℕ) → 0 < d.calls.gets level → course.damage i level put got a → (AllTell course.levels a.images → ⊥) → course.holds AllLevels shown i a c → NothingFails a c → DamagedAt course shown i level put got a c
+  damaged_at level put got gets damaged silent held quiet =
+      let C : Deed → Type 0 = λ e. 0 < e.calls.gets level in
+      record { breaks = broke.0; gets = subst C (sym broke.1) gets; damaged = damaged; silent = silent; held = held; quiet = quiet }
+
+  -- the deed wanted memory
+  pub halted_at : course.may_want d → course.holds SparesNext shown i a c → NothingFails a c → Halts course shown i a c
+  halted_at wants held quiet = record { breaks = broke.0; wants = subst course.may_want (sym broke.1) wants; held = held; quiet = quiet }

@@ -5,8 +5,8 @@ use Rattle.level_book.specs.declared.book.Slots.{Slots}
 use Rattle.reverse_runner.specs.KeepersSeen.{HaveRoom}
 use Rattle.requests.specs.declared.ended.Ended.{Ended}
 use Rattle.requests.specs.Ending.{no_memory, few_keepers, small_keeper}
-use Rattle.reversal.specs.Deeds.{Job}
-use Rattle.reversal.specs.Decision.{Decision, refuse, accept, IsFirstSmall, Keep}
+use Rattle.reversal.specs.Job.{Job}
+use Rattle.reversal.specs.Table.{Decision, refuse, accept, IsFirstSmall, Keep}
 use Rattle.reversal.proofs.Refused.{IsRefusing, refusing_past}
 
 -- ---- slots enough

@@ -20,6 +20,7 @@ pub mod Answering
 pub mod Drawing
 pub mod Demonstrating
 pub mod Silent
+pub mod Seeking
 pub mod Asked
 pub mod BookTexts
 pub mod Lengths

@@ -1,5 +1,5 @@
 -- The deeds of a performed list: what a writer of lines writes for its actions, on the way through a valid list.
-use Rattle.std.proofs.Common.{◌≡◌, ◌⊎◌, inl, inr, ℕ, zero, suc, ◌==◌, true, get_or, eq-eqb, ◌+◌, ◌*◌, ◌<◌, List, [], ◌∷◌, ◌++◌, length, map, take, append-nil, append_assoc, Option, Some, Contains, refl, sym, ◌∙◌, ap, arith, slice_get}
+use Rattle.std.proofs.Common.{◌≡◌, ◌⊎◌, inl, inr, ℕ, zero, suc, ◌==◌, true, get_or, eq-eqb, ◌+◌, ◌*◌, ◌<◌, List, [], ◌∷◌, ◌++◌, length, map, take, append-nil, append_assoc, Option, Some, Contains, refl, sym, ◌∙◌, ap, subst, arith, slice_get}
 use Rattle.std.proofs.Math.Nat.{mul-zero}
 use Rattle.std.proofs.lemmas.List.Sums.{sum_by-cons}
 use Rattle.std.specs.List.{flat_map}
@@ -18,18 +18,20 @@ use Rattle.level_book.specs.Rules.{levels_named}
 use Rattle.level_book.specs.Valid.{Valid}
 use Rattle.level_book.specs.CostFold.{steps_of, forward}
 use Rattle.keepers.specs.Counts.{raised}
-use Rattle.keepers.specs.Told.{Images, Tells, AddsPrefix}
+use Rattle.keepers.specs.Told.{Tells, AddsPrefix}
 use Rattle.rv_machine.specs.MachineState.{MachineState}
 use Rattle.state_image.specs.Line.{line}
 use Rattle.reverse_runner.specs.declared.line_writer.LineWriter.{LineWriter}
 use Rattle.reverse_runner.specs.Performed.{states_out, GetsAll, MissesOne, calls_keepers}
-use Rattle.reverse_runner.specs.KeepersSeen.{Called, calls_to, calls_of, one_if}
+use Rattle.reverse_runner.specs.KeepersSeen.{Called, calls_of, one_if}
 use Rattle.reverse_runner.specs.Handed.{handed_by, handed}
 use Rattle.reverse_runner.specs.Standing.{pair_read}
 use Rattle.reverse_runner.proofs.Getting.{gets_keeps}
 use Rattle.reverse_runner.proofs.Handing.{valid_hands}
 use Rattle.reversal.specs.Output.{line_of, lines_down, Adds}
-use Rattle.reversal.specs.Deeds.{Deed, States, deed_of, moment, Did, AddsAndPart, bytes_of, bytes_written, steps_made, CallsLevel}
+use Rattle.reversal.specs.Moment.{Moment}
+use Rattle.reversal.specs.Deeds.{Deed, States, deed_of, CallsLevel, bytes_of, bytes_written, steps_made, Did}
+use Rattle.reversal.specs.Course.{AddsAndPart}
 use Rattle.reversal.proofs.Doing.{tells_then, tells_so, tells_nothing, raised_then, raised_none, did_one}
 use Rattle.reversal.proofs.Showing.{Shows}
 
@@ -134,16 +136,22 @@ missed_lines {X} told writes shown journal (n ∷ numbers) (s ∷ states) x y sh
           wrote = (let all = raised_then (writes x.out.now) (writes z.out.now) (writes y.out.now) 1 (rest.whole + 1) got.2 rest.wrote in all ∙ ap (raised (writes x.out.now)) (omega arith));
         }
 
-module _ {X K : Type 0} (told : X → Option (List ℕ)) (writes : X → ℕ) (images : K → Option Images) (puts gets frees : K → ℕ) where
-  -- what an action does that may be done
-  pub did_action : (shown : States) (journal : List (List ℕ)) (unit steps : ℕ) (a : Action) (work : MachineState) (tape : List MachineState) (x y : LineWriter X) (ks ls : List K) (before after : ℕ) →
-      Shows shown (handed_by unit steps a) (states_out a work tape) → GetsAll (Wrote told writes) journal (handed_by unit steps a) (states_out a work tape) x y → after ≡ before + unit * steps_of a →
-      Called (calls_of a) (calls_to puts gets frees ks) (calls_to puts gets frees ls) →
-      Did (deed_of shown unit steps a ∷ []) (moment told writes images puts gets frees x.out.now ks before) (moment told writes images puts gets frees y.out.now ls after)
-  did_action shown journal unit steps a work tape x y ks ls before after shows got counted called =
-      let lines = got_lines told writes shown journal (handed_by unit steps a) (states_out a work tape) x y shows got in
-      did_one (deed_of shown unit steps a) (moment told writes images puts gets frees x.out.now ks before) (moment told writes images puts gets frees y.out.now ls after)
-      (bytes_of (map (line_of shown) (handed_by unit steps a))) (length (map (line_of shown) (handed_by unit steps a))) refl refl lines.0 lines.1 counted called
+-- a writer's sink is seen at a moment
+pub record IsAt {X : Type 0} (told : X → Option (List ℕ)) (writes : X → ℕ) (x : LineWriter X) (m : Moment) : Type 0 where
+  pub tells : m.told ≡ told x.out.now
+  pub counts : m.writes ≡ writes x.out.now
+
+-- what an action does that may be done
+pub did_action : {X : Type 0} (told : X → Option (List ℕ)) (writes : X → ℕ) (shown : States) (journal : List (List ℕ)) (unit steps : ℕ) (a : Action) (work : MachineState) (tape : List MachineState) (x y : LineWriter X) (mid new : Moment) →
+    IsAt told writes x mid → IsAt told writes y new → Shows shown (handed_by unit steps a) (states_out a work tape) → GetsAll (Wrote told writes) journal (handed_by unit steps a) (states_out a work tape) x y →
+    new.steps ≡ mid.steps + unit * steps_of a → Called (calls_of a) mid.calls new.calls → Did (deed_of shown unit steps a ∷ []) mid new
+did_action told writes shown journal unit steps a work tape x y mid new before after shows got counted called =
+    let lines = got_lines told writes shown journal (handed_by unit steps a) (states_out a work tape) x y shows got in
+    let pieces = map (line_of shown) (handed_by unit steps a) in
+    let T : Option (List ℕ) → Option (List ℕ) → Type 0 = λ old now. Tells old now (Adds (bytes_of pieces)) in
+    did_one (deed_of shown unit steps a) mid new (bytes_of pieces) (length pieces) refl refl
+    (subst (λ o. T o new.told) (sym before.tells) (subst (T (told x.out.now)) (sym after.tells) lines.0))
+    (after.counts ∙ lines.1 ∙ ap (λ n. raised n (length pieces)) (sym before.counts)) counted called
 
 -- an action that the visitor misses calls no keeper
 pub missed_calls_none : {V : Type 0} (got missed : V → ℕ → MachineState → List (List ℕ) → V → Type 0) (journal : List (List ℕ)) (unit steps : ℕ) (a : Action) (work : MachineState) (tape : List MachineState) (x y : V) →

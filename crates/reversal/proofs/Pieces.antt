@@ -9,18 +9,22 @@ use Rattle.std.proofs.lemmas.Grind.{flat_map-append}
 use Rattle.std.proofs.lemmas.List.{length-drop, length-append, take_all, take-append-drop}
 use Rattle.plan_types.specs.declared.action.Action.{Action}
 use Rattle.keepers.specs.Counts.{raised}
-use Rattle.keepers.specs.Told.{Images, Tells, AddsPrefix}
+use Rattle.keepers.specs.Told.{Tells, AddsPrefix}
 use Rattle.rv_machine.specs.declared.status.Status.TheVariants.{Running}
 use Rattle.reverse_runner.specs.KeepersSeen.{Calls, Called}
 use Rattle.requests.specs.declared.ended.Ended.{Ended}
 use Rattle.requests.specs.Ending.{done, stopped}
-use Rattle.reversal.specs.Output.{Adds}
-use Rattle.reversal.specs.Plans.{in_pieces}
-use Rattle.reversal.specs.Deeds.{write, Shown, writing, no_calls, bytes_of, Moment, AddsAndPart}
-use Rattle.reversal.specs.Decision.{accept, EndsBy}
 use Rattle.schedule_rules.proofs.Judging.{take_one_more}
 use Rattle.requests.proofs.Lists.{get_map, none_left}
-use Rattle.reversal.proofs.Doing.{tells_nothing, tells_then, raised_then, raised_none, did_one}
+use Rattle.reversal.specs.Job.{write}
+use Rattle.reversal.specs.Output.{Adds}
+use Rattle.reversal.specs.Moment.{Moment, NothingFails, SinkFails}
+use Rattle.reversal.specs.Deeds.{no_calls, writing, bytes_of}
+use Rattle.reversal.specs.Course.{Shown, AddsAndPart, DidUntil}
+use Rattle.reversal.specs.Table.{accept}
+use Rattle.reversal.specs.Decision.{EndsBy}
+use Rattle.reversal.specs.Plans.{in_pieces}
+use Rattle.reversal.proofs.Doing.{tells_then, tells_nothing, raised_then, raised_none, did_one}
 
 -- a text shows no states
 abbrev pub nothing_shown : Shown
@@ -30,29 +34,35 @@ nothing_shown = record { states = λ n. record { pc = 0; registers = []; status 
 pub not_called : (calls : Calls) → Called no_calls calls calls
 not_called calls = record { put_calls = λ k. raised_none (calls.puts k); get_calls = λ k. raised_none (calls.gets k); free_calls = λ k. raised_none (calls.frees k) }
 
--- what is seen of a sink, where nothing else changes
-abbrev pub seen : Option (List ℕ) → ℕ → ℕ → Calls → (ℕ → Option Images) → Moment
-seen told writes steps calls images = record { told = told; writes = writes; steps = steps; calls = calls; images = images }
+-- a moment beside another, where no keeper was called and no step taken
+pub record IsBeside (a c : Moment) : Type 0 where
+  pub steps : c.steps ≡ a.steps
+  pub calls : c.calls ≡ a.calls
+
+uncalled : (a c : Moment) → IsBeside a c → Called no_calls a.calls c.calls
+uncalled a c is = subst (Called no_calls a.calls) (sym is.calls) (not_called a.calls)
 
 -- all texts were written
-pub texts_done : (texts : List (List ℕ)) (e : Ended) (old new : Option (List ℕ)) (w v steps : ℕ) (calls : Calls) (images : ℕ → Option Images) → e ≡ done → Tells old new (Adds (bytes_of texts)) → v ≡ raised w (length texts) →
-    EndsBy (accept (write texts)) e (seen old w steps calls images) (seen new v steps calls images)
-texts_done texts e old new w v steps calls images is added wrote = (
-  nothing_shown,
-  (
-    tt,
-    inl (
-      is,
-      record {
-        did = did_one (writing texts) (seen old w steps calls images) (seen new v steps calls images) (bytes_of texts) (length texts) refl refl added wrote (sym (add-zero steps)) (not_called calls);
-        output_whole = added;
-        stepped = sym (add-zero steps);
-        answered = tt;
-        went = tt;
-      },
-    ),
-  ),
-)
+pub texts_done : (texts : List (List ℕ)) (e : Ended) (a c : Moment) → IsBeside a c → NothingFails a c → e ≡ done → Tells a.told c.told (Adds (bytes_of texts)) → c.writes ≡ raised a.writes (length texts) →
+    EndsBy (accept (write texts)) e a c
+texts_done texts e a c beside quiet is added wrote =
+    let still = beside.steps ∙ sym (add-zero a.steps) in (
+      nothing_shown,
+      (
+        tt,
+        inl (
+          is,
+          record {
+            did = did_one (writing texts) a c (bytes_of texts) (length texts) refl refl added wrote still (uncalled a c beside);
+            output_whole = added;
+            stepped = still;
+            answered = tt;
+            held = tt;
+            quiet = quiet;
+          },
+        ),
+      ),
+    )
 
 -- behind the first texts
 get_behind : {A : Type 0} (xs ys : List A) (y : A) → slice_get (xs ++ y ∷ ys) (length xs) ≡ Some y
@@ -65,41 +75,31 @@ take_front [] (y ∷ ys) = refl
 take_front (x ∷ xs) ys = ap (λ l. x ∷ l) (take_front xs ys)
 
 -- some texts were written, and the next in part
-pub texts_cut : (front : List (List ℕ)) (piece : List ℕ) (rest texts : List (List ℕ)) (e : Ended) (old new : Option (List ℕ)) (w v steps : ℕ) (calls : Calls) (images : ℕ → Option Images) → texts ≡ front ++ piece ∷ rest → e ≡ stopped 0 →
-    Tells old new (AddsAndPart (bytes_of front) piece) → v ≡ raised w (length front + 1) → EndsBy (accept (write texts)) e (seen old w steps calls images) (seen new v steps calls images)
-texts_cut front piece rest texts e old new w v steps calls images are is added wrote =
+pub texts_cut : (front : List (List ℕ)) (piece : List ℕ) (rest texts : List (List ℕ)) (e : Ended) (a c : Moment) → IsBeside a c → SinkFails a c → texts ≡ front ++ piece ∷ rest → e ≡ stopped 0 →
+    Tells a.told c.told (AddsAndPart (bytes_of front) piece) → c.writes ≡ raised a.writes (length front + 1) → EndsBy (accept (write texts)) e a c
+texts_cut front piece rest texts e a c beside fails are is added wrote =
     let before : take (length front) texts ≡ front = ap (take (length front)) are ∙ take_front front (piece ∷ rest) in
-    let P : List (List ℕ) → Type 0 = λ l. Tells old new (AddsAndPart (bytes_of l) piece) in (
-      nothing_shown,
-      (
-        tt,
-        inr (inl (
-          0,
-          is,
-          record {
-            deed = writing texts;
-            there = refl;
-            whole = length front;
-            piece = piece;
-            next = ap (λ l. slice_get l (length front)) are ∙ get_behind front rest piece;
-            added = subst P (sym before) added;
-            wrote = let all = wrote in omega (arith, all);
-            counted = sym (add-zero steps);
-            called = not_called calls;
-            shows = tt;
-            went = tt;
-          },
-        )),
-      ),
-    )
+    let P : List (List ℕ) → Type 0 = λ l. Tells a.told c.told (AddsAndPart (bytes_of l) piece) in
+    let until : DidUntil (writing texts ∷ []) 0 a c = record {
+      deed = writing texts;
+      there = refl;
+      whole = length front;
+      piece = piece;
+      next = ap (λ l. slice_get l (length front)) are ∙ get_behind front rest piece;
+      added = subst P (sym before) added;
+      wrote = let all = wrote in omega (arith, all);
+      counted = beside.steps ∙ sym (add-zero a.steps);
+      called = uncalled a c beside;
+    } in
+    (nothing_shown, (tt, inr (inl (0, is, record { until = until; answered = tt; held = tt; fails = fails }))))
 
 -- the same in two parts
-pub texts_stopped : (front : List (List ℕ)) (piece : List ℕ) (rest texts : List (List ℕ)) (e : Ended) (old mid new : Option (List ℕ)) (w u v steps : ℕ) (calls : Calls) (images : ℕ → Option Images) → texts ≡ front ++ piece ∷ rest → e ≡ stopped 0 →
-    Tells old mid (Adds (bytes_of front)) → u ≡ raised w (length front) → Tells mid new (AddsPrefix piece) → v ≡ raised u 1 → EndsBy (accept (write texts)) e (seen old w steps calls images) (seen new v steps calls images)
-texts_stopped front piece rest texts e old mid new w u v steps calls images are is added wrote part once =
-    texts_cut front piece rest texts e old new w v steps calls images are is
-    (tells_then old mid new (Adds (bytes_of front)) (AddsPrefix piece) (AddsAndPart (bytes_of front) piece) (λ a b c p q. (q.0, q.1 ∙ ap (λ l. l ++ take q.0 piece) p)) added part)
-    (let all = raised_then w u v (length front) 1 wrote once in omega (arith, all))
+pub texts_stopped : (front : List (List ℕ)) (piece : List ℕ) (rest texts : List (List ℕ)) (e : Ended) (mid : Option (List ℕ)) (u : ℕ) (a c : Moment) → IsBeside a c → SinkFails a c → texts ≡ front ++ piece ∷ rest → e ≡ stopped 0 →
+    Tells a.told mid (Adds (bytes_of front)) → u ≡ raised a.writes (length front) → Tells mid c.told (AddsPrefix piece) → c.writes ≡ raised u 1 → EndsBy (accept (write texts)) e a c
+texts_stopped front piece rest texts e mid u a c beside fails are is added wrote part once =
+    texts_cut front piece rest texts e a c beside fails are is
+    (tells_then a.told mid c.told (Adds (bytes_of front)) (AddsPrefix piece) (AddsAndPart (bytes_of front) piece) (λ x y z p q. (q.0, q.1 ∙ ap (λ l. l ++ take q.0 piece) p)) added part)
+    (let all = raised_then a.writes u c.writes (length front) 1 wrote once in omega (arith, all))
 
 -- one text more
 pub text_more : (front : List (List ℕ)) (piece : List ℕ) (old mid new : Option (List ℕ)) → Tells old mid (Adds (bytes_of front)) → Tells mid new (Adds piece) → Tells old new (Adds (bytes_of (front ++ piece ∷ [])))
@@ -195,52 +195,51 @@ written_more f all last rest after piece old mid new w u v so_far some behind is
       writes = let longer = length-append so_far.front (piece ∷ []) in let all_writes = raised_then w u v (length so_far.front) 1 so_far.writes once in all_writes ∙ ap (raised w) (sym longer);
     }
 
-pub written_stopped : {A : Type 0} (f : A → List ℕ) (all : List (List ℕ)) (last : List (List ℕ)) (rest : List A) (piece : List ℕ) (e : Ended) (old mid new : Option (List ℕ)) (w u v steps : ℕ) (calls : Calls) (images : ℕ → Option Images) → IsWritten f all last rest old mid w u → rest ≢ [] →
-    piece ≡ bytes_of (take 64 (map f rest)) → e ≡ stopped 0 → Tells mid new (AddsPrefix piece) → v ≡ raised u 1 → EndsBy (accept (write all)) e (seen old w steps calls images) (seen new v steps calls images)
-written_stopped f all last rest piece e old mid new w u v steps calls images so_far some is ended part once =
-    let begins = piece_begins f so_far.left rest some so_far.enough in
-    texts_stopped so_far.front piece (in_pieces begins.left (map f (drop 64 rest)) ++ last) all e old mid new w u v steps calls images
-    (so_far.pieces ∙ ap (λ l. so_far.front ++ (l ++ last)) (begins.pieces ∙ ap (λ p. p ∷ in_pieces begins.left (map f (drop 64 rest))) (sym is)))
-    ended so_far.told so_far.writes part once
-
--- the last texts
-last_are : {A : Type 0} (f : A → List ℕ) (all last : List (List ℕ)) (rest : List A) (old mid : Option (List ℕ)) (w u : ℕ) (so_far : IsWritten f all last rest old mid w u) → rest ≡ [] → all ≡ so_far.front ++ last
-last_are f all last rest old mid w u so_far none = so_far.pieces ∙ ap (λ l. so_far.front ++ (l ++ last)) (pieces_end f so_far.left rest none)
-
-pub written_whole : {A : Type 0} (f : A → List ℕ) (all last : List (List ℕ)) (rest : List A) (e : Ended) (old mid : Option (List ℕ)) (w u steps : ℕ) (calls : Calls) (images : ℕ → Option Images) → IsWritten f all last rest old mid w u → rest ≡ [] → last ≡ [] →
-    e ≡ done → EndsBy (accept (write all)) e (seen old w steps calls images) (seen mid u steps calls images)
-written_whole f all last rest e old mid w u steps calls images so_far none no_last ended =
-    let is = last_are f all last rest old mid w u so_far none ∙ ap (λ l. so_far.front ++ l) no_last ∙ append-nil so_far.front in
-    let P : List (List ℕ) → Type 0 = λ l. Tells old mid (Adds (bytes_of l)) in
-    texts_done all e old mid w u steps calls images ended (subst P (sym is) so_far.told) (so_far.writes ∙ ap (raised w) (sym (ap length is)))
-
 -- texts more
 texts_more : (front last : List (List ℕ)) (old mid new : Option (List ℕ)) → Tells old mid (Adds (bytes_of front)) → Tells mid new (Adds (concat last)) → Tells old new (Adds (bytes_of (front ++ last)))
 texts_more front last old mid new = tells_then old mid new (Adds (bytes_of front)) (Adds (concat last)) (Adds (bytes_of (front ++ last))) (λ a b c p q.
     q ∙ (λ i. p i ++ concat_is last i) ∙ append_assoc a (bytes_of front) (bytes_of last) ∙ ap (λ l. a ++ l) (sym (flat_map-append (λ l. l) front last)))
 
-pub written_all : {A : Type 0} (f : A → List ℕ) (all last : List (List ℕ)) (rest : List A) (texts : List (List ℕ)) (e : Ended) (old mid new : Option (List ℕ)) (w u v steps : ℕ) (calls : Calls) (images : ℕ → Option Images) → IsWritten f all last rest old mid w u → rest ≡ [] → last ≡ texts →
-    e ≡ done → Tells mid new (Adds (concat texts)) → v ≡ raised u (length texts) → EndsBy (accept (write all)) e (seen old w steps calls images) (seen new v steps calls images)
-written_all f all last rest texts e old mid new w u v steps calls images so_far none one ended added once =
-    let is = last_are f all last rest old mid w u so_far none ∙ ap (λ l. so_far.front ++ l) one in
-    let P : List (List ℕ) → Type 0 = λ l. Tells old new (Adds (bytes_of l)) in
-    let longer = length-append so_far.front texts in
-    let all_writes = raised_then w u v (length so_far.front) (length texts) so_far.writes once in
-    texts_done all e old new w v steps calls images ended (subst P (sym is) (texts_more so_far.front texts old mid new so_far.told added)) (all_writes ∙ ap (raised w) (sym longer ∙ sym (ap length is)))
+-- How the texts come to their end, from a moment before all of them to one after it, by what was told and written between.
+module _ {A : Type 0} (f : A → List ℕ) (all last : List (List ℕ)) (rest : List A) (e : Ended) (mid : Option (List ℕ)) (u : ℕ) (a c : Moment) (beside : IsBeside a c) (so_far : IsWritten f all last rest a.told mid a.writes u) where
+  pub written_stopped : (piece : List ℕ) → SinkFails a c → rest ≢ [] → piece ≡ bytes_of (take 64 (map f rest)) → e ≡ stopped 0 → Tells mid c.told (AddsPrefix piece) → c.writes ≡ raised u 1 → EndsBy (accept (write all)) e a c
+  written_stopped piece fails some is ended part once =
+      let begins = piece_begins f so_far.left rest some so_far.enough in
+      texts_stopped so_far.front piece (in_pieces begins.left (map f (drop 64 rest)) ++ last) all e mid u a c beside fails
+      (so_far.pieces ∙ ap (λ l. so_far.front ++ (l ++ last)) (begins.pieces ∙ ap (λ p. p ∷ in_pieces begins.left (map f (drop 64 rest))) (sym is)))
+      ended so_far.told so_far.writes part once
 
--- the last texts were written but for one of them and those behind it
-pub written_but_some : {A : Type 0} (f : A → List ℕ) (all last : List (List ℕ)) (rest : List A) (before : List (List ℕ)) (piece : List ℕ) (after : List (List ℕ)) (e : Ended) (old mid new : Option (List ℕ)) (w u v steps : ℕ) (calls : Calls) (images : ℕ → Option Images) →
-    IsWritten f all last rest old mid w u → rest ≡ [] → last ≡ before ++ piece ∷ after →
-    e ≡ stopped 0 → Tells mid new (λ a b. AddsPrefix piece (a ++ concat before) b) → v ≡ raised u (length before + 1) → EndsBy (accept (write all)) e (seen old w steps calls images) (seen new v steps calls images)
-written_but_some f all last rest before piece after e old mid new w u v steps calls images so_far none some ended part once =
-    let front = so_far.front in
-    let are = last_are f all last rest old mid w u so_far none ∙ ap (λ l. front ++ l) some ∙ sym (append_assoc front before (piece ∷ after)) in
-    let longer = length-append front before in
-    let told : Tells old new (AddsAndPart (bytes_of (front ++ before)) piece) =
-    tells_then old mid new (Adds (bytes_of front)) (λ a b. AddsPrefix piece (a ++ concat before) b) (AddsAndPart (bytes_of (front ++ before)) piece) (λ a b c p q.
-    (q.0, q.1 ∙ ap (λ l. l ++ take q.0 piece) ((λ i. p i ++ concat_is before i) ∙ append_assoc a (bytes_of front) (bytes_of before) ∙ ap (λ l. a ++ l) (sym (flat_map-append (λ l. l) front before))))) so_far.told part in
-    texts_cut (front ++ before) piece after all e old new w v steps calls images are ended told
-    (let all_writes = raised_then w u v (length front) (length before + 1) so_far.writes once in all_writes ∙ ap (raised w) (omega (arith, longer)))
+  -- the last texts
+  last_are : rest ≡ [] → all ≡ so_far.front ++ last
+  last_are none = so_far.pieces ∙ ap (λ l. so_far.front ++ (l ++ last)) (pieces_end f so_far.left rest none)
+
+  pub written_whole : NothingFails a c → rest ≡ [] → last ≡ [] → e ≡ done → c.told ≡ mid → c.writes ≡ u → EndsBy (accept (write all)) e a c
+  written_whole quiet none no_last ended told wrote =
+      let is = last_are none ∙ ap (λ l. so_far.front ++ l) no_last ∙ append-nil so_far.front in
+      let P : List (List ℕ) → Type 0 = λ l. Tells a.told mid (Adds (bytes_of l)) in
+      let T : Option (List ℕ) → Type 0 = λ o. Tells a.told o (Adds (bytes_of all)) in
+      texts_done all e a c beside quiet ended (subst T (sym told) (subst P (sym is) so_far.told)) (wrote ∙ so_far.writes ∙ ap (raised a.writes) (sym (ap length is)))
+
+  pub written_all : (texts : List (List ℕ)) → NothingFails a c → rest ≡ [] → last ≡ texts → e ≡ done → Tells mid c.told (Adds (concat texts)) → c.writes ≡ raised u (length texts) → EndsBy (accept (write all)) e a c
+  written_all texts quiet none one ended added once =
+      let is = last_are none ∙ ap (λ l. so_far.front ++ l) one in
+      let P : List (List ℕ) → Type 0 = λ l. Tells a.told c.told (Adds (bytes_of l)) in
+      let longer = length-append so_far.front texts in
+      let all_writes = raised_then a.writes u c.writes (length so_far.front) (length texts) so_far.writes once in
+      texts_done all e a c beside quiet ended (subst P (sym is) (texts_more so_far.front texts a.told mid c.told so_far.told added)) (all_writes ∙ ap (raised a.writes) (sym longer ∙ sym (ap length is)))
+
+  -- the last texts were written but for one of them and those behind it
+  pub written_but_some : (before : List (List ℕ)) (piece : List ℕ) (after : List (List ℕ)) → SinkFails a c → rest ≡ [] → last ≡ before ++ piece ∷ after →
+      e ≡ stopped 0 → Tells mid c.told (λ x y. AddsPrefix piece (x ++ concat before) y) → c.writes ≡ raised u (length before + 1) → EndsBy (accept (write all)) e a c
+  written_but_some before piece after fails none some ended part once =
+      let front = so_far.front in
+      let are = last_are none ∙ ap (λ l. front ++ l) some ∙ sym (append_assoc front before (piece ∷ after)) in
+      let longer = length-append front before in
+      let told : Tells a.told c.told (AddsAndPart (bytes_of (front ++ before)) piece) =
+      tells_then a.told mid c.told (Adds (bytes_of front)) (λ x y. AddsPrefix piece (x ++ concat before) y) (AddsAndPart (bytes_of (front ++ before)) piece) (λ x y z p q.
+      (q.0, q.1 ∙ ap (λ l. l ++ take q.0 piece) ((λ i. p i ++ concat_is before i) ∙ append_assoc x (bytes_of front) (bytes_of before) ∙ ap (λ l. x ++ l) (sym (flat_map-append (λ l. l) front before))))) so_far.told part in
+      texts_cut (front ++ before) piece after all e a c beside fails are ended told
+      (let all_writes = raised_then a.writes u c.writes (length front) (length before + 1) so_far.writes once in all_writes ∙ ap (raised a.writes) (omega (arith, longer)))
 
 -- ---- what is left
 

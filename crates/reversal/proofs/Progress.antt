@@ -1,19 +1,18 @@
 -- On the way through a valid list: what is known of a session, of its sink and of its keepers after each action.
-use Rattle.std.proofs.Common.{◌≡◌, ℕ, zero, suc, ◌+◌, ◌*◌, true, [], ◌∷◌, ◌≤◌, IsSome, List, length, map, take, Option, Some, MatchOption, Contains, refl, sym, ◌∙◌, ap, subst, arith, slice_get}
+use Rattle.std.proofs.Common.{◌≡◌, ℕ, zero, suc, ◌+◌, ◌*◌, true, [], ◌∷◌, ◌≤◌, IsSome, List, length, map, take, Option, Some, MatchOption, Contains, refl, sym, ◌∙◌, ap, subst, arith, slice_get, inl, inr, false, ◌≢◌, Result, Ok, Err}
 use Rattle.std.specs.FinSet as set
 use Rattle.std.proofs.lemmas.Bool.{false≢true}
 use Rattle.std.proofs.lemmas.Option.{none-some, same_Some}
-use Rattle.std.proofs.lemmas.List.{take-map}
+use Rattle.std.proofs.lemmas.List.{take-map, take_all, length-map}
 use Rattle.plan_types.specs.declared.action.Dest.TheVariants.{Work, Level}
 use Rattle.plan_types.specs.declared.action.Action.{Action}
 use Rattle.plan_types.specs.declared.action.Action.TheVariants.{Forward, Reverse, Copy, Move, EndForward, EndReverse}
 use Rattle.image_store.specs.Standing.{IsToldAnd}
-use Rattle.reverse_queries.specs.OnTheWay.{GoesThrough}
-use Rattle.reverse_runner.specs.Acts.{Holdings}
+use Rattle.reverse_runner.specs.Acts.{Holdings, Acts}
 use Rattle.reverse_queries.specs.Performing.{IsOut}
 use Rattle.reverse_runner.specs.HoldsJust.{HoldsJust}
 use Rattle.reverse_runner.specs.Left.{Spares, MayLeave, HoldsBesides, HoldsAllBut}
-use Rattle.reverse_runner.specs.LevelsStand.{Numbers, AreAlone}
+use Rattle.reverse_runner.specs.LevelsStand.{AreAlone}
 use Rattle.reverse_runner.proofs.HoldingJust.{holds_just}
 use Rattle.reverse_runner.proofs.LeftHolding.{holds_put_to, holds_released}
 use Rattle.level_book.specs.declared.book.Slots.{Slots}
@@ -21,26 +20,41 @@ use Rattle.level_book.specs.Configuration.{Configuration, start, held_on}
 use Rattle.level_book.specs.Moves.{Goes}
 use Rattle.level_book.specs.Rules.{levels_named}
 use Rattle.level_book.specs.Valid.{Leads, Valid}
-use Rattle.level_book.specs.CostFold.{steps_of, forward}
-use Rattle.keepers.specs.Told.{Images}
-use Rattle.schedule_rules.proofs.Judging.{take_one_more}
+use Rattle.level_book.specs.CostFold.{steps_of}
+use Rattle.keepers.specs.Told.{Images, Tells}
+use Rattle.schedule_rules.proofs.Judging.{take_one_more, kept_on_the_way}
 use Rattle.schedule_rules.proofs.Reaching.{sound_on, sound_start, leads_unique}
 use Rattle.rv_machine.specs.MachineState.{MachineState}
 use Rattle.rv_machine.specs.States.{state_number}
 use Rattle.reverse_runner.specs.declared.line_writer.LineWriter.{LineWriter}
 use Rattle.reverse_runner.specs.Performed.{states_out, GetsAll, MissesOne, calls_keepers}
 use Rattle.reverse_runner.specs.Units.{unit_states}
-use Rattle.reverse_runner.specs.KeepersSeen.{Calls, Called, CalledAtMost, calls_to, calls_of, told_by}
+use Rattle.reverse_runner.specs.KeepersSeen.{Calls, Called, CalledAtMost, calls_of}
 use Rattle.reverse_runner.specs.Handed.{handed_by, handed}
 use Rattle.reverse_runner.specs.SessionState.{SessionState, levels_of, holdings_of}
-use Rattle.reverse_runner.specs.Standing.{StandsAt, IsDamage, pair_read}
+use Rattle.reverse_runner.specs.Standing.{StandsAt, IsDamage, pair_read, begun, Performs}
 use Rattle.reverse_runner.proofs.StandingAfter.{TapeIs}
-use Rattle.reversal.specs.Output.{lines_down}
-use Rattle.reversal.specs.Deeds.{Deed, States, deed_of, bytes_written, steps_made, Moment, moment, Did, BreaksOff, AllTell, AllEmpty, held_at_start, SparesNext, SameLevels, Went, ComesTo}
 use Rattle.requests.proofs.Lists.{get_map}
-use Rattle.reversal.proofs.Doing.{did_one_more, IsUntil, is_until, broke_off}
-use Rattle.reversal.proofs.Showing.{showing, Shows, it_shows, shows_of_run, IsAbove, above_after, same_before, handed_more}
-use Rattle.reversal.proofs.Performing.{Wrote, Missed, did_action, missed_lines, missed_calls_none, bytes_performed, steps_performed, none_named, names_levels}
+use Rattle.schedule_rules.proofs.Lawful.{rules_moves}
+use Rattle.reverse_runner.specs.declared.fault.RunFault.TheVariants.{Keeper, Damaged, Memory, Visitor, Ended}
+use Rattle.keepers.specs.Counts.{Rose, raised}
+use Rattle.reverse_runner.specs.declared.fault.RunFault.{RunFault}
+use Rattle.requests.specs.Ending.{done, stopped}
+use Rattle.reversal.specs.Job.{Run, perform}
+use Rattle.reversal.specs.Output.{line_of, Adds}
+use Rattle.reversal.specs.Moment.{Moment, KeepersAreQuiet, NothingFails, SinkFails, KeeperFails, AllTell, AllEmpty}
+use Rattle.reversal.specs.Deeds.{Deed, States, deed_of, bytes_of, Did}
+use Rattle.reversal.specs.Going.{AreOfRun, held_at_start, GoesOver, ComesToDamage, LeadTo, SameLevels, AllLevels, SparesNext, Went}
+use Rattle.reversal.specs.Course.{AddsAndPart, DidUntil, BreaksOff}
+use Rattle.reversal.specs.Table.{accept}
+use Rattle.reversal.specs.CommandRun.{performing}
+use Rattle.reversal.specs.Decision.{EndsBy}
+use Rattle.reversal.specs.JobReading.{Works, fault_ending}
+use Rattle.reversal.proofs.OnTheWay.{led_on}
+use Rattle.reversal.proofs.Doing.{did_none, did_one_more, is_until, broke_off, failed_at, damaged_at, halted_at}
+use Rattle.reversal.proofs.Through.{through_none, has_length, through_more, through_still}
+use Rattle.reversal.proofs.Performing.{Wrote, Missed, missed_lines, IsAt, did_action, missed_calls_none, bytes_performed, steps_performed, none_named, names_levels, calls_named, calls_one, gets_pair}
+use Rattle.reversal.proofs.Showing.{shown_by, showing, Shows, it_shows, IsAbove, above_after, same_before, shows_of_run, handed_more, above_at_start}
 
 -- the deeds before an action, with the states that it shows
 before_it : (shown : States) (unit steps : ℕ) (slots : List Slots) (list : List Action) (i : ℕ) (c : Configuration) (a : Action) (d : Configuration) (work : MachineState) (tape : List MachineState) (x y : Moment) →
@@ -51,45 +65,33 @@ before_it shown unit steps slots list i c a d work tape x y g above did =
     let same = same_before shown unit steps slots (take i list) c a d work tape g above in
     subst P (take-map (deed_of shown unit steps) i list ∙ sym same ∙ sym (take-map (deed_of (showing shown unit steps a work tape) unit steps) i list)) did
 
-module _ {X K : Type 0} (told : X → Option (List ℕ)) (writes : X → ℕ) (images : K → Option Images) (puts gets frees : K → ℕ) where
-  -- the deeds up to an action that was performed
-  pub did_so_far : (shown : States) (journal : List (List ℕ)) (unit steps : ℕ) (slots : List Slots) (list : List Action) (i : ℕ) (c : Configuration) (a : Action) (d : Configuration) (work : MachineState) (tape : List MachineState) (old : Moment)
-      (x y : LineWriter X) (ks ls : List K) (before after : ℕ) → slice_get list i ≡ Some a → Goes steps slots c a d → IsAbove unit steps (handed unit steps (take i list)) c →
-      Did (take i (map (deed_of shown unit steps) list)) old (moment told writes images puts gets frees x.out.now ks before) → GetsAll (Wrote told writes) journal (handed_by unit steps a) (states_out a work tape) x y →
-      after ≡ before + unit * steps_of a → Called (calls_of a) (calls_to puts gets frees ks) (calls_to puts gets frees ls) →
-      Did (take (i + 1) (map (deed_of (showing shown unit steps a work tape) unit steps) list)) old (moment told writes images puts gets frees y.out.now ls after)
-  did_so_far shown journal unit steps slots list i c a d work tape old x y ks ls before after at g above did got counted called =
-      let now = showing shown unit steps a work tape in
-      did_one_more (map (deed_of now unit steps) list) i (deed_of now unit steps a) old (moment told writes images puts gets frees x.out.now ks before) (moment told writes images puts gets frees y.out.now ls after)
-      (get_map (deed_of now unit steps) list i a at)
-      (before_it shown unit steps slots list i c a d work tape old (moment told writes images puts gets frees x.out.now ks before) g above did)
-      (did_action told writes images puts gets frees now journal unit steps a work tape x y ks ls before after (it_shows shown unit steps a work tape) got counted called)
+-- the deeds up to an action that was performed
+did_so_far : {X : Type 0} (told : X → Option (List ℕ)) (writes : X → ℕ) (shown : States) (journal : List (List ℕ)) (unit steps : ℕ) (slots : List Slots) (list : List Action) (i : ℕ) (c : Configuration) (a : Action) (d : Configuration) (work : MachineState)
+    (tape : List MachineState) (x y : LineWriter X) (old mid new : Moment) → IsAt told writes x mid → IsAt told writes y new → slice_get list i ≡ Some a → Goes steps slots c a d → IsAbove unit steps (handed unit steps (take i list)) c →
+    Did (take i (map (deed_of shown unit steps) list)) old mid → GetsAll (Wrote told writes) journal (handed_by unit steps a) (states_out a work tape) x y → new.steps ≡ mid.steps + unit * steps_of a →
+    Called (calls_of a) mid.calls new.calls → Did (take (i + 1) (map (deed_of (showing shown unit steps a work tape) unit steps) list)) old new
+did_so_far told writes shown journal unit steps slots list i c a d work tape x y old mid new before after at g above did got counted called =
+    let now = showing shown unit steps a work tape in
+    did_one_more (map (deed_of now unit steps) list) i (deed_of now unit steps a) old mid new (get_map (deed_of now unit steps) list i a at)
+    (before_it shown unit steps slots list i c a d work tape old mid g above did)
+    (did_action told writes now journal unit steps a work tape x y mid new before after (it_shows shown unit steps a work tape) got counted called)
 
-  -- the deeds before an action whose write failed
-  pub did_before : (shown : States) (journal : List (List ℕ)) (unit steps : ℕ) (slots : List Slots) (list : List Action) (i : ℕ) (c : Configuration) (a : Action) (d : Configuration) (work : MachineState) (tape : List MachineState) (old : Moment)
-      (x y : LineWriter X) (ks ls : List K) (before after : ℕ) → slice_get list i ≡ Some a → Goes steps slots c a d → IsAbove unit steps (handed unit steps (take i list)) c →
-      Did (take i (map (deed_of shown unit steps) list)) old (moment told writes images puts gets frees x.out.now ks before) →
-      MissesOne (Wrote told writes) (Missed told writes) journal (handed_by unit steps a) (states_out a work tape) x y → after ≡ before →
-      CalledAtMost (calls_of a) (calls_to puts gets frees ks) (calls_to puts gets frees ls) →
-      IsUntil (map (deed_of (showing shown unit steps a work tape) unit steps) list) i old (moment told writes images puts gets frees y.out.now ls after)
-  did_before shown journal unit steps slots list i c a d work tape old x y ks ls before after at g above did missed still called =
-      let now = showing shown unit steps a work tape in
-      let part = missed_lines told writes now journal (handed_by unit steps a) (states_out a work tape) x y (it_shows shown unit steps a work tape) missed in
-      let P : Calls → Type 0 = λ m. CalledAtMost m (calls_to puts gets frees ks) (calls_to puts gets frees ls) in
-      is_until (map (deed_of now unit steps) list) i (deed_of now unit steps a) part.whole part.piece old (moment told writes images puts gets frees x.out.now ks before)
-      (moment told writes images puts gets frees y.out.now ls after) (get_map (deed_of now unit steps) list i a at) part.next
-      (before_it shown unit steps slots list i c a d work tape old (moment told writes images puts gets frees x.out.now ks before) g above did)
-      part.added part.wrote still (subst P (missed_calls_none (Wrote told writes) (Missed told writes) journal unit steps a work tape x y missed) called)
-
-  -- the deeds before an action that was refused by storage, or for want of memory
-  pub broke_before : (shown : States) (unit steps : ℕ) (list : List Action) (i : ℕ) (a : Action) (old : Moment) (x y : LineWriter X) (o : X) (ks ls : List K) (before after : ℕ) → slice_get list i ≡ Some a →
-      Did (take i (map (deed_of shown unit steps) list)) old (moment told writes images puts gets frees x.out.now ks before) → y ≡ x → o ≡ y.out.now → after ≡ before →
-      CalledAtMost (calls_of a) (calls_to puts gets frees ks) (calls_to puts gets frees ls) →
-      (breaks : BreaksOff (map (deed_of shown unit steps) list) i old (moment told writes images puts gets frees o ls after)) × (breaks.next ≡ deed_of shown unit steps a)
-  broke_before shown unit steps list i a old x y o ks ls before after at did same last still called =
-      let is : o ≡ x.out.now = last ∙ ap (λ (v : LineWriter X). v.out.now) same in
-      broke_off (map (deed_of shown unit steps) list) i (deed_of shown unit steps a) old (moment told writes images puts gets frees x.out.now ks before)
-      (moment told writes images puts gets frees o ls after) (get_map (deed_of shown unit steps) list i a at) did (ap told is) (ap writes is) still called
+-- the deeds before an action whose write failed
+did_before : {X : Type 0} (told : X → Option (List ℕ)) (writes : X → ℕ) (shown : States) (journal : List (List ℕ)) (unit steps : ℕ) (slots : List Slots) (list : List Action) (i : ℕ) (c : Configuration) (a : Action) (d : Configuration) (work : MachineState)
+    (tape : List MachineState) (x y : LineWriter X) (old mid new : Moment) → IsAt told writes x mid → IsAt told writes y new → slice_get list i ≡ Some a → Goes steps slots c a d → IsAbove unit steps (handed unit steps (take i list)) c →
+    Did (take i (map (deed_of shown unit steps) list)) old mid → MissesOne (Wrote told writes) (Missed told writes) journal (handed_by unit steps a) (states_out a work tape) x y → new.steps ≡ mid.steps →
+    CalledAtMost (calls_of a) mid.calls new.calls → DidUntil (map (deed_of (showing shown unit steps a work tape) unit steps) list) i old new
+did_before told writes shown journal unit steps slots list i c a d work tape x y old mid new before after at g above did missed still called =
+    let now = showing shown unit steps a work tape in
+    let part = missed_lines told writes now journal (handed_by unit steps a) (states_out a work tape) x y (it_shows shown unit steps a work tape) missed in
+    let pieces = map (line_of now) (handed_by unit steps a) in
+    let P : Calls → Type 0 = λ m. CalledAtMost m mid.calls new.calls in
+    let T : Option (List ℕ) → Option (List ℕ) → Type 0 = λ o n. Tells o n (AddsAndPart (bytes_of (take part.whole pieces)) part.piece) in
+    is_until (map (deed_of now unit steps) list) i (deed_of now unit steps a) part.whole part.piece old mid new (get_map (deed_of now unit steps) list i a at) part.next
+    (before_it shown unit steps slots list i c a d work tape old mid g above did)
+    (subst (λ o. T o new.told) (sym before.tells) (subst (T (told x.out.now)) (sym after.tells) part.added))
+    (after.counts ∙ part.wrote ∙ ap (λ n. raised n (part.whole + 1)) (sym before.counts)) still
+    (subst P (missed_calls_none (Wrote told writes) (Missed told writes) journal unit steps a work tape x y missed) called)
 
 -- the tape holds the state that is reversed next
 next_on_tape : (steps : ℕ) (slots : List Slots) (list : List Action) (c : Configuration) → Leads steps slots (start steps slots) list c → MatchOption c.tape (Unit {0}) (λ t. t + 1 ≡ c.reverse)
@@ -122,39 +124,6 @@ empty_tell levels images empty k within = let P : Option Images → Type 0 = λ 
 pub one_times : (n : ℕ) → 1 * n ≡ n
 one_times n = omega arith
 
--- the deeds of a list whose steps are those of the machine
-pub bytes_of_run : (shown : States) (steps : ℕ) (slots : List Slots) (list : List Action) → Valid steps slots list → bytes_written (map (deed_of shown 1 steps) list) ≡ lines_down shown steps
-bytes_of_run shown steps slots list valid = bytes_performed shown 1 steps slots list valid ∙ ap (lines_down shown) (one_times steps)
-
-pub steps_of_run : (shown : States) (steps : ℕ) (list : List Action) → steps_made (map (deed_of shown 1 steps) list) ≡ forward list
-steps_of_run shown steps list = steps_performed shown 1 steps list ∙ one_times (forward list)
-
--- the states at the ends of units of one step are all states
-pub units_of_one : (first : MachineState) (journal : List (List ℕ)) → unit_states first journal 1 ≡ state_number first journal
-units_of_one first journal i n = state_number first journal (one_times n i)
-
--- what holds of what the keeper of a level tells, by the states of a run and the numbers of those that the level holds
-abbrev OfLevel : Type 1
-OfLevel = (ℕ → MachineState) → Numbers → Images → Type 0
-
--- a list leads to where the session stands
-held_at_end : (Holds : OfLevel) (first : MachineState) (journal : List (List ℕ)) (unit steps : ℕ) (slots : List Slots) (list : List Action) (s : SessionState) (told : Option Images) (last : Configuration) (k : ℕ) →
-    s.journal ≡ journal → s.unit ≡ unit → Leads steps slots (start steps slots) list s.situation.at → Leads steps slots (start steps slots) list last →
-    IsToldAnd told (Holds (unit_states first s.journal s.unit) (held_on s.situation.at k)) → IsToldAnd told (Holds (unit_states first journal unit) (held_on last k))
-held_at_end Holds first journal unit steps slots list s told last k same one leads other holds =
-    let C : Configuration → Type 0 = λ c. IsToldAnd told (Holds (unit_states first journal unit) (held_on c k)) in
-    let U : ℕ → Type 0 = λ u. IsToldAnd told (Holds (unit_states first journal u) (held_on s.situation.at k)) in
-    let J : List (List ℕ) → Type 0 = λ j. IsToldAnd told (Holds (unit_states first j s.unit) (held_on s.situation.at k)) in
-    subst C (leads_unique steps slots (start steps slots) list s.situation.at last leads other) (subst U one (subst J same holds))
-
--- the same where the steps of the list are those of the machine
-held_at_last : (Holds : OfLevel) (first : MachineState) (journal : List (List ℕ)) (steps : ℕ) (slots : List Slots) (list : List Action) (s : SessionState) (told : Option Images) (last : Configuration) (k : ℕ) →
-    s.journal ≡ journal → s.unit ≡ 1 → Leads steps slots (start steps slots) list s.situation.at → Leads steps slots (start steps slots) list last →
-    IsToldAnd told (Holds (unit_states first s.journal s.unit) (held_on s.situation.at k)) → IsToldAnd told (Holds (state_number first journal) (held_on last k))
-held_at_last Holds first journal steps slots list s told last k same one leads other holds =
-    let H : (ℕ → MachineState) → Type 0 = λ all. IsToldAnd told (Holds all (held_on last k)) in
-    subst H (units_of_one first journal) (held_at_end Holds first journal 1 steps slots list s told last k same one leads other holds)
-
 -- an action that may be done reads a pair that is held
 at_pair : (c : Configuration) (m j n k : ℕ) → pair_read (Copy m j Work) ≡ Some (n, k) → set.contains (held_on c j) m ≡ true → set.contains (held_on c k) n ≡ true
 at_pair c m j n k pair there =
@@ -173,23 +142,6 @@ pair_held steps slots c (Move m j (Level i)) d n k g pair = at_pair c m j n k pa
 pair_held steps slots c EndForward d n k g pair = absurd cc
 pair_held steps slots c EndReverse d n k g pair = absurd cc
 
--- what the next action may have left, where it was refused, and that it may be done
-pub record LeavesNext {K : Type 0} (images : K → Option Images) (steps : ℕ) (slots : List Slots) (s : SessionState) (ks ls : List K) (a : Action) : Type 0 where
-  pub left : MayLeave a (levels_of s (told_by images ks)) (told_by images ls)
-  pub after : Configuration
-  pub goes : Goes steps slots s.situation.at a after
-
--- the same by its place in the list
-pub leaves_next : {K : Type 0} (images : K → Option Images) (steps : ℕ) (slots : List Slots) (list : List Action) (i : ℕ) (s : SessionState) (ks ls : List K) (a : Action) (d : Configuration) → slice_get list i ≡ Some a →
-    Goes steps slots s.situation.at a d → MayLeave a (levels_of s (told_by images ks)) (told_by images ls) → (b : Action) → slice_get list i ≡ Some b → LeavesNext images steps slots s ks ls b
-leaves_next images steps slots list i s ks ls a d at g left b is =
-    subst (LeavesNext images steps slots s ks ls) (same_Some a b (sym at ∙ is)) (record { left = left; after = d; goes = g })
-
--- a level that it spares is the same
-pub spared_same : {K : Type 0} (images : K → Option Images) (list : List Action) (i : ℕ) (s : SessionState) (ks ls : List K) (a : Action) → slice_get list i ≡ Some a →
-    MayLeave a (levels_of s (told_by images ks)) (told_by images ls) → (k : ℕ) → SparesNext list i k → told_by images ls k ≡ told_by images ks k
-spared_same images list i s ks ls a at left k out = left.spared k (out a at)
-
 -- an action that the visitor misses puts and releases nothing
 pub missed_spares : {V : Type 0} (got missed : V → ℕ → MachineState → List (List ℕ) → V → Type 0) (journal : List (List ℕ)) (unit steps : ℕ) (a : Action) (work : MachineState) (tape : List MachineState) (x y : V) →
     MissesOne got missed journal (handed_by unit steps a) (states_out a work tape) x y → (k : ℕ) → Spares a k
@@ -199,57 +151,6 @@ missed_spares got missed journal unit steps (Copy n from dest) work tape x y h k
 missed_spares got missed journal unit steps (Move n from dest) work tape x y h k = absurd h
 missed_spares got missed journal unit steps EndForward work tape x y h k = (refl, refl)
 missed_spares got missed journal unit steps EndReverse work tape x y h k = absurd h
-
--- how far a list went up to where a session stands, whose next action was refused or isn't there
-pub went_so_far : {K : Type 0} (images : K → Option Images) (Same : SameLevels) (first : MachineState) (journal : List (List ℕ)) (steps : ℕ) (slots : List Slots) (list : List Action) (i : ℕ) (states : States) (s : SessionState) (ks ls : List K) (old new : Moment) →
-    GoesThrough 1 steps journal (take i list) (held_at_start first journal steps slots old) (holdings_of s (told_by images ks)) states →
-    ((a : Action) (n : ℕ) (state : MachineState) → slice_get list i ≡ Some a → IsOut 1 steps n state a (holdings_of s (told_by images ks)) → states n ≡ state) → new.images ≡ told_by images ls →
-    ((k : ℕ) → Same list i k → told_by images ls k ≡ told_by images ks k) → ((a : Action) → slice_get list i ≡ Some a → LeavesNext images steps slots s ks ls a) →
-    s.journal ≡ journal → s.unit ≡ 1 → Leads steps slots (start steps slots) (take i list) s.situation.at → length s.store ≡ length slots →
-    (AllEmpty (length slots) old.images → StandsAt first s (told_by images ks) × AreAlone (levels_of s (told_by images ks))) → Went Same first journal steps slots list i states old new
-went_so_far images Same first journal steps slots list i states s ks ls old new through next seen still leaves same one leads count good =
-    let held = holdings_of s (told_by images ks) in
-    let at = s.situation.at in
-    let all = unit_states first s.journal s.unit in
-    let there : (k : ℕ) → new.images k ≡ told_by images ls k = λ k. ap (λ (f : ℕ → Option Images). f k) seen in
-    let told : (k : ℕ) → Same list i k → new.images k ≡ told_by images ks k = λ k out. there k ∙ still k out in
-    let M : Action → (ℕ → Option Images) → Type 0 = λ a f. MayLeave a (levels_of s (told_by images ks)) f in
-    let left : (a : Action) → slice_get list i ≡ Some a → MayLeave a (levels_of s (told_by images ks)) new.images = λ a is. subst (M a) (sym seen) (leaves a is).left in
-    record {
-      held = held;
-      through = through;
-      next = next;
-      told = told;
-      left = left;
-      just = λ empty c leads_there k within out.
-          (let stands = good empty in
-          let T : Option Images → Type 0 = λ o. IsToldAnd o (HoldsJust all (held_on at k)) in
-          held_at_last HoldsJust first journal steps slots (take i list) s (new.images k) c k same one leads leads_there
-          (subst T (sym (told k out)) (holds_just first s.journal s.unit at held stands.0 stands.1 k (omega (arith, within, count)))));
-      put_to = λ empty c leads_there k within a is writes.
-          (let stands = good empty in
-          held_at_last HoldsBesides first journal steps slots (take i list) s (new.images k) c k same one leads leads_there
-          (holds_put_to first s.journal s.unit at a held new.images stands.0 stands.1 (left a is) k (omega (arith, within, count)) writes));
-      released = λ empty c leads_there k n within a is frees pair.
-          (let stands = good empty in
-          let leaving = leaves a is in
-          held_at_last (λ all_states numbers left_there. HoldsAllBut all_states numbers n left_there) first journal steps slots (take i list) s (new.images k) c k same one leads leads_there
-          (holds_released first s.journal s.unit at a held new.images stands.0 stands.1 (left a is) k n (omega (arith, within, count)) frees pair
-          (pair_held steps slots at a leaving.after n k leaving.goes pair)));
-    }
-
--- what came back of the pair that the next action reads is damaged
-pub damaged_next : {K : Type 0} (images : K → Option Images) (first : MachineState) (journal : List (List ℕ)) (steps : ℕ) (slots : List Slots) (list : List Action) (i : ℕ) (states : States) (s : SessionState) (ks : List K) (old : Moment) (a : Action) (k : ℕ) (put got : List ℕ) →
-    GoesThrough 1 steps journal (take i list) (held_at_start first journal steps slots old) (holdings_of s (told_by images ks)) states → slice_get list i ≡ Some a → IsDamage a (holdings_of s (told_by images ks)) k put got →
-    ComesTo (λ action held. IsDamage action held k put got) first journal steps slots list i old
-damaged_next images first journal steps slots list i states s ks old a k put got through at damage = record {
-  held = holdings_of s (told_by images ks);
-  states = states;
-  through = through;
-  next = a;
-  there = at;
-  holds = damage;
-}
 
 -- ---- what the next action hands out
 
@@ -299,3 +200,311 @@ read_hands_none unit steps (Move m j to) n k e = refl
 read_hands_none unit steps (Reverse from to) n k e = absurd cc
 read_hands_none unit steps EndForward n k e = absurd cc
 read_hands_none unit steps EndReverse n k e = refl
+
+-- ---- how far a list went
+
+-- a run as a session stands in it, by its first state and the list
+abbrev pub run_of : MachineState → SessionState → List Action → Run
+run_of first s list = record { first = first; journal = s.journal; unit = s.unit; steps = s.situation.steps; slots = s.situation.slots; list = list }
+
+-- what the next action may have left, where it was refused, and that it may be done
+record LeavesNext (s : SessionState) (mid new : Moment) (a : Action) : Type 0 where
+  left : MayLeave a (levels_of s mid.images) new.images
+  after : Configuration
+  goes : Goes s.situation.steps s.situation.slots s.situation.at a after
+
+-- how far a list went up to where a session stands, whose next action was refused or isn't there
+went_so_far : (Same : SameLevels) (first : MachineState) (s : SessionState) (list : List Action) (i : ℕ) (states : States) (old mid new : Moment) → GoesOver (run_of first s list) (take i list) old (holdings_of s mid.images) states →
+    ((a : Action) (n : ℕ) (state : MachineState) → slice_get list i ≡ Some a → IsOut s.unit s.situation.steps n state a (holdings_of s mid.images) → states n ≡ state) →
+    ((k : ℕ) → Same (run_of first s list) i k → new.images k ≡ mid.images k) → ((a : Action) → slice_get list i ≡ Some a → LeavesNext s mid new a) → LeadTo (run_of first s list) i s.situation.at →
+    length s.store ≡ length s.situation.slots → (AllEmpty (length s.situation.slots) old.images → StandsAt first s mid.images × AreAlone (levels_of s mid.images)) → Went Same (run_of first s list) i states old new
+went_so_far Same first s list i states old mid new through next still leaves leads count good =
+    let held = holdings_of s mid.images in
+    let at = s.situation.at in
+    let one = λ (c : Configuration) (there : LeadTo (run_of first s list) i c). leads_unique s.situation.steps s.situation.slots (start s.situation.steps s.situation.slots) (take i list) at c leads there in
+    record {
+      held = held;
+      through = through;
+      next = next;
+      told = still;
+      left = λ a is. (leaves a is).left;
+      just = λ empty c there k within out.
+          (let stands = good empty in
+          let all = unit_states first s.journal s.unit in
+          let C : Configuration → Type 0 = λ x. IsToldAnd (new.images k) (HoldsJust all (held_on x k)) in
+          let T : Option Images → Type 0 = λ o. IsToldAnd o (HoldsJust all (held_on at k)) in
+          subst C (one c there) (subst T (sym (still k out)) (holds_just first s.journal s.unit at held stands.0 stands.1 k (omega (arith, within, count)))));
+      put_to = λ empty c there k within a is writes.
+          (let stands = good empty in
+          let C : Configuration → Type 0 = λ x. IsToldAnd (new.images k) (HoldsBesides (unit_states first s.journal s.unit) (held_on x k)) in
+          subst C (one c there) (holds_put_to first s.journal s.unit at a held new.images stands.0 stands.1 (leaves a is).left k (omega (arith, within, count)) writes));
+      released = λ empty c there k n within a is frees pair.
+          (let stands = good empty in
+          let leaving = leaves a is in
+          let C : Configuration → Type 0 = λ x. IsToldAnd (new.images k) (HoldsAllBut (unit_states first s.journal s.unit) (held_on x k) n) in
+          subst C (one c there) (holds_released first s.journal s.unit at a held new.images stands.0 stands.1 leaving.left k n (omega (arith, within, count)) frees pair
+          (pair_held s.situation.steps s.situation.slots at a leaving.after n k leaving.goes pair)));
+    }
+
+-- What is known on the way. The actions so far lead to where the session stands. Over keepers that tell its states are those of the run,
+-- and over those that were empty there are no other images. The actions so far were gone through and their deeds done, with the states
+-- that are shown, and nothing failed.
+pub record SoFar (run : Run) (i : ℕ) (shown : States) (s : SessionState) (old mid : Moment) : Type 0 where
+  pub lasts : s.ended ≡ false
+  pub steps : s.situation.steps ≡ run.steps
+  pub slots : s.situation.slots ≡ run.slots
+  pub journal : s.journal ≡ run.journal
+  pub unit : s.unit ≡ run.unit
+  pub count : length s.store ≡ length run.slots
+  pub leads : LeadTo run i s.situation.at
+  pub stands : AllTell (length run.slots) old.images → StandsAt run.first s mid.images
+  pub alone : AllEmpty (length run.slots) old.images → AreAlone (levels_of s mid.images)
+  pub above : IsAbove run.unit run.steps (handed run.unit run.steps (take i run.list)) s.situation.at
+  pub of_run : AreOfRun run shown old
+  pub through : GoesOver run (take i run.list) old (holdings_of s mid.images) shown
+  pub did : Did (take i (map (deed_of shown run.unit run.steps) run.list)) old mid
+  pub quiet : NothingFails old mid
+
+-- the run is that of the session
+pub same_run : (s t : SessionState) (first : MachineState) (list : List Action) → s.journal ≡ t.journal → s.unit ≡ t.unit → s.situation.steps ≡ t.situation.steps → s.situation.slots ≡ t.situation.slots → run_of first s list ≡ run_of first t list
+same_run s t first list journal unit steps slots i = record { first = first; journal = journal i; unit = unit i; steps = steps i; slots = slots i; list = list }
+
+pub quiet_then : (a b c : Moment) → NothingFails a b → NothingFails b c → NothingFails a c
+quiet_then a b c h g = record { sink = g.sink ∙ h.sink; keepers = λ k. g.keepers k ∙ h.keepers k }
+
+-- what the counts of faults say of a refusal
+pub record FaultCounts (fault : RunFault) (old new : Moment) : Type 0 where
+  pub sink : fault ≡ Visitor → Rose old.faults new.faults
+  pub sink_quiet : fault ≢ Visitor → new.faults ≡ old.faults
+  pub keeper : (k : ℕ) → fault ≡ Keeper k → Rose (old.keeper_faults k) (new.keeper_faults k)
+  pub keepers_quiet : ((k : ℕ) → fault ≢ Keeper k) → KeepersAreQuiet old new
+
+-- what a session says of an action that it refused, from the moment before it to the one after it
+pub record Refuses {X : Type 0} (told : X → Option (List ℕ)) (writes : X → ℕ) (first : MachineState) (s : SessionState) (a : Action) (fault : RunFault) (x y : LineWriter X) (mid new : Moment) : Type 0 where
+  pub uncounted : new.steps ≡ mid.steps
+  pub called : CalledAtMost (calls_of a) mid.calls new.calls
+  pub left : MayLeave a (levels_of s mid.images) new.images
+  pub whole : (k : ℕ) (put got : List ℕ) → fault ≡ Damaged k put got → (j : ℕ) → new.images j ≡ mid.images j
+  pub misses : fault ≡ Visitor → MissesOne (Wrote told writes) (Missed told writes) s.journal (handed_by s.unit s.situation.steps a) (states_out a s.work s.tape.states) x y
+  pub unseen : fault ≢ Visitor → y ≡ x
+  pub counts : FaultCounts fault mid new
+  pub named : (k : ℕ) → fault ≡ Keeper k → Contains (levels_named a) k
+  pub damaged : (k : ℕ) (put got : List ℕ) → fault ≡ Damaged k put got → IsDamage a (holdings_of s mid.images) k put got
+  pub undamaged : StandsAt first s mid.images → (k : ℕ) (put got : List ℕ) → fault ≢ Damaged k put got
+  pub wants : fault ≡ Memory → calls_keepers a ≡ true
+  pub lasts : fault ≢ Ended
+
+module _ {X : Type 0} (told : X → Option (List ℕ)) (writes : X → ℕ) (first : MachineState) (s : SessionState) (list : List Action) (i : ℕ) (shown : States) (x : LineWriter X) (old mid : Moment) (a : Action) (at : slice_get list i ≡ Some a)
+    (before : IsAt told writes x mid) (so_far : SoFar (run_of first s list) i shown s old mid) where
+  abbrev run : Run
+  run = run_of first s list
+
+  abbrev now : States
+  now = showing shown s.unit s.situation.steps a s.work s.tape.states
+
+  -- what is shown with the states that it hands out
+  now_of_run : (d : Configuration) → Goes s.situation.steps s.situation.slots s.situation.at a d → AreOfRun run now old
+  now_of_run d goes tells n within =
+      let stands = so_far.stands tells in
+      shows_of_run first s.journal s.unit s.situation.steps s.situation.slots s.situation.at a d shown s.work s.tape n goes stands.work stands.tape
+      (next_on_tape s.situation.steps s.situation.slots (take i list) s.situation.at so_far.leads) (so_far.of_run tells n within)
+
+  -- it was performed
+  pub more : (t : SessionState) (y : LineWriter X) (new : Moment) → IsAt told writes y new → Performs s a t → Acts s.unit s.journal a (holdings_of s mid.images) (holdings_of t new.images) →
+      GetsAll (Wrote told writes) s.journal (handed_by s.unit s.situation.steps a) (states_out a s.work s.tape.states) x y → new.steps ≡ mid.steps + s.unit * steps_of a → Called (calls_of a) mid.calls new.calls →
+      (StandsAt first s mid.images → StandsAt first t new.images) → (AreAlone (levels_of s mid.images) → AreAlone (levels_of t new.images)) → NothingFails mid new → SoFar run (i + 1) now t old new
+  more t y new after performs acts got counted called stands alone quiet =
+      let goes = performs.goes in record {
+        lasts = performs.lasts;
+        steps = performs.steps;
+        slots = performs.slots;
+        journal = performs.journal;
+        unit = performs.unit;
+        count = acts.count ∙ so_far.count;
+        leads = led_on _ _ list i a s.situation t.situation.at refl refl at so_far.leads goes;
+        stands = λ tells. stands (so_far.stands tells);
+        alone = λ empty. alone (so_far.alone empty);
+        above = above_so_far s.unit s.situation.steps s.situation.slots list i s.situation.at a t.situation.at at goes so_far.above;
+        of_run = now_of_run t.situation.at goes;
+        through = through_more (Wrote told writes) shown s.unit s.situation.steps s.situation.slots s.journal list i _ _ _ s.situation.at a t.situation.at x y at goes so_far.above got acts so_far.through;
+        did = did_so_far told writes shown s.journal s.unit s.situation.steps s.situation.slots list i s.situation.at a t.situation.at s.work s.tape.states x y old mid new before after at goes so_far.above so_far.did got counted called;
+        quiet = quiet_then old mid new so_far.quiet quiet;
+      }
+
+  -- ---- it was refused
+
+  module _ (valid : Valid s.situation.steps s.situation.slots list) (y : LineWriter X) (new : Moment) (after : IsAt told writes y new) where
+    -- it may be done
+    pub may_go : (d : Configuration) × Goes s.situation.steps s.situation.slots s.situation.at a d
+    may_go = (rules_moves s.situation.steps s.situation.slots s.situation.at a (take i list, so_far.leads)).0 (kept_on_the_way s.situation.steps s.situation.slots list i s.situation.at a valid.0 at so_far.leads valid.1)
+
+    -- how far the list went
+    went : (Same : SameLevels) (states : States) → GoesOver run (take i list) old (holdings_of s mid.images) states →
+        ((b : Action) (n : ℕ) (state : MachineState) → slice_get list i ≡ Some b → IsOut s.unit s.situation.steps n state b (holdings_of s mid.images) → states n ≡ state) →
+        ((k : ℕ) → Same run i k → new.images k ≡ mid.images k) → MayLeave a (levels_of s mid.images) new.images → Went Same run i states old new
+    went Same states through next still left =
+        went_so_far Same first s list i states old mid new through next still
+        (λ b is. subst (LeavesNext s mid new) (same_Some a b (sym at ∙ is)) (record { left = left; after = may_go.0; goes = may_go.1 })) so_far.leads so_far.count
+        (λ empty. (so_far.stands (empty_tell (length s.situation.slots) old.images empty), so_far.alone empty))
+
+    -- by storage or for want of memory: it hands nothing out
+    went_quietly : (Same : SameLevels) → handed_by s.unit s.situation.steps a ≡ [] → ((k : ℕ) → Same run i k → new.images k ≡ mid.images k) → MayLeave a (levels_of s mid.images) new.images → Went Same run i shown old new
+    went_quietly Same none still left = went Same shown so_far.through (none_next shown s.unit s.situation.steps list i a (holdings_of s mid.images) at none) still left
+
+    -- a level that it spares is the same
+    spared : MayLeave a (levels_of s mid.images) new.images → (k : ℕ) → SparesNext run i k → new.images k ≡ mid.images k
+    spared left k out = left.spared k (out a at)
+
+    broke : y ≡ x → new.steps ≡ mid.steps → CalledAtMost (calls_of a) mid.calls new.calls →
+        (breaks : BreaksOff (map (deed_of shown s.unit s.situation.steps) list) i old new) × (breaks.next ≡ deed_of shown s.unit s.situation.steps a)
+    broke same still called =
+        broke_off (map (deed_of shown s.unit s.situation.steps) list) i (deed_of shown s.unit s.situation.steps a) old mid new (get_map (deed_of shown s.unit s.situation.steps) list i a at) so_far.did
+        (after.tells ∙ ap (λ (v : LineWriter X). told v.out.now) same ∙ sym before.tells) (after.counts ∙ ap (λ (v : LineWriter X). writes v.out.now) same ∙ sym before.counts) still called
+
+    missed : (fault : RunFault) → fault ≡ Visitor → Refuses told writes first s a fault x y mid new → EndsBy (accept (perform run)) (stopped (i + 1)) old new
+    missed fault is refuses =
+        let goes = may_go in
+        let misses = refuses.misses is in
+        let until = did_before told writes shown s.journal s.unit s.situation.steps s.situation.slots list i s.situation.at a goes.0 s.work s.tape.states x y old mid new before after at goes.1 so_far.above so_far.did misses refuses.uncounted refuses.called in
+        let through = through_still shown s.unit s.situation.steps s.situation.slots s.journal (take i list) _ _ s.situation.at a goes.0 s.work s.tape.states goes.1 so_far.above so_far.through in
+        let held = went AllLevels now through (shown_next shown s.unit s.situation.steps list i a (holdings_of s mid.images) at)
+        (λ k out. refuses.left.spared k (missed_spares (Wrote told writes) (Missed told writes) s.journal s.unit s.situation.steps a s.work s.tape.states x y misses k)) refuses.left in
+        let N : ℕ → Type 0 = λ n. Rose n new.faults in
+        let other : (k : ℕ) → fault ≢ Keeper k = λ k e. let clash : Visitor ≡ Keeper k = sym is ∙ e in cc in
+        let fails : SinkFails old new = record { sink = subst N so_far.quiet.sink (refuses.counts.sink is); keepers = λ k. refuses.counts.keepers_quiet other k ∙ so_far.quiet.keepers k } in
+        (shown_by now, (now_of_run goes.0 goes.1, inr (inl (i, refl, record { until = until; answered = tt; held = held; fails = fails }))))
+
+    quiet_refusal : (fault : RunFault) → fault ≢ Visitor → ((k : ℕ) → fault ≢ Keeper k) → Refuses told writes first s a fault x y mid new → NothingFails old new
+    quiet_refusal fault seen other refuses = quiet_then old mid new so_far.quiet (record { sink = refuses.counts.sink_quiet seen; keepers = refuses.counts.keepers_quiet other })
+
+    -- by each fault
+    pub refused : (fault : RunFault) → Refuses told writes first s a fault x y mid new → Works (perform run) (fault_ending (i + 1) fault) old new
+    refused (Keeper k) refuses =
+        let named = refuses.named k refl in
+        let deed = deed_of shown s.unit s.situation.steps a in
+        let held = went_quietly SparesNext (named_hands_none s.unit s.situation.steps a k named) (spared refuses.left) refuses.left in
+        let N : ℕ → Type 0 = λ n. Rose n (new.keeper_faults k) in
+        let fails : KeeperFails k old new = record { sink = refuses.counts.sink_quiet (λ e. cc) ∙ so_far.quiet.sink; keeper = subst N (so_far.quiet.keepers k) (refuses.counts.keeper k refl) } in
+        inl (
+          shown_by shown,
+          (
+            so_far.of_run,
+            inr (inr (inl (
+              i,
+              k,
+              refl,
+              failed_at (performing run) (shown_by shown) i deed old new (broke (refuses.unseen (λ e. cc)) refuses.uncounted refuses.called) k (calls_named shown s.unit s.situation.steps a k named) held fails,
+            ))),
+          ),
+        )
+    refused (Damaged k put got) refuses =
+        let damage = refuses.damaged k put got refl in
+        let deed = deed_of shown s.unit s.situation.steps a in
+        let held = went_quietly AllLevels (read_hands_none s.unit s.situation.steps a damage.number k damage.pair) (λ j out. refuses.whole k put got refl j) refuses.left in
+        let comes : ComesToDamage run i k put got old = record { held = holdings_of s mid.images; states = shown; through = so_far.through; next = a; there = at; holds = damage } in
+        inl (
+          shown_by shown,
+          (
+            so_far.of_run,
+            inr (inr (inr (
+              i,
+              k,
+              put,
+              got,
+              refl,
+              damaged_at (performing run) (shown_by shown) i deed old new (broke (refuses.unseen (λ e. cc)) refuses.uncounted refuses.called) k put got (gets_pair shown s.unit s.situation.steps a damage.number k damage.pair) comes
+                  (λ tells. refuses.undamaged (so_far.stands tells) k put got refl) held (quiet_refusal (Damaged k put got) (λ e. cc) (λ j e. cc) refuses),
+            ))),
+          ),
+        )
+    refused Visitor refuses = inl (missed Visitor refl refuses)
+    refused Memory refuses =
+        let wants = refuses.wants refl in
+        let deed = deed_of shown s.unit s.situation.steps a in
+        let held = went_quietly SparesNext (calling_hands_none s.unit s.situation.steps a wants) (spared refuses.left) refuses.left in
+        inr (
+          refl,
+          (
+            shown_by shown,
+            (
+              so_far.of_run,
+              (
+                i,
+                halted_at (performing run) (shown_by shown) i deed old new (broke (refuses.unseen (λ e. cc)) refuses.uncounted refuses.called) (calls_one shown s.unit s.situation.steps a wants) held
+                    (quiet_refusal Memory (λ e. cc) (λ j e. cc) refuses),
+              ),
+            ),
+          ),
+        )
+    refused Ended refuses = absurd (refuses.lasts refl)
+
+-- nothing stands behind a list
+none_behind : (list : List Action) (i : ℕ) (b : Action) → length list ≤ i → slice_get list i ≡ Some b → ⊥
+none_behind list i b short is = let far = has_length list i b is in absurd (omega (arith, short, far))
+
+-- the whole list was performed
+pub went_whole : (first : MachineState) (s : SessionState) (list : List Action) (i : ℕ) (shown : States) (old mid : Moment) → SoFar (run_of first s list) i shown s old mid → length list ≤ i → i ≤ length list → Valid s.situation.steps s.situation.slots list →
+    EndsBy (accept (perform (run_of first s list))) done old mid
+went_whole first s list i shown old mid so_far short within valid =
+    let run = run_of first s list in
+    let deeds = map (deed_of shown s.unit s.situation.steps) list in
+    let whole : take i deeds ≡ deeds = take_all i deeds (let same = length-map list (deed_of shown s.unit s.situation.steps) in omega (arith, same, short)) in
+    let D : List Deed → Type 0 = λ ds. Did ds old mid in
+    let did = subst D whole so_far.did in
+    let end : i ≡ length deeds = (let same = length-map list (deed_of shown s.unit s.situation.steps) in omega (arith, short, within, same)) in
+    let W : ℕ → Type 0 = λ n. Went AllLevels run n shown old mid in
+    let B : List ℕ → Type 0 = λ bytes. Tells old.told mid.told (Adds bytes) in
+    let held = went_so_far AllLevels first s list i shown old mid mid so_far.through (λ b n state is out. absurd (none_behind list i b short is)) (λ k out. refl) (λ b is. absurd (none_behind list i b short is)) so_far.leads so_far.count
+    (λ empty. (so_far.stands (empty_tell (length s.situation.slots) old.images empty), so_far.alone empty)) in (
+      shown_by shown,
+      (
+        so_far.of_run,
+        inl (
+          refl,
+          record {
+            did = did;
+            output_whole = subst B (bytes_performed shown s.unit s.situation.steps s.situation.slots list valid) did.added;
+            stepped = did.counted ∙ ap (λ n. old.steps + n) (steps_performed shown s.unit s.situation.steps list);
+            answered = tt;
+            held = subst W end held;
+            quiet = so_far.quiet;
+          },
+        ),
+      ),
+    )
+
+-- nothing was done yet
+pub nothing_so_far : (s : SessionState) (list : List Action) (old mid : Moment) → s ≡ begun s.work s.journal s.unit s.situation.steps s.situation.slots → ((told : ℕ → Option Images) → AllTell (length s.situation.slots) told → StandsAt s.work s told) →
+    ((told : ℕ → Option Images) → AllEmpty (length s.situation.slots) told → AreAlone (levels_of s told)) → mid.told ≡ old.told → mid.writes ≡ old.writes → mid.steps ≡ old.steps → mid.calls ≡ old.calls → mid.images ≡ old.images →
+    NothingFails old mid → SoFar (run_of s.work s list) 0 (state_number s.work s.journal) s old mid
+nothing_so_far s list old mid fresh stands alone told writes steps calls images quiet =
+    let at = ap (λ (t : SessionState). t.situation.at) fresh in
+    let I : (ℕ → Option Images) → Type 0 = λ f. AllTell (length s.situation.slots) old.images → StandsAt s.work s f in
+    let J : (ℕ → Option Images) → Type 0 = λ f. AllEmpty (length s.situation.slots) old.images → AreAlone (levels_of s f) in
+    let A : Configuration → Type 0 = λ c. IsAbove s.unit s.situation.steps [] c in
+    let run = run_of s.work s list in
+    let H : Holdings → Type 0 = λ h. GoesOver run [] old h (state_number s.work s.journal) in
+    record {
+      lasts = ap (λ (t : SessionState). t.ended) fresh;
+      steps = refl;
+      slots = refl;
+      journal = refl;
+      unit = refl;
+      count = ap (λ (t : SessionState). length t.store) fresh ∙ length-map s.situation.slots _;
+      leads = at;
+      stands = subst I (sym images) (stands old.images);
+      alone = subst J (sym images) (alone old.images);
+      above = subst A (sym at) (above_at_start s.unit s.situation.steps s.situation.slots);
+      of_run = λ tells n within. refl;
+      through = subst H (sym (λ i. holdings_of (fresh i) (images i))) (through_none s.unit s.situation.steps s.journal (held_at_start run old) (state_number s.work s.journal));
+      did = did_none old mid told writes steps calls;
+      quiet = quiet;
+    }
+
+-- one failure
+abbrev err_or : {A E : Type 0} → E → Result A E → E
+err_or d (Ok x) = d
+err_or d (Err e) = e
+
+pub same_Err : {A E : Type 0} (r : Result A E) (d e : E) → r ≡ Err d → r ≡ Err e → d ≡ e
+same_Err r d e h g = ap (err_or d) (sym h ∙ g)

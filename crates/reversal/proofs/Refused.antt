@@ -26,7 +26,7 @@ use Rattle.cert_text.proofs.TextLaws.{one_certificate, one_fault as one_certific
 use Rattle.requests.specs.declared.ended.Ended.{Ended}
 use Rattle.requests.specs.Ending.{bad_program, bad_journal, bad_book, bad_text, bad_certificate}
 use Rattle.reversal.specs.JobReading.{IsRefusal}
-use Rattle.reversal.specs.Decision.{HasBookFault, IsStartOf, HasProgramFault, AreItemsOf, HasJournalFault}
+use Rattle.reversal.specs.Fronts.{HasBookFault, IsStartOf, HasProgramFault, AreItemsOf, HasJournalFault}
 
 -- a decision to refuse has a status of its own
 pub record IsRefusing (e : Ended) : Type 0 where

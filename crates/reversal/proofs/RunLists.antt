@@ -17,21 +17,27 @@ use Rattle.disk_gen.specs.Periodic.{periodic_list}
 use Rattle.disk_gen.specs.Plans.{HasPeriodicPlan}
 use Rattle.disk_gen.proofs.Leading.{periodic_valid}
 use Rattle.disk_gen.proofs.Lengths.{periodic_counted}
-use Rattle.requests.specs.Request.{Choice, says_raw, stack_pages}
+use Rattle.requests.specs.Request.{Choice, says_raw, stack_pages, unit_count}
 use Rattle.requests.specs.Ending.{bad_book, bad_program, bad_journal}
-use Rattle.reversal.specs.Deeds.{Job, perform, write, Shown, output, bytes_of}
-use Rattle.reversal.specs.Decision.{accept, IsStartOf, AreItemsOf, DecidesRunRevolve, DecidesPlanPeriodic}
+use Rattle.reversal.specs.Job.{Job, perform, write}
+use Rattle.reversal.specs.Course.{Shown}
+use Rattle.reversal.specs.Deeds.{bytes_of}
+use Rattle.reversal.specs.Table.{accept}
+use Rattle.reversal.specs.Fronts.{IsStartOf, AreItemsOf, in_units}
+use Rattle.reversal.specs.CommandRun.{DecidesRunRevolve}
+use Rattle.reversal.specs.CommandPlan.{DecidesPlanPeriodic}
 use Rattle.reversal.specs.Plans.{list_pieces}
 use Rattle.reversal.proofs.Deciding.{read_said, need_met, job_or}
 use Rattle.reversal.proofs.Keeping.{keep_met}
 use Rattle.reversal.proofs.Planned.{as_many, plan_valid, plan_certified, revolve_least}
 use Rattle.reversal.proofs.ReadAgain.{list_text_is}
 use Rattle.reversal.proofs.Spelled.{valid_spelled}
+use Rattle.reversal.specs.Decision.{course_of}
 
 -- what a run by Revolve comes to
 pub run_least : (options : List Choice) (steps : ℕ) (program : List ℕ) (journal : Option (List ℕ)) (book counts : List ℕ) (job : Job) → DecidesRunRevolve options steps program journal book counts (accept job) →
     (b : BookCosts) × IsBookText book b × (start : MachineState) × IsStartOf (says_raw options) (stack_pages options) program start × (items : List (List ℕ)) × AreItemsOf journal items
-    × (job ≡ perform start items steps (slots_of b) (revolve_list steps b)) × Valid steps (slots_of b) (revolve_list steps b) × (1 ≤ steps → forward (revolve_list steps b) ≡ steps + least_advances steps (total_room b steps))
+    × (job ≡ perform (in_units (unit_count options) start items steps (slots_of b) (revolve_list steps b))) × Valid steps (slots_of b) (revolve_list steps b) × (1 ≤ steps → forward (revolve_list steps b) ≡ steps + least_advances steps (total_room b steps))
     × ((other : List Action) → Valid steps (slots_of b) other → forward (revolve_list steps b) ≤ forward other)
 run_least options steps program journal book counts job h =
     let b = read_said (IsBookText book) _ bad_book job _ h in
@@ -68,7 +74,7 @@ periodic_read steps period book b short some is plan =
 
 pub periodic_again : (steps period : ℕ) (book : List ℕ) (job : Job) → steps ≤ 1000000 → 1 ≤ period → DecidesPlanPeriodic steps period book (accept job) →
     (b : BookCosts) × IsBookText book b × (job ≡ write (list_pieces (names_of b) (periodic_list steps period b))) × Valid steps (slots_of b) (periodic_list steps period b)
-    × ((shown : Shown) → IsSchedule (names_of b) (output shown job) (periodic_list steps period b))
+    × ((shown : Shown) → IsSchedule (names_of b) ((course_of job).output shown) (periodic_list steps period b))
 periodic_again steps period book job short some h =
     let b = read_said (IsBookText book) _ bad_book job _ h in
     let two = need_met _ _ job _ b.1.1 in
@@ -76,5 +82,5 @@ periodic_again steps period book job short some h =
     let slow = need_met _ _ job _ fast.1 in
     let plan : HasPeriodicPlan steps period b.0 = record { two = two.0; fast = fast.0; slow = slow.0 } in
     let done : job ≡ write (list_pieces (names_of b.0) (periodic_list steps period b.0)) = ap (job_or job) slow.1 in
-    let P : Shown → Job → Type 0 = λ shown j. IsSchedule (names_of b.0) (output shown j) (periodic_list steps period b.0) in
+    let P : Shown → Job → Type 0 = λ shown j. IsSchedule (names_of b.0) ((course_of j).output shown) (periodic_list steps period b.0) in
     (b.0, b.1.0, done, periodic_valid steps period b.0 some plan, λ shown. subst (P shown) (sym done) (periodic_read steps period book b.0 short some b.1.0 plan))

@@ -22,7 +22,8 @@ use Rattle.reverse_runner.proofs.StandingAfter.{TapeIs}
 use Rattle.reverse_runner.proofs.Taping.{unit_has}
 use Rattle.reverse_runner.specs.KeepersSeen.{calls_of}
 use Rattle.reversal.specs.Output.{line_of}
-use Rattle.reversal.specs.Deeds.{States, Shown, deed_of}
+use Rattle.reversal.specs.Deeds.{States, deed_of}
+use Rattle.reversal.specs.Course.{Shown}
 
 -- what a run shows by its states alone
 abbrev pub shown_by : States → Shown
@@ -233,7 +234,7 @@ same_above f shown numbers states r (m ∷ ms) below above =
 same_deed : (shown : States) (numbers : List ℕ) (states : List MachineState) (r unit steps : ℕ) (a : Action) → AllBelow r numbers → AtLeast r (handed_by unit steps a) →
     deed_of (all_settled shown numbers states) unit steps a ≡ deed_of shown unit steps a
 same_deed shown numbers states r unit steps a below above =
-    ap (λ pieces. record { pieces = pieces; steps = unit * steps_of a; calls = calls_of a })
+    ap (λ pieces. record { pieces = pieces; steps = unit * steps_of a; spent = 0; calls = calls_of a })
     (same_above (λ n s. line_of (λ _. s) n) shown numbers states r (handed_by unit steps a) below above)
 
 same_deeds : (shown : States) (numbers : List ℕ) (states : List MachineState) (r unit steps : ℕ) (list : List Action) → AllBelow r numbers → AtLeast r (handed unit steps list) →

@@ -17,15 +17,20 @@ use Rattle.reverse_runner.specs.Standing.{begun}
 use Rattle.reverse_runner.specs.KeepersSeen.{Calls, Called, CalledAtMost}
 use Rattle.reversal.specs.declared.demo.Demonstrated.{Demonstrated}
 use Rattle.requests.specs.declared.ended.Ended.{Ended}
-use Rattle.reversal.specs.Decision.{accept, EndsBy}
-use Rattle.reversal.specs.Deeds.{Deed, Shown, Moment, no_calls, silent_deed, writing, demonstrate, bytes_written, calls_made, Did, HaltsShowing}
-use Rattle.reversal.specs.Demo.{demo_list, summary, summary_text}
-use Rattle.reversal.specs.DemoReading.{BreaksWithin}
 use Rattle.requests.specs.Ending.{done, stopped}
-use Rattle.reversal.specs.Output.{Adds, lines_down}
-use Rattle.reversal.proofs.Demonstrating.{behind}
-use Rattle.reversal.proofs.Doing.{tells_nothing, raised_none, did_then, did_one, is_until_first, did_until, broke_off}
 use Rattle.requests.proofs.Lists.{get_map}
+use Rattle.reversal.specs.Job.{demonstrate}
+use Rattle.reversal.specs.Output.{lines_down, Adds}
+use Rattle.reversal.specs.Moment.{Moment, NothingFails, SinkFails}
+use Rattle.reversal.specs.Deeds.{Deed, no_calls, silent_deed, writing, bytes_written, calls_made, Did}
+use Rattle.reversal.specs.Course.{Shown, HaltsShowing}
+use Rattle.reversal.specs.Table.{accept}
+use Rattle.reversal.specs.CommandDemo.{demonstrating}
+use Rattle.reversal.specs.Decision.{EndsBy}
+use Rattle.reversal.specs.Demo.{demo_list, summary_text, summary}
+use Rattle.reversal.specs.DemoReading.{BreaksWithin}
+use Rattle.reversal.proofs.Doing.{tells_nothing, raised_none, did_then, did_one, is_until_first, broke_off, halted_at}
+use Rattle.reversal.proofs.Demonstrating.{behind}
 
 -- nothing is written
 nothing_written : (list : List Action) → bytes_written (map silent_deed list) ≡ []
@@ -81,9 +86,9 @@ module _ (number : ℕ) (first : MachineState) (steps slots : ℕ) where
   shown = record { states = λ n. first; answer = None }
 
   -- the actions were done up to one, which wanted memory
-  pub halted : (d : Demonstrated) (a c : Moment) → d.actions ≡ demo_list steps slots → BreaksWithin d.actions a.steps c.steps → c.told ≡ a.told → c.writes ≡ a.writes → c.calls ≡ a.calls →
-      HaltsShowing (demonstrate number first steps slots) a c
-  halted d a c is_list breaks told writes calls =
+  pub halted : (d : Demonstrated) (a c : Moment) → d.actions ≡ demo_list steps slots → BreaksWithin d.actions a.steps c.steps → c.told ≡ a.told → c.writes ≡ a.writes → c.calls ≡ a.calls → NothingFails a c →
+      HaltsShowing (demonstrating number first steps slots) a c
+  halted d a c is_list breaks told writes calls quiet =
       let list = demo_list steps slots in
       let B : List Action → Type 0 = λ l. BreaksWithin l a.steps c.steps in
       let h = subst B is_list breaks in
@@ -93,11 +98,11 @@ module _ (number : ℕ) (first : MachineState) (steps slots : ℕ) where
       let P : List Deed → Type 0 = λ ds. Did ds a c in
       let front : map silent_deed (take i list) ≡ take i (silent ++ last) = sym (take-map silent_deed i list) ∙ sym (take_front silent last i (silent_deed h.next) at) in
       let broke = broke_off (silent ++ last) i (silent_deed h.next) a c c (get_front silent last i (silent_deed h.next) at) (subst P front (did_silent (take i list) a c told writes h.counted calls)) refl refl refl (uncalled c.calls) in
-      (shown, (tt, record { performed = i; breaks = broke.0; wants = ap (λ (d : Deed). d.pieces) broke.1; went = tt }))
+      (shown, (tt, (i, halted_at (demonstrating number first steps slots) shown i (silent_deed h.next) a c broke refl tt quiet)))
 
   -- what is seen after the actions, before the write
   abbrev pub between : Moment → Moment → Moment
-  between a c = record { told = a.told; writes = a.writes; steps = c.steps; calls = a.calls; images = a.images }
+  between a c = record { told = a.told; writes = a.writes; faults = a.faults; steps = c.steps; calls = a.calls; images = a.images; keeper_faults = a.keeper_faults }
 
   -- The whole run was made, and its digest found; then the line of its summary was given to the sink.
   module _ (d : Demonstrated) (session : d.session ≡ begun first [] 1 steps (slots_of (plain slots))) (list : d.actions ≡ demo_list steps slots) (digest line bytes : List ℕ)
@@ -113,8 +118,8 @@ module _ (number : ℕ) (first : MachineState) (steps slots : ℕ) where
     stepped = counted ∙ ap (λ l. a.steps + forward l) list
 
     -- it was written
-    pub whole : (e : Ended) → e ≡ done → Tells a.told c.told (Adds bytes) → c.writes ≡ raised a.writes 1 → c.calls ≡ a.calls → EndsBy (accept (demonstrate number first steps slots)) e a c
-    whole e is added wrote calls =
+    pub whole : (e : Ended) → NothingFails a c → e ≡ done → Tells a.told c.told (Adds bytes) → c.writes ≡ raised a.writes 1 → c.calls ≡ a.calls → EndsBy (accept (demonstrate number first steps slots)) e a c
+    whole e quiet is added wrote calls =
         let b = between a c in
         let C : Calls → Type 0 = λ x. Called no_calls a.calls x in
         let T : List ℕ → Type 0 = λ l. Tells a.told c.told (Adds l) in
@@ -131,15 +136,16 @@ module _ (number : ℕ) (first : MachineState) (steps slots : ℕ) where
                 output_whole = all;
                 stepped = stepped;
                 answered = tt;
-                went = tt;
+                held = tt;
+                quiet = quiet;
               },
             ),
           ),
         )
 
     -- a part of it was written
-    pub in_part : (e : Ended) → e ≡ stopped 0 → Tells a.told c.told (AddsPrefix bytes) → c.writes ≡ raised a.writes 1 → c.calls ≡ a.calls → EndsBy (accept (demonstrate number first steps slots)) e a c
-    in_part e is added wrote calls =
+    pub in_part : (e : Ended) → SinkFails a c → e ≡ stopped 0 → Tells a.told c.told (AddsPrefix bytes) → c.writes ≡ raised a.writes 1 → c.calls ≡ a.calls → EndsBy (accept (demonstrate number first steps slots)) e a c
+    in_part e fails is added wrote calls =
         let b = between a c in
         let last = writing (text ∷ []) in
         let i = length silent in
@@ -153,8 +159,12 @@ module _ (number : ℕ) (first : MachineState) (steps slots : ℕ) where
             inr (inl (
               i,
               is,
-              did_until shown (demonstrate number first steps slots) (silent ++ last ∷ []) i a c refl
-                  (is_until_first (silent ++ last ∷ []) i last text a b c (behind silent last []) refl before (subst T the_text added) wrote refl (subst C (sym calls) (uncalled a.calls))) tt tt,
+              record {
+                until = is_until_first (silent ++ last ∷ []) i last text a b c (behind silent last []) refl before (subst T the_text added) wrote refl (subst C (sym calls) (uncalled a.calls));
+                answered = tt;
+                held = tt;
+                fails = fails;
+              },
             )),
           ),
         )

@@ -12,7 +12,7 @@ use Rattle.requests.specs.declared.question.Question.{Question}
 use Rattle.requests.specs.Operands.{question_bound}
 use Rattle.requests.specs.Bounds.{IsWithin}
 use Rattle.requests.specs.Ending.{invalid, out_of_range}
-use Rattle.reversal.specs.Deeds.{Job, perform, ask as ask_job, write, demonstrate}
+use Rattle.reversal.specs.Job.{Run, last_of, Job, perform, ask as ask_job, seek, write, demonstrate}
 use Rattle.reversal.specs.Table.{Decision, refuse, accept, Judge, IsFirstWide, Tabulate, Table, needs, reads, judges, keeps, tabulates, weighs, grants, ends, Decided}
 use Rattle.reversal.proofs.Refused.{IsRefusing, refusing_at, IsOne, Excludes}
 use Rattle.reversal.proofs.Keeping.{keep_one, keep_comes_to}
@@ -22,9 +22,9 @@ use Rattle.reversal.proofs.Weighing.{weigh_one, weigh_comes_to}
 
 -- a list that is performed is valid, also for a question, whose number is within its bounds; texts are written, or a demonstration is shown
 pub data IsMet (job : Job) : Type 0 where
-  asks : (question : Question) (first : MachineState) (journal : List (List ℕ)) (steps : ℕ) (slots : List Slots) (list : List Action) → IsWithin (question_bound steps question) → Valid steps slots list →
-      job ≡ ask_job question first journal steps slots list → IsMet job
-  performs : (first : MachineState) (journal : List (List ℕ)) (steps : ℕ) (slots : List Slots) (list : List Action) → Valid steps slots list → job ≡ perform first journal steps slots list → IsMet job
+  asks : (question : Question) (run : Run) → IsWithin (question_bound (last_of run) question) → Valid run.steps run.slots run.list → job ≡ ask_job question run → IsMet job
+  performs : (run : Run) → Valid run.steps run.slots run.list → job ≡ perform run → IsMet job
+  seeks : (first : MachineState) (journal : List (List ℕ)) (steps workers : ℕ) (digest : List ℕ) → job ≡ seek first journal steps workers digest → IsMet job
   writes : (texts : List (List ℕ)) → job ≡ write texts → IsMet job
   shows : (number : ℕ) (first : MachineState) (steps slots : ℕ) → job ≡ demonstrate number first steps slots → IsMet job
 

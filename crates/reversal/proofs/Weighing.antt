@@ -8,9 +8,9 @@ use Rattle.bound_cert.specs.declared.verdict.Reason.TheVariants.{Invalid, WrongS
 use Rattle.bound_cert.specs.Accepted.{IsAccepted}
 use Rattle.bound_cert.proofs.Accepting.{apart, one_reason}
 use Rattle.requests.specs.declared.ended.Ended.{Ended}
-use Rattle.reversal.specs.Deeds.{Job}
+use Rattle.reversal.specs.Job.{Job}
 use Rattle.requests.specs.Ending.{no_memory, not_least}
-use Rattle.reversal.specs.Decision.{Decision, refuse, accept, Weigh}
+use Rattle.reversal.specs.Table.{Decision, refuse, accept, Weigh}
 use Rattle.reversal.specs.JobReading.{IsUnweighed}
 use Rattle.reversal.proofs.Refused.{IsRefusing, refusing_past}
 

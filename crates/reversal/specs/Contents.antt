@@ -3,7 +3,8 @@ use Rattle.std.specs.Prelude.{ℕ, ◌<◌, List, Option, None, Some}
 use Rattle.std.specs.List.{AllByRecursion}
 use Rattle.requests.specs.Request.{Request}
 use Rattle.requests.specs.Bounds.{numbers, IsWithin}
-use Rattle.reversal.specs.Decision.{Decision, Decides}
+use Rattle.reversal.specs.Table.{Decision}
+use Rattle.reversal.specs.Decision.{Decides}
 
 abbrev pub AreBytes : List ℕ → Type 0
 AreBytes bytes = AllByRecursion (λ b. b < 256) bytes

@@ -14,20 +14,25 @@ use Rattle.revolve_gen.specs.Plans as revolve
 use Rattle.reverse_runner.specs.KeepersSeen.{HaveRoom}
 use Rattle.requests.specs.declared.ended.Ended.{Ended}
 use Rattle.reversal.specs.declared.job.Job as in_memory
-use Rattle.reversal.specs.declared.job.Job.TheVariants.{Perform, Ask, Write, Report, Plan, Demonstrate}
+use Rattle.reversal.specs.declared.job.Job.TheVariants.{Perform, Ask, Find, Write, Report, Plan, Demonstrate}
 use Rattle.reversal.specs.declared.planning.Plan as plan_in_memory
 use Rattle.reversal.specs.declared.demo.Demonstration as demo_in_memory
 use Rattle.reversal.specs.declared.job.Performance.{Performance}
 use Rattle.reversal.specs.declared.asking.Asking.{Asking}
 use Rattle.reversal.specs.declared.asking.Over.{Over}
+use Rattle.reversal.specs.declared.finding.Finding.{Finding}
 use Rattle.cost_fold.specs.CountsOf.{all_of}
 use Rattle.cost_report.specs.Report.{report_lines}
 use Rattle.reversal.specs.ActionsLeft.{left_of}
 use Rattle.reversal.specs.Plans.{list_pieces}
 use Rattle.requests.specs.Operands.{question_bound}
 use Rattle.requests.specs.Bounds.{IsWithin}
-use Rattle.reversal.specs.Deeds.{Job, perform, ask, write, demonstrate, Moment, HaltsShowing}
-use Rattle.reversal.specs.Decision.{accept, EndsBy}
+use Rattle.reverse_runner.specs.SessionState.{SessionState}
+use Rattle.reversal.specs.Job.{Run, Job, perform, ask, seek, write, demonstrate}
+use Rattle.reversal.specs.Moment.{Moment}
+use Rattle.reversal.specs.Course.{Course, EndsShowing, HaltsShowing}
+use Rattle.reversal.specs.Fronts.{in_units}
+use Rattle.reversal.specs.Decision.{course_of}
 use Rattle.reverse_runner.specs.declared.fault.RunFault.{RunFault}
 use Rattle.reverse_runner.specs.declared.fault.RunFault.TheVariants as fault
 use Rattle.requests.specs.Ending.{no_memory, not_least, keeper_failed, damaged, stopped}
@@ -41,9 +46,21 @@ certificate_pieces (Some c) = certificate.pieces c
 abbrev pub pieces_of : plan_in_memory.Plan → List (List ℕ)
 pieces_of p = list_pieces (names_of p.book) (left_of p.actions) ++ certificate_pieces p.certificate
 
+-- what a performance and a question go over
+abbrev pub performed_run : Performance → Run
+performed_run p = in_units p.unit p.start p.journal p.steps (slots_of p.book) (left_of p.actions)
+
+abbrev pub run_over : Over → Run
+run_over o = in_units o.unit o.start o.journal o.steps (slots_of o.book) o.list.items
+
+-- what a session goes over by a list, from where it stands
+abbrev pub run_from : SessionState → List Action → Run
+run_from s list = record { first = s.work; journal = s.journal; unit = s.unit; steps = s.situation.steps; slots = s.situation.slots; list = list }
+
 abbrev pub job_of : in_memory.Job → Job
-job_of (Perform p) = perform p.start p.journal p.steps (slots_of p.book) (left_of p.actions)
-job_of (Ask a) = ask a.question a.over.start a.over.journal a.over.steps (slots_of a.over.book) a.over.list.items
+job_of (Perform p) = perform (performed_run p)
+job_of (Ask a) = ask a.question (run_over a.over)
+job_of (Find f) = seek f.start f.journal f.steps f.workers f.digest
 job_of (Write text) = write (text ∷ [])
 job_of (Report p) = write (report_lines p.book p.counts)
 job_of (Plan p) = write (pieces_of p)
@@ -52,18 +69,22 @@ job_of (Demonstrate d) = demonstrate d.number d.start d.steps d.slots
 -- a list that is performed is valid
 pub record IsPerformable (p : Performance) : Type 0 where
   pub steps : p.steps ≤ 1000000
+  pub unit : (1 ≤ p.unit) × (p.unit ≤ 1024)
+  pub instructions : p.unit * p.steps ≤ 1000000
   pub few : length (left_of p.actions) ≤ 16777216
   pub valid : Valid p.steps (slots_of p.book) (left_of p.actions)
 
 -- a list is valid that a question is about, and its number is within its bounds
 pub record IsOver (o : Over) : Type 0 where
   pub steps : o.steps ≤ 1000000
+  pub unit : (1 ≤ o.unit) × (o.unit ≤ 1024)
+  pub instructions : o.unit * o.steps ≤ 1000000
   pub few : length o.list.items ≤ 16777216
   pub valid : Valid o.steps (slots_of o.book) o.list.items
 
 pub record CanBeAsked (a : Asking) : Type 0 where
   pub over : IsOver a.over
-  pub within : IsWithin (question_bound a.over.steps a.question)
+  pub within : IsWithin (question_bound (a.over.unit * a.over.steps) a.question)
 
 -- the actions of a plan have a spelling, and there is room for the longest piece
 pub record IsWritable (p : plan_in_memory.Plan) : Type 0 where
@@ -75,9 +96,15 @@ pub record IsShowable (d : demo_in_memory.Demonstration) : Type 0 where
   pub slots : d.slots ≤ 1000000
   pub plan : revolve.HasPlan d.steps (total_room (plain d.slots) d.steps)
 
+-- a search has few states, and workers within their bounds
+pub record IsSearchable (f : Finding) : Type 0 where
+  pub steps : f.steps ≤ 1000000
+  pub workers : (1 ≤ f.workers) × (f.workers ≤ 64)
+
 abbrev pub CanBeDone : in_memory.Job → Type 0
 CanBeDone (Perform p) = IsPerformable p
 CanBeDone (Ask a) = CanBeAsked a
+CanBeDone (Find f) = IsSearchable f
 CanBeDone (Write text) = Unit {0}
 CanBeDone (Report p) = all_of p.counts * 1000000 < 2 ^ 64
 CanBeDone (Plan p) = IsWritable p
@@ -87,6 +114,7 @@ CanBeDone (Demonstrate d) = IsShowable d
 abbrev pub KeepersHaveRoom : in_memory.Job → List ℕ → Type 0
 KeepersHaveRoom (Perform p) counts = HaveRoom p.steps (slots_of p.book) counts
 KeepersHaveRoom (Ask a) counts = HaveRoom a.over.steps (slots_of a.over.book) counts
+KeepersHaveRoom (Find f) counts = Unit {0}
 KeepersHaveRoom (Write text) counts = Unit {0}
 KeepersHaveRoom (Report p) counts = Unit {0}
 KeepersHaveRoom (Plan p) counts = Unit {0}
@@ -101,9 +129,16 @@ abbrev pub IsUnweighed : ℕ → BookCosts → List Action → Certificate → E
 IsUnweighed steps book list certificate e =
     (e ≡ no_memory) ⊎ ((reason : Reason) × (IsFirstReason list steps book certificate reason × (e ≡ not_least reason)))
 
--- a job that was begun was done, stopped, or wanted memory
+-- what was begun was done, stopped, or wanted memory, by its course
+abbrev pub WorksBy : Course → Ended → Moment → Moment → Type 0
+WorksBy course e old new = EndsShowing course e old new ⊎ ((e ≡ no_memory) × HaltsShowing course old new)
+
 abbrev pub Works : Job → Ended → Moment → Moment → Type 0
-Works job e old new = EndsBy (accept job) e old new ⊎ ((e ≡ no_memory) × HaltsShowing job old new)
+Works job e old new = WorksBy (course_of job) e old new
+
+-- memory ran out before anything was done: a sink, keepers and a count of steps are as they were
+abbrev pub IsUntouched : {X K : Type 0} → Ended → X → X → K → K → ℕ → ℕ → Type 0
+IsUntouched e out out' keepers keepers' steps steps' = (e ≡ no_memory) × (out' ≡ out) × (keepers' ≡ keepers) × (steps' ≡ steps)
 
 -- how a call ends whose session refused the action at a place for this fault; one that has ended refuses none
 abbrev pub fault_ending : ℕ → RunFault → Ended

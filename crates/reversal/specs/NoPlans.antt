@@ -13,7 +13,8 @@ abbrev pub IsUnperiodic : ℕ → ℕ → BookCosts → Ended → Type 0
 IsUnperiodic steps period b e =
     ((length b.levels ≡ 2 → ⊥) × (e ≡ no_plan steps (total_room b steps) 2))
     ⊎ (((length b.levels ≡ 2) × ((2 ≤ steps → 2 ≤ period → 1 ≤ room b 0 steps) → ⊥) × (e ≡ no_plan steps (total_room b steps) 1))
-    ⊎ ((length b.levels ≡ 2) × (2 ≤ steps → 2 ≤ period → 1 ≤ room b 0 steps) × (HasSlots (slots_at b 1) (images steps period) → ⊥) × (e ≡ no_plan steps (total_room b steps) 4)))
+    ⊎ ((length b.levels ≡ 2) × (2 ≤ steps → 2 ≤ period → 1 ≤ room b 0 steps) × (HasSlots (slots_at b 1) (images steps period) → ⊥)
+    × (e ≡ no_plan steps (total_room b steps) 4)))
 
 -- none of DiskRevolve
 abbrev pub IsUndisked : ℕ → BookCosts → Ended → Type 0

@@ -13,7 +13,7 @@ use Rattle.bound_cert.specs.declared.verdict.Reason.{Reason}
 use Rattle.bound_cert.specs.Accepted.{IsAccepted, IsFirstReason}
 use Rattle.requests.specs.declared.ended.Ended.{Ended}
 use Rattle.requests.specs.Ending.{few_keepers, small_keeper, invalid, out_of_range, no_plan, not_least}
-use Rattle.reversal.specs.Deeds.{Job}
+use Rattle.reversal.specs.Job.{Job}
 
 pub data Decision : Type 0 where
   refuse : Ended → Decision
@@ -32,7 +32,8 @@ Read {A} {F} IsText HasFault ended d below = ((fault : F) × HasFault fault × (
 -- the list is valid and the lines below decide, or it is refused where it is first broken
 abbrev pub Judge : ℕ → List Slots → List Action → Decision → Type 0 → Type 0
 Judge steps slots list d below =
-    ((place : ℕ) × (rule : ℕ) × (level : ℕ) × BrokenAt steps slots list place rule level × (Valid steps slots list → ⊥) × (d ≡ refuse (invalid place level rule)))
+    ((place : ℕ) × (rule : ℕ) × (level : ℕ) × BrokenAt steps slots list place rule level × (Valid steps slots list → ⊥)
+    × (d ≡ refuse (invalid place level rule)))
     ⊎ (Valid steps slots list × below)
 
 -- Revolve has a list for so many steps and this book, and the lines below decide, or the call is refused

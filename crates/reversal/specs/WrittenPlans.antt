@@ -5,9 +5,11 @@ use Rattle.level_book.specs.BookCosts.{BookCosts, names_of}
 use Rattle.action_text.specs.ScheduleText.{IsSchedule}
 use Rattle.cert_text.specs.declared.certificate.Certificate.{Certificate}
 use Rattle.cert_text.specs.Meaning.{IsCertificateText}
-use Rattle.reversal.specs.Deeds.{Job, Shown, output}
+use Rattle.reversal.specs.Job.{Job}
+use Rattle.reversal.specs.Course.{Shown}
+use Rattle.reversal.specs.Decision.{course_of}
 
 -- read as a schedule it says this list, and read as a certificate this one
 abbrev pub SaysAgain : ℕ → BookCosts → Job → List Action → Certificate → Type 0
 SaysAgain steps book job list certificate =
-    (shown : Shown) → IsSchedule (names_of book) (output shown job) list × IsCertificateText steps book (output shown job) certificate
+    (shown : Shown) → IsSchedule (names_of book) ((course_of job).output shown) list × IsCertificateText steps book ((course_of job).output shown) certificate

@@ -1,20 +1,24 @@
 // A question about a run, and how it is answered.
-ghost use Rattle.std.specs.Prelude.{◌≡◌, ◌≢◌, ◌⊎◌, ◌≤◌, ◌<◌, ◌+◌, ℕ, length, map, Option};
+ghost use Rattle.std.specs.Prelude.{◌≡◌, ◌≢◌, ◌⊎◌, ◌≤◌, ◌<◌, ◌+◌, ◌*◌, ℕ, length, map, Option};
 ghost use Rattle.keepers.specs.Told.{Images, Tells, AddsPrefix};
 ghost use Rattle.keepers.specs.Counts.{Rose, raised};
 ghost use Rattle.level_book.specs.BookCosts.{slots_of};
 ghost use Rattle.level_book.specs.Valid.{Valid};
 ghost use Rattle.rv_machine.specs.MachineState.{IsMachineState};
-ghost use Rattle.reverse_runner.specs.KeepersSeen.{Calls, by_number, HaveRoom};
+ghost use Rattle.reverse_runner.specs.KeepersSeen.{HaveRoom};
 ghost use Rattle.reverse_runner.specs.Standing.{begun, StandsAt};
 ghost use Rattle.reverse_runner.specs.declared.fault.RunFault.TheVariants as fault_is;
 ghost use Rattle.reversal.specs.Output.{Adds};
-ghost use Rattle.reversal.specs.Deeds.{ask, moment, AllTell, answer_text};
-ghost use Rattle.reversal.specs.Decision.{accept, EndsBy, KeepsOthers};
-ghost use Rattle.requests.specs.Ending.{no_memory, done, stopped};
-ghost use Rattle.reversal.specs.JobReading.{CanBeAsked, Works, fault_ending};
+ghost use Rattle.reversal.specs.Job.{ask};
+ghost use Rattle.reversal.specs.Moment.{moment, AllTell};
+ghost use Rattle.reversal.specs.CommandAsk.{answer_text};
+ghost use Rattle.reversal.specs.Table.{accept};
+ghost use Rattle.reversal.specs.Decision.{KeepsOthers};
+ghost use Rattle.requests.specs.Ending.{done, stopped};
+ghost use Rattle.reversal.specs.JobReading.{run_over, run_from, CanBeAsked, IsUntouched, Works, fault_ending};
 ghost use Rattle.requests.specs.declared.question.Question.TheVariants as about;
 
+use crate::job::fault_ending;
 use input_journal::Journal;
 use keepers::{Keeper, Sink};
 use level_book::Book;
@@ -26,11 +30,13 @@ use rv_machine::{State, Steps};
 use std::alloc::Global;
 use std::sync::ledger::Ledger;
 
-/// What a list is performed over: the first state, the recorded input, the number of steps and the book; and the list.
+/// What a list is performed over: the first state, the recorded input, how many instructions a step is, the number of steps and
+/// the book; and the list.
 #[derive(Drop)]
 pub struct Over {
     pub start: State,
     pub journal: Journal,
+    pub unit: u32,
     pub steps: u32,
     pub book: Book,
     pub list: Vec<Action>,
@@ -54,25 +60,23 @@ impl Asking {
     ) -> Ended
         requires can_be_asked { CanBeAsked self }
         requires room { HaveRoom self.over.steps (slots_of self.over.book) (map K.slot_count keepers.old.items) }
-        ensures works { ((result ≡ no_memory) × (out.new ≡ out.old) × (keepers.new ≡ keepers.old) × (counter.new ≡ counter.old)) ⊎ Works (ask self.question self.over.start self.over.journal self.over.steps (slots_of self.over.book) self.over.list.items) result
-            (moment O.told O.call_count K.told K.put_count K.get_count K.free_count out.old keepers.old.items counter.old)
-            (moment O.told O.call_count K.told K.put_count K.get_count K.free_count out.new keepers.new.items counter.new) }
-        ensures others { KeepsOthers (accept (ask self.question self.over.start self.over.journal self.over.steps (slots_of self.over.book) self.over.list.items)) keepers.old.items keepers.new.items }
-        ensures sink_quiet { result.status ≢ 14 → O.fault_count out.new ≡ O.fault_count out.old }
-        ensures sink_cause { result.status ≡ 14 → Rose (O.fault_count out.old) (O.fault_count out.new) }
-        ensures keepers_quiet { result.status ≢ 12 → (k : ℕ) → by_number 0 K.fault_count keepers.new.items k ≡ by_number 0 K.fault_count keepers.old.items k }
-        ensures keeper_cause { result.status ≡ 12 → Rose (by_number 0 K.fault_count keepers.old.items result.more) (by_number 0 K.fault_count keepers.new.items result.more) }
+        ensures works { IsUntouched result out.old out.new keepers.old keepers.new counter.old counter.new
+            ⊎ Works (ask self.question (run_over self.over)) result
+            (moment O.told O.call_count O.fault_count K.told K.put_count K.get_count K.free_count K.fault_count out.old keepers.old.items counter.old)
+            (moment O.told O.call_count O.fault_count K.told K.put_count K.get_count K.free_count K.fault_count out.new keepers.new.items counter.new) }
+        ensures others { KeepsOthers (accept (ask self.question (run_over self.over))) keepers.old.items keepers.new.items }
     {
         let question = self.question;
         let Over {
             start,
             journal,
+            unit,
             steps,
             book,
             list,
         } = self.over;
         start.is_machine_state();
-        let Ok(mut session) = Session::begin(alloc, start, journal, steps, 1, book) else {
+        let Ok(mut session) = Session::begin(alloc, start, journal, steps, unit, book) else {
             return Ended::no_memory();
         };
         match question {
@@ -98,21 +102,17 @@ fn show_state<K: Keeper, O: Sink, L: Ledger>(
     out: &mut O,
     counter: &mut Steps<L>,
 ) -> Ended
-    requires begun { session.old ≡ begun session.old.work session.old.journal 1 session.old.situation.steps session.old.situation.slots }
+    requires begun { session.old ≡ begun session.old.work session.old.journal session.old.unit session.old.situation.steps session.old.situation.slots }
     requires stands { (told : ℕ → Option Images) → AllTell (length session.old.situation.slots) told → StandsAt session.old.work session.old told }
     requires state { IsMachineState session.old.work }
     requires valid { Valid session.old.situation.steps session.old.situation.slots list.now }
     requires few { length list.now ≤ 16777216 }
     requires room { HaveRoom session.old.situation.steps session.old.situation.slots (map K.slot_count keepers.old.items) }
-    requires place { place ≤ session.old.situation.steps }
-    ensures works { Works (ask (about.State place) session.old.work session.old.journal session.old.situation.steps session.old.situation.slots list.now) result
-        (moment O.told O.call_count K.told K.put_count K.get_count K.free_count out.old keepers.old.items counter.old)
-        (moment O.told O.call_count K.told K.put_count K.get_count K.free_count out.new keepers.new.items counter.new) }
-    ensures others { KeepsOthers (accept (ask (about.State place) session.old.work session.old.journal session.old.situation.steps session.old.situation.slots list.now)) keepers.old.items keepers.new.items }
-    ensures sink_quiet { result.status ≢ 14 → O.fault_count out.new ≡ O.fault_count out.old }
-    ensures sink_cause { result.status ≡ 14 → Rose (O.fault_count out.old) (O.fault_count out.new) }
-    ensures keepers_quiet { result.status ≢ 12 → (k : ℕ) → by_number 0 K.fault_count keepers.new.items k ≡ by_number 0 K.fault_count keepers.old.items k }
-    ensures keeper_cause { result.status ≡ 12 → Rose (by_number 0 K.fault_count keepers.old.items result.more) (by_number 0 K.fault_count keepers.new.items result.more) }
+    requires place { place ≤ session.old.unit * session.old.situation.steps }
+    ensures works { Works (ask (about.State place) (run_from session.old list.now)) result
+        (moment O.told O.call_count O.fault_count K.told K.put_count K.get_count K.free_count K.fault_count out.old keepers.old.items counter.old)
+        (moment O.told O.call_count O.fault_count K.told K.put_count K.get_count K.free_count K.fault_count out.new keepers.new.items counter.new) }
+    ensures others { KeepsOthers (accept (ask (about.State place) (run_from session.old list.now))) keepers.old.items keepers.new.items }
 {
     let mut writer = LineWriter::new(out);
     match state_at(session, list, keepers, place, &mut writer, counter) {
@@ -130,21 +130,17 @@ fn tell_last_write<K: Keeper, O: Sink, L: Ledger>(
     out: &mut O,
     counter: &mut Steps<L>,
 ) -> Ended
-    requires begun { session.old ≡ begun session.old.work session.old.journal 1 session.old.situation.steps session.old.situation.slots }
+    requires begun { session.old ≡ begun session.old.work session.old.journal session.old.unit session.old.situation.steps session.old.situation.slots }
     requires stands { (told : ℕ → Option Images) → AllTell (length session.old.situation.slots) told → StandsAt session.old.work session.old told }
     requires state { IsMachineState session.old.work }
     requires valid { Valid session.old.situation.steps session.old.situation.slots list.now }
     requires few { length list.now ≤ 16777216 }
     requires room { HaveRoom session.old.situation.steps session.old.situation.slots (map K.slot_count keepers.old.items) }
     requires address { address ≤ 4294967292 }
-    ensures works { Works (ask (about.LastWrite address) session.old.work session.old.journal session.old.situation.steps session.old.situation.slots list.now) result
-        (moment O.told O.call_count K.told K.put_count K.get_count K.free_count out.old keepers.old.items counter.old)
-        (moment O.told O.call_count K.told K.put_count K.get_count K.free_count out.new keepers.new.items counter.new) }
-    ensures others { KeepsOthers (accept (ask (about.LastWrite address) session.old.work session.old.journal session.old.situation.steps session.old.situation.slots list.now)) keepers.old.items keepers.new.items }
-    ensures sink_quiet { result.status ≢ 14 → O.fault_count out.new ≡ O.fault_count out.old }
-    ensures sink_cause { result.status ≡ 14 → Rose (O.fault_count out.old) (O.fault_count out.new) }
-    ensures keepers_quiet { result.status ≢ 12 → (k : ℕ) → by_number 0 K.fault_count keepers.new.items k ≡ by_number 0 K.fault_count keepers.old.items k }
-    ensures keeper_cause { result.status ≡ 12 → Rose (by_number 0 K.fault_count keepers.old.items result.more) (by_number 0 K.fault_count keepers.new.items result.more) }
+    ensures works { Works (ask (about.LastWrite address) (run_from session.old list.now)) result
+        (moment O.told O.call_count O.fault_count K.told K.put_count K.get_count K.free_count K.fault_count out.old keepers.old.items counter.old)
+        (moment O.told O.call_count O.fault_count K.told K.put_count K.get_count K.free_count K.fault_count out.new keepers.new.items counter.new) }
+    ensures others { KeepsOthers (accept (ask (about.LastWrite address) (run_from session.old list.now))) keepers.old.items keepers.new.items }
 {
     match last_write(session, list, keepers, address, counter) {
         Ok(answer) => write_answer(answer, out),
@@ -161,21 +157,17 @@ fn tell_last_change<K: Keeper, O: Sink, L: Ledger>(
     out: &mut O,
     counter: &mut Steps<L>,
 ) -> Ended
-    requires begun { session.old ≡ begun session.old.work session.old.journal 1 session.old.situation.steps session.old.situation.slots }
+    requires begun { session.old ≡ begun session.old.work session.old.journal session.old.unit session.old.situation.steps session.old.situation.slots }
     requires stands { (told : ℕ → Option Images) → AllTell (length session.old.situation.slots) told → StandsAt session.old.work session.old told }
     requires state { IsMachineState session.old.work }
     requires valid { Valid session.old.situation.steps session.old.situation.slots list.now }
     requires few { length list.now ≤ 16777216 }
     requires room { HaveRoom session.old.situation.steps session.old.situation.slots (map K.slot_count keepers.old.items) }
     requires address { address ≤ 4294967292 }
-    ensures works { Works (ask (about.LastChange address) session.old.work session.old.journal session.old.situation.steps session.old.situation.slots list.now) result
-        (moment O.told O.call_count K.told K.put_count K.get_count K.free_count out.old keepers.old.items counter.old)
-        (moment O.told O.call_count K.told K.put_count K.get_count K.free_count out.new keepers.new.items counter.new) }
-    ensures others { KeepsOthers (accept (ask (about.LastChange address) session.old.work session.old.journal session.old.situation.steps session.old.situation.slots list.now)) keepers.old.items keepers.new.items }
-    ensures sink_quiet { result.status ≢ 14 → O.fault_count out.new ≡ O.fault_count out.old }
-    ensures sink_cause { result.status ≡ 14 → Rose (O.fault_count out.old) (O.fault_count out.new) }
-    ensures keepers_quiet { result.status ≢ 12 → (k : ℕ) → by_number 0 K.fault_count keepers.new.items k ≡ by_number 0 K.fault_count keepers.old.items k }
-    ensures keeper_cause { result.status ≡ 12 → Rose (by_number 0 K.fault_count keepers.old.items result.more) (by_number 0 K.fault_count keepers.new.items result.more) }
+    ensures works { Works (ask (about.LastChange address) (run_from session.old list.now)) result
+        (moment O.told O.call_count O.fault_count K.told K.put_count K.get_count K.free_count K.fault_count out.old keepers.old.items counter.old)
+        (moment O.told O.call_count O.fault_count K.told K.put_count K.get_count K.free_count K.fault_count out.new keepers.new.items counter.new) }
+    ensures others { KeepsOthers (accept (ask (about.LastChange address) (run_from session.old list.now))) keepers.old.items keepers.new.items }
 {
     match last_change(session, list, keepers, address, counter) {
         Ok(answer) => write_answer(answer, out),
@@ -189,22 +181,15 @@ fn refused(session: &Session, fault: RunFault) -> Ended
     requires counts { session.now.done < 18446744073709551615 }
     ensures { result ≡ fault_ending (session.now.done + 1) fault }
 {
-    let place = session.done() + 1;
-    match fault {
-        RunFault::Keeper(level) => Ended::keeper_failed(place, level),
-        RunFault::Damaged { level, put, got } => Ended::damaged(place, level, &put, &got),
-        RunFault::Visitor => Ended::stopped(place),
-        RunFault::Memory => Ended::no_memory(),
-        RunFault::Ended => unreachable!(),
-    }
+    fault_ending(session.done() + 1, fault)
 }
 
-// Writes the number of a step, or that there is none.
-fn write_answer<O: Sink>(answer: Option<u32>, out: &mut O) -> Ended
-    ensures ends { ((result ≡ done) × Tells (O.told out.old) (O.told out.new) (Adds (answer_text answer))) ⊎ ((result ≡ stopped 0) × Tells (O.told out.old) (O.told out.new) (AddsPrefix (answer_text answer))) }
+/// Writes the number of a step or of a state, or that there is none.
+pub fn write_answer<O: Sink>(answer: Option<u32>, out: &mut O) -> Ended
+    ensures ends { ((result ≡ done) × Tells (O.told out.old) (O.told out.new) (Adds (answer_text answer)) × (O.fault_count out.new ≡ O.fault_count out.old))
+        ⊎ ((result ≡ stopped 0) × Tells (O.told out.old) (O.told out.new) (AddsPrefix (answer_text answer))
+        × Rose (O.fault_count out.old) (O.fault_count out.new)) }
     ensures calls { O.call_count out.new ≡ raised (O.call_count out.old) 1 }
-    ensures quiet { result.status ≢ 14 → O.fault_count out.new ≡ O.fault_count out.old }
-    ensures cause { result.status ≡ 14 → Rose (O.fault_count out.old) (O.fault_count out.new) }
 {
     let mut line = Line::new();
     match answer {

@@ -5,13 +5,14 @@ ghost use Rattle.level_book.specs.Valid.{Valid};
 ghost use Rattle.cert_text.specs.Meaning.{IsCertificateText};
 ghost use Rattle.cert_text.specs.Faults.{HasFirstFault};
 ghost use Rattle.bound_cert.specs.Accepted.{class_of, IsAccepted};
-ghost use Rattle.requests.specs.Request.{Choice};
-ghost use Rattle.reversal.specs.Decision.{accept, refuse, least_line, DecidesCertify, DecidesBytes};
+ghost use Rattle.requests.specs.Request.{Choice, certify as certify_command};
+ghost use Rattle.reversal.specs.Table.{accept, refuse};
+ghost use Rattle.reversal.specs.CommandCertify.{least_line, DecidesCertify};
+ghost use Rattle.reversal.specs.Decision.{DecidesBytes};
 ghost use Rattle.requests.specs.Ending.{no_memory, bad_certificate};
 ghost use Rattle.requests.specs.Inputs.{inputs_of};
 ghost use Rattle.requests.specs.InputReading.{AreWithinLimits};
 ghost use Rattle.reversal.specs.JobReading.{job_of, CanBeDone, KeepersHaveRoom, IsRefusal, IsUnweighed};
-ghost use Rattle.requests.specs.Request.{certify as certify_command};
 ghost use Rattle.requests.specs.RequestReading.{as_certify};
 
 use crate::decision::{book_in, judge, list_in};
@@ -27,10 +28,13 @@ use std::alloc::Global;
 pub fn decide_certify(alloc: Global, certify: &Certify<'_>, bytes: &[Vec<u8>]) -> Result<Job, Ended>
     requires steps { certify.now.steps ≤ 1000000 }
     requires inputs { AreWithinLimits (inputs_of (certify_command (as_certify certify.now))) (map (λ b. b.items) bytes.now) }
-    ensures accepted { IfOk result (λ job. (slots : List ℕ) → (options : List Choice) → DecidesBytes options (certify_command (as_certify certify.now)) (map (λ b. b.items) bytes.now) slots (accept (job_of job))) }
+    ensures accepted { IfOk result (λ job. (slots : List ℕ) → (options : List Choice) →
+        DecidesBytes options (certify_command (as_certify certify.now)) (map (λ b. b.items) bytes.now) slots (accept (job_of job))) }
     ensures can_be_done { IfOk result CanBeDone }
     ensures room { IfOk result (λ job. (counts : List ℕ) → KeepersHaveRoom job counts) }
-    ensures refused { IfErr result (λ e. (e ≡ no_memory) ⊎ ((slots : List ℕ) → (options : List Choice) → DecidesBytes options (certify_command (as_certify certify.now)) (map (λ b. b.items) bytes.now) slots (refuse e))) }
+    ensures refused { IfErr result (λ e. (e ≡ no_memory)
+        ⊎ ((slots : List ℕ) → (options : List Choice) →
+        DecidesBytes options (certify_command (as_certify certify.now)) (map (λ b. b.items) bytes.now) slots (refuse e))) }
 {
     let [book, schedule, certificate] = bytes else {
         unreachable!()

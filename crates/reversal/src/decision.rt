@@ -1,5 +1,5 @@
 // What a request comes to by its inputs: a job, or a refusal.
-ghost use Rattle.std.specs.Prelude.{◌≡◌, ◌⊎◌, ℕ, ◌≤◌, ◌++◌, List, [], ◌∷◌, length, map, codes, decimal, IfOk, IfErr, OnOk};
+ghost use Rattle.std.specs.Prelude.{◌≡◌, ◌⊎◌, ℕ, ◌*◌, ◌≤◌, ◌++◌, List, [], ◌∷◌, length, map, codes, decimal, IfOk, IfErr, OnOk};
 ghost use Rattle.std.specs.Option.{option_copied};
 ghost use Rattle.std.specs.List.{AllByRecursion};
 ghost use Rattle.level_book.specs.BookCosts.{slots_of, names_of};
@@ -8,22 +8,25 @@ ghost use Rattle.level_book.specs.Valid.{Valid, BrokenAt};
 ghost use Rattle.action_text.specs.ScheduleText.{IsSchedule};
 ghost use Rattle.action_text.specs.Faults.{HasFirstFault};
 ghost use Rattle.reverse_runner.specs.KeepersSeen.{HaveRoom};
-ghost use Rattle.requests.specs.Request.{Choice};
+ghost use Rattle.requests.specs.Request.{Choice, Run as RunCommand, run as run_command, ask as ask_command, check as check_command, says_raw, stack_pages, unit_count};
 ghost use Rattle.requests.specs.Operands.{question_bound};
 ghost use Rattle.requests.specs.Bounds.{numbers, IsWithin};
-ghost use Rattle.reversal.specs.Decision.{accept, refuse, HasBookFault, IsStartOf, HasProgramFault, AreItemsOf, HasJournalFault, Keep, Maker, DecidesOver, DecidesOverBytes, DecidesCheck, DecidesBytes};
+ghost use Rattle.reversal.specs.Table.{accept, refuse, Keep};
+ghost use Rattle.reversal.specs.Fronts.{HasBookFault, IsStartOf, HasProgramFault, AreItemsOf, HasJournalFault, DecidesOver, DecidesOverBytes};
+ghost use Rattle.reversal.specs.Decision.{DecidesBytes};
+ghost use Rattle.reversal.specs.CommandCheck.{DecidesCheck};
 ghost use Rattle.requests.specs.Ending.{no_memory, bad_program, bad_journal, bad_book, bad_text, invalid};
 ghost use Rattle.requests.specs.Inputs.{inputs_of};
 ghost use Rattle.requests.specs.InputReading.{AreWithinLimits};
-ghost use Rattle.reversal.specs.Deeds.{perform};
-ghost use Rattle.reversal.specs.JobReading.{job_of, IsOver, CanBeDone, KeepersHaveRoom, IsRefusal};
-ghost use Rattle.requests.specs.Request.{Run as ARun, run as run_command, ask as ask_command, check as check_command, says_raw, stack_pages};
+ghost use Rattle.reversal.specs.Job.{Run as ARun, Job as AJob, perform};
+ghost use Rattle.reversal.specs.JobReading.{run_over, job_of, IsOver, CanBeDone, KeepersHaveRoom, IsRefusal};
 ghost use Rattle.requests.specs.RequestReading.{request_of, as_run, as_ask, as_check};
 
 use crate::actions::{Actions, Listed};
 use crate::asking::{Asking, Over};
 use crate::certifying::decide_certify;
 use crate::demo::decide_demo;
+use crate::finding::decide_find;
 use crate::job::{Job, Performance};
 use crate::plan_kinds::{decide_plan, decide_plan_periodic};
 use crate::planning::decide_run_revolve;
@@ -59,10 +62,12 @@ pub fn decide<R: Threads + Sync>(
 ) -> Result<Job, Ended>
     requires numbers { AllByRecursion IsWithin (numbers (request_of request.now)) }
     requires inputs { AreWithinLimits (inputs_of (request_of request.now).command) (map (λ b. b.items) bytes.now) }
-    ensures accepted { IfOk result (λ job. DecidesBytes (request_of request.now).options (request_of request.now).command (map (λ b. b.items) bytes.now) counts.now (accept (job_of job))) }
+    ensures accepted { IfOk result (λ job. DecidesBytes (request_of request.now).options (request_of request.now).command
+        (map (λ b. b.items) bytes.now) counts.now (accept (job_of job))) }
     ensures can_be_done { IfOk result CanBeDone }
     ensures room { IfOk result (λ job. KeepersHaveRoom job counts.now) }
-    ensures refused { IfErr result (λ e. (e ≡ no_memory) ⊎ DecidesBytes (request_of request.now).options (request_of request.now).command (map (λ b. b.items) bytes.now) counts.now (refuse e)) }
+    ensures refused { IfErr result (λ e. (e ≡ no_memory)
+        ⊎ DecidesBytes (request_of request.now).options (request_of request.now).command (map (λ b. b.items) bytes.now) counts.now (refuse e)) }
 {
     match &request.command {
         Command::Run(run) => decide_run(alloc, &request.options, run, bytes, counts),
@@ -76,6 +81,7 @@ pub fn decide<R: Threads + Sync>(
         Command::Check(check) => decide_check(alloc, check, bytes),
         Command::Certify(certify) => decide_certify(alloc, certify, bytes),
         Command::Price(price) => decide_price(alloc, price, bytes),
+        Command::Find(find) => decide_find(alloc, &request.options, find, bytes),
         Command::Demo(demo) => decide_demo(alloc, demo),
     }
 }
@@ -89,12 +95,16 @@ fn decide_run(
     counts: &[u32],
 ) -> Result<Job, Ended>
     requires stack { (1 ≤ stack_pages options.now) × (stack_pages options.now ≤ 1024) }
+    requires unit { (1 ≤ unit_count options.now) × (unit_count options.now ≤ 1024) }
     requires steps { run.now.steps ≤ 1000000 }
+    requires instructions { unit_count options.now * run.now.steps ≤ 1000000 }
     requires inputs { AreWithinLimits (inputs_of (run_command (as_run run.now))) (map (λ b. b.items) bytes.now) }
-    ensures accepted { IfOk result (λ job. DecidesBytes options.now (run_command (as_run run.now)) (map (λ b. b.items) bytes.now) counts.now (accept (job_of job))) }
+    ensures accepted { IfOk result (λ job. DecidesBytes options.now (run_command (as_run run.now)) (map (λ b. b.items) bytes.now) counts.now
+        (accept (job_of job))) }
     ensures can_be_done { IfOk result CanBeDone }
     ensures room { IfOk result (λ job. KeepersHaveRoom job counts.now) }
-    ensures refused { IfErr result (λ e. (e ≡ no_memory) ⊎ DecidesBytes options.now (run_command (as_run run.now)) (map (λ b. b.items) bytes.now) counts.now (refuse e)) }
+    ensures refused { IfErr result (λ e. (e ≡ no_memory)
+        ⊎ DecidesBytes options.now (run_command (as_run run.now)) (map (λ b. b.items) bytes.now) counts.now (refuse e)) }
 {
     let over = decide_over(alloc, options, run.steps as u32, bytes, counts)?;
     Ok(performance(over))
@@ -102,13 +112,14 @@ fn decide_run(
 
 // The job of performing a list.
 fn performance(over: Over) -> Job
-    ensures job { job_of result ≡ perform over.start over.journal over.steps (slots_of over.book) over.list.items }
+    ensures job { job_of result ≡ perform (run_over over) }
     ensures can_be_done { IsOver over → CanBeDone result }
     ensures room { (counts : List ℕ) → HaveRoom over.steps (slots_of over.book) counts → KeepersHaveRoom result counts }
 {
     let Over {
         start,
         journal,
+        unit,
         steps,
         book,
         list,
@@ -116,6 +127,7 @@ fn performance(over: Over) -> Job
     Job::Perform(Performance {
         start,
         journal,
+        unit,
         steps,
         book,
         actions: Actions::Listed(Listed::new(list)),
@@ -131,13 +143,17 @@ fn decide_ask(
     counts: &[u32],
 ) -> Result<Job, Ended>
     requires stack { (1 ≤ stack_pages options.now) × (stack_pages options.now ≤ 1024) }
+    requires unit { (1 ≤ unit_count options.now) × (unit_count options.now ≤ 1024) }
     requires steps { ask.now.run.steps ≤ 1000000 }
-    requires question { IsWithin (question_bound ask.now.run.steps ask.now.question) }
+    requires instructions { unit_count options.now * ask.now.run.steps ≤ 1000000 }
+    requires question { IsWithin (question_bound (unit_count options.now * ask.now.run.steps) ask.now.question) }
     requires inputs { AreWithinLimits (inputs_of (ask_command (as_ask ask.now))) (map (λ b. b.items) bytes.now) }
-    ensures accepted { IfOk result (λ job. DecidesBytes options.now (ask_command (as_ask ask.now)) (map (λ b. b.items) bytes.now) counts.now (accept (job_of job))) }
+    ensures accepted { IfOk result (λ job. DecidesBytes options.now (ask_command (as_ask ask.now)) (map (λ b. b.items) bytes.now) counts.now
+        (accept (job_of job))) }
     ensures can_be_done { IfOk result CanBeDone }
     ensures room { IfOk result (λ job. KeepersHaveRoom job counts.now) }
-    ensures refused { IfErr result (λ e. (e ≡ no_memory) ⊎ DecidesBytes options.now (ask_command (as_ask ask.now)) (map (λ b. b.items) bytes.now) counts.now (refuse e)) }
+    ensures refused { IfErr result (λ e. (e ≡ no_memory)
+        ⊎ DecidesBytes options.now (ask_command (as_ask ask.now)) (map (λ b. b.items) bytes.now) counts.now (refuse e)) }
 {
     let steps = ask.run.steps as u32;
     let over = decide_over(alloc, options, steps, bytes, counts)?;
@@ -154,13 +170,18 @@ fn decide_over(
     counts: &[u32],
 ) -> Result<Over, Ended>
     requires stack { (1 ≤ stack_pages options.now) × (stack_pages options.now ≤ 1024) }
+    requires unit { (1 ≤ unit_count options.now) × (unit_count options.now ≤ 1024) }
     requires steps { steps ≤ 1000000 }
-    requires inputs { (r : ARun) × AreWithinLimits (inputs_of (run_command r)) (map (λ b. b.items) bytes.now) }
-    ensures accepted { IfOk result (λ o. (job : Maker) → DecidesOverBytes job options.now steps (map (λ b. b.items) bytes.now) counts.now (accept (job o.start o.journal (slots_of o.book) o.list.items))) }
+    requires instructions { unit_count options.now * steps ≤ 1000000 }
+    requires inputs { (r : RunCommand) × AreWithinLimits (inputs_of (run_command r)) (map (λ b. b.items) bytes.now) }
+    ensures accepted { IfOk result (λ o. (job : ARun → AJob) →
+        DecidesOverBytes job options.now steps (map (λ b. b.items) bytes.now) counts.now (accept (job (run_over o)))) }
     ensures over { IfOk result IsOver }
     ensures steps { IfOk result (λ o. o.steps ≡ steps) }
+    ensures unit { IfOk result (λ o. o.unit ≡ unit_count options.now) }
     ensures room { IfOk result (λ o. HaveRoom o.steps (slots_of o.book) counts.now) }
-    ensures refused { (job : Maker) → IfErr result (λ e. (e ≡ no_memory) ⊎ DecidesOverBytes job options.now steps (map (λ b. b.items) bytes.now) counts.now (refuse e)) }
+    ensures refused { (job : ARun → AJob) → IfErr result (λ e. (e ≡ no_memory)
+        ⊎ DecidesOverBytes job options.now steps (map (λ b. b.items) bytes.now) counts.now (refuse e)) }
 {
     match bytes {
         [program, book, schedule] => {
@@ -193,13 +214,18 @@ fn decide_texts(
     counts: &[u32],
 ) -> Result<Over, Ended>
     requires stack { (1 ≤ stack_pages options.now) × (stack_pages options.now ≤ 1024) }
+    requires unit { (1 ≤ unit_count options.now) × (unit_count options.now ≤ 1024) }
     requires steps { steps ≤ 1000000 }
+    requires instructions { unit_count options.now * steps ≤ 1000000 }
     requires short { length texts.schedule.now ≤ 536870912 }
-    ensures accepted { IfOk result (λ o. (job : Maker) → DecidesOver job options.now steps texts.entry.program.now (option_copied texts.entry.journal) texts.entry.book.now texts.entry.schedule.now counts.now (accept (job o.start o.journal (slots_of o.book) o.list.items))) }
+    ensures accepted { IfOk result (λ o. (job : ARun → AJob) →
+        DecidesOver job options.now steps texts.entry.program.now (option_copied texts.entry.journal) texts.entry.book.now texts.entry.schedule.now counts.now (accept (job (run_over o)))) }
     ensures over { IfOk result IsOver }
     ensures steps { IfOk result (λ o. o.steps ≡ steps) }
+    ensures unit { IfOk result (λ o. o.unit ≡ unit_count options.now) }
     ensures room { IfOk result (λ o. HaveRoom o.steps (slots_of o.book) counts.now) }
-    ensures refused { (job : Maker) → IfErr result (λ e. (e ≡ no_memory) ⊎ DecidesOver job options.now steps texts.entry.program.now (option_copied texts.entry.journal) texts.entry.book.now texts.entry.schedule.now counts.now (refuse e)) }
+    ensures refused { (job : ARun → AJob) → IfErr result (λ e. (e ≡ no_memory)
+        ⊎ DecidesOver job options.now steps texts.entry.program.now (option_copied texts.entry.journal) texts.entry.book.now texts.entry.schedule.now counts.now (refuse e)) }
 {
     let book = book_in(alloc, texts.book)?;
     keep(steps, &book, counts)?;
@@ -210,6 +236,7 @@ fn decide_texts(
     Ok(Over {
         start,
         journal,
+        unit: unit_of(options),
         steps,
         book,
         list,
@@ -220,10 +247,13 @@ fn decide_texts(
 fn decide_check(alloc: Global, check: &Check<'_>, bytes: &[Vec<u8>]) -> Result<Job, Ended>
     requires steps { check.now.steps ≤ 1000000 }
     requires inputs { AreWithinLimits (inputs_of (check_command (as_check check.now))) (map (λ b. b.items) bytes.now) }
-    ensures accepted { IfOk result (λ job. (slots : List ℕ) → (options : List Choice) → DecidesBytes options (check_command (as_check check.now)) (map (λ b. b.items) bytes.now) slots (accept (job_of job))) }
+    ensures accepted { IfOk result (λ job. (slots : List ℕ) → (options : List Choice) →
+        DecidesBytes options (check_command (as_check check.now)) (map (λ b. b.items) bytes.now) slots (accept (job_of job))) }
     ensures can_be_done { IfOk result CanBeDone }
     ensures room { IfOk result (λ job. (counts : List ℕ) → KeepersHaveRoom job counts) }
-    ensures refused { IfErr result (λ e. (e ≡ no_memory) ⊎ ((slots : List ℕ) → (options : List Choice) → DecidesBytes options (check_command (as_check check.now)) (map (λ b. b.items) bytes.now) slots (refuse e))) }
+    ensures refused { IfErr result (λ e. (e ≡ no_memory)
+        ⊎ ((slots : List ℕ) → (options : List Choice) →
+        DecidesBytes options (check_command (as_check check.now)) (map (λ b. b.items) bytes.now) slots (refuse e))) }
 {
     let [book, schedule] = bytes else {
         unreachable!()
@@ -294,6 +324,14 @@ pub(crate) fn start_of(alloc: Global, options: &Options, bytes: &[u8]) -> Result
     } else {
         Ok(load(alloc, bytes, stack)?)
     }
+}
+
+// How many instructions a step of a schedule is.
+pub(crate) fn unit_of(options: &Options) -> u32
+    requires { unit_count options.now ≤ 1024 }
+    ensures { result ≡ unit_count options.now }
+{
+    options.unit_count() as u32
 }
 
 // The recorded input; none where there is no journal.

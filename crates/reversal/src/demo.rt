@@ -1,8 +1,6 @@
 // A demonstration: a run backward of a program that is made from a number.
 ghost use Rattle.std.specs.Prelude.{◌≡◌, ◌≢◌, ◌⊎◌, ◌↔◌, ℕ, ◌+◌, ◌*◌, ◌%◌, ◌^◌, ◌<◌, ◌≤◌, ◌++◌, List, [], ◌∷◌, length, Option, decimal, MatchOption, IfOk, IfErr, OnOk};
 ghost use Rattle.std.specs.Int.{w32, to_le_bytes};
-ghost use Rattle.keepers.specs.Told.{Images};
-ghost use Rattle.keepers.specs.Counts.{Rose};
 ghost use Rattle.plan_types.specs.declared.action.Action.{Action};
 ghost use Rattle.level_book.specs.BookCosts.{slots_of, total_room, plain};
 ghost use Rattle.level_book.specs.CostFold.{forward};
@@ -11,20 +9,22 @@ ghost use Rattle.elf_load.specs.Raw.{IsRawProgram};
 ghost use Rattle.revolve_gen.specs.Plans.{HasPlan};
 ghost use Rattle.rv_machine.specs.MachineState.{MachineState};
 ghost use Rattle.rv_machine.specs.States.{state_number};
-ghost use Rattle.reverse_runner.specs.KeepersSeen.{Calls, told_by};
+ghost use Rattle.reverse_runner.specs.KeepersSeen.{told_by};
 ghost use Rattle.reverse_runner.specs.Standing.{begun, StandsAt};
 ghost use Rattle.sha2.specs.Sha256.{sha256};
 ghost use Rattle.reversal.specs.DemoReading.{IsAtStart, BreaksWithin};
-ghost use Rattle.requests.specs.Request.{Choice};
-ghost use Rattle.reversal.specs.Deeds.{demonstrate};
-ghost use Rattle.reversal.specs.Decision.{accept, refuse, DecidesDemo, DecidesBytes};
+ghost use Rattle.requests.specs.Request.{Choice, demo as demo_command};
+ghost use Rattle.reversal.specs.Job.{demonstrate};
+ghost use Rattle.reversal.specs.Moment.{Moment, beside};
+ghost use Rattle.reversal.specs.Table.{accept, refuse};
+ghost use Rattle.reversal.specs.CommandDemo.{DecidesDemo};
+ghost use Rattle.reversal.specs.Decision.{DecidesBytes};
 ghost use Rattle.rv_decode.specs.Ranges.{HasRanges};
 ghost use Rattle.rv_decode.specs.Words.{word_of};
 ghost use Rattle.reversal.specs.Demo.{drawn, instruction_of, program, demo_list, summary_text};
 ghost use Rattle.reversal.specs.Output.{lines_down};
 ghost use Rattle.requests.specs.Ending.{no_memory};
 ghost use Rattle.reversal.specs.JobReading.{job_of, IsShowable, CanBeDone, KeepersHaveRoom, Works};
-ghost use Rattle.requests.specs.Request.{demo as demo_command};
 ghost use Rattle.requests.specs.RequestReading.{as_demo};
 
 use crate::job::Job;
@@ -184,12 +184,10 @@ impl Demonstration {
         counter: &mut Steps<L>,
     ) -> Ended
         requires { IsShowable self }
-        ensures works { (calls : Calls) (images : ℕ → Option Images) → ((result ≡ no_memory) × (out.new ≡ out.old) × (counter.new ≡ counter.old)) ⊎ Works (demonstrate self.number self.start self.steps self.slots) result
-            (record { told = O.told out.old; writes = O.call_count out.old; steps = counter.old; calls = calls; images = images })
-            (record { told = O.told out.new; writes = O.call_count out.new; steps = counter.new; calls = calls; images = images }) }
-        ensures statuses { (result.status ≡ 0) ⊎ (result.status ≡ 14) ⊎ (result.status ≡ 17) }
-        ensures quiet { result.status ≢ 14 → O.fault_count out.new ≡ O.fault_count out.old }
-        ensures cause { result.status ≡ 14 → Rose (O.fault_count out.old) (O.fault_count out.new) }
+        ensures { (other : Moment) → ((result ≡ no_memory) × (out.new ≡ out.old) × (counter.new ≡ counter.old))
+            ⊎ Works (demonstrate self.number self.start self.steps self.slots) result
+            (beside O.told O.call_count O.fault_count other out.old counter.old)
+            (beside O.told O.call_count O.fault_count other out.new counter.new) }
     {
         let Demonstration {
             number,
@@ -255,7 +253,8 @@ impl Demonstrated {
     fn digest<L: Ledger>(&mut self, counter: &mut Steps<L>) -> Option<[u8; 32]>
         requires { IsAtStart self.old }
         ensures { MatchOption result (BreaksWithin self.old.actions counter.old counter.new)
-            (λ digest. (digest ≡ sha256 (lines_down (state_number self.old.session.work self.old.session.journal) self.old.session.situation.steps)) × (counter.new ≡ counter.old + forward self.old.actions)) }
+            (λ digest. (digest ≡ sha256 (lines_down (state_number self.old.session.work self.old.session.journal) self.old.session.situation.steps))
+            × (counter.new ≡ counter.old + forward self.old.actions)) }
     {
         let mut hasher = LineHasher::new();
         while let Some(action) = self.actions.next() {

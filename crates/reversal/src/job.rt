@@ -1,23 +1,25 @@
 // What is to be done of a call that isn't refused.
 ghost use Rattle.std.specs.Prelude.{◌≡◌, ◌≢◌, ◌⊎◌, ◌≤◌, ℕ, [], ◌∷◌, length, map, Option};
 ghost use Rattle.keepers.specs.Told.{Images};
-ghost use Rattle.keepers.specs.Counts.{Rose};
 ghost use Rattle.level_book.specs.BookCosts.{slots_of};
 ghost use Rattle.level_book.specs.Valid.{Valid};
 ghost use Rattle.rv_machine.specs.MachineState.{IsMachineState};
-ghost use Rattle.reverse_runner.specs.KeepersSeen.{Calls, by_number, HaveRoom};
+ghost use Rattle.reverse_runner.specs.KeepersSeen.{HaveRoom};
 ghost use Rattle.reverse_runner.specs.SessionState.{levels_of};
 ghost use Rattle.reverse_runner.specs.LevelsStand.{AreAlone};
 ghost use Rattle.reverse_runner.specs.Standing.{begun, StandsAt};
-ghost use Rattle.reversal.specs.Deeds.{perform, write, moment, AllTell, AllEmpty};
+ghost use Rattle.reverse_runner.specs.declared.fault.RunFault.TheVariants as fault_is;
+ghost use Rattle.reversal.specs.Job.{perform, write};
+ghost use Rattle.reversal.specs.Moment.{Moment, moment, beside, AllTell, AllEmpty};
 ghost use Rattle.reversal.specs.ActionsLeft.{left_of};
-ghost use Rattle.reversal.specs.Decision.{accept, EndsBy, KeepsOthers};
-ghost use Rattle.requests.specs.Ending.{no_memory};
-ghost use Rattle.reversal.specs.JobReading.{job_of, IsPerformable, CanBeDone, KeepersHaveRoom, Works};
+ghost use Rattle.reversal.specs.Table.{accept};
+ghost use Rattle.reversal.specs.Decision.{EndsBy, KeepsOthers};
+ghost use Rattle.reversal.specs.JobReading.{performed_run, run_from, job_of, IsPerformable, CanBeDone, KeepersHaveRoom, IsUntouched, Works, fault_ending};
 
 use crate::actions::Actions;
 use crate::asking::Asking;
 use crate::demo::Demonstration;
+use crate::finding::Finding;
 use crate::planning::Plan;
 use crate::pricing::Pricing;
 use input_journal::Journal;
@@ -29,6 +31,7 @@ use reverse_runner::{LineWriter, RunFault, Session};
 use rv_machine::{State, Steps};
 use std::alloc::Global;
 use std::sync::ledger::Ledger;
+use std::thread::Threads;
 
 /// What is to be done.
 #[derive(Drop)]
@@ -37,6 +40,8 @@ pub enum Job {
     Perform(Performance),
     /// To answer a question about a run.
     Ask(Asking),
+    /// To find the last state of a run that has a digest.
+    Find(Finding),
     /// To write a text in one piece.
     Write(Line),
     /// To write what a list costs.
@@ -47,12 +52,13 @@ pub enum Job {
     Demonstrate(Demonstration),
 }
 
-/// Some actions, and the run that they are performed over: its first state, the recorded input, the number of steps and
-/// the book.
+/// Some actions, and the run that they are performed over: its first state, the recorded input, how many instructions a step
+/// is, the number of steps and the book.
 #[derive(Drop)]
 pub struct Performance {
     pub start: State,
     pub journal: Journal,
+    pub unit: u32,
     pub steps: u32,
     pub book: Book,
     pub actions: Actions,
@@ -61,8 +67,9 @@ pub struct Performance {
 impl Job {
     /// Does the job, over keepers with room for its images, and tells how it ended. Where memory runs out before the first
     /// deed, nothing was done.
-    pub fn work<K: Keeper, O: Sink, L: Ledger>(
+    pub fn work<R: Threads + Sync, K: Keeper, O: Sink, L: Ledger>(
         self,
+        rt: &R,
         alloc: Global,
         keepers: &mut Vec<K>,
         out: &mut O,
@@ -70,18 +77,15 @@ impl Job {
     ) -> Ended
         requires can_be_done { CanBeDone self }
         requires room { KeepersHaveRoom self (map K.slot_count keepers.old.items) }
-        ensures works { ((result ≡ no_memory) × (out.new ≡ out.old) × (keepers.new ≡ keepers.old) × (counter.new ≡ counter.old)) ⊎ Works (job_of self) result
-            (moment O.told O.call_count K.told K.put_count K.get_count K.free_count out.old keepers.old.items counter.old)
-            (moment O.told O.call_count K.told K.put_count K.get_count K.free_count out.new keepers.new.items counter.new) }
+        ensures works { IsUntouched result out.old out.new keepers.old keepers.new counter.old counter.new ⊎ Works (job_of self) result
+            (moment O.told O.call_count O.fault_count K.told K.put_count K.get_count K.free_count K.fault_count out.old keepers.old.items counter.old)
+            (moment O.told O.call_count O.fault_count K.told K.put_count K.get_count K.free_count K.fault_count out.new keepers.new.items counter.new) }
         ensures others { KeepsOthers (accept (job_of self)) keepers.old.items keepers.new.items }
-        ensures sink_quiet { result.status ≢ 14 → O.fault_count out.new ≡ O.fault_count out.old }
-        ensures sink_cause { result.status ≡ 14 → Rose (O.fault_count out.old) (O.fault_count out.new) }
-        ensures keepers_quiet { result.status ≢ 12 → (k : ℕ) → by_number 0 K.fault_count keepers.new.items k ≡ by_number 0 K.fault_count keepers.old.items k }
-        ensures keeper_cause { result.status ≡ 12 → Rose (by_number 0 K.fault_count keepers.old.items result.more) (by_number 0 K.fault_count keepers.new.items result.more) }
     {
         match self {
             Job::Perform(performance) => performance.perform(alloc, keepers, out, counter),
             Job::Ask(asking) => asking.answer(alloc, keepers, out, counter),
+            Job::Find(finding) => finding.find(rt, alloc, out, counter),
             Job::Write(text) => write_text(&text, out),
             Job::Report(pricing) => pricing.write(out),
             Job::Plan(plan) => plan.write(out),
@@ -101,24 +105,21 @@ impl Performance {
     ) -> Ended
         requires can_be_done { IsPerformable self }
         requires room { HaveRoom self.steps (slots_of self.book) (map K.slot_count keepers.old.items) }
-        ensures works { ((result ≡ no_memory) × (out.new ≡ out.old) × (keepers.new ≡ keepers.old) × (counter.new ≡ counter.old)) ⊎ Works (perform self.start self.journal self.steps (slots_of self.book) (left_of self.actions)) result
-            (moment O.told O.call_count K.told K.put_count K.get_count K.free_count out.old keepers.old.items counter.old)
-            (moment O.told O.call_count K.told K.put_count K.get_count K.free_count out.new keepers.new.items counter.new) }
-        ensures others { KeepsOthers (accept (perform self.start self.journal self.steps (slots_of self.book) (left_of self.actions))) keepers.old.items keepers.new.items }
-        ensures sink_quiet { result.status ≢ 14 → O.fault_count out.new ≡ O.fault_count out.old }
-        ensures sink_cause { result.status ≡ 14 → Rose (O.fault_count out.old) (O.fault_count out.new) }
-        ensures keepers_quiet { result.status ≢ 12 → (k : ℕ) → by_number 0 K.fault_count keepers.new.items k ≡ by_number 0 K.fault_count keepers.old.items k }
-        ensures keeper_cause { result.status ≡ 12 → Rose (by_number 0 K.fault_count keepers.old.items result.more) (by_number 0 K.fault_count keepers.new.items result.more) }
+        ensures works { IsUntouched result out.old out.new keepers.old keepers.new counter.old counter.new ⊎ Works (perform (performed_run self)) result
+            (moment O.told O.call_count O.fault_count K.told K.put_count K.get_count K.free_count K.fault_count out.old keepers.old.items counter.old)
+            (moment O.told O.call_count O.fault_count K.told K.put_count K.get_count K.free_count K.fault_count out.new keepers.new.items counter.new) }
+        ensures others { KeepsOthers (accept (perform (performed_run self))) keepers.old.items keepers.new.items }
     {
         let Performance {
             start,
             journal,
+            unit,
             steps,
             book,
             mut actions,
         } = self;
         start.is_machine_state();
-        match Session::begin(alloc, start, journal, steps, 1, book) {
+        match Session::begin(alloc, start, journal, steps, unit, book) {
             Err(_) => Ended::no_memory(),
             Ok(mut session) => perform_all(&mut session, &mut actions, keepers, out, counter),
         }
@@ -127,12 +128,9 @@ impl Performance {
 
 // Writes a text in one piece.
 fn write_text<O: Sink>(text: &Line, out: &mut O) -> Ended
-    ensures works { (steps : ℕ) (calls : Calls) (images : ℕ → Option Images) → EndsBy (accept (write (text.now ∷ []))) result
-        (record { told = O.told out.old; writes = O.call_count out.old; steps = steps; calls = calls; images = images })
-        (record { told = O.told out.new; writes = O.call_count out.new; steps = steps; calls = calls; images = images }) }
-    ensures statuses { (result.status ≡ 0) ⊎ (result.status ≡ 14) }
-    ensures quiet { result.status ≢ 14 → O.fault_count out.new ≡ O.fault_count out.old }
-    ensures cause { result.status ≡ 14 → Rose (O.fault_count out.old) (O.fault_count out.new) }
+    ensures { (other : Moment) (steps : ℕ) → EndsBy (accept (write (text.now ∷ []))) result
+        (beside O.told O.call_count O.fault_count other out.old steps)
+        (beside O.told O.call_count O.fault_count other out.new steps) }
 {
     match out.write(text.bytes()) {
         Ok(()) => Ended::done(),
@@ -148,21 +146,17 @@ fn perform_all<K: Keeper, O: Sink, L: Ledger>(
     out: &mut O,
     counter: &mut Steps<L>,
 ) -> Ended
-    requires begun { session.old ≡ begun session.old.work session.old.journal 1 session.old.situation.steps session.old.situation.slots }
+    requires begun { session.old ≡ begun session.old.work session.old.journal session.old.unit session.old.situation.steps session.old.situation.slots }
     requires stands { (told : ℕ → Option Images) → AllTell (length session.old.situation.slots) told → StandsAt session.old.work session.old told }
     requires alone { (told : ℕ → Option Images) → AllEmpty (length session.old.situation.slots) told → AreAlone (levels_of session.old told) }
     requires state { IsMachineState session.old.work }
     requires valid { Valid session.old.situation.steps session.old.situation.slots (left_of actions.old) }
     requires few { length (left_of actions.old) ≤ 16777216 }
     requires room { HaveRoom session.old.situation.steps session.old.situation.slots (map K.slot_count keepers.old.items) }
-    ensures works { Works (perform session.old.work session.old.journal session.old.situation.steps session.old.situation.slots (left_of actions.old)) result
-        (moment O.told O.call_count K.told K.put_count K.get_count K.free_count out.old keepers.old.items counter.old)
-        (moment O.told O.call_count K.told K.put_count K.get_count K.free_count out.new keepers.new.items counter.new) }
-    ensures others { KeepsOthers (accept (perform session.old.work session.old.journal session.old.situation.steps session.old.situation.slots (left_of actions.old))) keepers.old.items keepers.new.items }
-    ensures sink_quiet { result.status ≢ 14 → O.fault_count out.new ≡ O.fault_count out.old }
-    ensures sink_cause { result.status ≡ 14 → Rose (O.fault_count out.old) (O.fault_count out.new) }
-    ensures keepers_quiet { result.status ≢ 12 → (k : ℕ) → by_number 0 K.fault_count keepers.new.items k ≡ by_number 0 K.fault_count keepers.old.items k }
-    ensures keeper_cause { result.status ≡ 12 → Rose (by_number 0 K.fault_count keepers.old.items result.more) (by_number 0 K.fault_count keepers.new.items result.more) }
+    ensures works { Works (perform (run_from session.old (left_of actions.old))) result
+        (moment O.told O.call_count O.fault_count K.told K.put_count K.get_count K.free_count K.fault_count out.old keepers.old.items counter.old)
+        (moment O.told O.call_count O.fault_count K.told K.put_count K.get_count K.free_count K.fault_count out.new keepers.new.items counter.new) }
+    ensures others { KeepsOthers (accept (perform (run_from session.old (left_of actions.old)))) keepers.old.items keepers.new.items }
 {
     let mut writer = LineWriter::new(out);
     let mut place = 0;
@@ -170,14 +164,22 @@ fn perform_all<K: Keeper, O: Sink, L: Ledger>(
         place += 1;
         match session.perform(&action, keepers, &mut writer, counter) {
             Ok(()) => {}
-            Err(RunFault::Keeper(level)) => return Ended::keeper_failed(place, level),
-            Err(RunFault::Damaged { level, put, got }) => {
-                return Ended::damaged(place, level, &put, &got);
-            }
-            Err(RunFault::Visitor) => return Ended::stopped(place),
-            Err(RunFault::Memory) => return Ended::no_memory(),
-            Err(RunFault::Ended) => unreachable!(),
+            Err(fault) => return fault_ending(place, fault),
         }
     }
     Ended::done()
+}
+
+/// How a call ends whose session refused the action at a place for this fault.
+pub fn fault_ending(place: u64, fault: RunFault) -> Ended
+    requires over { fault ≢ fault_is.Ended }
+    ensures { result ≡ fault_ending place fault }
+{
+    match fault {
+        RunFault::Keeper(level) => Ended::keeper_failed(place, level),
+        RunFault::Damaged { level, put, got } => Ended::damaged(place, level, &put, &got),
+        RunFault::Visitor => Ended::stopped(place),
+        RunFault::Memory => Ended::no_memory(),
+        RunFault::Ended => unreachable!(),
+    }
 }

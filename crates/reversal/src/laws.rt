@@ -11,7 +11,7 @@ ghost use Rattle.level_book.specs.DiskClass.{Disk};
 ghost use Rattle.level_book.specs.NestedClass.{Nested};
 ghost use Rattle.level_book.specs.Valid.{Valid};
 ghost use Rattle.action_text.specs.ScheduleText.{IsSchedule};
-ghost use Rattle.requests.specs.Request.{Choice, Request, Says, says_raw, stack_pages};
+ghost use Rattle.requests.specs.Request.{Choice, Request, Says, says_raw, stack_pages, unit_count};
 ghost use Rattle.reversal.specs.Contents.{DecisionsExist};
 ghost use Rattle.cert_text.specs.declared.certificate.Certificate.{Certificate};
 ghost use Rattle.cert_text.specs.declared.certificate.Certificate.TheVariants as certified;
@@ -22,10 +22,17 @@ ghost use Rattle.bound_cert.specs.Accepted.{class_of, IsAccepted, IsLeastOf};
 ghost use Rattle.cert_text.specs.Meaning.{IsCertificateText};
 ghost use Rattle.revolve_gen.specs.Multistage.{IsMultistage};
 ghost use Rattle.revolve_gen.specs.Written.{revolve_list};
-ghost use Rattle.reversal.specs.Decision.{Decision, accept, least_line, IsStartOf, AreItemsOf, Decides, DecidesRunRevolve, DecidesCertify, DecidesPlanRevolve, DecidesPlanMultistage, DecidesPlanDisk, DecidesPlanHrevolve, DecidesPlanPeriodic};
+ghost use Rattle.reversal.specs.Table.{Decision, accept};
+ghost use Rattle.reversal.specs.CommandCertify.{least_line, DecidesCertify};
+ghost use Rattle.reversal.specs.Fronts.{in_units, IsStartOf, AreItemsOf};
+ghost use Rattle.reversal.specs.Decision.{course_of, Decides};
+ghost use Rattle.reversal.specs.CommandRun.{DecidesRunRevolve};
+ghost use Rattle.reversal.specs.CommandPlan.{DecidesPlanRevolve, DecidesPlanMultistage, DecidesPlanDisk, DecidesPlanHrevolve, DecidesPlanPeriodic};
 ghost use Rattle.reversal.specs.Plans.{list_pieces, plan_pieces, certificate_of};
 ghost use Rattle.reversal.specs.WrittenPlans.{SaysAgain};
-ghost use Rattle.reversal.specs.Deeds.{Job, perform, write, Shown, deeds, bytes_written, steps_made, output, steps_taken};
+ghost use Rattle.reversal.specs.Job.{Job, perform, write};
+ghost use Rattle.reversal.specs.Course.{Shown};
+ghost use Rattle.reversal.specs.Deeds.{bytes_written, steps_made};
 
 /// Words say one request at most.
 pub fn requests_are_unique()
@@ -45,8 +52,9 @@ pub fn requests_come_to_decisions()
 
 /// The deeds of a job that was decided write its output, of whatever states they show, and take its steps.
 pub fn deeds_make_the_output()
-    ensures bytes { (r : Request) (given : List (Option (List ℕ))) (slots : List ℕ) (job : Job) → Decides r given slots (accept job) → (shown : Shown) → bytes_written (deeds shown job) ≡ output shown job }
-    ensures steps { (shown : Shown) (job : Job) → steps_made (deeds shown job) ≡ steps_taken shown job }
+    ensures bytes { (r : Request) (given : List (Option (List ℕ))) (slots : List ℕ) (job : Job) → Decides r given slots (accept job) →
+        (shown : Shown) → bytes_written ((course_of job).deeds shown) ≡ (course_of job).output shown }
+    ensures steps { (shown : Shown) (job : Job) → steps_made ((course_of job).deeds shown) ≡ (course_of job).steps shown }
 {}
 
 /// A list that is certified is the least: where a request to certify one comes to its job, the schedule says a valid list and
@@ -70,9 +78,12 @@ pub fn revolve_plans_are_least()
 /// it is valid for the book, takes N + t(N, c) forward steps with c slots of all levels, and no list that is valid for the book
 /// takes fewer.
 pub fn revolve_runs_are_least()
-    ensures { (options : List Choice) (steps : ℕ) (program : List ℕ) (journal : Option (List ℕ)) (book counts : List ℕ) (job : Job) → DecidesRunRevolve options steps program journal book counts (accept job) →
-        (b : BookCosts) × IsBookText book b × (start : MachineState) × IsStartOf (says_raw options) (stack_pages options) program start × (items : List (List ℕ)) × AreItemsOf journal items
-        × (job ≡ perform start items steps (slots_of b) (revolve_list steps b)) × Valid steps (slots_of b) (revolve_list steps b) × (1 ≤ steps → forward (revolve_list steps b) ≡ steps + least_advances steps (total_room b steps))
+    ensures { (options : List Choice) (steps : ℕ) (program : List ℕ) (journal : Option (List ℕ)) (book counts : List ℕ) (job : Job) →
+        DecidesRunRevolve options steps program journal book counts (accept job) →
+        (b : BookCosts) × IsBookText book b × (start : MachineState) × IsStartOf (says_raw options) (stack_pages options) program start
+        × (items : List (List ℕ)) × AreItemsOf journal items
+        × (job ≡ perform (in_units (unit_count options) start items steps (slots_of b) (revolve_list steps b)))
+        × Valid steps (slots_of b) (revolve_list steps b) × (1 ≤ steps → forward (revolve_list steps b) ≡ steps + least_advances steps (total_room b steps))
         × ((other : List Action) → Valid steps (slots_of b) other → forward (revolve_list steps b) ≤ forward other) }
 {}
 
@@ -80,15 +91,17 @@ pub fn revolve_runs_are_least()
 /// list of the book is written; that list is valid for the book, and read as a schedule the text says it.
 pub fn periodic_plans_are_read_again()
     ensures { (steps period : ℕ) (book : List ℕ) (job : Job) → steps ≤ 1000000 → 1 ≤ period → DecidesPlanPeriodic steps period book (accept job) →
-        (b : BookCosts) × IsBookText book b × (job ≡ write (list_pieces (names_of b) (periodic_list steps period b))) × Valid steps (slots_of b) (periodic_list steps period b)
-        × ((shown : Shown) → IsSchedule (names_of b) (output shown job) (periodic_list steps period b)) }
+        (b : BookCosts) × IsBookText book b × (job ≡ write (list_pieces (names_of b) (periodic_list steps period b)))
+        × Valid steps (slots_of b) (periodic_list steps period b)
+        × ((shown : Shown) → IsSchedule (names_of b) ((course_of job).output shown) (periodic_list steps period b)) }
 {}
 
 /// What is written of a plan of Revolve is read again: as a schedule that says its list, and as a text that says its certificate.
 pub fn plans_are_read_again()
     ensures { (steps : ℕ) (book : List ℕ) (job : Job) → steps ≤ 1000000 → DecidesPlanRevolve steps book (accept job) →
         (b : BookCosts) × IsBookText book b × ((shown : Shown) →
-        IsSchedule (names_of b) (output shown job) (revolve_list steps b) × IsCertificateText steps b (output shown job) (certificate_of steps b)) }
+        IsSchedule (names_of b) ((course_of job).output shown) (revolve_list steps b)
+        × IsCertificateText steps b ((course_of job).output shown) (certificate_of steps b)) }
 {}
 
 /// A plan of H-Revolve costs the least of its class: where a request for one comes to its job, the text of a list is written
@@ -96,7 +109,8 @@ pub fn plans_are_read_again()
 /// What is written is read again as that list and that certificate.
 pub fn hrevolve_plans_are_least()
     ensures { (steps : ℕ) (book : List ℕ) (job : Job) → steps ≤ 2048 → DecidesPlanHrevolve steps book (accept job) →
-        (b : BookCosts) × IsBookText book b × (list : List Action) × (t : TableRows) × (job ≡ write (list_pieces (names_of b) list ++ pieces (certified.Nested t)))
+        (b : BookCosts) × IsBookText book b × (list : List Action) × (t : TableRows)
+        × (job ≡ write (list_pieces (names_of b) list ++ pieces (certified.Nested t)))
         × Nested steps (slots_of b) list × IsAccepted list steps b (certified.Nested t)
         × ((other : List Action) → Nested steps (slots_of b) other → cost list b ≤ cost other b) × SaysAgain steps b job list (certified.Nested t) }
 {}
@@ -116,7 +130,9 @@ pub fn disk_plans_are_least()
 /// is written is read again as that list and that certificate.
 pub fn multistage_plans_are_least()
     ensures { (steps : ℕ) (book : List ℕ) (job : Job) → DecidesPlanMultistage steps book (accept job) →
-        (b : BookCosts) × IsBookText book b × (list : List Action) × (threshold : ℕ) × (job ≡ write (list_pieces (names_of b) list ++ pieces (certified.Places threshold)))
+        (b : BookCosts) × IsBookText book b × (list : List Action) × (threshold : ℕ)
+        × (job ≡ write (list_pieces (names_of b) list ++ pieces (certified.Places threshold)))
         × IsMultistage steps b list × IsAccepted list steps b (certified.Places threshold)
-        × ((other : List Action) → IsMultistage steps b other → cost list b ≤ cost other b) × (steps ≤ 1000000 → SaysAgain steps b job list (certified.Places threshold)) }
+        × ((other : List Action) → IsMultistage steps b other → cost list b ≤ cost other b)
+        × (steps ≤ 1000000 → SaysAgain steps b job list (certified.Places threshold)) }
 {}

@@ -4,7 +4,8 @@ ghost use Rattle.level_book.specs.BookCosts.{total_room};
 ghost use Rattle.revolve_gen.specs.Plans.{HasPlan};
 ghost use Rattle.revolve_gen.specs.Multistage.{IsMultistage};
 ghost use Rattle.multistage_gen.specs.Planned.{IsMultistageList};
-ghost use Rattle.reversal.specs.Decision.{accept, refuse, DecidesPlanMultistage};
+ghost use Rattle.reversal.specs.Table.{accept, refuse};
+ghost use Rattle.reversal.specs.CommandPlan.{DecidesPlanMultistage};
 ghost use Rattle.requests.specs.Ending.{no_memory, no_plan};
 ghost use Rattle.reversal.specs.JobReading.{job_of, CanBeDone, KeepersHaveRoom};
 

@@ -3,7 +3,8 @@ ghost use Rattle.std.specs.Prelude.{◌≡◌, ◌⊎◌, ℕ, ◌≤◌, List, 
 ghost use Rattle.level_book.specs.BookCosts.{total_room};
 ghost use Rattle.disk_gen.specs.Periodic.{periodic_list};
 ghost use Rattle.disk_gen.specs.Plans.{HasPeriodicPlan};
-ghost use Rattle.reversal.specs.Decision.{accept, refuse, DecidesPlanPeriodic};
+ghost use Rattle.reversal.specs.Table.{accept, refuse};
+ghost use Rattle.reversal.specs.CommandPlan.{DecidesPlanPeriodic};
 ghost use Rattle.requests.specs.Ending.{no_memory};
 ghost use Rattle.reversal.specs.JobReading.{job_of, CanBeDone, KeepersHaveRoom};
 ghost use Rattle.reversal.specs.NoPlans.{IsUnperiodic};

@@ -4,7 +4,9 @@ ghost use Rattle.std.specs.List.{AllByRecursion};
 ghost use Rattle.requests.specs.Request.{Choice, plan_limit, plan as plan_command, plan_periodic as plan_periodic_command};
 ghost use Rattle.requests.specs.Operands.{within};
 ghost use Rattle.requests.specs.Bounds.{IsWithin};
-ghost use Rattle.reversal.specs.Decision.{accept, refuse, DecidesPlan, DecidesBytes};
+ghost use Rattle.reversal.specs.Table.{accept, refuse};
+ghost use Rattle.reversal.specs.CommandPlan.{DecidesPlan};
+ghost use Rattle.reversal.specs.Decision.{DecidesBytes};
 ghost use Rattle.requests.specs.Ending.{no_memory};
 ghost use Rattle.requests.specs.Inputs.{inputs_of};
 ghost use Rattle.requests.specs.InputReading.{AreWithinLimits};
@@ -32,10 +34,13 @@ pub fn decide_plan<R: Threads + Sync>(
     requires workers { (1 ≤ workers) × (workers ≤ 64) }
     requires steps { IsWithin (within (plan_limit plan.now.kind) plan.now.steps) }
     requires inputs { AreWithinLimits (inputs_of (plan_command (as_plan plan.now))) (map (λ b. b.items) bytes.now) }
-    ensures accepted { IfOk result (λ job. (slots : List ℕ) → (options : List Choice) → DecidesBytes options (plan_command (as_plan plan.now)) (map (λ b. b.items) bytes.now) slots (accept (job_of job))) }
+    ensures accepted { IfOk result (λ job. (slots : List ℕ) → (options : List Choice) →
+        DecidesBytes options (plan_command (as_plan plan.now)) (map (λ b. b.items) bytes.now) slots (accept (job_of job))) }
     ensures can_be_done { IfOk result CanBeDone }
     ensures room { IfOk result (λ job. (counts : List ℕ) → KeepersHaveRoom job counts) }
-    ensures refused { IfErr result (λ e. (e ≡ no_memory) ⊎ ((slots : List ℕ) → (options : List Choice) → DecidesBytes options (plan_command (as_plan plan.now)) (map (λ b. b.items) bytes.now) slots (refuse e))) }
+    ensures refused { IfErr result (λ e. (e ≡ no_memory)
+        ⊎ ((slots : List ℕ) → (options : List Choice) →
+        DecidesBytes options (plan_command (as_plan plan.now)) (map (λ b. b.items) bytes.now) slots (refuse e))) }
 {
     let [book] = bytes else { unreachable!() };
     kind_text(rt, alloc, workers, plan.kind, plan.steps as u32, book)
@@ -75,10 +80,13 @@ pub fn decide_plan_periodic(
     requires some { 1 ≤ plan.now.period }
     requires small { plan.now.period ≤ 1000000 }
     requires inputs { AreWithinLimits (inputs_of (plan_periodic_command (as_plan_periodic plan.now))) (map (λ b. b.items) bytes.now) }
-    ensures accepted { IfOk result (λ job. (slots : List ℕ) → (options : List Choice) → DecidesBytes options (plan_periodic_command (as_plan_periodic plan.now)) (map (λ b. b.items) bytes.now) slots (accept (job_of job))) }
+    ensures accepted { IfOk result (λ job. (slots : List ℕ) → (options : List Choice) →
+        DecidesBytes options (plan_periodic_command (as_plan_periodic plan.now)) (map (λ b. b.items) bytes.now) slots (accept (job_of job))) }
     ensures can_be_done { IfOk result CanBeDone }
     ensures room { IfOk result (λ job. (counts : List ℕ) → KeepersHaveRoom job counts) }
-    ensures refused { IfErr result (λ e. (e ≡ no_memory) ⊎ ((slots : List ℕ) → (options : List Choice) → DecidesBytes options (plan_periodic_command (as_plan_periodic plan.now)) (map (λ b. b.items) bytes.now) slots (refuse e))) }
+    ensures refused { IfErr result (λ e. (e ≡ no_memory)
+        ⊎ ((slots : List ℕ) → (options : List Choice) →
+        DecidesBytes options (plan_periodic_command (as_plan_periodic plan.now)) (map (λ b. b.items) bytes.now) slots (refuse e))) }
 {
     let [book] = bytes else { unreachable!() };
     periodic_text(alloc, plan.steps as u32, plan.period as u32, book)

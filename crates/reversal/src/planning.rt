@@ -1,31 +1,32 @@
 // The list of Revolve for a book: a run by it, or its text with its certificate.
-ghost use Rattle.std.specs.Prelude.{◌≡◌, ◌≢◌, ◌⊎◌, ◌↔◌, ℕ, ◌+◌, ◌≤◌, ◌++◌, List, [], ◌∷◌, map, take, drop, true, false, Option, IsTrue, IfOk, IfErr, OnOk};
+ghost use Rattle.std.specs.Prelude.{◌≡◌, ◌≢◌, ◌⊎◌, ◌↔◌, ℕ, ◌+◌, ◌*◌, ◌≤◌, ◌++◌, List, [], ◌∷◌, map, take, drop, true, false, Option, IsTrue, IfOk, IfErr, OnOk};
 ghost use Rattle.std.specs.List.{AllByRecursion};
 ghost use Rattle.std.specs.Option.{option_copied};
 ghost use Rattle.std.specs.Vec.{vec_len, vec_capacity};
 ghost use Rattle.plan_types.specs.declared.action.Action.{Action};
-ghost use Rattle.keepers.specs.Told.{Images};
-ghost use Rattle.keepers.specs.Counts.{Rose};
 ghost use Rattle.level_book.specs.BookCosts.{names_of, total_room};
 ghost use Rattle.action_text.specs.Canonical.{HasSpelling};
 ghost use Rattle.cert_text.specs.Canonical.{pieces};
 ghost use Rattle.revolve_gen.specs.Plans.{HasPlan};
 ghost use Rattle.revolve_gen.specs.Written.{revolve_list};
-ghost use Rattle.reverse_runner.specs.KeepersSeen.{Calls};
-ghost use Rattle.requests.specs.Request.{Choice};
-ghost use Rattle.reversal.specs.Deeds.{write, bytes_of};
-ghost use Rattle.reversal.specs.Decision.{accept, refuse, EndsBy, DecidesRunRevolve, DecidesPlanRevolve, DecidesBytes};
+ghost use Rattle.requests.specs.Request.{Choice, run_revolve as run_revolve_command, stack_pages, unit_count};
+ghost use Rattle.reversal.specs.Job.{write};
+ghost use Rattle.reversal.specs.Moment.{Moment, beside};
+ghost use Rattle.reversal.specs.Deeds.{bytes_of};
+ghost use Rattle.reversal.specs.Table.{accept, refuse};
+ghost use Rattle.reversal.specs.Decision.{EndsBy, DecidesBytes};
+ghost use Rattle.reversal.specs.CommandRun.{DecidesRunRevolve};
+ghost use Rattle.reversal.specs.CommandPlan.{DecidesPlanRevolve};
 ghost use Rattle.requests.specs.Ending.{no_memory, no_plan};
 ghost use Rattle.requests.specs.Inputs.{inputs_of};
 ghost use Rattle.requests.specs.InputReading.{AreWithinLimits};
 ghost use Rattle.reversal.specs.ActionsLeft.{left_of};
 ghost use Rattle.reversal.specs.JobReading.{job_of, pieces_of, IsWritable, CanBeDone, KeepersHaveRoom};
 ghost use Rattle.reversal.specs.Plans.{line_of_action, list_pieces};
-ghost use Rattle.requests.specs.Request.{run_revolve as run_revolve_command, stack_pages};
 ghost use Rattle.requests.specs.RequestReading.{as_run_revolve};
 
 use crate::actions::Actions;
-use crate::decision::{book_in, journal_in, keep, start_of};
+use crate::decision::{book_in, journal_in, keep, start_of, unit_of};
 use crate::job::{Job, Performance};
 use action_text::print_action;
 use bound_cert::certify_revolve;
@@ -59,12 +60,16 @@ pub fn decide_run_revolve(
     counts: &[u32],
 ) -> Result<Job, Ended>
     requires stack { (1 ≤ stack_pages options.now) × (stack_pages options.now ≤ 1024) }
+    requires unit { (1 ≤ unit_count options.now) × (unit_count options.now ≤ 1024) }
     requires steps { run.now.steps ≤ 1000000 }
+    requires instructions { unit_count options.now * run.now.steps ≤ 1000000 }
     requires inputs { AreWithinLimits (inputs_of (run_revolve_command (as_run_revolve run.now))) (map (λ b. b.items) bytes.now) }
-    ensures accepted { IfOk result (λ job. DecidesBytes options.now (run_revolve_command (as_run_revolve run.now)) (map (λ b. b.items) bytes.now) counts.now (accept (job_of job))) }
+    ensures accepted { IfOk result (λ job. DecidesBytes options.now (run_revolve_command (as_run_revolve run.now))
+        (map (λ b. b.items) bytes.now) counts.now (accept (job_of job))) }
     ensures can_be_done { IfOk result CanBeDone }
     ensures room { IfOk result (λ job. KeepersHaveRoom job counts.now) }
-    ensures refused { IfErr result (λ e. (e ≡ no_memory) ⊎ DecidesBytes options.now (run_revolve_command (as_run_revolve run.now)) (map (λ b. b.items) bytes.now) counts.now (refuse e)) }
+    ensures refused { IfErr result (λ e. (e ≡ no_memory)
+        ⊎ DecidesBytes options.now (run_revolve_command (as_run_revolve run.now)) (map (λ b. b.items) bytes.now) counts.now (refuse e)) }
 {
     let steps = run.steps as u32;
     match bytes {
@@ -96,11 +101,15 @@ fn decide_texts(
     counts: &[u32],
 ) -> Result<Job, Ended>
     requires stack { (1 ≤ stack_pages options.now) × (stack_pages options.now ≤ 1024) }
+    requires unit { (1 ≤ unit_count options.now) × (unit_count options.now ≤ 1024) }
     requires steps { steps ≤ 1000000 }
-    ensures accepted { IfOk result (λ job. DecidesRunRevolve options.now steps texts.entry.program.now (option_copied texts.entry.journal) texts.entry.book.now counts.now (accept (job_of job))) }
+    requires instructions { unit_count options.now * steps ≤ 1000000 }
+    ensures accepted { IfOk result (λ job. DecidesRunRevolve options.now steps texts.entry.program.now
+        (option_copied texts.entry.journal) texts.entry.book.now counts.now (accept (job_of job))) }
     ensures can_be_done { IfOk result CanBeDone }
     ensures room { IfOk result (λ job. KeepersHaveRoom job counts.now) }
-    ensures refused { IfErr result (λ e. (e ≡ no_memory) ⊎ DecidesRunRevolve options.now steps texts.entry.program.now (option_copied texts.entry.journal) texts.entry.book.now counts.now (refuse e)) }
+    ensures refused { IfErr result (λ e. (e ≡ no_memory)
+        ⊎ DecidesRunRevolve options.now steps texts.entry.program.now (option_copied texts.entry.journal) texts.entry.book.now counts.now (refuse e)) }
 {
     let book = book_in(alloc, texts.book)?;
     keep(steps, &book, counts)?;
@@ -110,6 +119,7 @@ fn decide_texts(
     Ok(Job::Perform(Performance {
         start,
         journal,
+        unit: unit_of(options),
         steps,
         book,
         actions: Actions::Streamed(revolve),
@@ -173,7 +183,8 @@ fn revolve_for(alloc: Global, steps: u32, book: &Book) -> Result<Revolve, Ended>
     requires { steps ≤ 1000000 }
     ensures list { IfOk result (λ r. r ≡ revolve_list steps book.now) }
     ensures plan { OnOk result (HasPlan steps (total_room book.now steps)) }
-    ensures refused { IfErr result (λ e. (e ≡ no_memory) ⊎ ((HasPlan steps (total_room book.now steps) → ⊥) × (e ≡ no_plan steps (total_room book.now steps) 1))) }
+    ensures refused { IfErr result (λ e. (e ≡ no_memory)
+        ⊎ ((HasPlan steps (total_room book.now steps) → ⊥) × (e ≡ no_plan steps (total_room book.now steps) 1))) }
 {
     match Revolve::new(alloc, steps, book) {
         Ok(revolve) => Ok(revolve),
@@ -195,12 +206,9 @@ impl Plan {
     /// Writes the text of the list, in pieces of sixty-four lines, and then that of the certificate, if there is one.
     pub fn write<O: Sink>(mut self, out: &mut O) -> Ended
         requires { IsWritable self }
-        ensures works { (steps : ℕ) (calls : Calls) (images : ℕ → Option Images) → EndsBy (accept (write (pieces_of self))) result
-            (record { told = O.told out.old; writes = O.call_count out.old; steps = steps; calls = calls; images = images })
-            (record { told = O.told out.new; writes = O.call_count out.new; steps = steps; calls = calls; images = images }) }
-        ensures statuses { (result.status ≡ 0) ⊎ (result.status ≡ 14) }
-        ensures quiet { result.status ≢ 14 → O.fault_count out.new ≡ O.fault_count out.old }
-        ensures cause { result.status ≡ 14 → Rose (O.fault_count out.old) (O.fault_count out.new) }
+        ensures { (other : Moment) (steps : ℕ) → EndsBy (accept (write (pieces_of self))) result
+            (beside O.told O.call_count O.fault_count other out.old steps)
+            (beside O.told O.call_count O.fault_count other out.new steps) }
     {
         while self.next_piece() {
             match out.write(&self.piece) {

@@ -1,15 +1,15 @@
 // What a schedule costs.
 ghost use Rattle.std.specs.Prelude.{◌≡◌, ◌≢◌, ◌⊎◌, ℕ, ◌*◌, ◌^◌, ◌<◌, ◌≤◌, List, length, map, Option, IfOk, IfErr};
-ghost use Rattle.keepers.specs.Told.{Images};
-ghost use Rattle.keepers.specs.Counts.{Rose};
 ghost use Rattle.level_book.specs.BookCosts.{slots_of};
 ghost use Rattle.level_book.specs.Valid.{Valid};
 ghost use Rattle.cost_fold.specs.CountsOf.{all_of};
 ghost use Rattle.cost_report.specs.Report.{report_lines};
-ghost use Rattle.reverse_runner.specs.KeepersSeen.{Calls};
 ghost use Rattle.requests.specs.Request.{Choice, price as price_command};
-ghost use Rattle.reversal.specs.Deeds.{write};
-ghost use Rattle.reversal.specs.Decision.{accept, refuse, EndsBy, DecidesPrice, DecidesBytes};
+ghost use Rattle.reversal.specs.Job.{write};
+ghost use Rattle.reversal.specs.Moment.{Moment, beside};
+ghost use Rattle.reversal.specs.Table.{accept, refuse};
+ghost use Rattle.reversal.specs.Decision.{EndsBy, DecidesBytes};
+ghost use Rattle.reversal.specs.CommandCost.{DecidesPrice};
 ghost use Rattle.requests.specs.Ending.{no_memory};
 ghost use Rattle.requests.specs.Inputs.{inputs_of};
 ghost use Rattle.requests.specs.InputReading.{AreWithinLimits};
@@ -38,12 +38,9 @@ impl Pricing {
     /// Writes what the counts cost, a line in each write.
     pub fn write<O: Sink>(self, out: &mut O) -> Ended
         requires { all_of self.counts * 1000000 < 2 ^ 64 }
-        ensures works { (steps : ℕ) (calls : Calls) (images : ℕ → Option Images) → EndsBy (accept (write (report_lines self.book self.counts))) result
-            (record { told = O.told out.old; writes = O.call_count out.old; steps = steps; calls = calls; images = images })
-            (record { told = O.told out.new; writes = O.call_count out.new; steps = steps; calls = calls; images = images }) }
-        ensures statuses { (result.status ≡ 0) ⊎ (result.status ≡ 14) }
-        ensures quiet { result.status ≢ 14 → O.fault_count out.new ≡ O.fault_count out.old }
-        ensures cause { result.status ≡ 14 → Rose (O.fault_count out.old) (O.fault_count out.new) }
+        ensures { (other : Moment) (steps : ℕ) → EndsBy (accept (write (report_lines self.book self.counts))) result
+            (beside O.told O.call_count O.fault_count other out.old steps)
+            (beside O.told O.call_count O.fault_count other out.new steps) }
     {
         match report(&self.counts, &self.book, out) {
             Ok(()) => Ended::done(),
@@ -56,10 +53,13 @@ impl Pricing {
 pub fn decide_price(alloc: Global, price: &Price<'_>, bytes: &[Vec<u8>]) -> Result<Job, Ended>
     requires steps { price.now.steps ≤ 1000000 }
     requires inputs { AreWithinLimits (inputs_of (price_command (as_price price.now))) (map (λ b. b.items) bytes.now) }
-    ensures accepted { IfOk result (λ job. (slots : List ℕ) → (options : List Choice) → DecidesBytes options (price_command (as_price price.now)) (map (λ b. b.items) bytes.now) slots (accept (job_of job))) }
+    ensures accepted { IfOk result (λ job. (slots : List ℕ) → (options : List Choice) →
+        DecidesBytes options (price_command (as_price price.now)) (map (λ b. b.items) bytes.now) slots (accept (job_of job))) }
     ensures can_be_done { IfOk result CanBeDone }
     ensures room { IfOk result (λ job. (counts : List ℕ) → KeepersHaveRoom job counts) }
-    ensures refused { IfErr result (λ e. (e ≡ no_memory) ⊎ ((slots : List ℕ) → (options : List Choice) → DecidesBytes options (price_command (as_price price.now)) (map (λ b. b.items) bytes.now) slots (refuse e))) }
+    ensures refused { IfErr result (λ e. (e ≡ no_memory)
+        ⊎ ((slots : List ℕ) → (options : List Choice) →
+        DecidesBytes options (price_command (as_price price.now)) (map (λ b. b.items) bytes.now) slots (refuse e))) }
 {
     let [book, schedule] = bytes else {
         unreachable!()

@@ -5,9 +5,11 @@ ghost use Rattle.keepers.specs.Counts.{Rose};
 ghost use Rattle.requests.specs.Request.{Request as ARequest, Says, words_of};
 ghost use Rattle.requests.specs.Bounds.{numbers, IsWithin, RefusesWords, Asks};
 ghost use Rattle.requests.specs.Inputs.{inputs_of, names, FailsAtInput};
-ghost use Rattle.reverse_runner.specs.KeepersSeen.{by_number};
-ghost use Rattle.reversal.specs.Decision.{Decision, accept, refuse, Comes, KeepsOthers, EndsBy, IsOfJob};
-ghost use Rattle.reversal.specs.Deeds.{Job as AJob, moment, HaltsShowing};
+ghost use Rattle.reversal.specs.Table.{Decision, accept, refuse};
+ghost use Rattle.reversal.specs.Decision.{course_of, Comes, KeepsOthers, EndsBy, IsOfJob};
+ghost use Rattle.reversal.specs.Job.{Job as AJob};
+ghost use Rattle.reversal.specs.Moment.{moment};
+ghost use Rattle.reversal.specs.Course.{HaltsShowing};
 ghost use Rattle.requests.specs.Ending.{no_memory};
 ghost use Rattle.requests.specs.RequestReading.{request_of};
 ghost use Rattle.reversal.specs.JobReading.{job_of, CanBeDone, KeepersHaveRoom};
@@ -42,7 +44,8 @@ pub fn reversal<R: Threads + Sync, I: Inputs, K: Keeper, O: Sink, L: Ledger>(
     ensures asked { (r : ARequest) → Asks (words_of words.now) r → (k : ℕ) × (I.asked inputs.new ≡ I.asked inputs.old ++ take k (names (inputs_of r.command))) }
 
     // Status 3 names the input that can't be read. Up to its end, the inputs' count of faults rises exactly there.
-    ensures input { (r : ARequest) → Asks (words_of words.now) r → result.status ≡ 3 → FailsAtInput (inputs_of r.command) (I.told inputs.old) result (I.asked inputs.old) (I.asked inputs.new) }
+    ensures input { (r : ARequest) → Asks (words_of words.now) r → result.status ≡ 3 →
+        FailsAtInput (inputs_of r.command) (I.told inputs.old) result (I.asked inputs.old) (I.asked inputs.new) }
     ensures input_cause { result.status ≡ 3 → Rose (I.fault_count inputs.old) (I.fault_count inputs.new) }
     ensures input_quiet { result.status ≢ 3 → I.fault_count inputs.new ≡ I.fault_count inputs.old }
 
@@ -51,25 +54,17 @@ pub fn reversal<R: Threads + Sync, I: Inputs, K: Keeper, O: Sink, L: Ledger>(
         × Comes r (I.told inputs.old) (I.asked inputs.old) (I.asked inputs.new) (map K.slot_count keepers.old.items) d
         × KeepsOthers d keepers.old.items keepers.new.items
         × EndsBy d result
-        (moment O.told O.call_count K.told K.put_count K.get_count K.free_count out.old keepers.old.items steps.old)
-        (moment O.told O.call_count K.told K.put_count K.get_count K.free_count out.new keepers.new.items steps.new) }
+        (moment O.told O.call_count O.fault_count K.told K.put_count K.get_count K.free_count K.fault_count out.old keepers.old.items steps.old)
+        (moment O.told O.call_count O.fault_count K.told K.put_count K.get_count K.free_count K.fault_count out.new keepers.new.items steps.new) }
 
     // Where memory runs out nothing was done, or a part of a job that was decided.
     ensures memory { result.status ≡ 17 → (result ≡ no_memory) × (((out.new ≡ out.old) × (keepers.new ≡ keepers.old) × (steps.new ≡ steps.old))
         ⊎ ((r : ARequest) × Asks (words_of words.now) r × (job : AJob)
         × Comes r (I.told inputs.old) (I.asked inputs.old) (I.asked inputs.new) (map K.slot_count keepers.old.items) (accept job)
         × KeepsOthers (accept job) keepers.old.items keepers.new.items
-        × HaltsShowing job
-        (moment O.told O.call_count K.told K.put_count K.get_count K.free_count out.old keepers.old.items steps.old)
-        (moment O.told O.call_count K.told K.put_count K.get_count K.free_count out.new keepers.new.items steps.new))) }
-
-    // Up to its end, the sink's count of faults rises exactly at status 14.
-    ensures sink_cause { result.status ≡ 14 → Rose (O.fault_count out.old) (O.fault_count out.new) }
-    ensures sink_quiet { result.status ≢ 14 → O.fault_count out.new ≡ O.fault_count out.old }
-
-    // Up to its end, a keeper's count of faults rises just at status 12, which names its level.
-    ensures keeper_cause { result.status ≡ 12 → Rose (by_number 0 K.fault_count keepers.old.items result.more) (by_number 0 K.fault_count keepers.new.items result.more) }
-    ensures keepers_quiet { result.status ≢ 12 → (k : ℕ) → by_number 0 K.fault_count keepers.new.items k ≡ by_number 0 K.fault_count keepers.old.items k }
+        × HaltsShowing (course_of job)
+        (moment O.told O.call_count O.fault_count K.told K.put_count K.get_count K.free_count K.fault_count out.old keepers.old.items steps.old)
+        (moment O.told O.call_count O.fault_count K.told K.put_count K.get_count K.free_count K.fault_count out.new keepers.new.items steps.new))) }
 
     // A refusal leaves the sink, the keepers and the count of steps as they were.
     ensures untouched { (IsOfJob result.status → ⊥) → (out.new ≡ out.old) × (keepers.new ≡ keepers.old) × (steps.new ≡ steps.old) }
@@ -81,7 +76,7 @@ pub fn reversal<R: Threads + Sync, I: Inputs, K: Keeper, O: Sink, L: Ledger>(
         return refusal;
     }
     match prepared(rt, alloc, &request, inputs, keepers) {
-        Ok(job) => job.work(alloc, keepers, out, steps),
+        Ok(job) => job.work(rt, alloc, keepers, out, steps),
         Err(refusal) => refusal,
     }
 }
@@ -95,12 +90,15 @@ fn prepared<R: Threads + Sync, I: Inputs, K: Keeper>(
     keepers: &[K],
 ) -> Result<Job, Ended>
     requires { AllByRecursion IsWithin (numbers (request_of request.now)) }
-    ensures comes { IfOk result (λ job. Comes (request_of request.now) (I.told inputs.old) (I.asked inputs.old) (I.asked inputs.new) (map K.slot_count keepers.now) (accept (job_of job))) }
+    ensures comes { IfOk result (λ job. Comes (request_of request.now) (I.told inputs.old) (I.asked inputs.old) (I.asked inputs.new)
+        (map K.slot_count keepers.now) (accept (job_of job))) }
     ensures can_be_done { IfOk result CanBeDone }
     ensures room { IfOk result (λ job. KeepersHaveRoom job (map K.slot_count keepers.now)) }
-    ensures refused { IfErr result (λ e. FailsAtInput (inputs_of (request_of request.now).command) (I.told inputs.old) e (I.asked inputs.old) (I.asked inputs.new)
+    ensures refused { IfErr result (λ e. FailsAtInput (inputs_of (request_of request.now).command) (I.told inputs.old) e (I.asked inputs.old)
+        (I.asked inputs.new)
         ⊎ (e ≡ no_memory)
-        ⊎ ((e.status ≢ 3) × (e.status ≢ 17) × (e.status ≢ 2) × (e.status ≢ 12) × (e.status ≢ 14) × Comes (request_of request.now) (I.told inputs.old) (I.asked inputs.old) (I.asked inputs.new) (map K.slot_count keepers.now) (refuse e))) }
+        ⊎ ((e.status ≢ 3) × (e.status ≢ 17) × (e.status ≢ 2) × (e.status ≢ 12) × (e.status ≢ 14)
+        × Comes (request_of request.now) (I.told inputs.old) (I.asked inputs.old) (I.asked inputs.new) (map K.slot_count keepers.now) (refuse e))) }
     ensures asked { (k : ℕ) × (I.asked inputs.new ≡ I.asked inputs.old ++ take k (names (inputs_of (request_of request.now).command))) }
     ensures quiet { IfOk result (λ _. I.fault_count inputs.new ≡ I.fault_count inputs.old) }
     ensures cause { IfErr result (λ e. e.status ≡ 3 → Rose (I.fault_count inputs.old) (I.fault_count inputs.new)) }

@@ -46,9 +46,10 @@ impl Marks {
         ensures width { IfOk result (λ m. m.width ≡ segment_width count workers) }
         ensures segments { IfOk result (λ m. (length m.states ≡ count / m.width + 1) × (length m.states ≤ workers)) }
 
-        // Each step is counted, and those are as many as lie before the last segment; where memory runs out, no more.
+        // Each step is counted, and those are as many as lie before the last segment; where memory runs out, some of them.
         ensures counted { OnOk result (steps.new ≡ steps.old + last_start count workers) }
         ensures most { steps.new ≤ steps.old + last_start count workers }
+        ensures least { steps.old ≤ steps.new }
     {
         let width = count / workers + 1;
         let mut state = start.clone()?;

@@ -7,7 +7,7 @@ use Rattle.requests.proofs.places.place.Given as goal
 abbrev pub invariant-loop-choice : goal.invariant-loop-choice
 invariant-loop-choice l = record {
   same : place_from l.level l.word (options_at (map (λ w. w.items) l.rest)) ≡ place_from l.level 1 (options_at (map (λ w. w.items) l.words));
-  few : l.word + length (options_at (map (λ w. w.items) l.rest)) ≤ 8;
+  few : l.word + length (options_at (map (λ w. w.items) l.rest)) ≤ 9;
 }
 
 abbrev pub decreases-loop-choice : goal.decreases-loop-choice

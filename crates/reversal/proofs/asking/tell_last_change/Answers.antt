@@ -1,60 +1,54 @@
-use Rattle.std.proofs.Common.{◌≡◌, ◌∙◌, ◌+◌, ◌*◌, ℕ, refl, inl, inr, length, Err, arith, sym, ap, subst}
+use Rattle.std.proofs.Common.{◌≡◌, ◌∙◌, refl, length, Err, sym, ap, subst}
 use Rattle.std.proofs.lemmas.List.{length-map}
-use Rattle.level_book.specs.CostFold.{forward}
-use Rattle.reverse_runner.specs.KeepersSeen.{Called, told_by, calls_to}
+use Rattle.reverse_runner.specs.declared.fault.RunFault.{RunFault}
+use Rattle.reverse_runner.specs.declared.fault.RunFault.TheVariants.{Visitor}
+use Rattle.reverse_runner.specs.KeepersSeen.{told_by, calls_to}
 use Rattle.reverse_runner.specs.SessionState.{SessionState}
-use Rattle.reverse_queries.specs.Queries.{IsLast, up_to, ChangesIn, ChangesWord}
-use Rattle.reverse_queries.specs.Performing.{calls_of_all, RefusedIn}
-use Rattle.requests.specs.declared.ended.Ended.{Ended}
-use Rattle.requests.specs.declared.question.Question.TheVariants.{LastChange}
-use Rattle.reversal.specs.Deeds.{States, moment}
-use Rattle.reversal.proofs.Progress.{one_times}
-use Rattle.reversal.proofs.Asked.{step_told, step_over, is_found}
+use Rattle.reverse_queries.specs.Queries.{ChangesIn}
+use Rattle.reverse_queries.specs.Performing.{RefusedIn}
+use Rattle.reversal.specs.Moment.{moment}
+use Rattle.reversal.specs.JobReading.{run_from}
+use Rattle.reversal.proofs.Progress.{FaultCounts, same_Err}
+use Rattle.reversal.proofs.Asked.{last_told, last_refused, is_found}
 use Rattle.reversal.proofs.asking.tell_last_change.Goals as goal
 
 pub returns-in-Ok-clause-works : goal.returns-in-Ok-clause-works
 returns-in-Ok-clause-works g c =
     let session = c.args.session.now in
-    let steps = session.situation.steps in
-    let list = c.args.list.now in
+    let run = run_from session c.args.list.now in
     let ok = c.in-Ok.ensures in
-    let answer = c.in-Ok.answer in
-    let one = ap (λ (s : SessionState). s.unit) c.requires.begun in
-    let old = moment g.O.Sink.told g.O.Sink.call_count g.K.Keeper.told g.K.Keeper.put_count g.K.Keeper.get_count g.K.Keeper.free_count c.args.out.now c.args.keepers.now.items c.args.counter.now in
-    let new = moment g.O.Sink.told g.O.Sink.call_count g.K.Keeper.told g.K.Keeper.put_count g.K.Keeper.get_count g.K.Keeper.free_count c.write_answer.new.out c.last_change.new.keepers.items c.last_change.new.steps in
-    let Holds : States → ℕ → Type 0 = λ states. ChangesIn states c.args.address in
-    let found = is_found Holds session c.last_change.new.session list answer old new c.requires.begun ok.found in
-    let N : ℕ → Type 0 = λ n. IsLast (ChangesWord session.work session.journal c.args.address) n answer in
-    let S : ℕ → Type 0 = λ u. c.last_change.new.steps ≡ c.args.counter.now + u * forward (up_to u steps answer list) in
-    let K : ℕ → Type 0 = λ u. Called (calls_of_all (up_to u steps answer list)) (calls_to g.K.Keeper.put_count g.K.Keeper.get_count g.K.Keeper.free_count c.args.keepers.now.items) (calls_to g.K.Keeper.put_count g.K.Keeper.get_count g.K.Keeper.free_count c.last_change.new.keepers.items) in
-    step_told (LastChange c.args.address) session.work session.journal steps session.situation.slots list (λ shown. refl) answer c.write_answer.result old new (
-      found,
-      λ tells.
-          subst N (ap (λ u. u * steps) one ∙ one_times steps) (ok.answer session.work c.requires.state (c.requires.stands (told_by g.K.Keeper.told c.args.keepers.now.items) tells)),
-    )
-    (λ n answered. answered) c.write_answer.ensures.ends c.write_answer.ensures.calls (subst S one ok.counted ∙ ap (λ n. c.args.counter.now + n) (one_times (forward (up_to 1 steps answer list)))) (subst K one ok.called)
-    refl refl (λ n. refl)
+    let old = moment g.O.Sink.told g.O.Sink.call_count g.O.Sink.fault_count g.K.Keeper.told g.K.Keeper.put_count g.K.Keeper.get_count g.K.Keeper.free_count g.K.Keeper.fault_count c.args.out.now c.args.keepers.now.items c.args.counter.now in
+    let new = moment g.O.Sink.told g.O.Sink.call_count g.O.Sink.fault_count g.K.Keeper.told g.K.Keeper.put_count g.K.Keeper.get_count g.K.Keeper.free_count g.K.Keeper.fault_count c.write_answer.new.out c.last_change.new.keepers.items c.last_change.new.steps in
+    let found = is_found (λ states. ChangesIn states c.args.address) session c.last_change.new.session c.args.list.now c.in-Ok.answer old new c.requires.begun ok.found in
+    last_told run (λ states. ChangesIn states c.args.address) c.in-Ok.answer old new (found, λ tells. ok.answer session.work c.requires.state (c.requires.stands (told_by g.K.Keeper.told c.args.keepers.now.items) tells))
+    c.write_answer.ensures.calls ok.counted ok.called c.write_answer.result c.write_answer.ensures.ends (c.last_change.ensures.keepers_quiet (λ k e. cc))
 
 pub returns-in-Ok-clause-others : goal.returns-in-Ok-clause-others
 returns-in-Ok-clause-others g c =
     (sym (length-map c.last_change.new.keepers.items g.K.Keeper.slot_count) ∙ ap length c.last_change.ensures.slots ∙ length-map c.args.keepers.now.items g.K.Keeper.slot_count, c.last_change.ensures.others)
 
-pub returns-in-Ok-clause-keeper_cause : goal.returns-in-Ok-clause-keeper_cause
-returns-in-Ok-clause-keeper_cause g c twelve =
-    elim c.write_answer.ensures.ends [
-      | inl whole ↦ let status = ap (λ (e : Ended). e.status) whole.0 in absurd (omega (arith, twelve, status))
-      | inr part ↦ let status = ap (λ (e : Ended). e.status) part.0 in absurd (omega (arith, twelve, status))
-    ]
-
 pub returns-in-Err-clause-works : goal.returns-in-Err-clause-works
 returns-in-Err-clause-works g c =
     let session = c.args.session.now in
-    let list = c.args.list.now in
+    let run = run_from session c.args.list.now in
+    let fault = c.in-Err.fault in
+    let all = c.last_change.ensures in
     let told = told_by g.K.Keeper.told c.args.keepers.now.items in
-    let old = moment g.O.Sink.told g.O.Sink.call_count g.K.Keeper.told g.K.Keeper.put_count g.K.Keeper.get_count g.K.Keeper.free_count c.args.out.now c.args.keepers.now.items c.args.counter.now in
-    let new = moment g.O.Sink.told g.O.Sink.call_count g.K.Keeper.told g.K.Keeper.put_count g.K.Keeper.get_count g.K.Keeper.free_count c.args.out.now c.last_change.new.keepers.items c.last_change.new.steps in
-    let R : SessionState → Type 0 = λ s. RefusedIn (λ action held. ⊥) list c.in-Err.fault s c.last_change.new.session told c.args.counter.now c.last_change.new.steps
+    let old = moment g.O.Sink.told g.O.Sink.call_count g.O.Sink.fault_count g.K.Keeper.told g.K.Keeper.put_count g.K.Keeper.get_count g.K.Keeper.free_count g.K.Keeper.fault_count c.args.out.now c.args.keepers.now.items c.args.counter.now in
+    let new = moment g.O.Sink.told g.O.Sink.call_count g.O.Sink.fault_count g.K.Keeper.told g.K.Keeper.put_count g.K.Keeper.get_count g.K.Keeper.free_count g.K.Keeper.fault_count c.args.out.now c.last_change.new.keepers.items c.last_change.new.steps in
+    let R : SessionState → Type 0 = λ s. RefusedIn (λ action held. ⊥) c.args.list.now fault s c.last_change.new.session told c.args.counter.now c.last_change.new.steps
     (calls_to g.K.Keeper.put_count g.K.Keeper.get_count g.K.Keeper.free_count c.args.keepers.now.items) (calls_to g.K.Keeper.put_count g.K.Keeper.get_count g.K.Keeper.free_count c.last_change.new.keepers.items) in
-    step_over (LastChange c.args.address) session.work session.journal session.situation.steps session.situation.slots list (λ shown. refl) c.in-Err.fault c.last_change.new.session c.refused.result old new
-    c.requires.few (subst R c.requires.begun c.in-Err.ensures.refused) c.refused.ensures refl refl (λ e. c.last_change.ensures.not_visitor (c.in-Err.is ∙ ap (λ f. Err f) e))
-    (λ k put got e tells. c.last_change.ensures.undamaged session.work c.requires.state (c.requires.stands told tells) k put got (c.in-Err.is ∙ ap (λ f. Err f) e))
+    let is = λ (f : RunFault) (e : fault ≡ f). c.in-Err.is ∙ ap (λ x. Err x) e in
+    let seen = λ (e : fault ≡ Visitor). all.not_visitor (is _ e) in
+    let counts : FaultCounts fault old new = record {
+      sink = λ e. absurd (seen e);
+      sink_quiet = λ ne. refl;
+      keeper = λ k e. all.keeper_cause k (is _ e);
+      keepers_quiet = λ ne. all.keepers_quiet (λ k e. ne k (same_Err c.last_change.result _ _ c.in-Err.is e));
+    } in
+    last_refused run (λ states. ChangesIn states c.args.address) fault c.last_change.new.session c.refused.result old new c.requires.few (subst R c.requires.begun c.in-Err.ensures.refused) c.refused.ensures refl refl seen
+    (λ k put got e tells. all.undamaged session.work c.requires.state (c.requires.stands told tells) k put got (is _ e)) counts
+
+pub returns-in-Err-clause-others : goal.returns-in-Err-clause-others
+returns-in-Err-clause-others g c =
+    (sym (length-map c.last_change.new.keepers.items g.K.Keeper.slot_count) ∙ ap length c.last_change.ensures.slots ∙ length-map c.args.keepers.now.items g.K.Keeper.slot_count, c.last_change.ensures.others)

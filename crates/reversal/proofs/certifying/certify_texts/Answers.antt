@@ -6,9 +6,11 @@ use Rattle.action_text.specs.Faults.{HasFirstFault}
 use Rattle.cert_text.specs.Faults.{HasFirstFault as CertificateFirst}
 use Rattle.bound_cert.specs.Accepted.{IsAccepted}
 use Rattle.requests.specs.declared.ended.Ended.{Ended}
-use Rattle.reversal.specs.Deeds.{write}
+use Rattle.reversal.specs.Job.{write}
 use Rattle.requests.specs.Ending.{bad_book, bad_text, bad_certificate}
-use Rattle.reversal.specs.Decision.{HasBookFault, DecidesCertify, accept, least_line}
+use Rattle.reversal.specs.Fronts.{HasBookFault}
+use Rattle.reversal.specs.CommandCertify.{DecidesCertify, least_line}
+use Rattle.reversal.specs.Table.{accept}
 use Rattle.reversal.specs.JobReading.{IsRefusal, IsUnweighed}
 use Rattle.reversal.proofs.Deciding.{on_error, IsBroken, certify_by_book, certify_by_text, certify_by_rules, certify_by_certificate, certify_by_weight, certify_accepted}
 use Rattle.reversal.proofs.certifying.certify_texts.Goals as goal

@@ -2,16 +2,16 @@ use Rattle.std.proofs.Common.{◌≡◌, ◌⊎◌, inl, inr, List, [], ◌∷�
 use Rattle.std.specs.List.{AllByRecursion}
 use Rattle.requests.specs.declared.request.Command.{Command}
 use Rattle.requests.specs.Bounds.{command_numbers, IsWithin}
-use Rattle.reversal.specs.Decision.{accept, refuse, DecidesBytes}
+use Rattle.reversal.specs.Table.{accept, refuse}
+use Rattle.reversal.specs.Decision.{DecidesBytes}
 use Rattle.requests.specs.Ending.{no_memory}
 use Rattle.reversal.specs.JobReading.{job_of}
 use Rattle.requests.specs.Inputs.{inputs_of}
 use Rattle.requests.specs.InputReading.{AreWithinLimits}
-use Rattle.requests.specs.Request.{demo}
-use Rattle.requests.specs.RequestReading.{as_demo}
-use Rattle.requests.specs.RequestReading.{as_command}
+use Rattle.requests.specs.Request.{unit_count, demo}
+use Rattle.requests.specs.RequestReading.{as_demo, as_command}
 use Rattle.reversal.proofs.Answering.{if_okay, if_error}
-use Rattle.requests.proofs.Refusing.{all_front, all_after, stack_within, workers_within}
+use Rattle.requests.proofs.Refusing.{all_front, all_after, stack_within, workers_within, unit_within}
 use Rattle.reversal.proofs.decision.decide.Goals as goal
 
 -- a demonstration has no input
@@ -24,7 +24,7 @@ decide_run-requires-clause-stack g c = stack_within c.args.request.now.options (
 
 pub decide_run-requires-clause-steps : goal.decide_run-requires-clause-steps
 decide_run-requires-clause-steps g c =
-    let P : Command → Type 0 = λ x. AllByRecursion IsWithin (command_numbers (as_command x)) in
+    let P : Command → Type 0 = λ x. AllByRecursion IsWithin (command_numbers (unit_count c.args.request.now.options) (as_command x)) in
     (subst P c.in-Run.is (all_after _ _ c.requires.numbers)).0.1
 
 pub decide_run_revolve-requires-clause-stack : goal.decide_run_revolve-requires-clause-stack
@@ -32,8 +32,32 @@ decide_run_revolve-requires-clause-stack g c = stack_within c.args.request.now.o
 
 pub decide_run_revolve-requires-clause-steps : goal.decide_run_revolve-requires-clause-steps
 decide_run_revolve-requires-clause-steps g c =
-    let P : Command → Type 0 = λ x. AllByRecursion IsWithin (command_numbers (as_command x)) in
+    let P : Command → Type 0 = λ x. AllByRecursion IsWithin (command_numbers (unit_count c.args.request.now.options) (as_command x)) in
     (subst P c.in-RunRevolve.is (all_after _ _ c.requires.numbers)).0.1
+
+pub decide_run-requires-clause-unit : goal.decide_run-requires-clause-unit
+decide_run-requires-clause-unit g c = unit_within c.args.request.now.options (all_front _ _ c.requires.numbers)
+
+pub decide_run-requires-clause-instructions : goal.decide_run-requires-clause-instructions
+decide_run-requires-clause-instructions g c =
+    let P : Command → Type 0 = λ x. AllByRecursion IsWithin (command_numbers (unit_count c.args.request.now.options) (as_command x)) in
+    (subst P c.in-Run.is (all_after _ _ c.requires.numbers)).1.0.1
+
+pub decide_run_revolve-requires-clause-unit : goal.decide_run_revolve-requires-clause-unit
+decide_run_revolve-requires-clause-unit g c = unit_within c.args.request.now.options (all_front _ _ c.requires.numbers)
+
+pub decide_run_revolve-requires-clause-instructions : goal.decide_run_revolve-requires-clause-instructions
+decide_run_revolve-requires-clause-instructions g c =
+    let P : Command → Type 0 = λ x. AllByRecursion IsWithin (command_numbers (unit_count c.args.request.now.options) (as_command x)) in
+    (subst P c.in-RunRevolve.is (all_after _ _ c.requires.numbers)).1.0.1
+
+pub decide_ask-requires-clause-unit : goal.decide_ask-requires-clause-unit
+decide_ask-requires-clause-unit g c = unit_within c.args.request.now.options (all_front _ _ c.requires.numbers)
+
+pub decide_ask-requires-clause-instructions : goal.decide_ask-requires-clause-instructions
+decide_ask-requires-clause-instructions g c =
+    let P : Command → Type 0 = λ x. AllByRecursion IsWithin (command_numbers (unit_count c.args.request.now.options) (as_command x)) in
+    (subst P c.in-Ask.is (all_after _ _ c.requires.numbers)).1.1.0.1
 
 pub overflow_cast-workers : goal.overflow_cast-workers
 overflow_cast-workers g c =
@@ -49,47 +73,47 @@ decide_plan-requires-clause-workers g c κs inside =
 
 pub decide_plan-requires-clause-steps : goal.decide_plan-requires-clause-steps
 decide_plan-requires-clause-steps g c κs inside =
-    let P : Command → Type 0 = λ x. AllByRecursion IsWithin (command_numbers (as_command x)) in
+    let P : Command → Type 0 = λ x. AllByRecursion IsWithin (command_numbers (unit_count c.args.request.now.options) (as_command x)) in
     (subst P c.in-Plan.is (all_after _ _ c.requires.numbers)).0
 
 pub decide_plan_periodic-requires-clause-steps : goal.decide_plan_periodic-requires-clause-steps
 decide_plan_periodic-requires-clause-steps g c =
-    let P : Command → Type 0 = λ x. AllByRecursion IsWithin (command_numbers (as_command x)) in
+    let P : Command → Type 0 = λ x. AllByRecursion IsWithin (command_numbers (unit_count c.args.request.now.options) (as_command x)) in
     (subst P c.in-PlanPeriodic.is (all_after _ _ c.requires.numbers)).0.1
 
 pub decide_plan_periodic-requires-clause-some : goal.decide_plan_periodic-requires-clause-some
 decide_plan_periodic-requires-clause-some g c =
-    let P : Command → Type 0 = λ x. AllByRecursion IsWithin (command_numbers (as_command x)) in
+    let P : Command → Type 0 = λ x. AllByRecursion IsWithin (command_numbers (unit_count c.args.request.now.options) (as_command x)) in
     (subst P c.in-PlanPeriodic.is (all_after _ _ c.requires.numbers)).1.0.0
 
 pub decide_plan_periodic-requires-clause-small : goal.decide_plan_periodic-requires-clause-small
 decide_plan_periodic-requires-clause-small g c =
-    let P : Command → Type 0 = λ x. AllByRecursion IsWithin (command_numbers (as_command x)) in
+    let P : Command → Type 0 = λ x. AllByRecursion IsWithin (command_numbers (unit_count c.args.request.now.options) (as_command x)) in
     (subst P c.in-PlanPeriodic.is (all_after _ _ c.requires.numbers)).1.0.1
 
 pub decide_demo-requires-clause-number : goal.decide_demo-requires-clause-number
 decide_demo-requires-clause-number g c =
-    let P : Command → Type 0 = λ x. AllByRecursion IsWithin (command_numbers (as_command x)) in
+    let P : Command → Type 0 = λ x. AllByRecursion IsWithin (command_numbers (unit_count c.args.request.now.options) (as_command x)) in
     (subst P c.in-Demo.is (all_after _ _ c.requires.numbers)).0.1
 
 pub decide_demo-requires-clause-steps : goal.decide_demo-requires-clause-steps
 decide_demo-requires-clause-steps g c =
-    let P : Command → Type 0 = λ x. AllByRecursion IsWithin (command_numbers (as_command x)) in
+    let P : Command → Type 0 = λ x. AllByRecursion IsWithin (command_numbers (unit_count c.args.request.now.options) (as_command x)) in
     (subst P c.in-Demo.is (all_after _ _ c.requires.numbers)).1.0.1
 
 pub decide_demo-requires-clause-slots : goal.decide_demo-requires-clause-slots
 decide_demo-requires-clause-slots g c =
-    let P : Command → Type 0 = λ x. AllByRecursion IsWithin (command_numbers (as_command x)) in
+    let P : Command → Type 0 = λ x. AllByRecursion IsWithin (command_numbers (unit_count c.args.request.now.options) (as_command x)) in
     (subst P c.in-Demo.is (all_after _ _ c.requires.numbers)).1.1.0.1
 
 pub decide_check-requires-clause-steps : goal.decide_check-requires-clause-steps
 decide_check-requires-clause-steps g c =
-    let P : Command → Type 0 = λ x. AllByRecursion IsWithin (command_numbers (as_command x)) in
+    let P : Command → Type 0 = λ x. AllByRecursion IsWithin (command_numbers (unit_count c.args.request.now.options) (as_command x)) in
     (subst P c.in-Check.is (all_after _ _ c.requires.numbers)).0.1
 
 pub decide_certify-requires-clause-steps : goal.decide_certify-requires-clause-steps
 decide_certify-requires-clause-steps g c =
-    let P : Command → Type 0 = λ x. AllByRecursion IsWithin (command_numbers (as_command x)) in
+    let P : Command → Type 0 = λ x. AllByRecursion IsWithin (command_numbers (unit_count c.args.request.now.options) (as_command x)) in
     (subst P c.in-Certify.is (all_after _ _ c.requires.numbers)).0.1
 
 pub decide_ask-requires-clause-stack : goal.decide_ask-requires-clause-stack
@@ -97,18 +121,29 @@ decide_ask-requires-clause-stack g c = stack_within c.args.request.now.options (
 
 pub decide_ask-requires-clause-steps : goal.decide_ask-requires-clause-steps
 decide_ask-requires-clause-steps g c =
-    let P : Command → Type 0 = λ x. AllByRecursion IsWithin (command_numbers (as_command x)) in
+    let P : Command → Type 0 = λ x. AllByRecursion IsWithin (command_numbers (unit_count c.args.request.now.options) (as_command x)) in
     (subst P c.in-Ask.is (all_after _ _ c.requires.numbers)).0.1
 
 pub decide_ask-requires-clause-question : goal.decide_ask-requires-clause-question
 decide_ask-requires-clause-question g c =
-    let P : Command → Type 0 = λ x. AllByRecursion IsWithin (command_numbers (as_command x)) in
+    let P : Command → Type 0 = λ x. AllByRecursion IsWithin (command_numbers (unit_count c.args.request.now.options) (as_command x)) in
     (subst P c.in-Ask.is (all_after _ _ c.requires.numbers)).1.0
 
 pub decide_price-requires-clause-steps : goal.decide_price-requires-clause-steps
 decide_price-requires-clause-steps g c =
-    let P : Command → Type 0 = λ x. AllByRecursion IsWithin (command_numbers (as_command x)) in
+    let P : Command → Type 0 = λ x. AllByRecursion IsWithin (command_numbers (unit_count c.args.request.now.options) (as_command x)) in
     (subst P c.in-Price.is (all_after _ _ c.requires.numbers)).0.1
+
+pub decide_find-requires-clause-stack : goal.decide_find-requires-clause-stack
+decide_find-requires-clause-stack g c = stack_within c.args.request.now.options (all_front _ _ c.requires.numbers)
+
+pub decide_find-requires-clause-workers : goal.decide_find-requires-clause-workers
+decide_find-requires-clause-workers g c = workers_within c.args.request.now.options (all_front _ _ c.requires.numbers)
+
+pub decide_find-requires-clause-steps : goal.decide_find-requires-clause-steps
+decide_find-requires-clause-steps g c =
+    let P : Command → Type 0 = λ x. AllByRecursion IsWithin (command_numbers (unit_count c.args.request.now.options) (as_command x)) in
+    (subst P c.in-Find.is (all_after _ _ c.requires.numbers)).0.1
 
 pub returns-in-Run-clause-refused : goal.returns-in-Run-clause-refused
 returns-in-Run-clause-refused g c =
@@ -202,6 +237,21 @@ returns-in-PlanPeriodic-clause-refused g c =
 
 pub returns-in-PlanPeriodic-clause-room : goal.returns-in-PlanPeriodic-clause-room
 returns-in-PlanPeriodic-clause-room g c = if_okay c.decide_plan_periodic.result _ _ (λ job h. h c.args.counts.now) c.decide_plan_periodic.ensures.room
+
+pub returns-in-Find-clause-accepted : goal.returns-in-Find-clause-accepted
+returns-in-Find-clause-accepted g c =
+    let bytes : List (List ℕ) = map (λ b. b.items) c.args.bytes.now in
+    let P : Command → Type 0 = λ x. IfOk c.decide_find.result (λ job. DecidesBytes c.args.request.now.options (as_command x) bytes c.args.counts.now (accept (job_of job))) in
+    subst P (sym c.in-Find.is) (if_okay c.decide_find.result _ _ (λ job h. h c.args.counts.now) c.decide_find.ensures.accepted)
+
+pub returns-in-Find-clause-refused : goal.returns-in-Find-clause-refused
+returns-in-Find-clause-refused g c =
+    let bytes : List (List ℕ) = map (λ b. b.items) c.args.bytes.now in
+    let P : Command → Type 0 = λ x. IfErr c.decide_find.result (λ e. (e ≡ no_memory) ⊎ DecidesBytes c.args.request.now.options (as_command x) bytes c.args.counts.now (refuse e)) in
+    subst P (sym c.in-Find.is) (if_error c.decide_find.result _ _ (λ e h. elim h [ inl memory ↦ inl memory | inr decides ↦ inr (decides c.args.counts.now) ]) c.decide_find.ensures.refused)
+
+pub returns-in-Find-clause-room : goal.returns-in-Find-clause-room
+returns-in-Find-clause-room g c = if_okay c.decide_find.result _ _ (λ job h. h c.args.counts.now) c.decide_find.ensures.room
 
 pub returns-in-Demo-clause-accepted : goal.returns-in-Demo-clause-accepted
 returns-in-Demo-clause-accepted g c =

@@ -1,10 +1,11 @@
-use Rattle.std.proofs.Common.{◌≡◌, ◌⊎◌, inl, inr, ℕ, map, sym, subst}
-use Rattle.level_book.specs.BookCosts.{slots_of}
+use Rattle.std.proofs.Common.{◌*◌, ◌≡◌, ◌⊎◌, inl, inr, ℕ, map, sym, subst}
 use Rattle.requests.specs.declared.ended.Ended.{Ended}
+use Rattle.requests.specs.Request.{unit_count}
 use Rattle.requests.specs.Operands.{question_bound}
 use Rattle.requests.specs.Bounds.{IsWithin}
-use Rattle.reversal.specs.Deeds.{ask}
-use Rattle.reversal.specs.Decision.{accept, refuse, asked_about, DecidesOverBytes}
+use Rattle.reversal.specs.Job.{ask}
+use Rattle.reversal.specs.Table.{refuse}
+use Rattle.reversal.specs.Fronts.{DecidesOverBytes}
 use Rattle.requests.specs.Ending.{no_memory}
 use Rattle.requests.specs.RequestReading.{as_run}
 use Rattle.reversal.proofs.Deciding.{on_error}
@@ -16,7 +17,7 @@ decide_over-requires-clause-inputs c = (as_run c.args.ask.now.run, c.requires.in
 pub returns-in_err-over-clause-refused : goal.returns-in_err-over-clause-refused
 returns-in_err-over-clause-refused c =
     let steps = c.args.ask.now.run.steps in
-    let job = asked_about c.args.ask.now.question steps in
+    let job = ask c.args.ask.now.question in
     on_error c.from_residual.result _ _ c.from_residual.ensures.1 (λ e gives.
     let same : c.in_err-over.field-0.0 ≡ e = cc in
     let P : Ended → Type 0 = λ x. (x ≡ no_memory) ⊎ DecidesOverBytes job c.args.options.now steps (map (λ b. b.items) c.args.bytes.now) c.args.counts.now (refuse x) in
@@ -26,15 +27,10 @@ returns-in_err-over-clause-refused c =
     ])
 
 pub returns-clause-accepted : goal.returns-clause-accepted
-returns-clause-accepted c =
-    let o = c.in_ok-over.over in
-    let steps = c.args.ask.now.run.steps in
-    let question = c.args.ask.now.question in
-    let job = asked_about question steps in
-    let P : ℕ → Type 0 = λ n. DecidesOverBytes job c.args.options.now steps (map (λ b. b.items) c.args.bytes.now) c.args.counts.now (accept (ask question o.start o.journal n (slots_of o.book) o.list.items)) in
-    (c.requires.question, subst P (sym c.in_ok-over.ensures.steps) (c.in_ok-over.ensures.accepted job))
+returns-clause-accepted c = (c.requires.question, c.in_ok-over.ensures.accepted (ask c.args.ask.now.question))
 
 pub returns-clause-can_be_done : goal.returns-clause-can_be_done
 returns-clause-can_be_done c =
     let P : ℕ → Type 0 = λ n. IsWithin (question_bound n c.args.ask.now.question) in
-    record { over = c.in_ok-over.ensures.over; within = subst P (sym c.in_ok-over.ensures.steps) c.requires.question }
+    let same : c.in_ok-over.over.unit * c.in_ok-over.over.steps ≡ unit_count c.args.options.now * c.args.ask.now.run.steps = λ i. c.in_ok-over.ensures.unit i * c.in_ok-over.ensures.steps i in
+    record { over = c.in_ok-over.ensures.over; within = subst P (sym same) c.requires.question }

@@ -1,9 +1,9 @@
 use Rattle.std.proofs.Common.{◌≡◌, ◌⊎◌, inl, inr, ◌∙◌, ℕ, List, [], ◌∷◌, map, Vec, Global, IfOk, IfErr, sym, subst, arith}
-use Rattle.requests.specs.Request.{Choice}
-use Rattle.reversal.specs.Decision.{accept, refuse, DecidesBytes}
+use Rattle.requests.specs.Request.{Choice, check}
+use Rattle.reversal.specs.Table.{accept, refuse}
+use Rattle.reversal.specs.Decision.{DecidesBytes}
 use Rattle.requests.specs.Ending.{no_memory}
 use Rattle.reversal.specs.JobReading.{job_of}
-use Rattle.requests.specs.Request.{check}
 use Rattle.requests.specs.RequestReading.{as_check}
 use Rattle.reversal.proofs.Answering.{if_okay, if_error}
 use Rattle.requests.proofs.Taking.{two_texts}

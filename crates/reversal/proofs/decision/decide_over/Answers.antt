@@ -1,6 +1,8 @@
 use Rattle.std.proofs.Common.{◌≡◌, ◌⊎◌, ◌∙◌, ℕ, List, [], ◌∷◌, map, Vec, Global, IfOk, IfErr, sym, subst, arith}
-use Rattle.level_book.specs.BookCosts.{slots_of}
-use Rattle.reversal.specs.Decision.{accept, refuse, Maker, DecidesOverBytes}
+use Rattle.reversal.specs.Table.{accept, refuse}
+use Rattle.reversal.specs.Job.{Run, Job}
+use Rattle.reversal.specs.JobReading.{run_over}
+use Rattle.reversal.specs.Fronts.{DecidesOverBytes}
 use Rattle.requests.specs.Ending.{no_memory}
 use Rattle.requests.proofs.Taking.{three_texts, four_texts}
 use Rattle.reversal.proofs.decision.decide_over.Goals as goal
@@ -10,7 +12,7 @@ returns-in-len3-clause-accepted c =
     let same = three_texts c.args.bytes.now c.program-item.result c.book-item.result c.schedule-item.result (omega arith) c.program-item.is c.book-item.is c.schedule-item.is in
     let deref : c.deref.result.now ∷ c.deref-in-len3.result.now ∷ c.deref-in-len3-2.result.now ∷ [] ≡ map (λ (t : Vec ℕ Global). t.items) c.args.bytes.now =
     (λ i. c.deref.ensures.value i ∷ c.deref-in-len3.ensures.value i ∷ c.deref-in-len3-2.ensures.value i ∷ []) ∙ sym same in
-    let P : List (List ℕ) → Type 0 = λ l. IfOk c.decide_texts.result (λ o. (job : Maker) → DecidesOverBytes job c.args.options.now c.args.steps l c.args.counts.now (accept (job o.start o.journal (slots_of o.book) o.list.items))) in
+    let P : List (List ℕ) → Type 0 = λ l. IfOk c.decide_texts.result (λ o. (job : Run → Job) → DecidesOverBytes job c.args.options.now c.args.steps l c.args.counts.now (accept (job (run_over o)))) in
     subst P deref c.decide_texts.ensures.accepted
 
 pub returns-in-len3-clause-refused : goal.returns-in-len3-clause-refused
@@ -18,7 +20,7 @@ returns-in-len3-clause-refused c =
     let same = three_texts c.args.bytes.now c.program-item.result c.book-item.result c.schedule-item.result (omega arith) c.program-item.is c.book-item.is c.schedule-item.is in
     let deref : c.deref.result.now ∷ c.deref-in-len3.result.now ∷ c.deref-in-len3-2.result.now ∷ [] ≡ map (λ (t : Vec ℕ Global). t.items) c.args.bytes.now =
     (λ i. c.deref.ensures.value i ∷ c.deref-in-len3.ensures.value i ∷ c.deref-in-len3-2.ensures.value i ∷ []) ∙ sym same in
-    let P : List (List ℕ) → Type 0 = λ l. (job : Maker) → IfErr c.decide_texts.result (λ e. (e ≡ no_memory) ⊎ DecidesOverBytes job c.args.options.now c.args.steps l c.args.counts.now (refuse e)) in
+    let P : List (List ℕ) → Type 0 = λ l. (job : Run → Job) → IfErr c.decide_texts.result (λ e. (e ≡ no_memory) ⊎ DecidesOverBytes job c.args.options.now c.args.steps l c.args.counts.now (refuse e)) in
     subst P deref c.decide_texts.ensures.refused
 
 pub returns-in-len4-clause-accepted : goal.returns-in-len4-clause-accepted
@@ -26,7 +28,7 @@ returns-in-len4-clause-accepted c =
     let same = four_texts c.args.bytes.now c.program-item-then-bytes-lt5.result c.journal-item.result c.book-item-then-bytes-lt5.result c.schedule-item-then-bytes-lt5.result (omega arith) c.program-item-then-bytes-lt5.is c.journal-item.is c.book-item-then-bytes-lt5.is c.schedule-item-then-bytes-lt5.is in
     let deref : c.deref-in-len4.result.now ∷ c.deref-in-len4-2.result.now ∷ c.deref-in-len4-3.result.now ∷ c.deref-in-len4-4.result.now ∷ [] ≡ map (λ (t : Vec ℕ Global). t.items) c.args.bytes.now =
     (λ i. c.deref-in-len4.ensures.value i ∷ c.deref-in-len4-2.ensures.value i ∷ c.deref-in-len4-3.ensures.value i ∷ c.deref-in-len4-4.ensures.value i ∷ []) ∙ sym same in
-    let P : List (List ℕ) → Type 0 = λ l. IfOk c.decide_texts-in-len4.result (λ o. (job : Maker) → DecidesOverBytes job c.args.options.now c.args.steps l c.args.counts.now (accept (job o.start o.journal (slots_of o.book) o.list.items))) in
+    let P : List (List ℕ) → Type 0 = λ l. IfOk c.decide_texts-in-len4.result (λ o. (job : Run → Job) → DecidesOverBytes job c.args.options.now c.args.steps l c.args.counts.now (accept (job (run_over o)))) in
     subst P deref c.decide_texts-in-len4.ensures.accepted
 
 pub returns-in-len4-clause-refused : goal.returns-in-len4-clause-refused
@@ -34,5 +36,5 @@ returns-in-len4-clause-refused c =
     let same = four_texts c.args.bytes.now c.program-item-then-bytes-lt5.result c.journal-item.result c.book-item-then-bytes-lt5.result c.schedule-item-then-bytes-lt5.result (omega arith) c.program-item-then-bytes-lt5.is c.journal-item.is c.book-item-then-bytes-lt5.is c.schedule-item-then-bytes-lt5.is in
     let deref : c.deref-in-len4.result.now ∷ c.deref-in-len4-2.result.now ∷ c.deref-in-len4-3.result.now ∷ c.deref-in-len4-4.result.now ∷ [] ≡ map (λ (t : Vec ℕ Global). t.items) c.args.bytes.now =
     (λ i. c.deref-in-len4.ensures.value i ∷ c.deref-in-len4-2.ensures.value i ∷ c.deref-in-len4-3.ensures.value i ∷ c.deref-in-len4-4.ensures.value i ∷ []) ∙ sym same in
-    let P : List (List ℕ) → Type 0 = λ l. (job : Maker) → IfErr c.decide_texts-in-len4.result (λ e. (e ≡ no_memory) ⊎ DecidesOverBytes job c.args.options.now c.args.steps l c.args.counts.now (refuse e)) in
+    let P : List (List ℕ) → Type 0 = λ l. (job : Run → Job) → IfErr c.decide_texts-in-len4.result (λ e. (e ≡ no_memory) ⊎ DecidesOverBytes job c.args.options.now c.args.steps l c.args.counts.now (refuse e)) in
     subst P deref c.decide_texts-in-len4.ensures.refused

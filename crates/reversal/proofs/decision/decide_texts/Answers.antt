@@ -1,4 +1,4 @@
-use Rattle.std.proofs.Common.{◌≡◌, List, subst}
+use Rattle.std.proofs.Common.{◌≡◌, ℕ, List, sym, subst}
 use Rattle.std.specs.Option.{option_copied}
 use Rattle.plan_types.specs.declared.action.Action.{Action}
 use Rattle.level_book.specs.BookCosts.{slots_of, names_of}
@@ -7,7 +7,8 @@ use Rattle.action_text.specs.Faults.{HasFirstFault}
 use Rattle.requests.specs.declared.ended.Ended.{Ended}
 use Rattle.requests.specs.Ending.{bad_program, bad_journal, bad_book, bad_text}
 use Rattle.requests.specs.Request.{says_raw, stack_pages}
-use Rattle.reversal.specs.Decision.{refuse, Keep, HasBookFault, HasProgramFault, HasJournalFault}
+use Rattle.reversal.specs.Table.{refuse, accept, Keep}
+use Rattle.reversal.specs.Fronts.{HasBookFault, HasProgramFault, HasJournalFault, DecidesOver, in_units}
 use Rattle.reversal.specs.JobReading.{IsRefusal}
 use Rattle.reversal.proofs.Deciding.{on_error, IsBroken, over_by_book, over_by_keepers, over_by_program, over_by_journal, over_by_text, over_by_rules, over_accepted}
 use Rattle.reversal.proofs.decision.decide_texts.Goals as goal
@@ -59,6 +60,11 @@ returns-in_err-judge-clause-refused c job =
 
 pub returns-clause-accepted : goal.returns-clause-accepted
 returns-clause-accepted c job =
+    let o = c.args.options.now in
+    let texts = c.args.texts in
     let L : List Action → Type 0 = λ l. Valid c.args.steps (slots_of c.in_ok-book.book) l in
-    over_accepted job c.args.options.now c.args.steps c.args.texts.program.now (option_copied c.args.texts.journal) c.args.texts.book.now c.args.texts.schedule.now c.args.counts.now c.in_ok-book.book c.in_ok-start.start c.in_ok-journal.journal c.in_ok-list.list.items
-    c.in_ok-book.ensures.found c.in_ok-keep.ensures.room c.in_ok-start.ensures.found c.in_ok-journal.ensures.found c.in_ok-list.ensures.found (subst L c.deref.ensures.value c.in_ok-judge.ensures.valid)
+    let U : ℕ → Type 0 = λ unit. DecidesOver job o c.args.steps texts.program.now (option_copied texts.journal) texts.book.now texts.schedule.now c.args.counts.now
+    (accept (job (in_units unit c.in_ok-start.start c.in_ok-journal.journal c.args.steps (slots_of c.in_ok-book.book) c.in_ok-list.list.items))) in
+    subst U (sym c.unit_of.ensures)
+    (over_accepted job o c.args.steps texts.program.now (option_copied texts.journal) texts.book.now texts.schedule.now c.args.counts.now c.in_ok-book.book c.in_ok-start.start c.in_ok-journal.journal c.in_ok-list.list.items
+    c.in_ok-book.ensures.found c.in_ok-keep.ensures.room c.in_ok-start.ensures.found c.in_ok-journal.ensures.found c.in_ok-list.ensures.found (subst L c.deref.ensures.value c.in_ok-judge.ensures.valid))

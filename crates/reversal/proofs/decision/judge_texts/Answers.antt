@@ -5,9 +5,11 @@ use Rattle.level_book.specs.BookCosts.{slots_of, names_of}
 use Rattle.level_book.specs.Valid.{Valid}
 use Rattle.action_text.specs.Faults.{HasFirstFault}
 use Rattle.requests.specs.declared.ended.Ended.{Ended}
-use Rattle.reversal.specs.Deeds.{write}
+use Rattle.reversal.specs.Job.{write}
 use Rattle.requests.specs.Ending.{bad_book, bad_text}
-use Rattle.reversal.specs.Decision.{HasBookFault, DecidesCheck, accept}
+use Rattle.reversal.specs.Fronts.{HasBookFault}
+use Rattle.reversal.specs.CommandCheck.{DecidesCheck}
+use Rattle.reversal.specs.Table.{accept}
 use Rattle.reversal.specs.JobReading.{IsRefusal}
 use Rattle.reversal.proofs.Deciding.{on_error, IsBroken, check_by_book, check_by_text, check_by_rules, check_accepted}
 use Rattle.reversal.proofs.decision.judge_texts.Goals as goal

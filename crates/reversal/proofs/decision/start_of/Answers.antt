@@ -3,7 +3,7 @@ use Rattle.elf_load.specs.Elf.{IsProgram}
 use Rattle.elf_load.specs.Raw.{IsRawProgram}
 use Rattle.requests.specs.Ending.{bad_program}
 use Rattle.requests.specs.Request.{says_raw, stack_pages}
-use Rattle.reversal.specs.Decision.{IsStartOf, HasProgramFault}
+use Rattle.reversal.specs.Fronts.{IsStartOf, HasProgramFault}
 use Rattle.reversal.specs.JobReading.{IsRefusal}
 use Rattle.reversal.proofs.Deciding.{on_error}
 use Rattle.reversal.proofs.Refused.{file_refused}

@@ -8,9 +8,10 @@ use Rattle.disk_gen.specs.DiskShapes.{AreDiskShaped}
 use Rattle.cert_text.specs.declared.certificate.Certificate.TheVariants.{Disk}
 use Rattle.cert_text.specs.Canonical as certificate_text
 use Rattle.cert_text.specs.Meaning.{HasText}
-use Rattle.reversal.specs.Deeds.{Job, write}
+use Rattle.reversal.specs.Job.{Job, write}
 use Rattle.reversal.specs.Plans.{list_pieces}
-use Rattle.reversal.specs.Decision.{accept, DecidesPlanDisk}
+use Rattle.reversal.specs.Table.{accept}
+use Rattle.reversal.specs.CommandPlan.{DecidesPlanDisk}
 use Rattle.reversal.proofs.Spelled.{valid_spelled}
 use Rattle.reversal.proofs.Planned.{as_many}
 use Rattle.reversal.proofs.Deciding.{disk_accepted}

@@ -8,11 +8,13 @@ use Rattle.cert_text.specs.declared.certificate.Certificate.TheVariants.{Nested}
 use Rattle.cert_text.specs.Canonical as certificate_text
 use Rattle.cert_text.specs.Meaning.{HasText}
 use Rattle.requests.specs.declared.ended.Ended.{Ended}
-use Rattle.reversal.specs.Deeds.{Job, write}
+use Rattle.reversal.specs.Job.{Job, write}
 use Rattle.requests.specs.Ending.{bad_book, no_memory, out_of_range}
 use Rattle.reversal.specs.Plans.{list_pieces}
 use Rattle.reversal.specs.NoPlans.{IsUnnested}
-use Rattle.reversal.specs.Decision.{HasBookFault, DecidesPlanHrevolve, accept}
+use Rattle.reversal.specs.Fronts.{HasBookFault}
+use Rattle.reversal.specs.CommandPlan.{DecidesPlanHrevolve}
+use Rattle.reversal.specs.Table.{accept}
 use Rattle.reversal.specs.JobReading.{IsRefusal}
 use Rattle.reversal.proofs.Spelled.{valid_spelled}
 use Rattle.reversal.proofs.Planned.{as_many}

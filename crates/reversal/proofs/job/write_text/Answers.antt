@@ -5,15 +5,16 @@ use Rattle.reversal.proofs.Doing.{tells_nothing, raised_none}
 use Rattle.reversal.proofs.Pieces.{texts_done, texts_stopped}
 use Rattle.reversal.proofs.job.write_text.Goals as goal
 
-pub returns-in-Ok-clause-works : goal.returns-in-Ok-clause-works
-returns-in-Ok-clause-works g c steps calls images =
+pub returns-in-Ok : goal.returns-in-Ok
+returns-in-Ok g c other steps =
     let text : List ℕ = c.args.text.now in
     let P : List ℕ → Type 0 = λ l. Tells (g.O.Sink.told c.args.out.now) (g.O.Sink.told c.write.new.self) (Adds l) in
-    texts_done (text ∷ []) _ _ _ _ _ steps calls images c.done.ensures (subst P (sym (append-nil text)) (subst P c.bytes.ensures.value c.in-Ok.ensures.ok)) c.in-Ok.ensures.calls
+    texts_done (text ∷ []) _ _ _ (record { steps = refl; calls = refl }) (record { sink = c.in-Ok.ensures.quiet; keepers = λ k. refl }) c.done.ensures
+    (subst P (sym (append-nil text)) (subst P c.bytes.ensures.value c.in-Ok.ensures.ok)) c.in-Ok.ensures.calls
 
-pub returns-in-Err-clause-works : goal.returns-in-Err-clause-works
-returns-in-Err-clause-works g c steps calls images =
+pub returns-in-Err : goal.returns-in-Err
+returns-in-Err g c other steps =
     let text : List ℕ = c.args.text.now in
     let P : List ℕ → Type 0 = λ l. Tells (g.O.Sink.told c.args.out.now) (g.O.Sink.told c.write.new.self) (AddsPrefix l) in
-    texts_stopped [] text [] (text ∷ []) _ _ (g.O.Sink.told c.args.out.now) _ (g.O.Sink.call_count c.args.out.now) _ _ steps calls images refl c.stopped.ensures
-    (tells_nothing _ _ refl) (raised_none _) (subst P c.bytes.ensures.value c.in-Err.ensures.refused) c.in-Err.ensures.calls
+    texts_stopped [] text [] (text ∷ []) _ (g.O.Sink.told c.args.out.now) (g.O.Sink.call_count c.args.out.now) _ _ (record { steps = refl; calls = refl }) (record { sink = c.in-Err.ensures.cause; keepers = λ k. refl }) refl
+    c.stopped.ensures (tells_nothing _ _ refl) (raised_none _) (subst P c.bytes.ensures.value c.in-Err.ensures.refused) c.in-Err.ensures.calls

@@ -6,10 +6,12 @@ use Rattle.action_text.specs.Canonical.{HasSpelling}
 use Rattle.revolve_gen.specs.Multistage.{IsMultistage}
 use Rattle.revolve_gen.proofs.Extending.{multistage_valid}
 use Rattle.requests.specs.declared.ended.Ended.{Ended}
-use Rattle.reversal.specs.Deeds.{Job, write}
+use Rattle.reversal.specs.Job.{Job, write}
 use Rattle.requests.specs.Ending.{bad_book}
 use Rattle.reversal.specs.Plans.{list_pieces}
-use Rattle.reversal.specs.Decision.{HasBookFault, DecidesPlanMultistage, accept}
+use Rattle.reversal.specs.Fronts.{HasBookFault}
+use Rattle.reversal.specs.CommandPlan.{DecidesPlanMultistage}
+use Rattle.reversal.specs.Table.{accept}
 use Rattle.reversal.specs.JobReading.{IsRefusal}
 use Rattle.reversal.proofs.Spelled.{valid_spelled}
 use Rattle.reversal.proofs.Planned.{as_many}

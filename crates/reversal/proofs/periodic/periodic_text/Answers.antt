@@ -6,11 +6,13 @@ use Rattle.action_text.specs.Canonical.{HasSpelling}
 use Rattle.disk_gen.specs.Periodic.{periodic_list}
 use Rattle.disk_gen.proofs.Leading.{periodic_valid}
 use Rattle.requests.specs.declared.ended.Ended.{Ended}
-use Rattle.reversal.specs.Deeds.{Job, write}
+use Rattle.reversal.specs.Job.{Job, write}
 use Rattle.requests.specs.Ending.{bad_book, no_memory}
 use Rattle.reversal.specs.Plans.{list_pieces}
 use Rattle.reversal.specs.NoPlans.{IsUnperiodic}
-use Rattle.reversal.specs.Decision.{HasBookFault, DecidesPlanPeriodic, accept}
+use Rattle.reversal.specs.Fronts.{HasBookFault}
+use Rattle.reversal.specs.CommandPlan.{DecidesPlanPeriodic}
+use Rattle.reversal.specs.Table.{accept}
 use Rattle.reversal.specs.JobReading.{IsRefusal}
 use Rattle.reversal.proofs.Spelled.{valid_spelled}
 use Rattle.reversal.proofs.Planned.{as_many}

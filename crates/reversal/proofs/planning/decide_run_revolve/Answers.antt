@@ -1,5 +1,6 @@
 use Rattle.std.proofs.Common.{◌≡◌, ◌⊎◌, ◌∙◌, ℕ, List, [], ◌∷◌, map, Vec, Global, IfOk, IfErr, sym, subst, arith}
-use Rattle.reversal.specs.Decision.{accept, refuse, DecidesBytes}
+use Rattle.reversal.specs.Table.{accept, refuse}
+use Rattle.reversal.specs.Decision.{DecidesBytes}
 use Rattle.requests.specs.Ending.{no_memory}
 use Rattle.reversal.specs.JobReading.{job_of}
 use Rattle.requests.specs.Request.{run_revolve}

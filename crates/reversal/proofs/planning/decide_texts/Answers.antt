@@ -1,12 +1,14 @@
-use Rattle.std.proofs.Common.{◌≡◌, ◌≤◌, sym, subst, List, length}
+use Rattle.std.proofs.Common.{◌≡◌, ◌≤◌, ◌*◌, ℕ, sym, subst, List, length, arith}
 use Rattle.std.specs.Option.{option_copied}
 use Rattle.plan_types.specs.declared.action.Action.{Action}
 use Rattle.level_book.specs.BookCosts.{slots_of}
 use Rattle.requests.specs.declared.ended.Ended.{Ended}
-use Rattle.reversal.specs.Deeds.{perform}
+use Rattle.reversal.specs.Job.{perform}
 use Rattle.requests.specs.Ending.{bad_book, bad_program, bad_journal}
-use Rattle.requests.specs.Request.{says_raw, stack_pages}
-use Rattle.reversal.specs.Decision.{Keep, refuse, accept, HasBookFault, HasProgramFault, HasJournalFault, DecidesRunRevolve}
+use Rattle.requests.specs.Request.{says_raw, stack_pages, unit_count}
+use Rattle.reversal.specs.Table.{Keep, refuse, accept}
+use Rattle.reversal.specs.Fronts.{HasBookFault, HasProgramFault, HasJournalFault, in_units}
+use Rattle.reversal.specs.CommandRun.{DecidesRunRevolve}
 use Rattle.reversal.specs.JobReading.{IsRefusal}
 use Rattle.level_book.specs.Valid.{Valid}
 use Rattle.reversal.proofs.Planned.{plan_valid, plan_few}
@@ -50,18 +52,25 @@ returns-in_err-journal-clause-refused c =
 
 pub returns-clause-accepted : goal.returns-clause-accepted
 returns-clause-accepted c =
-    let P : List Action → Type 0 = λ l. DecidesRunRevolve c.args.options.now c.args.steps c.args.texts.program.now (option_copied c.args.texts.journal) c.args.texts.book.now c.args.counts.now (accept (perform c.in_ok-start.start c.in_ok-journal.journal c.args.steps (slots_of c.in_ok-book.book) l)) in
-    subst P (sym c.in_ok-revolve.ensures.list)
-    (revolve_accepted c.args.options.now c.args.steps c.args.texts.program.now (option_copied c.args.texts.journal) c.args.texts.book.now c.args.counts.now c.in_ok-book.book c.in_ok-start.start c.in_ok-journal.journal
-    c.in_ok-book.ensures.found c.in_ok-keep.ensures.room c.in_ok-revolve.ensures.plan c.in_ok-start.ensures.found c.in_ok-journal.ensures.found)
+    let o = c.args.options.now in
+    let texts = c.args.texts in
+    let D : ℕ → List Action → Type 0 = λ unit l. DecidesRunRevolve o c.args.steps texts.program.now (option_copied texts.journal) texts.book.now c.args.counts.now
+    (accept (perform (in_units unit c.in_ok-start.start c.in_ok-journal.journal c.args.steps (slots_of c.in_ok-book.book) l))) in
+    subst (λ unit. D unit c.in_ok-revolve.revolve) (sym c.unit_of.ensures) (subst (D (unit_count o)) (sym c.in_ok-revolve.ensures.list)
+    (revolve_accepted o c.args.steps texts.program.now (option_copied texts.journal) texts.book.now c.args.counts.now c.in_ok-book.book c.in_ok-start.start c.in_ok-journal.journal
+    c.in_ok-book.ensures.found c.in_ok-keep.ensures.room c.in_ok-revolve.ensures.plan c.in_ok-start.ensures.found c.in_ok-journal.ensures.found))
 
 pub returns-clause-can_be_done : goal.returns-clause-can_be_done
 returns-clause-can_be_done c =
     let b = c.in_ok-book.book in
     let F : List Action → Type 0 = λ l. length l ≤ 16777216 in
     let V : List Action → Type 0 = λ l. Valid c.args.steps (slots_of b) l in
+    let same = c.unit_of.ensures in
+    let I : ℕ → Type 0 = λ unit. unit * c.args.steps ≤ 1000000 in
     record {
       steps = c.requires.steps;
+      unit = (omega (arith, same, c.requires.unit.0), omega (arith, same, c.requires.unit.1));
+      instructions = subst I (sym same) c.requires.instructions;
       few = subst F (sym c.in_ok-revolve.ensures.list) (plan_few c.args.steps b c.requires.steps c.in_ok-revolve.ensures.plan);
       valid = subst V (sym c.in_ok-revolve.ensures.list) (plan_valid c.args.steps b c.in_ok-revolve.ensures.plan);
     }

@@ -5,10 +5,12 @@ use Rattle.level_book.specs.BookCosts.{names_of}
 use Rattle.action_text.specs.Canonical.{HasSpelling}
 use Rattle.cert_text.specs.Canonical as certificate
 use Rattle.requests.specs.declared.ended.Ended.{Ended}
-use Rattle.reversal.specs.Deeds.{Job, write}
+use Rattle.reversal.specs.Job.{Job, write}
 use Rattle.requests.specs.Ending.{bad_book}
 use Rattle.reversal.specs.Plans.{list_pieces}
-use Rattle.reversal.specs.Decision.{HasBookFault, DecidesPlanRevolve, accept}
+use Rattle.reversal.specs.Fronts.{HasBookFault}
+use Rattle.reversal.specs.CommandPlan.{DecidesPlanRevolve}
+use Rattle.reversal.specs.Table.{accept}
 use Rattle.reversal.specs.JobReading.{IsRefusal}
 use Rattle.reversal.proofs.Planned.{plan_spelled, certificate_is}
 use Rattle.reversal.proofs.Deciding.{on_error, IsUnplanned, plan_by_book, plan_by_plan, plan_accepted}

@@ -1,6 +1,7 @@
 use Rattle.std.proofs.Common.{◌≡◌, ◌⊎◌, inl, inr, ◌∙◌, ℕ, List, [], ◌∷◌, map, Vec, Global, IfOk, IfErr, sym, subst, arith}
 use Rattle.requests.specs.Request.{Choice, price}
-use Rattle.reversal.specs.Decision.{accept, refuse, DecidesBytes}
+use Rattle.reversal.specs.Table.{accept, refuse}
+use Rattle.reversal.specs.Decision.{DecidesBytes}
 use Rattle.requests.specs.Ending.{no_memory}
 use Rattle.reversal.specs.JobReading.{job_of}
 use Rattle.requests.specs.RequestReading.{as_price}

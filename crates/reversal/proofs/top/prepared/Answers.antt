@@ -2,7 +2,8 @@ use Rattle.std.proofs.Common.{◌≡◌, ℕ, List, map, Vec, Global, IfOk, sym,
 use Rattle.requests.specs.declared.ended.Ended.{Ended}
 use Rattle.requests.specs.InputReading.{all, Reads, Stops}
 use Rattle.requests.specs.Inputs.{inputs_of}
-use Rattle.reversal.specs.Decision.{accept, Comes}
+use Rattle.reversal.specs.Table.{accept}
+use Rattle.reversal.specs.Decision.{Comes}
 use Rattle.reversal.specs.JobReading.{job_of, KeepersHaveRoom}
 use Rattle.requests.specs.RequestReading.{request_of}
 use Rattle.reversal.proofs.Answering.{Refused, comes_by, stops_refused, decides_refused, no_input_fault, if_error, if_okay}

@@ -4,7 +4,8 @@ use Rattle.requests.specs.Request.{Request, Says, words_of}
 use Rattle.requests.specs.Bounds.{numbers}
 use Rattle.requests.specs.Inputs.{inputs_of, names, FailsAtInput}
 use Rattle.requests.specs.RequestReading.{request_of}
-use Rattle.reversal.specs.Decision.{accept, refuse, Comes}
+use Rattle.reversal.specs.Table.{accept, refuse}
+use Rattle.reversal.specs.Decision.{Comes}
 use Rattle.reversal.specs.JobReading.{job_of}
 use Rattle.requests.proofs.Requests.{one_request}
 use Rattle.requests.proofs.Settled.{refuses_number, not_asked, not_refused, refused_so, refused_not_two}
@@ -41,12 +42,6 @@ returns-in-Some-refusal-clause-input_cause g c three = let is = refused_status g
 
 pub returns-in-Some-refusal-clause-memory : goal.returns-in-Some-refusal-clause-memory
 returns-in-Some-refusal-clause-memory g c memory = let is = refused_status g c in absurd (omega (arith, is, memory))
-
-pub returns-in-Some-refusal-clause-sink_cause : goal.returns-in-Some-refusal-clause-sink_cause
-returns-in-Some-refusal-clause-sink_cause g c sink = let is = refused_status g c in absurd (omega (arith, is, sink))
-
-pub returns-in-Some-refusal-clause-keeper_cause : goal.returns-in-Some-refusal-clause-keeper_cause
-returns-in-Some-refusal-clause-keeper_cause g c keeper = let is = refused_status g c in absurd (omega (arith, is, keeper))
 
 -- ---- a job was come to
 

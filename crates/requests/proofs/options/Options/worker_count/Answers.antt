@@ -1,6 +1,6 @@
 use Rattle.std.proofs.Common.{◌≡◌, ℕ, ◌∙◌, refl, sym, ap, List, ◌∷◌, map}
 use Rattle.requests.specs.declared.options.Choice as in_memory
-use Rattle.requests.specs.declared.options.Choice.TheVariants.{Raw, Stack, Workers, Files}
+use Rattle.requests.specs.declared.options.Choice.TheVariants.{Raw, Stack, Workers, Unit, Files}
 use Rattle.requests.specs.Request.{Choice, worker_count}
 use Rattle.requests.specs.ChoiceReading.{options_at, as_choice}
 use Rattle.requests.proofs.Requests.{one_more, no_more}
@@ -16,6 +16,7 @@ further : (c : in_memory.Choice) (xs : List Choice) → ((count : ℕ) → c ≡
 further Raw xs h = refl
 further (Workers count) xs h = absurd (h count refl)
 further (Stack pages) xs h = refl
+further (Unit count) xs h = refl
 further (Files level folder) xs h = refl
 
 pub loop-choice-preserved : goal.loop-choice-preserved

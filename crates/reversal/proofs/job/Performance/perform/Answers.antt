@@ -5,8 +5,9 @@ use Rattle.reverse_runner.specs.KeepersSeen.{HaveRoom}
 use Rattle.rv_machine.specs.MachineState.{MachineState}
 use Rattle.reverse_runner.specs.SessionState.{SessionState}
 use Rattle.reverse_runner.specs.Standing.{StandsAt}
-use Rattle.reversal.specs.Deeds.{perform, moment}
-use Rattle.reversal.specs.JobReading.{Works}
+use Rattle.reversal.specs.Job.{perform}
+use Rattle.reversal.specs.Moment.{moment}
+use Rattle.reversal.specs.JobReading.{Works, run_from}
 use Rattle.reversal.proofs.job.Performance.perform.Goals as goal
 
 pub perform_all-requires-clause-stands : goal.perform_all-requires-clause-stands
@@ -28,9 +29,9 @@ perform_all-requires-clause-room g c =
 
 pub returns-clause-works : goal.returns-clause-works
 returns-clause-works g c =
-    let P : SessionState → Type 0 = λ s. Works (perform s.work s.journal s.situation.steps s.situation.slots (left_of c.args.self.actions)) c.perform_all.result
-    (moment g.O.Sink.told g.O.Sink.call_count g.K.Keeper.told g.K.Keeper.put_count g.K.Keeper.get_count g.K.Keeper.free_count c.args.out.now c.args.keepers.now.items c.args.counter.now)
-    (moment g.O.Sink.told g.O.Sink.call_count g.K.Keeper.told g.K.Keeper.put_count g.K.Keeper.get_count g.K.Keeper.free_count c.perform_all.new.out c.perform_all.new.keepers.items c.perform_all.new.counter) in
+    let P : SessionState → Type 0 = λ s. Works (perform (run_from s (left_of c.args.self.actions))) c.perform_all.result
+    (moment g.O.Sink.told g.O.Sink.call_count g.O.Sink.fault_count g.K.Keeper.told g.K.Keeper.put_count g.K.Keeper.get_count g.K.Keeper.free_count g.K.Keeper.fault_count c.args.out.now c.args.keepers.now.items c.args.counter.now)
+    (moment g.O.Sink.told g.O.Sink.call_count g.O.Sink.fault_count g.K.Keeper.told g.K.Keeper.put_count g.K.Keeper.get_count g.K.Keeper.free_count g.K.Keeper.fault_count c.perform_all.new.out c.perform_all.new.keepers.items c.perform_all.new.counter) in
     inr (subst P c.in-Ok.ensures.begun c.perform_all.ensures.works)
 
 pub returns-clause-others : goal.returns-clause-others

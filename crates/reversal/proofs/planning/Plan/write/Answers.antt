@@ -4,6 +4,7 @@ use Rattle.level_book.specs.BookCosts.{BookCosts, names_of}
 use Rattle.action_text.specs.Canonical.{HasSpelling}
 use Rattle.cert_text.specs.Canonical as certificate
 use Rattle.cert_text.proofs.Spelled.{joined}
+use Rattle.keepers.specs.Counts.{Rose}
 use Rattle.keepers.specs.Told.{Tells, AddsPrefix}
 use Rattle.reversal.specs.Output.{Adds}
 use Rattle.reversal.specs.ActionsLeft.{left_of}
@@ -46,40 +47,45 @@ loop-out-preserved g c =
       faults = c.in-Ok.ensures.quiet ∙ inv.faults;
     }
 
-pub returns-in-Err-clause-works : goal.returns-in-Err-clause-works
-returns-in-Err-clause-works g c steps calls images =
+pub returns-in-Err : goal.returns-in-Err
+returns-in-Err g c other steps =
     let inv = c.loop-out.invariant in
     let rest = left_of c.loop-out.self.actions in
     let f = line_of_action (names_of c.args.self.book) in
     let is = c.next_piece.ensures.piece ∙ ap (λ b. bytes_of (take 64 (map (line_of_action (names_of b)) rest))) inv.book in
     let P : List ℕ → Type 0 = λ l. Tells (g.O.Sink.told c.loop-out.out) (g.O.Sink.told c.write.new.self) (AddsPrefix l) in
-    written_stopped f _ _ rest c.next_piece.new.self.piece.items _ (g.O.Sink.told c.args.out.now) (g.O.Sink.told c.loop-out.out) (g.O.Sink.told c.write.new.self) _ _ _ steps calls images inv.so_far
-    (c.loop-out-test.ensures.some.0 refl) is c.stopped.ensures (subst P c.deref.ensures.value c.in-Err.ensures.refused) c.in-Err.ensures.calls
+    let N : ℕ → Type 0 = λ n. Rose n (g.O.Sink.fault_count c.write.new.self) in
+    written_stopped f _ _ rest _ (g.O.Sink.told c.loop-out.out) (g.O.Sink.call_count c.loop-out.out) _ _ (record { steps = refl; calls = refl }) inv.so_far c.next_piece.new.self.piece.items
+    (record { sink = subst N inv.faults c.in-Err.ensures.cause; keepers = λ k. refl }) (c.loop-out-test.ensures.some.0 refl) is c.stopped.ensures (subst P c.deref.ensures.value c.in-Err.ensures.refused) c.in-Err.ensures.calls
 
-pub returns-in_default-clause-works : goal.returns-in_default-clause-works
-returns-in_default-clause-works g c steps calls images =
+pub returns-in_default : goal.returns-in_default
+returns-in_default g c other steps =
     let inv = c.loop-out.invariant in
     let f = line_of_action (names_of c.args.self.book) in
     let none = none_behind (left_of c.loop-out.self.actions) (λ some. c.loop-out-test.ensures.some.1 some) in
     let same : c.args.self.certificate ≡ None = sym (c.next_piece.ensures.kept.1 ∙ inv.certificate) ∙ c.in_default.is in
-    written_whole f _ _ (left_of c.loop-out.self.actions) _ (g.O.Sink.told c.args.out.now) (g.O.Sink.told c.loop-out.out) _ _ steps calls images inv.so_far none (ap certificate_pieces same) c.done.ensures
+    written_whole f _ _ (left_of c.loop-out.self.actions) _ (g.O.Sink.told c.loop-out.out) (g.O.Sink.call_count c.loop-out.out) _ _ (record { steps = refl; calls = refl }) inv.so_far
+    (record { sink = inv.faults; keepers = λ k. refl }) none (ap certificate_pieces same) c.done.ensures refl refl
 
-pub returns-in-Ok-print_certificate-clause-works : goal.returns-in-Ok-print_certificate-clause-works
-returns-in-Ok-print_certificate-clause-works g c steps calls images =
+pub returns-in-Ok-print_certificate : goal.returns-in-Ok-print_certificate
+returns-in-Ok-print_certificate g c other steps =
     let inv = c.loop-out.invariant in
     let f = line_of_action (names_of c.args.self.book) in
     let none = none_behind (left_of c.loop-out.self.actions) (λ some. c.loop-out-test.ensures.some.1 some) in
     let same : c.args.self.certificate ≡ Some c.in-Some.certificate = sym (c.next_piece.ensures.kept.1 ∙ inv.certificate) ∙ c.in-Some.is in
     let C : List ℕ → Type 0 = λ l. Tells (g.O.Sink.told c.loop-out.out) (g.O.Sink.told c.print_certificate.new.out) (Adds l) in
-    written_all f _ _ (left_of c.loop-out.self.actions) (certificate.pieces c.in-Some.certificate) _ (g.O.Sink.told c.args.out.now) (g.O.Sink.told c.loop-out.out) (g.O.Sink.told c.print_certificate.new.out) _ _ _ steps calls images inv.so_far none
+    written_all f _ _ (left_of c.loop-out.self.actions) _ (g.O.Sink.told c.loop-out.out) (g.O.Sink.call_count c.loop-out.out) _ _ (record { steps = refl; calls = refl }) inv.so_far (certificate.pieces c.in-Some.certificate)
+    (record { sink = c.in-Ok-print_certificate.ensures.quiet ∙ inv.faults; keepers = λ k. refl }) none
     (ap certificate_pieces same) c.done-in-Ok-print_certificate.ensures (subst C (sym (joined c.in-Some.certificate)) c.in-Ok-print_certificate.ensures.ok) c.in-Ok-print_certificate.ensures.calls
 
-pub returns-clause-works : goal.returns-clause-works
-returns-clause-works g c steps calls images =
+pub returns : goal.returns
+returns g c other steps =
     let inv = c.loop-out.invariant in
     let f = line_of_action (names_of c.args.self.book) in
     let none = none_behind (left_of c.loop-out.self.actions) (λ some. c.loop-out-test.ensures.some.1 some) in
     let same : c.args.self.certificate ≡ Some c.in-Some.certificate = sym (c.next_piece.ensures.kept.1 ∙ inv.certificate) ∙ c.in-Some.is in
     let stop = c.in-Err-print_certificate.ensures.stopped in
-    written_but_some f _ _ (left_of c.loop-out.self.actions) stop.before stop.line stop.after _ (g.O.Sink.told c.args.out.now) (g.O.Sink.told c.loop-out.out) (g.O.Sink.told c.print_certificate.new.out) _ _ _ steps calls images inv.so_far none
+    let N : ℕ → Type 0 = λ n. Rose n (g.O.Sink.fault_count c.print_certificate.new.out) in
+    written_but_some f _ _ (left_of c.loop-out.self.actions) _ (g.O.Sink.told c.loop-out.out) (g.O.Sink.call_count c.loop-out.out) _ _ (record { steps = refl; calls = refl }) inv.so_far stop.before stop.line stop.after
+    (record { sink = subst N inv.faults c.in-Err-print_certificate.ensures.cause; keepers = λ k. refl }) none
     (ap certificate_pieces same ∙ stop.in_order) c.stopped-in-Err-print_certificate.ensures stop.told stop.calls

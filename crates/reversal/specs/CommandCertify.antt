@@ -1,0 +1,29 @@
+-- `certify`: whether a valid schedule is the least by a certificate.
+use Rattle.std.specs.Prelude.{ℕ, List, [], ◌∷◌, codes}
+use Rattle.bound_cert.specs.declared.verdict.Class.{Class}
+use Rattle.bound_cert.specs.declared.verdict.Class.TheVariants as class
+use Rattle.cert_text.specs.Meaning.{IsCertificateText}
+use Rattle.cert_text.specs.Faults.{HasFirstFault as CertificateFirst}
+use Rattle.bound_cert.specs.Accepted.{class_of}
+use Rattle.requests.specs.Ending.{bad_certificate}
+use Rattle.reversal.specs.Job.{write}
+use Rattle.reversal.specs.Table.{Decision, Table, does, Decided, reads, weighs}
+use Rattle.reversal.specs.Fronts.{over_valid}
+
+-- what is written of a list that is the least of its class
+abbrev pub least_line : Class → List ℕ
+least_line class.Valid = codes "least valid\n"
+least_line class.Multistage = codes "least multistage\n"
+least_line class.Nested = codes "least nested\n"
+least_line class.Disk = codes "least disk\n"
+
+-- that a valid schedule is the least by a certificate: of all valid lists by its forward steps, or of its class by its cost
+abbrev pub certify_table : ℕ → List ℕ → List ℕ → List ℕ → Table
+certify_table steps book schedule certificate =
+    over_valid steps book schedule (λ b list.
+    reads (IsCertificateText steps b certificate) (CertificateFirst steps b certificate) bad_certificate (λ c.
+    weighs steps b list c
+    (does (write (least_line (class_of c) ∷ [])))))
+
+abbrev pub DecidesCertify : ℕ → List ℕ → List ℕ → List ℕ → Decision → Type 0
+DecidesCertify steps book schedule certificate d = Decided (certify_table steps book schedule certificate) d

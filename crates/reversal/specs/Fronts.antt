@@ -1,0 +1,95 @@
+-- What bytes say, and what the tables of many commands begin with: a book, a program with its recorded input, a schedule.
+use Rattle.std.specs.Prelude.{◌≡◌, ℕ, Bool, true, false, List, [], ◌∷◌, Option, None, Some}
+use Rattle.plan_types.specs.declared.action.Action.{Action}
+use Rattle.level_book.specs.declared.book.Slots.{Slots}
+use Rattle.level_book.specs.declared.fault.BookFault.{BookFault}
+use Rattle.level_book.specs.BookCosts.{BookCosts, slots_of, names_of}
+use Rattle.level_book.specs.BookFaults.{IsBookText, IsRefused}
+use Rattle.action_text.specs.ScheduleText.{IsSchedule}
+use Rattle.action_text.specs.Faults.{HasFirstFault}
+use Rattle.input_journal.specs.declared.fault.JournalFault.{JournalFault}
+use Rattle.input_journal.specs.Form.{IsJournal}
+use Rattle.input_journal.specs.Faults.{FirstFault as JournalFirst}
+use Rattle.rv_machine.specs.MachineState.{MachineState}
+use Rattle.elf_load.specs.declared.fault.ElfFault.{ElfFault}
+use Rattle.elf_load.specs.Elf.{IsProgram}
+use Rattle.elf_load.specs.Raw.{IsRawProgram}
+use Rattle.elf_load.specs.Faults.{FirstFault as ProgramFirst, FirstRawFault}
+use Rattle.requests.specs.Request.{Choice, says_raw, stack_pages, unit_count}
+use Rattle.requests.specs.Ending.{bad_program, bad_journal, bad_book, bad_text}
+use Rattle.reversal.specs.Job.{Run, Job}
+use Rattle.reversal.specs.Table.{Decision, Table, does, Decided, reads, judges, keeps, ends}
+
+-- ---- what bytes say, and which fault they have that say nothing
+
+-- want of memory is no fault of the bytes
+abbrev pub HasBookFault : List ℕ → BookFault → Type 0
+HasBookFault bytes fault = IsRefused bytes fault × (fault ≡ BookFault.Memory → ⊥)
+
+-- the start state of a program, which is raw words or an ELF file
+abbrev pub IsStartOf : Bool → ℕ → List ℕ → MachineState → Type 0
+IsStartOf true stack bytes = IsRawProgram bytes stack
+IsStartOf false stack bytes = IsProgram bytes stack
+
+abbrev pub HasProgramFault : Bool → ℕ → List ℕ → ElfFault → Type 0
+HasProgramFault true stack bytes = FirstRawFault bytes stack
+HasProgramFault false stack bytes = ProgramFirst bytes stack
+
+-- the items of the recorded input; none where there is no journal
+abbrev pub AreItemsOf : Option (List ℕ) → List (List ℕ) → Type 0
+AreItemsOf None items = items ≡ []
+AreItemsOf (Some bytes) items = IsJournal bytes items
+
+abbrev pub HasJournalFault : Option (List ℕ) → JournalFault → Type 0
+HasJournalFault None fault = ⊥
+HasJournalFault (Some bytes) fault = JournalFirst bytes fault
+
+-- ---- fronts of tables
+
+-- what the lines of many tables begin with: a book, and a schedule for it that is valid
+abbrev pub over_book : List ℕ → (BookCosts → Table) → Table
+over_book book below = reads (IsBookText book) (HasBookFault book) bad_book below
+
+abbrev pub over_schedule : BookCosts → List ℕ → (List Action → Table) → Table
+over_schedule b schedule below = reads (IsSchedule (names_of b) schedule) (HasFirstFault (names_of b) schedule) bad_text below
+
+abbrev pub over_valid : ℕ → List ℕ → List ℕ → (BookCosts → List Action → Table) → Table
+over_valid steps book schedule below = over_book book (λ (b : BookCosts). over_schedule b schedule (λ list. judges steps (slots_of b) list (below b list)))
+
+-- a program, and its recorded input
+abbrev pub over_program : List Choice → List ℕ → Option (List ℕ) → (MachineState → List (List ℕ) → Table) → Table
+over_program options program journal below =
+    reads (IsStartOf (says_raw options) (stack_pages options) program) (HasProgramFault (says_raw options) (stack_pages options) program) bad_program (λ start.
+    reads (AreItemsOf journal) (HasJournalFault journal) bad_journal (λ items. below start items))
+
+-- ---- a list over a run
+
+-- a run by a list whose steps are units of so many instructions
+abbrev pub in_units : (unit : ℕ) → MachineState → List (List ℕ) → (steps : ℕ) → List Slots → List Action → Run
+in_units unit start items steps slots list = record { first = start; journal = items; unit = unit; steps = steps; slots = slots; list = list }
+
+-- what is done over a run by a list, by the bytes of its inputs and the numbers of the keepers' slots
+abbrev pub over_run : (Run → Job) → List Choice → ℕ → List ℕ → Option (List ℕ) → List ℕ → List ℕ → List ℕ → Table
+over_run job options steps program journal book schedule counts =
+    over_book book (λ (b : BookCosts).
+    keeps steps (slots_of b) counts (
+    over_program options program journal (λ start items.
+    over_schedule b schedule (λ list.
+    judges steps (slots_of b) list
+    (does (job (in_units (unit_count options) start items steps (slots_of b) list)))))))
+
+abbrev pub DecidesOver : (Run → Job) → List Choice → ℕ → List ℕ → Option (List ℕ) → List ℕ → List ℕ → List ℕ → Decision → Type 0
+DecidesOver job options steps program journal book schedule counts d = Decided (over_run job options steps program journal book schedule counts) d
+
+-- no table: no request has so many inputs
+abbrev pub no_table : Table
+no_table = ends (λ d. ⊥)
+
+-- what is done over a run, by the bytes of its inputs; without a name for recorded input none is read
+abbrev pub over_bytes : (Run → Job) → List Choice → ℕ → List (List ℕ) → List ℕ → Table
+over_bytes job options steps (program ∷ book ∷ schedule ∷ []) slots = over_run job options steps program None book schedule slots
+over_bytes job options steps (program ∷ journal ∷ book ∷ schedule ∷ []) slots = over_run job options steps program (Some journal) book schedule slots
+over_bytes job options steps _ slots = no_table
+
+abbrev pub DecidesOverBytes : (Run → Job) → List Choice → ℕ → List (List ℕ) → List ℕ → Decision → Type 0
+DecidesOverBytes job options steps bytes slots d = Decided (over_bytes job options steps bytes slots) d

@@ -1,0 +1,44 @@
+-- What is to be done of a call that isn't refused.
+use Rattle.std.specs.Prelude.{ℕ, ◌*◌, List}
+use Rattle.plan_types.specs.declared.action.Action.{Action}
+use Rattle.level_book.specs.declared.book.Slots.{Slots}
+use Rattle.rv_machine.specs.MachineState.{MachineState}
+use Rattle.rv_machine.specs.States.{state_number}
+use Rattle.reverse_runner.specs.Units.{unit_states}
+use Rattle.requests.specs.declared.question.Question.{Question}
+
+-- A run of a program, and a list that goes over it: the first state, the recorded input, how many steps of the machine a step of
+-- the list is, how many steps the list has to reverse, the slots of the levels of a book, and the list.
+pub record Run : Type 0 where
+  pub first : MachineState
+  pub journal : List (List ℕ)
+  pub unit : ℕ
+  pub steps : ℕ
+  pub slots : List Slots
+  pub list : List Action
+
+-- the number of its last state
+abbrev pub last_of : Run → ℕ
+last_of run = run.unit * run.steps
+
+-- its state with a number
+abbrev pub state_of : Run → ℕ → MachineState
+state_of run n = state_number run.first run.journal n
+
+-- its state at the end of so many units, which is what the list calls the state of a step
+abbrev pub unit_state : Run → ℕ → MachineState
+unit_state run n = unit_states run.first run.journal run.unit n
+
+-- A job. What each of them is, is said by its course, in the file of its command.
+pub data Job : Type 0 where
+  -- the actions of a list over a run
+  perform : Run → Job
+  -- a question about a run: its answer, for which the list is performed as far as it takes
+  ask : Question → Run → Job
+  -- the last of the states of a run, up to one with this number, that has a digest: found by so many workers, and written
+  seek : MachineState → List (List ℕ) → (steps workers : ℕ) → (digest : List ℕ) → Job
+  -- texts, each in one write
+  write : List (List ℕ) → Job
+  -- Revolve's list over the run from a state, which was made from a number, for so many steps and slots, with images in
+  -- memory of its own and no line written; and then a summary of it
+  demonstrate : (number : ℕ) → MachineState → (steps slots : ℕ) → Job

@@ -1,0 +1,122 @@
+// The search of a run for the last state that has a digest.
+ghost use Rattle.std.specs.Prelude.{◌≡◌, ◌⊎◌, ℕ, ◌≤◌, List, map, IfOk, IfErr};
+ghost use Rattle.std.specs.Option.{option_copied};
+ghost use Rattle.requests.specs.Request.{find as find_command, stack_pages, worker_count};
+ghost use Rattle.requests.specs.Inputs.{inputs_of};
+ghost use Rattle.requests.specs.InputReading.{AreWithinLimits};
+ghost use Rattle.requests.specs.RequestReading.{as_find};
+ghost use Rattle.requests.specs.Ending.{no_memory};
+ghost use Rattle.reversal.specs.Job.{seek};
+ghost use Rattle.reversal.specs.Moment.{Moment, beside};
+ghost use Rattle.reversal.specs.Table.{accept, refuse, Decided};
+ghost use Rattle.reversal.specs.CommandFind.{find_table};
+ghost use Rattle.reversal.specs.Decision.{DecidesBytes};
+ghost use Rattle.reversal.specs.JobReading.{job_of, IsSearchable, CanBeDone, KeepersHaveRoom, Works};
+
+use crate::asking::write_answer;
+use crate::decision::{journal_in, start_of};
+use crate::job::Job;
+use input_journal::Journal;
+use keepers::Sink;
+use plan_types::NoGate;
+use requests::{Ended, Find, Options};
+use rv_machine::{State, Steps};
+use segment_sweep::{Marks, find_digest};
+use std::alloc::Global;
+use std::sync::ledger::Ledger;
+use std::thread::Threads;
+
+/// A run up to a state with a number, a digest that one of its states may have, and how many workers look for it.
+#[derive(Drop)]
+pub struct Finding {
+    pub start: State,
+    pub journal: Journal,
+    pub steps: u32,
+    pub workers: u32,
+    pub digest: [u8; 32],
+}
+
+impl Finding {
+    /// Looks for the last state that has the digest, and writes its number, or that there is none. Where memory runs out
+    /// nothing is written.
+    pub fn find<R: Threads + Sync, O: Sink, L: Ledger>(
+        self,
+        rt: &R,
+        alloc: Global,
+        out: &mut O,
+        counter: &mut Steps<L>,
+    ) -> Ended
+        requires { IsSearchable self }
+        ensures { (other : Moment) → Works (seek self.start self.journal self.steps self.workers self.digest) result
+            (beside O.told O.call_count O.fault_count other out.old counter.old)
+            (beside O.told O.call_count O.fault_count other out.new counter.new) }
+    {
+        let Finding {
+            start,
+            journal,
+            steps,
+            workers,
+            digest,
+        } = self;
+        let Ok(marks) = Marks::make(alloc, &start, &journal, steps, workers, counter) else {
+            return Ended::no_memory();
+        };
+        let Ok(place) = find_digest(rt, alloc, &marks, &journal, &digest, &NoGate) else {
+            return Ended::no_memory();
+        };
+        write_answer(place, out)
+    }
+}
+
+/// What a request for the last state that has a digest comes to by the bytes of its inputs.
+pub fn decide_find(
+    alloc: Global,
+    options: &Options,
+    find: &Find<'_>,
+    bytes: &[Vec<u8>],
+) -> Result<Job, Ended>
+    requires stack { (1 ≤ stack_pages options.now) × (stack_pages options.now ≤ 1024) }
+    requires workers { (1 ≤ worker_count options.now) × (worker_count options.now ≤ 64) }
+    requires steps { find.now.steps ≤ 1000000 }
+    requires inputs { AreWithinLimits (inputs_of (find_command (as_find find.now))) (map (λ b. b.items) bytes.now) }
+    ensures accepted { IfOk result (λ job. (slots : List ℕ) →
+        DecidesBytes options.now (find_command (as_find find.now)) (map (λ b. b.items) bytes.now) slots (accept (job_of job))) }
+    ensures can_be_done { IfOk result CanBeDone }
+    ensures room { IfOk result (λ job. (counts : List ℕ) → KeepersHaveRoom job counts) }
+    ensures refused { IfErr result (λ e. (e ≡ no_memory)
+        ⊎ ((slots : List ℕ) → DecidesBytes options.now (find_command (as_find find.now)) (map (λ b. b.items) bytes.now) slots (refuse e))) }
+{
+    match bytes {
+        [program] => find_in(alloc, options, find, program, None),
+        [program, journal] => find_in(alloc, options, find, program, Some(journal)),
+        _ => unreachable!(),
+    }
+}
+
+fn find_in(
+    alloc: Global,
+    options: &Options,
+    find: &Find<'_>,
+    program: &[u8],
+    journal: Option<&[u8]>,
+) -> Result<Job, Ended>
+    requires stack { (1 ≤ stack_pages options.now) × (stack_pages options.now ≤ 1024) }
+    requires workers { (1 ≤ worker_count options.now) × (worker_count options.now ≤ 64) }
+    requires steps { find.now.steps ≤ 1000000 }
+    ensures accepted { IfOk result (λ job. Decided (find_table options.now find.now.steps find.now.digest program.now (option_copied journal.entry))
+        (accept (job_of job))) }
+    ensures can_be_done { IfOk result CanBeDone }
+    ensures room { IfOk result (λ job. (counts : List ℕ) → KeepersHaveRoom job counts) }
+    ensures refused { IfErr result (λ e. (e ≡ no_memory)
+        ⊎ Decided (find_table options.now find.now.steps find.now.digest program.now (option_copied journal.entry)) (refuse e)) }
+{
+    let start = start_of(alloc, options, program)?;
+    let journal = journal_in(alloc, journal)?;
+    Ok(Job::Find(Finding {
+        start,
+        journal,
+        steps: find.steps as u32,
+        workers: options.worker_count() as u32,
+        digest: find.digest,
+    }))
+}
