@@ -37,6 +37,9 @@ pub data Operand : Type 0 where
   a_question : ℕ → Question → Operand
   -- a digest of 32 bytes
   a_digest : List ℕ → Operand
+  -- the name of a source of instructions, and of a program of raw words that are to be read
+  a_source : List ℕ → Operand
+  some_words : List ℕ → Operand
 
 -- ---- spelling
 
@@ -67,6 +70,8 @@ word_of (run_steps n) = decimal n
 word_of (a_number limit n) = decimal n
 word_of (a_question steps question) = question_number question
 word_of (a_digest bytes) = encode_lower bytes
+word_of (a_source name) = name
+word_of (some_words name) = name
 
 -- ---- what may be spelled
 
@@ -110,6 +115,8 @@ CanStand (run_steps n) = IsNumber n
 CanStand (a_number limit n) = IsNumber n
 CanStand (a_question steps question) = IsQuestion question
 CanStand (a_digest bytes) = IsDigest bytes
+CanStand (a_source name) = IsName name
+CanStand (some_words name) = IsName name
 
 -- ---- bounds
 
@@ -150,6 +157,8 @@ bounds_of unit (run_steps n) = within steps_limit n ∷ []
 bounds_of unit (a_number limit n) = within limit n ∷ []
 bounds_of unit (a_question steps question) = question_bound (unit * steps) question ∷ []
 bounds_of unit (a_digest bytes) = []
+bounds_of unit (a_source name) = []
+bounds_of unit (some_words name) = []
 
 -- the product of a number and the unit, where it has bounds of its own
 abbrev pub products_of : (unit : ℕ) → Operand → List Bounded
@@ -174,6 +183,12 @@ schedule_input name = record { name = name; limit = 536870912 }
 abbrev pub certificate_input : List ℕ → Input
 certificate_input name = record { name = name; limit = 536870912 }
 
+abbrev pub source_input : List ℕ → Input
+source_input name = record { name = name; limit = 67108864 }
+
+abbrev pub words_input : List ℕ → Input
+words_input name = record { name = name; limit = 4194304 }
+
 -- without a name for recorded input none is read
 abbrev pub journal_inputs : Option (List ℕ) → List Input
 journal_inputs None = []
@@ -190,3 +205,5 @@ inputs_named (run_steps n) = []
 inputs_named (a_number limit n) = []
 inputs_named (a_question steps question) = []
 inputs_named (a_digest bytes) = []
+inputs_named (a_source name) = source_input name ∷ []
+inputs_named (some_words name) = words_input name ∷ []

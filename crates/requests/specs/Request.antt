@@ -14,6 +14,8 @@
 --     ask last-write PROGRAM JOURNAL BOOK SCHEDULE N ADDRESS
 --     ask last-change PROGRAM JOURNAL BOOK SCHEDULE N ADDRESS
 --     ask find PROGRAM JOURNAL N DIGEST
+--     asm SOURCE
+--     disasm PROGRAM
 --     demo NUMBER N SLOTS
 use Rattle.std.specs.Prelude.{◌≡◌, ℕ, ◌≤◌, ◌==◌, Bool, true, false, List, [], ◌∷◌, ◌++◌, codes, decimal, map, count_by, Option}
 use Rattle.std.specs.List.{AllByRecursion, list_any}
@@ -23,7 +25,7 @@ use Rattle.requests.specs.declared.kind.PlanKind.TheVariants.{Revolve, Multistag
 use Rattle.requests.specs.declared.question.Question.{Question}
 use Rattle.requests.specs.declared.question.Question.TheVariants.{State, LastWrite, LastChange}
 pub use Rattle.requests.specs.Operands.{steps_limit}
-use Rattle.requests.specs.Operands.{Limit, Operand, the_word, a_program, a_journal, a_book, a_schedule, a_certificate, run_steps, a_number, a_question, a_digest, word_of, IsName, IsNumber, CanStand}
+use Rattle.requests.specs.Operands.{Limit, Operand, the_word, a_program, a_journal, a_book, a_schedule, a_certificate, run_steps, a_number, a_question, a_digest, a_source, some_words, word_of, IsName, IsNumber, CanStand}
 
 -- ---- options
 
@@ -143,6 +145,14 @@ pub record Find : Type 0 where
   pub steps : ℕ
   pub digest : List ℕ
 
+-- to write the instruction words that a source means
+pub record Assemble : Type 0 where
+  pub source : List ℕ
+
+-- to write the line of each word of a raw program
+pub record Disassemble : Type 0 where
+  pub program : List ℕ
+
 -- to run a program that is made from a number backward by the list of Revolve, with so many slots of memory
 pub record Demo : Type 0 where
   pub number : ℕ
@@ -160,6 +170,8 @@ pub data Command : Type 0 where
   price : Price → Command
   ask : Ask → Command
   find : Find → Command
+  assemble : Assemble → Command
+  disassemble : Disassemble → Command
   demo : Demo → Command
 
 -- the word of a kind of plans
@@ -215,6 +227,8 @@ operands (ask c) =
 operands (find c) =
     the_word (codes "ask") ∷ the_word (codes "find") ∷ a_program c.program ∷ a_journal c.journal ∷ a_number steps_limit c.steps
     ∷ a_digest c.digest ∷ []
+operands (assemble c) = the_word (codes "asm") ∷ a_source c.source ∷ []
+operands (disassemble c) = the_word (codes "disasm") ∷ some_words c.program ∷ []
 operands (demo c) = the_word (codes "demo") ∷ a_number seed_limit c.number ∷ a_number steps_limit c.steps ∷ a_number slots_limit c.slots ∷ []
 
 abbrev pub command_words : Command → List (List ℕ)

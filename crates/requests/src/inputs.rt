@@ -3,7 +3,7 @@ ghost use Rattle.std.specs.Prelude.{◌≡◌, ◌≢◌, ℕ, ◌+◌, ◌<◌,
 ghost use Rattle.std.specs.FinMap as finmap;
 ghost use Rattle.keepers.specs.Counts.{Rose};
 ghost use Rattle.keepers.specs.Told.{WhereTold};
-ghost use Rattle.requests.specs.Operands.{program_input, journal_input, book_input, schedule_input, certificate_input};
+ghost use Rattle.requests.specs.Operands.{program_input, journal_input, book_input, schedule_input, certificate_input, source_input, words_input};
 ghost use Rattle.requests.specs.Inputs.{inputs_of, names};
 ghost use Rattle.requests.specs.InputReading.{input_of, all, Reads, Stops};
 ghost use Rattle.requests.specs.Request.{run as run_command, run_revolve as run_revolve_command, find as find_command};
@@ -24,6 +24,10 @@ const BOOK_LIMIT: u32 = 65_536;
 const SCHEDULE_LIMIT: u32 = 536_870_912;
 
 const CERTIFICATE_LIMIT: u32 = 536_870_912;
+
+const SOURCE_LIMIT: u32 = 67_108_864;
+
+const WORDS_LIMIT: u32 = 4_194_304;
 
 /// An input that is wanted: its name, and how many bytes it may have.
 #[derive(Clone, Copy, Debug)]
@@ -85,6 +89,24 @@ fn certificate_input(name: &[u8]) -> Input<'_>
     }
 }
 
+fn source_input(name: &[u8]) -> Input<'_>
+    ensures { input_of result ≡ source_input name.now }
+{
+    Input {
+        name,
+        limit: SOURCE_LIMIT,
+    }
+}
+
+fn words_input(name: &[u8]) -> Input<'_>
+    ensures { input_of result ≡ words_input name.now }
+{
+    Input {
+        name,
+        limit: WORDS_LIMIT,
+    }
+}
+
 /// Reads the inputs of a command in the order of the words. One that can't be read, or is longer than its limit, is
 /// refused before the next is asked for.
 pub fn read_inputs<I: Inputs>(
@@ -123,6 +145,10 @@ pub fn read_inputs<I: Inputs>(
         }
         Command::Ask(ask) => read_run_inputs(alloc, &ask.run, inputs),
         Command::Find(find) => read_find_inputs(alloc, find, inputs),
+        Command::Assemble(assemble) => read_all(alloc, &[source_input(assemble.source)], inputs),
+        Command::Disassemble(disassemble) => {
+            read_all(alloc, &[words_input(disassemble.program)], inputs)
+        }
         Command::Demo(_) => read_all(alloc, &[], inputs),
     }
 }

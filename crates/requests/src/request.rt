@@ -50,6 +50,10 @@ pub enum Command<'a> {
     Ask(Ask<'a>),
     /// To find the last state of a run that has a digest.
     Find(Find<'a>),
+    /// To write the instruction words that a source means.
+    Assemble(Assemble<'a>),
+    /// To write the line of each word of a raw program.
+    Disassemble(Disassemble<'a>),
     /// To run a program that is made from a number.
     Demo(Demo),
 }
@@ -129,6 +133,18 @@ pub struct Find<'a> {
     pub journal: Option<&'a [u8]>,
     pub steps: u64,
     pub digest: [u8; 32],
+}
+
+/// To write the instruction words that a source means.
+#[derive(Clone, Copy, Debug)]
+pub struct Assemble<'a> {
+    pub source: &'a [u8],
+}
+
+/// To write the line of each word of a raw program.
+#[derive(Clone, Copy, Debug)]
+pub struct Disassemble<'a> {
+    pub program: &'a [u8],
 }
 
 /// To run a program that is made from a number backward by the list of Revolve, over so many steps, with so many slots of
@@ -350,6 +366,7 @@ impl Command<'_> {
             Command::Price(price) => first_outside(&[steps_bound(price.steps)]),
             Command::Ask(ask) => question_refusal(unit, ask.run.steps, ask.question),
             Command::Find(find) => first_outside(&[steps_bound(find.steps)]),
+            Command::Assemble(_) | Command::Disassemble(_) => None,
             Command::Demo(demo) => first_outside(&[
                 seed_bound(demo.number),
                 steps_bound(demo.steps),

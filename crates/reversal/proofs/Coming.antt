@@ -1,5 +1,5 @@
 -- A request comes to a decision: no table has a hole.
-use Rattle.std.proofs.Common.{◌*◌, ◌≡◌, ◌⊎◌, inl, inr, ℕ, zero, suc, ◌+◌, ◌<◌, ◌≤◌, ◌++◌, Bool, true, false, List, [], ◌∷◌, length, Option, None, Some, slice_get, slice_index_or, refl, subst, arith}
+use Rattle.std.proofs.Common.{◌*◌, ◌/◌, ◌%◌, ◌≡◌, ◌⊎◌, inl, inr, ℕ, zero, suc, ◌+◌, ◌<◌, ◌≤◌, ◌++◌, Bool, true, false, List, [], ◌∷◌, length, map, Option, None, Some, slice_get, slice_index_or, refl, subst, arith}
 use Rattle.std.specs.Prelude.{codes, decimal}
 use Rattle.std.specs.List.{AllByRecursion, flat_map}
 use Rattle.std.proofs.lemmas.Bool.{cases_lt, cases_eq}
@@ -22,6 +22,10 @@ use Rattle.schedule_rules.proofs.Lawful.{valid_unbroken}
 use Rattle.schedule_rules.proofs.Breaking.{valid_or_broken}
 use Rattle.elf_load.proofs.Existing.{start_or_fault, raw_start_or_fault}
 use Rattle.elf_load.specs.declared.fault.ElfFault.{ElfFault}
+use Rattle.elf_load.specs.declared.fault.ElfFault.TheVariants.{RawLength}
+use Rattle.elf_load.specs.Raw.{AreWords}
+use Rattle.rv_asm.specs.Source.{Means, HasFault}
+use Rattle.rv_asm.proofs.Assembled.{meaning_or_fault}
 use Rattle.input_journal.specs.declared.fault.JournalFault.{JournalFault}
 use Rattle.input_journal.proofs.Unique.{journal_or_fault}
 use Rattle.reverse_runner.specs.KeepersSeen.{HaveRoom}
@@ -46,12 +50,12 @@ use Rattle.cert_text.proofs.TextLaws.{certificate_or_fault}
 use Rattle.bound_cert.specs.Accepted.{class_of}
 use Rattle.bound_cert.proofs.Deciding.{accepted_or_refused, threshold_exists}
 use Rattle.requests.specs.declared.ended.Ended.{Ended}
-use Rattle.requests.specs.Ending.{few_keepers, small_keeper, unreadable, too_long, bad_program, bad_journal, bad_book, bad_text, invalid, bad_certificate, out_of_range, no_plan, not_least}
+use Rattle.requests.specs.Ending.{few_keepers, small_keeper, unreadable, too_long, bad_program, bad_journal, bad_book, bad_text, invalid, bad_certificate, bad_source, out_of_range, no_plan, not_least}
 use Rattle.requests.specs.declared.bounds.Bounded.{Bounded}
 use Rattle.requests.specs.declared.kind.PlanKind.{PlanKind}
 use Rattle.requests.specs.declared.kind.PlanKind.TheVariants.{Revolve, Multistage, Disk, Hrevolve}
-use Rattle.requests.specs.Request.{Choice, Run, RunRevolve, Find, Command, run, run_revolve, plan, plan_periodic, check, certify, price, ask, find, demo, worker_count, plan_limit, says_raw, stack_pages, unit_count}
-use Rattle.requests.specs.Operands.{within, journal_inputs, journal_input, program_input, book_input, schedule_input, certificate_input, question_bound}
+use Rattle.requests.specs.Request.{Choice, Run, RunRevolve, Find, Command, run, run_revolve, plan, plan_periodic, check, certify, price, ask, find, assemble, disassemble, demo, worker_count, plan_limit, says_raw, stack_pages, unit_count}
+use Rattle.requests.specs.Operands.{within, journal_inputs, journal_input, program_input, book_input, schedule_input, certificate_input, source_input, words_input, question_bound}
 use Rattle.requests.specs.Bounds.{option_numbers, command_numbers, IsWithin}
 use Rattle.requests.specs.Inputs.{Input, inputs_of}
 use Rattle.reversal.specs.Plans.{list_pieces, plan_pieces}
@@ -62,6 +66,8 @@ use Rattle.reversal.specs.Table.{Decision, refuse, accept, Need, Read, Judge, Ke
 use Rattle.reversal.specs.Decision.{Take, DecidesBytes}
 use Rattle.reversal.specs.Fronts.{HasBookFault, IsStartOf, HasProgramFault, AreItemsOf, HasJournalFault, DecidesOver, DecidesOverBytes, in_units}
 use Rattle.reversal.specs.CommandFind.{find_table}
+use Rattle.reversal.specs.CommandAssemble.{word_bytes, listing, DecidesAssemble, DecidesDisassemble}
+use Rattle.reversal.specs.Listing.{word_line}
 use Rattle.reversal.specs.CommandRun.{DecidesRunRevolve}
 use Rattle.reversal.specs.CommandPlan.{DecidesPlan, DecidesPlanRevolve, DecidesPlanMultistage, DecidesPlanDisk, DecidesPlanHrevolve, DecidesPlanPeriodic}
 use Rattle.reversal.specs.CommandCheck.{DecidesCheck}
@@ -70,6 +76,7 @@ use Rattle.reversal.specs.CommandCertify.{DecidesCertify, least_line}
 use Rattle.reversal.specs.CommandDemo.{DecidesDemo}
 use Rattle.reversal.proofs.BookTexts.{some_level, within_limits}
 use Rattle.reversal.proofs.DemoStart.{demo_start}
+use Rattle.reversal.proofs.WordLists.{some_words, lines_are_canonical}
 
 -- ---- what is so or isn't
 
@@ -226,6 +233,21 @@ pub find_comes : (options : List Choice) (steps : ℕ) (digest program : List �
 find_comes options steps digest program journal content =
     read_comes (IsStartOf (says_raw options) (stack_pages options) program) (HasProgramFault (says_raw options) (stack_pages options) program) bad_program _ (start_or_its_fault (says_raw options) (stack_pages options) program) (λ start is_start.
     read_comes (AreItemsOf journal) (HasJournalFault journal) bad_journal _ (items_or_fault journal content) (λ items are_items. (accept (seek start items steps (worker_count options) digest), refl)))
+
+pub assemble_comes : (source : List ℕ) → SomeDecision (DecidesAssemble source)
+assemble_comes source = read_comes (Means source) (HasFault source) bad_source _ (meaning_or_fault source) (λ words means. (accept (write (word_bytes words ∷ [])), refl))
+
+words_known : (bytes : List ℕ) → IsKnown (AreWords bytes)
+words_known bytes = elim (at_most 1 (length bytes)) [
+  | inr none ↦ inr (λ are. none are.some)
+  | inl some ↦ elim (cases_eq (length bytes % 4) 0) [ inl whole ↦ inl (record { some = some; whole = whole }) | inr other ↦ inr (λ are. other are.whole) ]
+]
+
+pub disassemble_comes : (program : List ℕ) → AreBytes program → SomeDecision (DecidesDisassemble program)
+disassemble_comes program are = need_comes (AreWords program) (bad_program (RawLength (length program))) _ (words_known program) (λ whole.
+    let words = some_words (length program / 4) program (omega (arith, whole.whole)) are in
+    let lines = map word_line words.0 in
+    (accept (write (listing lines)), record { words = words.0; bytes = words.1.1; lines = lines; canonical = lines_are_canonical words.0 words.1.0; does = refl }))
 
 pub plan_revolve_comes : (steps : ℕ) (book : List ℕ) → AreBytes book → SomeDecision (DecidesPlanRevolve steps book)
 plan_revolve_comes steps book are =
@@ -462,6 +484,10 @@ command_comes options (price c) given slots within contents =
 command_comes options (ask c) given slots within contents =
     ask_given (IsWithin (question_bound (unit_count options * c.run.steps) c.question)) within.1.0 (ask_job c.question) options c.run.steps slots c.run.journal c.run given contents
 command_comes options (find c) given slots within contents = find_given options c slots c.journal given contents
+command_comes options (assemble c) given slots within contents =
+    one_given (λ bytes d. DecidesBytes options (assemble c) bytes slots d) (source_input c.source) given contents (λ source are. assemble_comes source)
+command_comes options (disassemble c) given slots within contents =
+    one_given (λ bytes d. DecidesBytes options (disassemble c) bytes slots d) (words_input c.program) given contents (λ program are. disassemble_comes program are)
 command_comes options (demo c) given slots within contents = demo_comes c.number c.steps c.slots
 
 -- the numbers of a command are among those of its request

@@ -1,12 +1,12 @@
 -- The table of each command is sound.
-use Rattle.std.proofs.Common.{◌≡◌, ℕ, ◌++◌, Bool, true, List, [], ◌∷◌, Option, None, Some, refl, sym, ◌∙◌, ap, subst, arith, ◌*◌}
+use Rattle.std.proofs.Common.{◌≡◌, ℕ, ◌++◌, Bool, true, List, [], ◌∷◌, length, Option, None, Some, refl, sym, ◌∙◌, ap, subst, arith, ◌*◌}
 use Rattle.plan_types.specs.declared.action.Action.{Action}
 use Rattle.level_book.specs.BookCosts.{BookCosts, slots_of, names_of, room}
 use Rattle.level_book.specs.BookFaults.{IsBookText}
 use Rattle.level_book.specs.Valid.{Valid}
 use Rattle.action_text.specs.ScheduleText.{IsSchedule}
-use Rattle.requests.specs.Request.{Choice, says_raw, stack_pages, unit_count, Command, run, run_revolve, plan, plan_periodic, check, certify, price, ask, find, demo, worker_count}
-use Rattle.requests.specs.Ending.{bad_program, bad_journal, bad_book, bad_text, bad_certificate, no_plan}
+use Rattle.requests.specs.Request.{Choice, says_raw, stack_pages, unit_count, Command, run, run_revolve, plan, plan_periodic, check, certify, price, ask, find, assemble, disassemble, demo, worker_count}
+use Rattle.requests.specs.Ending.{bad_program, bad_journal, bad_book, bad_text, bad_certificate, bad_source, no_plan}
 use Rattle.revolve_gen.specs.Written.{revolve_list}
 use Rattle.revolve_gen.proofs.Books.{book_right}
 use Rattle.multistage_gen.proofs.Unique.{plans_unique}
@@ -26,11 +26,16 @@ use Rattle.reversal.specs.Job.{Run, Job, perform, ask as ask_job, write, demonst
 use Rattle.reversal.specs.Table.{accept}
 use Rattle.reversal.specs.Fronts.{HasBookFault, IsStartOf, HasProgramFault, AreItemsOf, HasJournalFault, over_run, no_table, over_bytes, in_units}
 use Rattle.reversal.specs.Decision.{table_of}
-use Rattle.reversal.proofs.Refused.{book_one, book_fault_one, book_excludes, start_one, program_fault_one, start_excludes, items_one, journal_fault_one, items_exclude, list_one, text_fault_one, list_excludes, IsRefusing, refusing_at, program_refuses, journal_refuses, book_refuses, text_refuses, program_fault_is_other, journal_fault_is_other, text_fault_is_other, certificate_one, certificate_fault_one, certificate_excludes, certificate_refuses, certificate_fault_is_other}
+use Rattle.reversal.proofs.Refused.{book_one, book_fault_one, book_excludes, start_one, program_fault_one, start_excludes, items_one, journal_fault_one, items_exclude, list_one, text_fault_one, list_excludes, IsRefusing, refusing_at, program_refuses, journal_refuses, book_refuses, text_refuses, program_fault_is_other, journal_fault_is_other, text_fault_is_other, certificate_one, certificate_fault_one, certificate_excludes, certificate_refuses, certificate_fault_is_other, source_one, source_fault_one, source_excludes, source_refuses, source_fault_is_other}
 use Rattle.cert_text.specs.Meaning.{IsCertificateText}
 use Rattle.cert_text.specs.Faults.{HasFirstFault as CertificateFirst}
 use Rattle.reversal.proofs.LeastTables.{nested_same, disk_same}
 use Rattle.action_text.specs.Faults.{HasFirstFault}
+use Rattle.elf_load.specs.declared.fault.ElfFault.TheVariants.{RawLength}
+use Rattle.rv_asm.specs.Source.{Means, HasFault}
+use Rattle.rv_asm.specs.Laws.{AreCanonical}
+use Rattle.reversal.specs.CommandAssemble.{listing, assemble_table, disassemble_table}
+use Rattle.reversal.proofs.WordLists.{one_words, one_lines, canonical_small}
 use Rattle.reversal.specs.CommandFind.{find_table}
 use Rattle.reversal.specs.CommandRun.{run_revolve_table}
 use Rattle.reversal.specs.CommandPlan.{plan_revolve_table, plan_multistage_table, plan_disk_table, plan_hrevolve_table, plan_table, plan_periodic_table}
@@ -77,6 +82,14 @@ certificate_read steps b certificate = record {
   fault = certificate_fault_one steps b certificate;
   excludes = certificate_excludes steps b certificate;
   refuses = λ f h. certificate_refuses f (certificate_fault_is_other steps b certificate f h);
+}
+
+source_read : (text : List ℕ) → IsRead (Means text) (HasFault text) bad_source
+source_read text = record {
+  one = source_one text;
+  fault = source_fault_one text;
+  excludes = source_excludes text;
+  refuses = λ f h. source_refuses f (source_fault_is_other text f h);
 }
 
 -- this job is to be done
@@ -219,6 +232,21 @@ find_sound options steps digest program journal = (
   ),
 )
 
+assemble_sound : (source : List ℕ) → IsSound (assemble_table source)
+assemble_sound source = (source_read source, λ words means. done_last _ (writes _ refl))
+
+disassemble_sound : (program : List ℕ) → IsSound (disassemble_table program)
+disassemble_sound program = (
+  program_refuses (RawLength (length program)) (λ same. absurd cc),
+  λ whole. record {
+    one = λ c d x y.
+        let words = one_words x.words y.words (canonical_small x.words x.lines x.canonical) (canonical_small y.words y.lines y.canonical) (sym x.bytes ∙ y.bytes) in
+        let lines = one_lines x.words x.lines y.lines x.canonical (subst (λ (l : List ℕ). AreCanonical l y.lines) (sym words) y.canonical) in
+        x.does ∙ ap (λ (l : List (List ℕ)). accept (write (listing l))) lines ∙ sym y.does;
+    job = λ d x. (_, (x.does, writes _ refl));
+  },
+)
+
 none_sound : IsSound no_table
 none_sound = record { one = λ c d x y. absurd x; job = λ d x. absurd x }
 
@@ -249,5 +277,9 @@ tables_sound options (check r) (book ∷ schedule ∷ []) slots = check_sound r.
 tables_sound options (check r) other slots = none_sound
 tables_sound options (certify r) (book ∷ schedule ∷ certificate ∷ []) slots = certify_sound r.steps book schedule certificate
 tables_sound options (certify r) other slots = none_sound
+tables_sound options (assemble r) (source ∷ []) slots = assemble_sound source
+tables_sound options (assemble r) other slots = none_sound
+tables_sound options (disassemble r) (program ∷ []) slots = disassemble_sound program
+tables_sound options (disassemble r) other slots = none_sound
 tables_sound options (demo r) [] slots = demo_sound r.number r.steps r.slots
 tables_sound options (demo r) other slots = none_sound

@@ -14,6 +14,7 @@ pub mod Pieces
 pub mod ReadAgain
 pub mod LeastTables
 pub mod Tables
+pub mod WordLists
 pub mod Commanding
 pub mod Deciding
 pub mod Answering

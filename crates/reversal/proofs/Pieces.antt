@@ -1,8 +1,8 @@
 -- Texts that are written one after the other, and the pieces of a list's text.
-use Rattle.std.proofs.Common.{◌≡◌, ◌≢◌, ℕ, zero, suc, ◌+◌, ◌≤◌, ◌++◌, ◌<◌, true, false, inl, inr, List, [], ◌∷◌, length, map, take, drop, append_assoc, append-nil, Option, Some, None, refl, sym, ◌∙◌, ap, subst, arith, add-zero, slice_get}
+use Rattle.std.proofs.Common.{◌≡◌, ◌≢◌, ◌==◌, ℕ, zero, suc, ◌+◌, ◌≤◌, ◌++◌, ◌<◌, true, false, inl, inr, List, [], ◌∷◌, length, map, take, drop, append_assoc, append-nil, Option, Some, None, refl, sym, ◌∙◌, ap, subst, arith, add-zero, slice_get}
 use Rattle.std.specs.List.{flat_map, concat, AllByRecursion}
 use Rattle.std.proofs.lemmas.List.Concat.{concat_is}
-use Rattle.std.proofs.lemmas.Bool.{false≢true}
+use Rattle.std.proofs.lemmas.Bool.{false≢true, eqb-true}
 use Rattle.action_text.specs.Canonical.{HasSpelling}
 use Rattle.std.specs.FinMap as finmap
 use Rattle.std.proofs.lemmas.Grind.{flat_map-append}
@@ -179,6 +179,12 @@ pub record IsWritten {A : Type 0} (f : A → List ℕ) (all : List (List ℕ)) (
 pub written_none : {A : Type 0} (f : A → List ℕ) (last : List (List ℕ)) (list : List A) (old : Option (List ℕ)) (w : ℕ) → IsWritten f (in_pieces (length list) (map f list) ++ last) last list old old w w
 written_none f last list old w = record { front = []; left = length list; enough = omega arith; pieces = refl; told = tells_nothing old old refl; writes = raised_none w }
 
+-- the same where no last ones stand behind them
+pub written_none_alone : {A : Type 0} (f : A → List ℕ) (list : List A) (old : Option (List ℕ)) (w : ℕ) → IsWritten f (in_pieces (length list) (map f list)) [] list old old w w
+written_none_alone f list old w =
+    let P : List (List ℕ) → Type 0 = λ all. IsWritten f all [] list old old w w in
+    subst P (append-nil (in_pieces (length list) (map f list))) (written_none f [] list old w)
+
 pub written_more : {A : Type 0} (f : A → List ℕ) (all : List (List ℕ)) (last : List (List ℕ)) (rest after : List A) (piece : List ℕ) (old mid new : Option (List ℕ)) (w u v : ℕ) → IsWritten f all last rest old mid w u → rest ≢ [] → after ≡ drop 64 rest →
     piece ≡ bytes_of (take 64 (map f rest)) → Tells mid new (Adds piece) → v ≡ raised u 1 → IsWritten f all last after old new w v
 written_more f all last rest after piece old mid new w u v so_far some behind is added once =
@@ -242,6 +248,14 @@ module _ {A : Type 0} (f : A → List ℕ) (all last : List (List ℕ)) (rest : 
       (let all_writes = raised_then a.writes u c.writes (length front) (length before + 1) so_far.writes once in all_writes ∙ ap (raised a.writes) (omega (arith, longer)))
 
 -- ---- what is left
+
+-- a list is tested for having any element
+pub some_left : {A : Type 0} (rest : List A) → (length rest == 0) ≡ false → rest ≢ []
+some_left rest test none = false≢true (sym test ∙ ap (λ l. length l == 0) none)
+
+pub none_left_of : {A : Type 0} (rest : List A) → (length rest == 0) ≡ true → rest ≡ []
+none_left_of [] test = refl
+none_left_of (a ∷ rest) test = absurd (omega (arith, eqb-true (length (a ∷ rest)) 0 test))
 
 -- a list that can't have an element has none
 pub none_behind : {A : Type 0} (rest : List A) → ((rest ≢ []) → false ≡ true) → rest ≡ []

@@ -23,8 +23,12 @@ use Rattle.cert_text.specs.declared.fault.CertFault.TheVariants as certificate
 use Rattle.cert_text.specs.Meaning.{IsCertificateText}
 use Rattle.cert_text.specs.Faults.{HasFirstFault as CertificateFirst}
 use Rattle.cert_text.proofs.TextLaws.{one_certificate, one_fault as one_certificate_fault, no_fault as certificates_have_no_fault}
+use Rattle.rv_asm.specs.declared.fault.AsmFault.{AsmFault}
+use Rattle.rv_asm.specs.declared.fault.AsmFault.TheVariants as source
+use Rattle.rv_asm.specs.Source.{Means, HasFault}
+use Rattle.rv_asm.proofs.Assembled.{one_meaning, one_fault as one_source_fault, no_fault as meanings_have_no_fault}
 use Rattle.requests.specs.declared.ended.Ended.{Ended}
-use Rattle.requests.specs.Ending.{bad_program, bad_journal, bad_book, bad_text, bad_certificate}
+use Rattle.requests.specs.Ending.{bad_program, bad_journal, bad_book, bad_text, bad_certificate, bad_source}
 use Rattle.reversal.specs.JobReading.{IsRefusal}
 use Rattle.reversal.specs.Fronts.{HasBookFault, IsStartOf, HasProgramFault, AreItemsOf, HasJournalFault}
 
@@ -56,6 +60,17 @@ refusing_past e status is above below = record {
   not_damaged = λ x. absurd (omega (arith, x, is, above, below));
   not_sink = λ x. absurd (omega (arith, x, is, above, below));
   not_memory = λ x. absurd (omega (arith, x, is, above, below));
+}
+
+-- a refusal for the source
+pub refusing_above : (e : Ended) (status : ℕ) → e.status ≡ status → 17 < status → IsRefusing e
+refusing_above e status is above = record {
+  not_words = λ x. absurd (omega (arith, x, is, above));
+  not_input = λ x. absurd (omega (arith, x, is, above));
+  not_keeper = λ x. absurd (omega (arith, x, is, above));
+  not_damaged = λ x. absurd (omega (arith, x, is, above));
+  not_sink = λ x. absurd (omega (arith, x, is, above));
+  not_memory = λ x. absurd (omega (arith, x, is, above));
 }
 
 -- ---- faults end a call by a status of theirs
@@ -99,6 +114,10 @@ pub certificate_refuses : (f : CertFault) → (f ≡ certificate.Memory → ⊥)
 certificate_refuses certificate.Memory h = absurd (h refl)
 certificate_refuses (certificate.At rule line column) h = refusing_at _ 9 refl (omega arith) (omega arith)
 
+pub source_refuses : (f : AsmFault) → (f ≡ source.Memory → ⊥) → IsRefusing (bad_source f)
+source_refuses source.Memory h = absurd (h refl)
+source_refuses (source.At rule line column) h = refusing_above _ 19 refl (omega arith)
+
 -- ---- want of memory is no fault of the bytes
 
 pub program_fault_is_other : (raw : Bool) (stack : ℕ) (bytes : List ℕ) (f : ElfFault) → HasProgramFault raw stack bytes f → f ≡ program.Memory → ⊥
@@ -114,6 +133,15 @@ text_fault_is_other names bytes f h e = let P : TextFault → Type 0 = λ x. Has
 
 pub certificate_fault_is_other : (steps : ℕ) (b : BookCosts) (bytes : List ℕ) (f : CertFault) → CertificateFirst steps b bytes f → f ≡ certificate.Memory → ⊥
 certificate_fault_is_other steps b bytes f h e = let P : CertFault → Type 0 = λ x. CertificateFirst steps b bytes x in subst P e h
+
+pub source_fault_is_other : (text : List ℕ) (f : AsmFault) → HasFault text f → f ≡ source.Memory → ⊥
+source_fault_is_other text f (inl first) e = absurd (cc (first.is, e))
+source_fault_is_other text f (inr empty) e = absurd (cc (empty.1, e))
+
+-- a source that isn't assembled has a fault, or memory ran out
+pub source_refused : (text : List ℕ) (f : AsmFault) (e : Ended) → (f ≢ source.Memory → HasFault text f) → e ≡ bad_source f → IsRefusal (HasFault text) bad_source e
+source_refused text source.Memory e h is = inl is
+source_refused text (source.At rule line column) e h is = inr (source.At rule line column, h (λ same. absurd cc), is)
 
 -- a file that isn't loaded has a fault, or memory ran out
 memory_by_number : (f : ElfFault) → number_of f ≡ 10 → f ≡ program.Memory
@@ -197,3 +225,14 @@ certificate_fault_one steps b bytes f e h g = one_certificate_fault steps b byte
 
 pub certificate_excludes : (steps : ℕ) (b : BookCosts) (bytes : List ℕ) → Excludes (IsCertificateText steps b bytes) (CertificateFirst steps b bytes)
 certificate_excludes steps b bytes c f h g = certificates_have_no_fault steps b bytes c f h g
+
+-- sources
+
+pub source_one : (text : List ℕ) → IsOne (Means text)
+source_one text a b h g = one_meaning text a b h g
+
+pub source_fault_one : (text : List ℕ) → IsOne (HasFault text)
+source_fault_one text a b h g = one_source_fault text a b h g
+
+pub source_excludes : (text : List ℕ) → Excludes (Means text) (HasFault text)
+source_excludes text words f h g = meanings_have_no_fault text words f h g

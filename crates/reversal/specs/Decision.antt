@@ -4,7 +4,7 @@
 use Rattle.std.specs.Prelude.{◌≡◌, ◌⊎◌, ℕ, ◌+◌, ◌*◌, ◌≤◌, ◌++◌, slice_get, List, [], ◌∷◌, length, take, Option, None, Some}
 use Rattle.keepers.specs.Told.{Files, WhereTold}
 use Rattle.requests.specs.declared.ended.Ended.{Ended}
-use Rattle.requests.specs.Request.{Choice, unit_count, run_revolve, plan, plan_periodic, certify, price, find, demo, Command, run, check, Request, ask as ask_command}
+use Rattle.requests.specs.Request.{Choice, unit_count, run_revolve, plan, plan_periodic, certify, price, find, assemble, disassemble, demo, Command, run, check, Request, ask as ask_command}
 use Rattle.requests.specs.Ending.{unreadable, too_long}
 use Rattle.requests.specs.Operands.{question_bound}
 use Rattle.requests.specs.Bounds.{IsWithin}
@@ -21,6 +21,7 @@ use Rattle.reversal.specs.CommandPlan.{plan_table, plan_periodic_table}
 use Rattle.reversal.specs.CommandCheck.{check_table}
 use Rattle.reversal.specs.CommandCost.{price_table}
 use Rattle.reversal.specs.CommandCertify.{certify_table}
+use Rattle.reversal.specs.CommandAssemble.{assemble_table, disassemble_table}
 use Rattle.reversal.specs.CommandDemo.{demo_table, demonstrating}
 use Rattle.reversal.specs.CommandFind.{find_table, searching}
 
@@ -54,6 +55,10 @@ table_of options (ask_command c) bytes slots =
 table_of options (find c) (program ∷ []) slots = find_table options c.steps c.digest program None
 table_of options (find c) (program ∷ journal ∷ []) slots = find_table options c.steps c.digest program (Some journal)
 table_of options (find c) _ slots = no_table
+table_of options (assemble c) (source ∷ []) slots = assemble_table source
+table_of options (assemble c) _ slots = no_table
+table_of options (disassemble c) (program ∷ []) slots = disassemble_table program
+table_of options (disassemble c) _ slots = no_table
 table_of options (demo c) [] slots = demo_table c.number c.steps c.slots
 table_of options (demo c) _ slots = no_table
 

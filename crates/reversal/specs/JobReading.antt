@@ -14,7 +14,7 @@ use Rattle.revolve_gen.specs.Plans as revolve
 use Rattle.reverse_runner.specs.KeepersSeen.{HaveRoom}
 use Rattle.requests.specs.declared.ended.Ended.{Ended}
 use Rattle.reversal.specs.declared.job.Job as in_memory
-use Rattle.reversal.specs.declared.job.Job.TheVariants.{Perform, Ask, Find, Write, Report, Plan, Demonstrate}
+use Rattle.reversal.specs.declared.job.Job.TheVariants.{Perform, Ask, Find, Write, Bytes, Report, Plan, List as ListWords, Demonstrate}
 use Rattle.reversal.specs.declared.planning.Plan as plan_in_memory
 use Rattle.reversal.specs.declared.demo.Demonstration as demo_in_memory
 use Rattle.reversal.specs.declared.job.Performance.{Performance}
@@ -25,6 +25,7 @@ use Rattle.cost_fold.specs.CountsOf.{all_of}
 use Rattle.cost_report.specs.Report.{report_lines}
 use Rattle.reversal.specs.ActionsLeft.{left_of}
 use Rattle.reversal.specs.Plans.{list_pieces}
+use Rattle.reversal.specs.Listing.{word_pieces}
 use Rattle.requests.specs.Operands.{question_bound}
 use Rattle.requests.specs.Bounds.{IsWithin}
 use Rattle.reverse_runner.specs.SessionState.{SessionState}
@@ -62,8 +63,10 @@ job_of (Perform p) = perform (performed_run p)
 job_of (Ask a) = ask a.question (run_over a.over)
 job_of (Find f) = seek f.start f.journal f.steps f.workers f.digest
 job_of (Write text) = write (text ∷ [])
+job_of (Bytes bytes) = write (bytes.items ∷ [])
 job_of (Report p) = write (report_lines p.book p.counts)
 job_of (Plan p) = write (pieces_of p)
+job_of (ListWords l) = write (word_pieces l.words.items)
 job_of (Demonstrate d) = demonstrate d.number d.start d.steps d.slots
 
 -- a list that is performed is valid
@@ -106,8 +109,10 @@ CanBeDone (Perform p) = IsPerformable p
 CanBeDone (Ask a) = CanBeAsked a
 CanBeDone (Find f) = IsSearchable f
 CanBeDone (Write text) = Unit {0}
+CanBeDone (Bytes bytes) = Unit {0}
 CanBeDone (Report p) = all_of p.counts * 1000000 < 2 ^ 64
 CanBeDone (Plan p) = IsWritable p
+CanBeDone (ListWords l) = 5184 ≤ vec_capacity l.piece
 CanBeDone (Demonstrate d) = IsShowable d
 
 -- keepers with so many slots have room for what a job keeps
@@ -116,8 +121,10 @@ KeepersHaveRoom (Perform p) counts = HaveRoom p.steps (slots_of p.book) counts
 KeepersHaveRoom (Ask a) counts = HaveRoom a.over.steps (slots_of a.over.book) counts
 KeepersHaveRoom (Find f) counts = Unit {0}
 KeepersHaveRoom (Write text) counts = Unit {0}
+KeepersHaveRoom (Bytes bytes) counts = Unit {0}
 KeepersHaveRoom (Report p) counts = Unit {0}
 KeepersHaveRoom (Plan p) counts = Unit {0}
+KeepersHaveRoom (ListWords l) counts = Unit {0}
 KeepersHaveRoom (Demonstrate d) counts = Unit {0}
 
 -- why bytes aren't read: they have a fault, by which the call ends, or memory ran out

@@ -14,11 +14,13 @@ pub mod CommandCost
 pub mod CommandCertify
 pub mod CommandDemo
 pub mod CommandFind
+pub mod CommandAssemble
 pub mod Decision
 pub mod Plans
 pub mod Demo
 pub mod Output
 pub mod Pricing
+pub mod Listing
 pub mod JobReading
 pub mod ActionsLeft
 pub mod DemoReading

@@ -24,10 +24,12 @@ ghost use Rattle.requests.specs.RequestReading.{request_of, as_run, as_ask, as_c
 
 use crate::actions::{Actions, Listed};
 use crate::asking::{Asking, Over};
+use crate::assembling::decide_assemble;
 use crate::certifying::decide_certify;
 use crate::demo::decide_demo;
 use crate::finding::decide_find;
 use crate::job::{Job, Performance};
+use crate::listing::decide_disassemble;
 use crate::plan_kinds::{decide_plan, decide_plan_periodic};
 use crate::planning::decide_run_revolve;
 use crate::pricing::decide_price;
@@ -82,6 +84,8 @@ pub fn decide<R: Threads + Sync>(
         Command::Certify(certify) => decide_certify(alloc, certify, bytes),
         Command::Price(price) => decide_price(alloc, price, bytes),
         Command::Find(find) => decide_find(alloc, &request.options, find, bytes),
+        Command::Assemble(assemble) => decide_assemble(alloc, assemble, bytes),
+        Command::Disassemble(disassemble) => decide_disassemble(alloc, disassemble, bytes),
         Command::Demo(demo) => decide_demo(alloc, demo),
     }
 }

@@ -20,6 +20,7 @@ use crate::actions::Actions;
 use crate::asking::Asking;
 use crate::demo::Demonstration;
 use crate::finding::Finding;
+use crate::listing::Listing;
 use crate::planning::Plan;
 use crate::pricing::Pricing;
 use input_journal::Journal;
@@ -44,10 +45,14 @@ pub enum Job {
     Find(Finding),
     /// To write a text in one piece.
     Write(Line),
+    /// To write bytes in one piece.
+    Bytes(Vec<u8>),
     /// To write what a list costs.
     Report(Pricing),
     /// To write a plan.
     Plan(Plan),
+    /// To write the lines of words.
+    List(Listing),
     /// To run a program that is made from a number, and to write a summary.
     Demonstrate(Demonstration),
 }
@@ -86,9 +91,11 @@ impl Job {
             Job::Perform(performance) => performance.perform(alloc, keepers, out, counter),
             Job::Ask(asking) => asking.answer(alloc, keepers, out, counter),
             Job::Find(finding) => finding.find(rt, alloc, out, counter),
-            Job::Write(text) => write_text(&text, out),
+            Job::Write(text) => write_bytes(text.bytes(), out),
+            Job::Bytes(bytes) => write_bytes(&bytes, out),
             Job::Report(pricing) => pricing.write(out),
             Job::Plan(plan) => plan.write(out),
+            Job::List(listing) => listing.write(out),
             Job::Demonstrate(demonstration) => demonstration.show(alloc, out, counter),
         }
     }
@@ -126,13 +133,13 @@ impl Performance {
     }
 }
 
-// Writes a text in one piece.
-fn write_text<O: Sink>(text: &Line, out: &mut O) -> Ended
-    ensures { (other : Moment) (steps : ℕ) → EndsBy (accept (write (text.now ∷ []))) result
+// Writes bytes in one piece.
+fn write_bytes<O: Sink>(bytes: &[u8], out: &mut O) -> Ended
+    ensures { (other : Moment) (steps : ℕ) → EndsBy (accept (write (bytes.now ∷ []))) result
         (beside O.told O.call_count O.fault_count other out.old steps)
         (beside O.told O.call_count O.fault_count other out.new steps) }
 {
-    match out.write(text.bytes()) {
+    match out.write(bytes) {
         Ok(()) => Ended::done(),
         Err(_) => Ended::stopped(0),
     }

@@ -7,6 +7,7 @@
 
 mod actions;
 mod asking;
+mod assembling;
 mod certifying;
 mod decision;
 mod demo;
@@ -16,6 +17,7 @@ mod hrevolve;
 mod job;
 pub mod laws;
 mod line_hasher;
+mod listing;
 mod multistage;
 mod periodic;
 mod plan_kinds;

@@ -253,6 +253,36 @@ returns-in-Find-clause-refused g c =
 pub returns-in-Find-clause-room : goal.returns-in-Find-clause-room
 returns-in-Find-clause-room g c = if_okay c.decide_find.result _ _ (λ job h. h c.args.counts.now) c.decide_find.ensures.room
 
+pub returns-in-Assemble-clause-accepted : goal.returns-in-Assemble-clause-accepted
+returns-in-Assemble-clause-accepted g c =
+    let bytes : List (List ℕ) = map (λ b. b.items) c.args.bytes.now in
+    let P : Command → Type 0 = λ x. IfOk c.decide_assemble.result (λ job. DecidesBytes c.args.request.now.options (as_command x) bytes c.args.counts.now (accept (job_of job))) in
+    subst P (sym c.in-Assemble.is) (if_okay c.decide_assemble.result _ _ (λ job h. h c.args.counts.now c.args.request.now.options) c.decide_assemble.ensures.accepted)
+
+pub returns-in-Assemble-clause-refused : goal.returns-in-Assemble-clause-refused
+returns-in-Assemble-clause-refused g c =
+    let bytes : List (List ℕ) = map (λ b. b.items) c.args.bytes.now in
+    let P : Command → Type 0 = λ x. IfErr c.decide_assemble.result (λ e. (e ≡ no_memory) ⊎ DecidesBytes c.args.request.now.options (as_command x) bytes c.args.counts.now (refuse e)) in
+    subst P (sym c.in-Assemble.is) (if_error c.decide_assemble.result _ _ (λ e h. elim h [ inl memory ↦ inl memory | inr decides ↦ inr (decides c.args.counts.now c.args.request.now.options) ]) c.decide_assemble.ensures.refused)
+
+pub returns-in-Assemble-clause-room : goal.returns-in-Assemble-clause-room
+returns-in-Assemble-clause-room g c = if_okay c.decide_assemble.result _ _ (λ job h. h c.args.counts.now) c.decide_assemble.ensures.room
+
+pub returns-in-Disassemble-clause-accepted : goal.returns-in-Disassemble-clause-accepted
+returns-in-Disassemble-clause-accepted g c =
+    let bytes : List (List ℕ) = map (λ b. b.items) c.args.bytes.now in
+    let P : Command → Type 0 = λ x. IfOk c.decide_disassemble.result (λ job. DecidesBytes c.args.request.now.options (as_command x) bytes c.args.counts.now (accept (job_of job))) in
+    subst P (sym c.in-Disassemble.is) (if_okay c.decide_disassemble.result _ _ (λ job h. h c.args.counts.now c.args.request.now.options) c.decide_disassemble.ensures.accepted)
+
+pub returns-in-Disassemble-clause-refused : goal.returns-in-Disassemble-clause-refused
+returns-in-Disassemble-clause-refused g c =
+    let bytes : List (List ℕ) = map (λ b. b.items) c.args.bytes.now in
+    let P : Command → Type 0 = λ x. IfErr c.decide_disassemble.result (λ e. (e ≡ no_memory) ⊎ DecidesBytes c.args.request.now.options (as_command x) bytes c.args.counts.now (refuse e)) in
+    subst P (sym c.in-Disassemble.is) (if_error c.decide_disassemble.result _ _ (λ e h. elim h [ inl memory ↦ inl memory | inr decides ↦ inr (decides c.args.counts.now c.args.request.now.options) ]) c.decide_disassemble.ensures.refused)
+
+pub returns-in-Disassemble-clause-room : goal.returns-in-Disassemble-clause-room
+returns-in-Disassemble-clause-room g c = if_okay c.decide_disassemble.result _ _ (λ job h. h c.args.counts.now) c.decide_disassemble.ensures.room
+
 pub returns-in-Demo-clause-accepted : goal.returns-in-Demo-clause-accepted
 returns-in-Demo-clause-accepted g c =
     let bytes : List (List ℕ) = map (λ b. b.items) c.args.bytes.now in

@@ -1,6 +1,9 @@
-use Rattle.std.proofs.Common.{◌⊎◌, inl, inr, refl, sym, subst}
+use Rattle.std.proofs.Common.{◌⊎◌, ℕ, List, [], ◌∷◌, inl, inr, refl, sym, subst}
 use Rattle.reversal.specs.declared.job.Job.{Job}
+use Rattle.reversal.specs.Job.{write}
 use Rattle.reversal.specs.Moment.{moment}
+use Rattle.reversal.specs.Table.{accept}
+use Rattle.reversal.specs.Decision.{EndsBy}
 use Rattle.reversal.specs.JobReading.{job_of, Works, IsUntouched}
 use Rattle.reversal.proofs.job.Job.work.Goals as goal
 
@@ -27,10 +30,23 @@ returns-in-Find-clause-works g c =
 
 pub returns-in-Write-clause-works : goal.returns-in-Write-clause-works
 returns-in-Write-clause-works g c =
-    let P : Job → Type 0 = λ j. Works (job_of j) c.write_text.result
+    let P : Job → Type 0 = λ j. Works (job_of j) c.write_bytes.result
     (moment g.O.Sink.told g.O.Sink.call_count g.O.Sink.fault_count g.K.Keeper.told g.K.Keeper.put_count g.K.Keeper.get_count g.K.Keeper.free_count g.K.Keeper.fault_count c.args.out.now c.args.keepers.now.items c.args.counter.now)
-    (moment g.O.Sink.told g.O.Sink.call_count g.O.Sink.fault_count g.K.Keeper.told g.K.Keeper.put_count g.K.Keeper.get_count g.K.Keeper.free_count g.K.Keeper.fault_count c.write_text.new.out c.args.keepers.now.items c.args.counter.now) in
-    inr (subst P (sym c.in-Write.is) (inl (c.write_text.ensures (moment g.O.Sink.told g.O.Sink.call_count g.O.Sink.fault_count g.K.Keeper.told g.K.Keeper.put_count g.K.Keeper.get_count g.K.Keeper.free_count g.K.Keeper.fault_count c.args.out.now c.args.keepers.now.items c.args.counter.now) c.args.counter.now)))
+    (moment g.O.Sink.told g.O.Sink.call_count g.O.Sink.fault_count g.K.Keeper.told g.K.Keeper.put_count g.K.Keeper.get_count g.K.Keeper.free_count g.K.Keeper.fault_count c.write_bytes.new.out c.args.keepers.now.items c.args.counter.now) in
+    let W : List ℕ → Type 0 = λ l. EndsBy (accept (write (l ∷ []))) c.write_bytes.result
+    (moment g.O.Sink.told g.O.Sink.call_count g.O.Sink.fault_count g.K.Keeper.told g.K.Keeper.put_count g.K.Keeper.get_count g.K.Keeper.free_count g.K.Keeper.fault_count c.args.out.now c.args.keepers.now.items c.args.counter.now)
+    (moment g.O.Sink.told g.O.Sink.call_count g.O.Sink.fault_count g.K.Keeper.told g.K.Keeper.put_count g.K.Keeper.get_count g.K.Keeper.free_count g.K.Keeper.fault_count c.write_bytes.new.out c.args.keepers.now.items c.args.counter.now) in
+    inr (subst P (sym c.in-Write.is) (inl (subst W c.bytes.ensures.value (c.write_bytes.ensures (moment g.O.Sink.told g.O.Sink.call_count g.O.Sink.fault_count g.K.Keeper.told g.K.Keeper.put_count g.K.Keeper.get_count g.K.Keeper.free_count g.K.Keeper.fault_count c.args.out.now c.args.keepers.now.items c.args.counter.now) c.args.counter.now))))
+
+pub returns-in-Bytes-clause-works : goal.returns-in-Bytes-clause-works
+returns-in-Bytes-clause-works g c =
+    let P : Job → Type 0 = λ j. Works (job_of j) c.write_bytes-in-Bytes.result
+    (moment g.O.Sink.told g.O.Sink.call_count g.O.Sink.fault_count g.K.Keeper.told g.K.Keeper.put_count g.K.Keeper.get_count g.K.Keeper.free_count g.K.Keeper.fault_count c.args.out.now c.args.keepers.now.items c.args.counter.now)
+    (moment g.O.Sink.told g.O.Sink.call_count g.O.Sink.fault_count g.K.Keeper.told g.K.Keeper.put_count g.K.Keeper.get_count g.K.Keeper.free_count g.K.Keeper.fault_count c.write_bytes-in-Bytes.new.out c.args.keepers.now.items c.args.counter.now) in
+    let W : List ℕ → Type 0 = λ l. EndsBy (accept (write (l ∷ []))) c.write_bytes-in-Bytes.result
+    (moment g.O.Sink.told g.O.Sink.call_count g.O.Sink.fault_count g.K.Keeper.told g.K.Keeper.put_count g.K.Keeper.get_count g.K.Keeper.free_count g.K.Keeper.fault_count c.args.out.now c.args.keepers.now.items c.args.counter.now)
+    (moment g.O.Sink.told g.O.Sink.call_count g.O.Sink.fault_count g.K.Keeper.told g.K.Keeper.put_count g.K.Keeper.get_count g.K.Keeper.free_count g.K.Keeper.fault_count c.write_bytes-in-Bytes.new.out c.args.keepers.now.items c.args.counter.now) in
+    inr (subst P (sym c.in-Bytes.is) (inl (subst W c.deref.ensures.value (c.write_bytes-in-Bytes.ensures (moment g.O.Sink.told g.O.Sink.call_count g.O.Sink.fault_count g.K.Keeper.told g.K.Keeper.put_count g.K.Keeper.get_count g.K.Keeper.free_count g.K.Keeper.fault_count c.args.out.now c.args.keepers.now.items c.args.counter.now) c.args.counter.now))))
 
 pub returns-in-Report-clause-works : goal.returns-in-Report-clause-works
 returns-in-Report-clause-works g c =
@@ -45,6 +61,13 @@ returns-in-Plan-clause-works g c =
     (moment g.O.Sink.told g.O.Sink.call_count g.O.Sink.fault_count g.K.Keeper.told g.K.Keeper.put_count g.K.Keeper.get_count g.K.Keeper.free_count g.K.Keeper.fault_count c.args.out.now c.args.keepers.now.items c.args.counter.now)
     (moment g.O.Sink.told g.O.Sink.call_count g.O.Sink.fault_count g.K.Keeper.told g.K.Keeper.put_count g.K.Keeper.get_count g.K.Keeper.free_count g.K.Keeper.fault_count c.write-in-Plan.new.out c.args.keepers.now.items c.args.counter.now) in
     inr (subst P (sym c.in-Plan.is) (inl (c.write-in-Plan.ensures (moment g.O.Sink.told g.O.Sink.call_count g.O.Sink.fault_count g.K.Keeper.told g.K.Keeper.put_count g.K.Keeper.get_count g.K.Keeper.free_count g.K.Keeper.fault_count c.args.out.now c.args.keepers.now.items c.args.counter.now) c.args.counter.now)))
+
+pub returns-in-List-clause-works : goal.returns-in-List-clause-works
+returns-in-List-clause-works g c =
+    let P : Job → Type 0 = λ j. Works (job_of j) c.write-in-List.result
+    (moment g.O.Sink.told g.O.Sink.call_count g.O.Sink.fault_count g.K.Keeper.told g.K.Keeper.put_count g.K.Keeper.get_count g.K.Keeper.free_count g.K.Keeper.fault_count c.args.out.now c.args.keepers.now.items c.args.counter.now)
+    (moment g.O.Sink.told g.O.Sink.call_count g.O.Sink.fault_count g.K.Keeper.told g.K.Keeper.put_count g.K.Keeper.get_count g.K.Keeper.free_count g.K.Keeper.fault_count c.write-in-List.new.out c.args.keepers.now.items c.args.counter.now) in
+    inr (subst P (sym c.in-List.is) (inl (c.write-in-List.ensures (moment g.O.Sink.told g.O.Sink.call_count g.O.Sink.fault_count g.K.Keeper.told g.K.Keeper.put_count g.K.Keeper.get_count g.K.Keeper.free_count g.K.Keeper.fault_count c.args.out.now c.args.keepers.now.items c.args.counter.now) c.args.counter.now)))
 
 pub returns-in-Demonstrate-clause-works : goal.returns-in-Demonstrate-clause-works
 returns-in-Demonstrate-clause-works g c =

@@ -1,0 +1,134 @@
+// The lines of the words of a raw program.
+ghost use Rattle.std.specs.Prelude.{◌≡◌, ◌⊎◌, ℕ, ◌+◌, ◌≤◌, ◌%◌, ◌++◌, List, length, map, take, drop, IfOk, IfErr};
+ghost use Rattle.std.specs.List.{AllByRecursion};
+ghost use Rattle.std.specs.Vec.{vec_len, vec_capacity};
+ghost use Rattle.requests.specs.Request.{Choice, disassemble as disassemble_command};
+ghost use Rattle.requests.specs.Inputs.{inputs_of};
+ghost use Rattle.requests.specs.InputReading.{AreWithinLimits};
+ghost use Rattle.requests.specs.RequestReading.{as_disassemble};
+ghost use Rattle.requests.specs.Ending.{no_memory};
+ghost use Rattle.reversal.specs.Job.{write};
+ghost use Rattle.reversal.specs.Moment.{Moment, beside};
+ghost use Rattle.reversal.specs.Deeds.{bytes_of};
+ghost use Rattle.reversal.specs.Table.{accept, refuse};
+ghost use Rattle.reversal.specs.CommandAssemble.{word_bytes, DecidesDisassemble};
+ghost use Rattle.reversal.specs.Decision.{EndsBy, DecidesBytes};
+ghost use Rattle.reversal.specs.Listing.{ended_line, word_pieces, IsWord};
+ghost use Rattle.reversal.specs.JobReading.{job_of, CanBeDone, KeepersHaveRoom};
+
+use crate::job::Job;
+use elf_load::ElfFault;
+use keepers::Sink;
+use plan_types::Line;
+use requests::{Disassemble, Ended};
+use rv_asm::disassemble;
+use std::alloc::{AllocError, Global};
+
+// How many lines are written at once, and how many bytes they have at most.
+const LINES: usize = 64;
+
+const PIECE: usize = 5_184;
+
+/// Words, and room for the lines that are written next.
+#[derive(Drop)]
+pub struct Listing {
+    pub words: Vec<u32>,
+    pub piece: Vec<u8>,
+}
+
+impl Listing {
+    /// Writes the line of each word, in pieces of sixty-four lines. It takes no memory.
+    pub fn write<O: Sink>(self, out: &mut O) -> Ended
+        requires { 5184 ≤ vec_capacity self.piece }
+        ensures { (other : Moment) (steps : ℕ) → EndsBy (accept (write (word_pieces self.words.items))) result
+            (beside O.told O.call_count O.fault_count other out.old steps)
+            (beside O.told O.call_count O.fault_count other out.new steps) }
+    {
+        let Listing { words, mut piece } = self;
+        let mut rest = words.as_slice();
+        while !rest.is_empty() {
+            rest = next_piece(rest, &mut piece);
+            match out.write(&piece) {
+                Ok(()) => {}
+                Err(_) => return Ended::stopped(0),
+            }
+        }
+        Ended::done()
+    }
+}
+
+// Puts the lines of the first words into the piece, in place of what was there, and gives the words behind them.
+fn next_piece<'a>(words: &'a [u32], piece: &mut Vec<u8>) -> &'a [u32]
+    requires { 5184 ≤ vec_capacity piece.old }
+    ensures piece { piece.new.items ≡ bytes_of (take 64 (map ended_line words.now)) }
+    ensures left { result.now ≡ drop 64 words.now }
+    ensures capacity { 5184 ≤ vec_capacity piece.new }
+{
+    piece.clear();
+    let mut line = Line::new();
+    let (first, rest) = words.split_at(words.len().min(LINES));
+    for word in first {
+        push_line(*word, &mut line, piece);
+    }
+    rest
+}
+
+// Adds the line of a word to the piece. It is made in `line`.
+fn push_line(word: u32, line: &mut Line, piece: &mut Vec<u8>)
+    requires { vec_len piece.old + 81 ≤ vec_capacity piece.old }
+    ensures text { piece.new.items ≡ piece.old.items ++ ended_line word }
+    ensures short { vec_len piece.new ≤ vec_len piece.old + 81 }
+    ensures capacity { vec_capacity piece.old ≤ vec_capacity piece.new }
+{
+    disassemble(word, line);
+    line.push(b"\n");
+    piece.extend_from_slice(line.bytes()).unwrap();
+}
+
+/// What a request for the lines of a raw program comes to by its bytes.
+pub fn decide_disassemble(
+    alloc: Global,
+    disassemble: &Disassemble<'_>,
+    bytes: &[Vec<u8>],
+) -> Result<Job, Ended>
+    requires { AreWithinLimits (inputs_of (disassemble_command (as_disassemble disassemble.now))) (map (λ b. b.items) bytes.now) }
+    ensures accepted { IfOk result (λ job. (slots : List ℕ) → (options : List Choice) →
+        DecidesBytes options (disassemble_command (as_disassemble disassemble.now)) (map (λ b. b.items) bytes.now) slots (accept (job_of job))) }
+    ensures can_be_done { IfOk result CanBeDone }
+    ensures room { IfOk result (λ job. (counts : List ℕ) → KeepersHaveRoom job counts) }
+    ensures refused { IfErr result (λ e. (e ≡ no_memory)
+        ⊎ ((slots : List ℕ) → (options : List Choice) →
+        DecidesBytes options (disassemble_command (as_disassemble disassemble.now)) (map (λ b. b.items) bytes.now) slots (refuse e))) }
+{
+    let [program] = bytes else { unreachable!() };
+    list_words(alloc, program)
+}
+
+fn list_words(alloc: Global, program: &[u8]) -> Result<Job, Ended>
+    ensures accepted { IfOk result (λ job. DecidesDisassemble program.now (accept (job_of job))) }
+    ensures can_be_done { IfOk result CanBeDone }
+    ensures room { IfOk result (λ job. (counts : List ℕ) → KeepersHaveRoom job counts) }
+    ensures refused { IfErr result (λ e. (e ≡ no_memory) ⊎ DecidesDisassemble program.now (refuse e)) }
+{
+    if program.is_empty() || program.len() % 4 != 0 {
+        return Err(Ended::from(ElfFault::RawLength(program.len() as u64)));
+    }
+    let words = words_in(alloc, program)?;
+    let piece = Vec::with_capacity(alloc, PIECE)?;
+    Ok(Job::List(Listing { words, piece }))
+}
+
+// The words of bytes, each of which has its low byte first.
+fn words_in(alloc: Global, program: &[u8]) -> Result<Vec<u32>, AllocError>
+    requires { length program.now % 4 ≡ 0 }
+    ensures bytes { IfOk result (λ words. program.now ≡ word_bytes words.items) }
+    ensures small { IfOk result (λ words. AllByRecursion IsWord words.items) }
+{
+    let mut words = Vec::with_capacity(alloc, program.len() / 4)?;
+    let mut rest = program;
+    while let [a, b, c, d, later @ ..] = rest {
+        words.push(u32::from_le_bytes([*a, *b, *c, *d]))?;
+        rest = later;
+    }
+    Ok(words)
+}
