@@ -4,6 +4,7 @@ import hashlib
 
 from .books import Book, Level, read_book
 from .certificates import read_certificate, weigh
+from .console import Marks, Tour, new_place, read_script
 from .machine import Run, demo_program, load, load_raw, read_journal
 from .refused import Refused
 from .rules import counts_of, first_with_room, judge, on_levels, report, revolve_certificate, revolve_list
@@ -61,6 +62,8 @@ class Call:
             return self.plan(*words)
         if name == "demo":
             return self.demo(*map(int, words))
+        if name == "console":
+            return self.console(*words)
         certificate = words[2] if name == "certify" else None
         texts = [self.read(it) for it in words[:-1]]
         steps, book = int(words[-1]), read_book(texts[0])
@@ -105,6 +108,30 @@ class Call:
         self.perform(actions, run, (lambda *it: self.write_line(*it) if it[1] == answer else None) if not asks else lambda *it: None, answer)
         if asks:
             self.write("none\n" if answer is None else f"{answer}\n")
+
+    def console(self, program, journal, book, script, count):
+        data = {it: self.read(it) for it in (program, journal, book, script) if not (it == journal and it == "-")}
+        count, book = int(count), read_book(data[book])
+        marks = Marks(book, count)
+        state = (load_raw if self.raw else load)(data[program], self.stack)
+        items = read_journal(data[journal]) if journal != "-" else []
+        orders = read_script(data[script], count)
+        # what an order gets that looks for its place is known up to a bound alone
+        self.is_counted = all(order in ("back", "step", "goto") for order, _ in orders)
+        run = Tour(state, items, count, {value for order, value in orders if order == "back-change"})
+        for mark in range(marks.count):
+            self.keep(marks.levels[mark], mark * marks.stride, 0)
+        self.steps += (marks.count - 1) * marks.stride
+        place = 0
+        for number, (order, value) in enumerate(orders, 1):
+            found = new_place(order, value, place, count, run, run.words)
+            if found is not None:
+                mark = marks.below(found)
+                self.keeper(marks.levels[mark], "get", number)
+                self.look(mark * marks.stride, marks.levels[mark], number, run)
+                self.steps += found - mark * marks.stride
+                place = found
+            self.write("none\n" if found is None else run.lines[found], number)
 
     def answer(self, question, run, word):
         """The number of the last step that writes, or changes, a byte of a word."""

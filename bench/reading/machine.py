@@ -256,9 +256,13 @@ class Run:
         for n in range(steps + 1):
             self.lines.append(line_of(n, state))
             self.images.append(image_of(state))
+            self.look(state)
             self.seen.append(word and [bytes(state.get(word + k, 1)) if state.has(word + k, 1) else None for k in range(4)])
             if n < steps:
                 self.wrote.append(step(state, journal))
+
+    def look(self, state):
+        """What else is to be noted of a state."""
 
 
 def demo_program(number):
