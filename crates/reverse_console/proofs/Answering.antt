@@ -7,9 +7,11 @@ use Rattle.rv_machine.specs.States.{state_number}
 use Rattle.reverse_runner.specs.KeepersSeen.{Calls, Called, CalledAtMost}
 use Rattle.reverse_runner.specs.Touching.{one_get}
 use Rattle.reverse_runner.specs.declared.fault.RunFault.{RunFault}
+use Rattle.reverse_runner.specs.declared.fault.RunFault.TheVariants.{Keeper, Damaged, Visitor, Memory, Ended}
 use Rattle.reverse_runner.proofs.AllCalls.{at_most}
 use Rattle.reverse_console.specs.Answer.{IsGiven}
-use Rattle.reverse_console.specs.Costs.{gets_of, GotAtMost, Takes, TakesAtMost}
+use Rattle.reverse_console.specs.Costs.{gets_of, GotAtMost, Takes, TookInPart, TookUntil}
+use Rattle.reverse_console.specs.Refusals.{IsOfGetting}
 use Rattle.reverse_console.specs.Marks.{MarkPlan, capacity, mark, mark_of, mark_level, mark_count}
 use Rattle.input_journal.specs.Form.{IsRecorded}
 use Rattle.revolve_gen.specs.Places.{level_at, IsRoomy}
@@ -42,19 +44,20 @@ takes_found p None n steps mid steps' most calls calls1 calls' marks is within l
     let under = mark_at_most p n in
     (omega (arith, low, counted), omega (arith, high, counted, near, under), got_few p most calls calls' marks few le all)
 
--- it was found, and was not shown
-pub took_found : (p : MarkPlan) (said : Option ℕ) (n steps mid steps' most : ℕ) (calls calls1 calls' : Calls) (marks : List ℕ) → IsSaid said n steps mid calls calls1 → n ≤ p.count → steps ≤ mid → mid ≤ steps + p.count →
-    mid ≤ steps' → steps' ≤ mid + (n - mark p n) → Called (one_get (mark_level p (mark_of p n))) calls1 calls' → length marks ≤ most → most ≤ mark_count p + 2 → Called (gets_of p marks) calls calls' → TakesAtMost p said steps steps' calls calls'
-took_found p (Some m) n steps mid steps' most calls calls1 calls' marks is within low high rises counted called few le all =
+-- it was found, and getting its mark failed
+pub took_found : (p : MarkPlan) (said : Option ℕ) (fault : RunFault) (n steps mid steps' most : ℕ) (calls calls1 calls' : Calls) (marks : List ℕ) → IsSaid said n steps mid calls calls1 → n ≤ p.count → steps ≤ mid → mid ≤ steps + p.count →
+    mid ≤ steps' → steps' ≤ mid + (n - mark p n) → Called (one_get (mark_level p (mark_of p n))) calls1 calls' → length marks ≤ most → most ≤ mark_count p + 2 → Called (gets_of p marks) calls calls' →
+    IsOfGetting (one_get (mark_level p (mark_of p n))) fault → IsOfGetting (gets_of p marks) fault → TookInPart p said fault steps steps' calls calls'
+took_found p (Some m) fault n steps mid steps' most calls calls1 calls' marks is within low high rises counted called few le all of of_all =
     let at = is m refl in
-    let P : ℕ → Type 0 = λ x. (steps ≤ steps') × (steps' ≤ steps + (x - mark p x)) × CalledAtMost (one_get (mark_level p (mark_of p x))) calls calls' in
+    let P : ℕ → Type 0 = λ x. (steps ≤ steps') × (steps' ≤ steps + (x - mark p x)) × CalledAtMost (one_get (mark_level p (mark_of p x))) calls calls' × IsOfGetting (one_get (mark_level p (mark_of p x))) fault in
     let Q : Calls → Type 0 = λ c. CalledAtMost (one_get (mark_level p (mark_of p n))) c calls' in
     let same = at.1 in
-    subst P (sym at.0) (omega (arith, rises, same), omega (arith, counted, same), subst Q at.2 (at_most (one_get (mark_level p (mark_of p n))) calls1 calls' called))
-took_found p None n steps mid steps' most calls calls1 calls' marks is within low high rises counted called few le all =
+    subst P (sym at.0) (omega (arith, rises, same), omega (arith, counted, same), subst Q at.2 (at_most (one_get (mark_level p (mark_of p n))) calls1 calls' called), of)
+took_found p None fault n steps mid steps' most calls calls1 calls' marks is within low high rises counted called few le all of of_all =
     let near = near_mark p n within in
     let under = mark_at_most p n in
-    (omega (arith, low, rises), omega (arith, high, counted, near, under), got_few p most calls calls' marks few le all)
+    (omega (arith, low, rises), omega (arith, high, counted, near, under), record { marks = marks; few = omega (arith, few, le); called = all; of = of_all })
 
 -- none was found
 pub takes_none : (p : MarkPlan) (said : Option ℕ) (steps steps' most : ℕ) (calls calls' : Calls) (marks : List ℕ) → ((m : ℕ) → said ≡ Some m → ⊥) → steps ≤ steps' → steps' ≤ steps + p.count → length marks ≤ most → most ≤ mark_count p + 2 →
@@ -62,10 +65,20 @@ pub takes_none : (p : MarkPlan) (said : Option ℕ) (steps steps' most : ℕ) (c
 takes_none p (Some m) steps steps' most calls calls' marks never low high few le all = absurd (never m refl)
 takes_none p None steps steps' most calls calls' marks never low high few le all = (low, omega (arith, high), got_few p most calls calls' marks few le all)
 
-pub took_none : (p : MarkPlan) (said : Option ℕ) (steps steps' most : ℕ) (calls calls' : Calls) (marks : List ℕ) → ((m : ℕ) → said ≡ Some m → ⊥) → steps ≤ steps' → steps' ≤ steps + p.count → length marks ≤ most → most ≤ mark_count p + 2 →
-    Called (gets_of p marks) calls calls' → TakesAtMost p said steps steps' calls calls'
-took_none p (Some m) steps steps' most calls calls' marks never low high few le all = absurd (never m refl)
-took_none p None steps steps' most calls calls' marks never low high few le all = (low, omega (arith, high), got_few p most calls calls' marks few le all)
+-- none was found, and getting a mark failed
+pub took_none : (p : MarkPlan) (said : Option ℕ) (fault : RunFault) (steps steps' most : ℕ) (calls calls' : Calls) (marks : List ℕ) → ((m : ℕ) → said ≡ Some m → ⊥) → steps ≤ steps' → steps' ≤ steps + p.count → length marks ≤ most → most ≤ mark_count p + 2 →
+    Called (gets_of p marks) calls calls' → IsOfGetting (gets_of p marks) fault → TookInPart p said fault steps steps' calls calls'
+took_none p (Some m) fault steps steps' most calls calls' marks never low high few le all of = absurd (never m refl)
+took_none p None fault steps steps' most calls calls' marks never low high few le all of = (low, omega (arith, high), record { marks = marks; few = omega (arith, few, le); called = all; of = of })
+
+-- what an order took up to a fault of getting or of the visitor
+pub took_until : (p : MarkPlan) (said : Option ℕ) (c : Calls) (fault : RunFault) (steps steps' : ℕ) (calls calls' : Calls) → (fault ≡ Visitor → Takes p said steps steps' calls calls') → IsOfGetting c fault →
+    TookInPart p said fault steps steps' calls calls' → TookUntil p said fault steps steps' calls calls'
+took_until p said c (Keeper k) steps steps' calls calls' whole of part = part
+took_until p said c (Damaged k put got) steps steps' calls calls' whole of part = part
+took_until p said c Visitor steps steps' calls calls' whole of part = whole refl
+took_until p said c Memory steps steps' calls calls' whole of part = part
+took_until p said c Ended steps steps' calls calls' whole of part = absurd of
 
 -- ---- the answer over a run
 
@@ -109,10 +122,3 @@ both_ways r y first second = cc
 -- a fault of a call is that which is passed on
 pub pass_on : {T U E : Type 0} (r : Result T E) (s : Result U E) (x y z : E) → r ≡ Err x → s ≡ Err y → y ≡ x → r ≡ Err z → s ≡ Err z
 pass_on r s x y z first second same last = cc
-
--- what an answered order takes is no more than a refused one may
-pub took_no_more : (p : MarkPlan) (said : Option ℕ) (steps steps' : ℕ) (calls calls' : Calls) → Takes p said steps steps' calls calls' → TakesAtMost p said steps steps' calls calls'
-took_no_more p (Some n) steps steps' calls calls' takes =
-    let counted = takes.0 in
-    (omega (arith, counted), omega (arith, counted), at_most (one_get (mark_level p (mark_of p n))) calls calls' takes.1)
-took_no_more p None steps steps' calls calls' takes = takes

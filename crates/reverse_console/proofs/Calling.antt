@@ -1,15 +1,15 @@
 -- How a call of a keeper is refused, and what it leaves.
-use Rattle.std.proofs.Common.{◌≡◌, ℕ, ◌<◌, true, false, List, length, Some, None, Option, Result, Ok, Err, OnOk, IfErr, refl, sym, ◌∙◌, subst, arith}
+use Rattle.std.proofs.Common.{◌≡◌, ℕ, ◌<◌, ◌≤◌, true, false, List, length, Some, None, Option, Result, Ok, Err, OnOk, IfErr, refl, sym, ◌∙◌, ap, subst, arith, eq-eqb}
 use Rattle.std.specs.Option.{is_some}
 use Rattle.std.proofs.lemmas.Bool.{false≢true}
 use Rattle.keepers.specs.Counts.{Rose}
-use Rattle.reverse_runner.specs.KeepersSeen.{by_number}
-use Rattle.reverse_runner.specs.Touching.{Remain, OthersRemain, IsCaused, IsKeeping, IsFetching}
+use Rattle.reverse_runner.specs.KeepersSeen.{Calls, one_if, by_number}
+use Rattle.reverse_runner.specs.Touching.{one_get, Remain, OthersRemain, IsCaused, IsKeeping, IsFetching}
 use Rattle.reverse_runner.specs.declared.fault.RunFault.{RunFault}
 use Rattle.reverse_runner.specs.declared.fault.RunFault.TheVariants.{Keeper, Damaged, Visitor, Memory, Ended}
-use Rattle.reverse_console.specs.Marks.{MarkPlan}
+use Rattle.reverse_console.specs.Marks.{MarkPlan, mark_level, mark_count}
 use Rattle.reverse_console.specs.Causes.{KeepersStay, Quiet, HasCause}
-use Rattle.reverse_console.specs.Refusals.{IsOfPutting}
+use Rattle.reverse_console.specs.Refusals.{IsOfPutting, IsOfGetting}
 
 pub if_err_map : {T E : Type 0} (P Q : E → Type 0) (r : Result T E) → ((e : E) → P e → Q e) → IfErr r P → IfErr r Q
 if_err_map P Q (Ok x) f h = tt
@@ -38,12 +38,33 @@ fetching_cause faults p k old new (Err Visitor) within h is = absurd is
 fetching_cause faults p k old new (Err Memory) within h is = h
 fetching_cause faults p k old new (Err Ended) within h is = absurd is
 
-pub of_putting : (k : ℕ) (fault : RunFault) → IsKeeping k fault → IsOfPutting fault
-of_putting k (Keeper j) h = tt
-of_putting k (Damaged j put got) h = absurd h
-of_putting k Visitor h = absurd h
-of_putting k Memory h = tt
-of_putting k Ended h = absurd h
+-- a mark isn't put on its level
+pub of_putting : (p : MarkPlan) (i k : ℕ) → i < mark_count p → k ≡ mark_level p i → (fault : RunFault) → IsKeeping k fault → IsOfPutting p fault
+of_putting p i k known at (Keeper j) h = (i, (known, h ∙ at))
+of_putting p i k known at (Damaged j put got) h = absurd h
+of_putting p i k known at Visitor h = absurd h
+of_putting p i k known at Memory h = tt
+of_putting p i k known at Ended h = absurd h
+
+-- a level is called where it is got from
+one_there : (k j : ℕ) → j ≡ k → 0 < (one_get k).gets j
+one_there k j e = let one = ap one_if (eq-eqb k j (sym e)) in omega (arith, one)
+
+-- and a mark isn't got from it
+pub of_fetching : (level k : ℕ) → k ≡ level → (fault : RunFault) → IsFetching k fault → IsOfGetting (one_get level) fault
+of_fetching level k at (Keeper j) h = one_there level j (h ∙ at)
+of_fetching level k at (Damaged j put got) h = one_there level j (h ∙ at)
+of_fetching level k at Visitor h = absurd h
+of_fetching level k at Memory h = (level, one_there level level refl)
+of_fetching level k at Ended h = absurd h
+
+-- what comes from some calls comes from more
+pub of_more : (a b : Calls) → ((k : ℕ) → a.gets k ≤ b.gets k) → (fault : RunFault) → IsOfGetting a fault → IsOfGetting b fault
+of_more a b le (Keeper k) h = let more = le k in omega (arith, h, more)
+of_more a b le (Damaged k put got) h = let more = le k in omega (arith, h, more)
+of_more a b le Visitor h = tt
+of_more a b le Memory h = let more = le h.0 in let some = h.1 in (h.0, omega (arith, some, more))
+of_more a b le Ended h = h
 
 -- the keepers past the levels of the book are as they were
 pub stay_of : {K : Type 0} (slots faults : K → ℕ) (p : MarkPlan) (k : ℕ) (old new : List K) → k < length p.slots → Remain slots faults old new → OthersRemain k old new → KeepersStay slots faults p old new

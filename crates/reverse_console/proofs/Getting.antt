@@ -2,7 +2,7 @@
 use Rattle.std.proofs.Common.{◌≡◌, inl, inr, ℕ, ◌+◌, ◌-◌, ◌==◌, ◌<◌, ◌≤◌, cond, List, [], ◌∷◌, ◌++◌, length, count_by, Some, Option, Result, Ok, Err, OnOk, IfErr, refl, sym, ◌∙◌, ap, subst, arith, length-append}
 use Rattle.std.specs.Vec.{vec_capacity}
 use Rattle.std.proofs.lemmas.Result.{IfErr-at_err}
-use Rattle.std.proofs.lemmas.List.Sums.{sum_by-append}
+use Rattle.std.proofs.lemmas.List.Sums.{sum_by-append, sum_by-cons}
 use Rattle.sha2.specs.Sha256.{sha256}
 use Rattle.input_journal.specs.Form.{IsRecorded}
 use Rattle.keepers.specs.Told.{Images}
@@ -19,7 +19,7 @@ use Rattle.reverse_runner.specs.Standing.{IsNoImage}
 use Rattle.reverse_runner.specs.KeepersSeen.{Calls, Called, told_by, calls_to}
 use Rattle.reverse_runner.specs.Touching.{one_get, Remain, OthersRemain, IsCaused, IsKeeping, IsFetching, IsOther}
 use Rattle.reverse_runner.specs.declared.fault.RunFault.{RunFault}
-use Rattle.reverse_runner.specs.declared.fault.RunFault.TheVariants.{Damaged, Visitor, Memory}
+use Rattle.reverse_runner.specs.declared.fault.RunFault.TheVariants.{Damaged, Visitor}
 use Rattle.reverse_runner.proofs.AllCalls.{called_then, called_same, calls_then}
 use Rattle.reverse_queries.proofs.Ways.{same_fault}
 use Rattle.reverse_console.specs.declared.desk.Desk.{Desk}
@@ -28,8 +28,9 @@ use Rattle.reverse_console.specs.Desks.{Fits, levels_in}
 use Rattle.reverse_console.specs.Marks.{MarkPlan, marked, mark_count, mark_level, marked_on}
 use Rattle.reverse_console.specs.Causes.{Quiet, HasCause}
 use Rattle.reverse_console.specs.Handling.{StandAt, source, Reads, Gets}
+use Rattle.reverse_console.specs.Refusals.{IsOfGetting}
 use Rattle.reverse_console.specs.Seen.{ComesFrom, IsMarkDamaged}
-use Rattle.reverse_console.proofs.Calling.{if_err_map, stay_of, stay_then, stay_still, cause_then, fetching_cause}
+use Rattle.reverse_console.proofs.Calling.{if_err_map, of_fetching, of_more, stay_of, stay_then, stay_still, cause_then, fetching_cause}
 use Rattle.reverse_console.proofs.Coming.{SourceStands, mark_stands, fetched_mark, mark_is_image}
 use Rattle.reverse_console.proofs.Seeing.{comes_back, damage_back, got_one, got_none}
 
@@ -87,7 +88,7 @@ module _ {K : Type 0} (told : K → Option Images) (puts gets frees slots faults
     cause = err_at (HasCause faults p old new) s y second (subst (HasCause faults p old new) (sym same) (IfErr-at_err (HasCause faults p old new) first g.cause));
     damaged = λ k put got e. g.damaged k put got (same_fault r s x y (Damaged k put got) first second same e);
     undamaged = λ one is pages stands k put got e. g.undamaged one is pages stands k put got (same_fault r s x y (Damaged k put got) first second same e);
-    wants = λ e. g.wants (same_fault r s x y Memory first second same e);
+    of = err_at (IsOfGetting (gets_of p g.marks)) s y second (subst (IsOfGetting (gets_of p g.marks)) (sym same) (IfErr-at_err (IsOfGetting (gets_of p g.marks)) first g.of));
   }
 
   -- an answer that is made of another one
@@ -100,7 +101,7 @@ module _ {K : Type 0} (told : K → Option Images) (puts gets frees slots faults
     cause = tt;
     damaged = λ k put got e. absurd cc;
     undamaged = λ one ms pages stands k put got e. absurd cc;
-    wants = λ e. absurd cc;
+    of = tt;
   }
 
   reads_then : (xs ys : List ℕ) (u v w : Desk) (a b c : List K) → Read xs u v a b → Read ys v w b c → Read (xs ++ ys) u w a c
@@ -138,7 +139,8 @@ module _ {K : Type 0} (told : K → Option Images) (puts gets frees slots faults
         cause = if_err_map (HasCause faults p b c) (HasCause faults p a c) s (λ fault. cause_then faults p a b c fault quiet) second.cause;
         damaged = λ k put got e. damage_then first.marks u v a b first.reads k put got (second.damaged k put got e);
         undamaged = λ one ms pages stands. second.undamaged one ms (first.reads.machine ∙ pages) (stand_same one journal p (mark_count p) u.store v.store (told_by told a) (told_by told b) first.reads.store first.reads.told_same stands);
-        wants = λ e. let some = second.wants e in omega (arith, some, length-append first.marks second.marks);
+        of = if_err_map (IsOfGetting (gets_of p second.marks)) (IsOfGetting (gets_of p (first.marks ++ second.marks))) s
+            (of_more (gets_of p second.marks) (gets_of p (first.marks ++ second.marks)) (λ k. let both = both_counted p first.marks second.marks k in omega (arith, both))) second.of;
       }
     where
       on_ok_map : {T P Q : Type 0} (r : Result T RunFault) → (P → Q) → OnOk r P → OnOk r Q
@@ -155,7 +157,7 @@ module _ {K : Type 0} (told : K → Option Images) (puts gets frees slots faults
     cause = g.cause;
     damaged = g.damaged;
     undamaged = g.undamaged;
-    wants = g.wants;
+    of = g.of;
   }
 
   -- the machine goes on, and nothing else happens
@@ -168,7 +170,7 @@ module _ {K : Type 0} (told : K → Option Images) (puts gets frees slots faults
     cause = g.cause;
     damaged = g.damaged;
     undamaged = g.undamaged;
-    wants = g.wants;
+    of = g.of;
   }
 
   -- the visitor refused what was got
@@ -181,7 +183,7 @@ module _ {K : Type 0} (told : K → Option Images) (puts gets frees slots faults
     cause = at_ok r x is g.quiet;
     damaged = λ k put got e. absurd cc;
     undamaged = λ one ms pages stands k put got e. absurd cc;
-    wants = λ e. absurd cc;
+    of = tt;
   }
 
   -- nothing was done
@@ -194,7 +196,7 @@ module _ {K : Type 0} (told : K → Option Images) (puts gets frees slots faults
     cause = tt;
     damaged = λ k put got e. absurd cc;
     undamaged = λ one ms pages stands k put got e. absurd cc;
-    wants = λ e. absurd cc;
+    of = tt;
   }
 
   -- ---- one mark
@@ -214,6 +216,12 @@ module _ {K : Type 0} (told : K → Option Images) (puts gets frees slots faults
 
     stands_at : (first : MachineState) → IsMachineState first → SamePages w.work first → StandAt first journal p (mark_count p) w.store (told_by told old) → SourceStands first (source p journal w (told_by told old))
     stands_at first is pages stands = record { is = is; recorded = recorded; machine = pages; levels = stands; there = there }
+
+    -- a fault of fetching is of getting the mark
+    of_mark : (fault : RunFault) → IsFetching k fault → IsOfGetting (gets_of p (i ∷ [])) fault
+    of_mark fault h =
+        of_more (one_get (mark_level p i)) (gets_of p (i ∷ [])) (λ j. let f : ℕ → ℕ = λ m. cond (mark_level p m == j) 1 0 in omega (arith, sum_by-cons f i [])) fault
+        (of_fetching (mark_level p i) k ek fault h)
 
     -- the mark could not be fetched
     pub gets_unfetched : {A : Type 0} (r : Result Unit RunFault) (s : Result A RunFault) (x y : RunFault) → r ≡ Err x → s ≡ Err y → y ≡ x → IsCaused faults old new r → IfErr r (IsFetching k) →
@@ -244,7 +252,7 @@ module _ {K : Type 0} (told : K → Option Images) (puts gets frees slots faults
           let at = mark_stands one (source p journal w (told_by told old)) i (stands_at one is pages stands) known in
           let level = subst (λ (l : ℕ). LevelStands (level_of w.store l) (told_by told old l) at.0) (sym ek) at.1 in
           IfErr-at_err (IsKeeping k) (same_fault r s x y (Damaged j put got) first second same_one e) (sound at.0 level);
-      wants = λ e. omega arith;
+      of = err_at (IsOfGetting (gets_of p (i ∷ []))) s y second (subst (IsOfGetting (gets_of p (i ∷ []))) (sym same_one) (of_mark x (IfErr-at_err (IsFetching k) first fetching)));
     }
 
     -- it was fetched, and decoded or not
@@ -311,7 +319,8 @@ module _ {K : Type 0} (told : K → Option Images) (puts gets frees slots faults
             let d = IfErr-at_err (λ fault. (fault ≡ Damaged k (sha256 v.buffer.items) (sha256 v.buffer.items)) × IsNoImage v.work v.buffer.items) e damaged in
             let state = mark_is_image one from i at in
             d.1 (state_number one journal (marked p i)) state.0 (state.1 ∙ sym (ap (λ (t : MachineState). page_numbers t.memory) work)) (sym (fetched_mark one from i v.buffer.items at known fetched_there));
-        wants = λ e. omega arith;
+        of = if_err_map (λ fault. (fault ≡ Damaged k (sha256 v.buffer.items) (sha256 v.buffer.items)) × IsNoImage v.work v.buffer.items) (IsOfGetting (gets_of p (i ∷ []))) s
+            (λ fault d. subst (IsOfGetting (gets_of p (i ∷ []))) (sym d.0) (of_mark (Damaged k (sha256 v.buffer.items) (sha256 v.buffer.items)) refl)) damaged;
       }
         where
           on_ok_always : {T P : Type 0} (r : Result T RunFault) → P → OnOk r P

@@ -237,7 +237,7 @@ goes_then a b c first second = record {
 
 module _ (first : MachineState) (from : Source) (states : (i n : ℕ) (s : MachineState) → ComesFrom from i n s → s ≡ state_number first from.journal n)
     (sees : (place : ℕ) (order : Order) (answer : Option ℕ) → IsAnswerSeen from place order answer → IsAnswer first from.journal from.plan.count place order answer) where
-  text_in_run : (answer : Option ℕ) (text : List ℕ) → IsTextOf from answer text → text ≡ answer_text first from.journal answer
+  pub text_in_run : (answer : Option ℕ) (text : List ℕ) → IsTextOf from answer text → text ≡ answer_text first from.journal answer
   text_in_run (Some n) text h = h.1.1 ∙ ap (λ (s : MachineState). line n s ++ 10 ∷ []) (states (mark_of from.plan n) n h.0 h.1.0)
   text_in_run None text h = h
 

@@ -4,7 +4,7 @@ use Rattle.std.specs.FinSet as set
 use Rattle.std.specs.Ordering.{nat_cmp, eq_by_cmp}
 use Rattle.std.specs.Cmp.{nat_cmp_total, unsigned_tied}
 use Rattle.std.proofs.lemmas.Bool.{cases_eq, ne_eqb, cases_Bool}
-use Rattle.std.proofs.lemmas.List.{get_or-map, length-map}
+use Rattle.std.proofs.lemmas.List.{get_or-map, get_or-set_same, get_or-set_other, length-map}
 use Rattle.std.proofs.lemmas.Option.{slice_get-get_or}
 use Rattle.std.specs.Option.{option_map_or}
 use Rattle.std.proofs.Math.Nat.{le-mul_of_pos_right}
@@ -14,11 +14,13 @@ use Rattle.level_book.specs.declared.book.Slots.TheVariants.{Count, Unlimited}
 use Rattle.level_book.specs.BookCosts.{least}
 use Rattle.schedule_rules.proofs.BitsLemmas.{len_one_more}
 use Rattle.revolve_gen.specs.Places.{level_at, places_on, HasMore, IsRoomy}
+use Rattle.sha2.specs.Sha256.{sha256}
 use Rattle.keepers.specs.Told.{Images}
 use Rattle.rv_machine.specs.MachineState.{MachineState}
 use Rattle.rv_machine.specs.States.{state_number}
 use Rattle.state_image.specs.Image.{image}
-use Rattle.image_store.specs.Pairs.{held}
+use Rattle.image_store.specs.Calls.{kept_in}
+use Rattle.image_store.specs.Pairs.{pair_at, held}
 use Rattle.image_store.specs.Shelves.{ShelfState, level_of, kept_at, no_pairs_on}
 use Rattle.reverse_runner.specs.Acts.{Levels, IsAsBefore, Keeps}
 use Rattle.reverse_runner.specs.KeepersSeen.{by_number, HaveRoom}
@@ -27,7 +29,8 @@ use Rattle.reverse_runner.specs.Units.{unit_states}
 use Rattle.reverse_runner.proofs.LevelsAfter.{laid_gains, stands_gains}
 use Rattle.reverse_runner.proofs.RoomLeft.{has_place, is_new, is_there, begun_is_laid_out, begun_stands}
 use Rattle.reverse_console.specs.Marks.{MarkPlan, span, capacity, marked, mark_count, mark_level, marked_on}
-use Rattle.reverse_console.specs.Handling.{AreSet, StandAt}
+use Rattle.reverse_console.specs.Handling.{AreSet, AreKept, StandAt}
+use Rattle.reverse_console.specs.Standing.{IsMarkKept}
 use Rattle.reverse_console.proofs.Numbers.{marked_rises, stride_some, mark_has_room, marked_below}
 
 tied : (q n : ℕ) → q ≡ n → eq_by_cmp nat_cmp q n ≡ true
@@ -239,6 +242,48 @@ module _ (p : MarkPlan) (i : ℕ) (old new : Levels) (bytes : List ℕ) (below :
             (subst (λ (x : Numbers). LevelStandsAt (state_number first journal) x (level_of old.store k) (old.told k)) (sym same) (stands k inside)))
       ]
 
+  -- what is kept of the new mark
+  kept_here : (first : MachineState) (journal : List (List ℕ)) → bytes ≡ image (state_number first journal (marked p i)) → marked p i < length (level_of old.store (mark_level p i)).pairs → IsMarkKept first journal p new.store i
+  kept_here first journal good number =
+      let L = mark_level p i in
+      let n = marked p i in
+      let kept = kept_in keeps.slot bytes in
+      record {
+        kept = kept;
+        held = ap (λ (s : ShelfState). pair_at s.pairs n) keeps.pairs ∙ get_or-set_same (level_of old.store L).pairs n (Some kept) None number;
+        length_is = ap (λ (l : List ℕ). length l) good;
+        digest_is = ap sha256 good;
+      }
+
+  -- and of one that was set before
+  kept_still : (first : MachineState) (journal : List (List ℕ)) (j : ℕ) → j < i → IsMarkKept first journal p old.store j → IsMarkKept first journal p new.store j
+  kept_still first journal j lt k =
+      let L = mark_level p i in
+      let n = marked p i in
+      let l = mark_level p j in
+      let m = marked p j in
+      let rises = marked_rises p j i lt in
+      let other : m ≢ n = λ e. absurd (omega (arith, rises, e)) in
+      record {
+        kept = k.kept;
+        held = elim (cases_eq l L) [
+          | inl e ↦
+              let P : ℕ → Type 0 = λ x. kept_at new.store x m ≡ Some k.kept in
+              let Q : ℕ → Type 0 = λ x. kept_at old.store x m ≡ Some k.kept in
+              subst P (sym e) (ap (λ (s : ShelfState). pair_at s.pairs m) keeps.pairs ∙ get_or-set_other (level_of old.store L).pairs n m (Some (kept_in keeps.slot bytes)) None other ∙ subst Q e k.held)
+          | inr ne ↦ ap (λ (s : ShelfState). pair_at s.pairs m) (others l ne).0 ∙ k.held
+        ];
+        length_is = k.length_is;
+        digest_is = k.digest_is;
+      }
+
+  pub kept_more : (first : MachineState) (journal : List (List ℕ)) → bytes ≡ image (state_number first journal (marked p i)) → marked p i < length (level_of old.store (mark_level p i)).pairs →
+      AreKept first journal p i old.store → AreKept first journal p (i + 1) new.store
+  kept_more first journal good number kept j lt = elim (cases_eq j i) [
+    | inl e ↦ subst (λ (x : ℕ). IsMarkKept first journal p new.store x) (sym e) (kept_here first journal good number)
+    | inr ne ↦ (let below : j < i = omega (arith, lt, ne) in kept_still first journal j below (kept j below))
+  ]
+
 -- at the start no mark is set, and over keepers that tell that stands
 nothing_held : (steps : ℕ) (slots : List Slots) (k : ℕ) → k < length slots → held_on (start steps slots) k ≡ set.empty
 nothing_held steps slots k within = get_or-map (λ (_ : Slots). set.empty {R = nat_cmp}) slots k (Count 0) set.empty within
@@ -331,6 +376,15 @@ module _ (p : MarkPlan) (i k n : ℕ) (store store' after : List ShelfState) (to
 
   pub stand_after : (first : MachineState) (journal : List (List ℕ)) → bytes ≡ image (state_number first journal (marked p i)) → StandAt first journal p i store told → StandAt first journal p (i + 1) after told'
   stand_after first journal good stands = stand_more p i before after_it bytes below (count ∙ ap length es) keeps_there others_there laid first journal good stands
+
+  number_there : n < length (level_of store' k).pairs → marked p i < length (level_of store (mark_level p i)).pairs
+  number_there number =
+      subst (λ (x : ℕ). x < length (level_of store (mark_level p i)).pairs) en
+      (subst (λ (x : ℕ). n < length (level_of store x).pairs) ek
+      (subst (λ (s : List ShelfState). n < length (level_of s k).pairs) es number))
+
+  pub kept_after : (first : MachineState) (journal : List (List ℕ)) → bytes ≡ image (state_number first journal (marked p i)) → n < length (level_of store' k).pairs → AreKept first journal p i store → AreKept first journal p (i + 1) after
+  kept_after first journal good number kept = kept_more p i before after_it bytes below (count ∙ ap length es) keeps_there others_there laid first journal good (number_there number) kept
 
 -- each mark has a level of the store
 pub marks_there : (p : MarkPlan) (i : ℕ) (store : List ShelfState) → IsRoomy p.slots (level_at p.slots) (capacity p) → 1 ≤ capacity p → AreSet p i store → (j : ℕ) → j < mark_count p → mark_level p j < length store

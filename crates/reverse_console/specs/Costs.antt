@@ -2,10 +2,13 @@
 use Rattle.std.specs.Prelude.{◌≡◌, ℕ, ◌+◌, ◌-◌, ◌*◌, ◌==◌, ◌≤◌, min, List, length, count_by, Option, None, Some}
 use Rattle.reverse_runner.specs.KeepersSeen.{Calls, Called, CalledAtMost}
 use Rattle.reverse_runner.specs.Touching.{one_get}
+use Rattle.reverse_runner.specs.declared.fault.RunFault.{RunFault}
+use Rattle.reverse_runner.specs.declared.fault.RunFault.TheVariants.{Visitor, Ended}
 use Rattle.revolve_gen.specs.Places.{places_on}
 use Rattle.reverse_console.specs.declared.order.Order.{Order}
 use Rattle.reverse_console.specs.declared.order.Order.TheVariants.{Back, Step, Goto}
 use Rattle.reverse_console.specs.Marks.{MarkPlan, mark_level, mark_of, mark, mark_count, stride}
+use Rattle.reverse_console.specs.Refusals.{IsOfGetting}
 
 -- each of the first i marks is put on its level
 abbrev pub puts_of : MarkPlan → ℕ → Calls
@@ -28,19 +31,29 @@ pub record GotAtMost (p : MarkPlan) (most : ℕ) (calls calls' : Calls) : Type 0
   pub few : length marks ≤ most
   pub called : Called (gets_of p marks) calls calls'
 
--- at least one mark was got, and no other call was made
-pub record GotSome (p : MarkPlan) (calls calls' : Calls) : Type 0 where
+-- so many marks at most were got up to a fault, which came from getting one of them, and no other call was made
+pub record GotUntil (p : MarkPlan) (most : ℕ) (fault : RunFault) (calls calls' : Calls) : Type 0 where
   pub marks : List ℕ
-  pub some : 1 ≤ length marks
+  pub few : length marks ≤ most
   pub called : Called (gets_of p marks) calls calls'
+  pub of : IsOfGetting (gets_of p marks) fault
 
 -- an order that says its place takes the steps from the last mark that isn't above it, and gets that mark
 abbrev pub Takes : MarkPlan → Option ℕ → ℕ → ℕ → Calls → Calls → Type 0
 Takes p (Some n) steps steps' calls calls' = (steps' ≡ steps + (n - mark p n)) × Called (one_get (mark_level p (mark_of p n))) calls calls'
 Takes p None steps steps' calls calls' = (steps ≤ steps') × (steps' ≤ steps + (p.count + 2 * stride p)) × GotAtMost p (mark_count p + 2) calls calls'
 
--- what a refused order took is no more
-abbrev pub TakesAtMost : MarkPlan → Option ℕ → ℕ → ℕ → Calls → Calls → Type 0
-TakesAtMost p (Some n) steps steps' calls calls' =
+-- What an order took that was broken off while it got marks: it is no more, and the fault came from getting one of them.
+abbrev pub TookInPart : MarkPlan → Option ℕ → RunFault → ℕ → ℕ → Calls → Calls → Type 0
+TookInPart p (Some n) fault steps steps' calls calls' =
     (steps ≤ steps') × (steps' ≤ steps + (n - mark p n)) × CalledAtMost (one_get (mark_level p (mark_of p n))) calls calls'
-TakesAtMost p None steps steps' calls calls' = (steps ≤ steps') × (steps' ≤ steps + (p.count + 2 * stride p)) × GotAtMost p (mark_count p + 2) calls calls'
+    × IsOfGetting (one_get (mark_level p (mark_of p n))) fault
+TookInPart p None fault steps steps' calls calls' =
+    (steps ≤ steps') × (steps' ≤ steps + (p.count + 2 * stride p)) × GotUntil p (mark_count p + 2) fault calls calls'
+
+-- What a refused order took: as much as an answered one where the visitor refused its state, nothing where the console had
+-- ended, and else a part.
+abbrev pub TookUntil : MarkPlan → Option ℕ → RunFault → ℕ → ℕ → Calls → Calls → Type 0
+TookUntil p said Visitor steps steps' calls calls' = Takes p said steps steps' calls calls'
+TookUntil p said Ended steps steps' calls calls' = (steps' ≡ steps) × (calls' ≡ calls)
+TookUntil p said fault steps steps' calls calls' = TookInPart p said fault steps steps' calls calls'

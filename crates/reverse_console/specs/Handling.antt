@@ -6,7 +6,7 @@ use Rattle.rv_machine.specs.MachineState.{MachineState, IsMachineState}
 use Rattle.rv_machine.specs.States.{state_number}
 use Rattle.image_store.specs.Shelves.{ShelfState, level_of}
 use Rattle.reverse_runner.specs.declared.fault.RunFault.{RunFault}
-use Rattle.reverse_runner.specs.declared.fault.RunFault.TheVariants.{Damaged, Memory}
+use Rattle.reverse_runner.specs.declared.fault.RunFault.TheVariants.{Damaged}
 use Rattle.reverse_console.specs.declared.desk.Desk.{Desk}
 use Rattle.reverse_runner.specs.KeepersSeen.{told_by, calls_to, Called, HaveRoom}
 use Rattle.reverse_runner.specs.LevelsStand.{LevelStandsAt, IsLevelLaidOut}
@@ -15,7 +15,9 @@ use Rattle.reverse_console.specs.Causes.{KeepersStay, Quiet, HasCause}
 use Rattle.reverse_console.specs.Desks.{Fits, levels_in}
 use Rattle.reverse_console.specs.Costs.{gets_of}
 use Rattle.reverse_console.specs.Marks.{MarkPlan, span, marked_on, mark_count}
+use Rattle.reverse_console.specs.Refusals.{IsOfGetting}
 use Rattle.reverse_console.specs.Seen.{Source, IsMarkDamaged}
+use Rattle.reverse_console.specs.Standing.{IsMarkKept}
 
 -- each level of a store holds the first i marks of its own
 pub record AreSet (p : MarkPlan) (i : ℕ) (store : List ShelfState) : Type 0 where
@@ -25,6 +27,10 @@ pub record AreSet (p : MarkPlan) (i : ℕ) (store : List ShelfState) : Type 0 wh
 -- and stands for their images in a run
 abbrev pub StandAt : MachineState → List (List ℕ) → MarkPlan → ℕ → List ShelfState → (ℕ → Option Images) → Type 0
 StandAt first journal p i store told = (k : ℕ) → k < length store → LevelStandsAt (state_number first journal) (marked_on p i k) (level_of store k) (told k)
+
+-- of the first i marks a store keeps what their images in a run are
+abbrev pub AreKept : MachineState → List (List ℕ) → MarkPlan → ℕ → List ShelfState → Type 0
+AreKept first journal p i store = (j : ℕ) → j < i → IsMarkKept first journal p store j
 
 -- marks can be got: all are set, and there are keepers with so many slots
 pub record IsReady (p : MarkPlan) (w : Desk) (counts : List ℕ) : Type 0 where
@@ -59,5 +65,5 @@ pub record Gets {K T : Type 0} (told : K → Option Images) (puts gets frees slo
   pub undamaged :
       (first : MachineState) → IsMachineState first → SamePages w.work first → StandAt first journal p (mark_count p) w.store (told_by told old) →
       (k : ℕ) (put got : List ℕ) → result ≢ Err (Damaged k put got)
-  -- memory runs out only where a mark is got
-  pub wants : result ≡ Err Memory → 1 ≤ length marks
+  -- a refusal came from getting one of them
+  pub of : IfErr result (IsOfGetting (gets_of p marks))

@@ -13,7 +13,7 @@ use Rattle.reverse_runner.specs.declared.fault.RunFault.TheVariants.{Visitor}
 use Rattle.reverse_console.specs.declared.order.Order.{Order}
 use Rattle.reverse_console.specs.Answer.{IsAnswer}
 use Rattle.reverse_console.specs.ConsoleState.{ConsoleState}
-use Rattle.reverse_console.specs.Costs.{place_said, Takes, TakesAtMost}
+use Rattle.reverse_console.specs.Costs.{place_said, Takes, TookUntil}
 use Rattle.reverse_console.specs.Marks.{mark_of}
 use Rattle.reverse_console.specs.Seen.{Source, ComesFrom, IsAnswerSeen}
 
@@ -100,7 +100,7 @@ pub record IsBrokenOff (from : Source) (orders : List Order) (at : ℕ) (fault :
   pub mid : Moment
   pub are : AreAnswered from (take (at - 1) orders) answers text old mid
   pub stays : new.place ≡ mid.place
-  pub took : TakesAtMost from.plan (place_said from.plan.count mid.place order) mid.steps new.steps mid.calls new.calls
+  pub took : TookUntil from.plan (place_said from.plan.count mid.place order) fault mid.steps new.steps mid.calls new.calls
   pub wrote : new.writes ≡ writes_at fault mid.writes
   pub breaks : BreaksOff from mid.place order fault text before after
 

@@ -1,13 +1,17 @@
--- When a console stands for a run.
-use Rattle.std.specs.Prelude.{ℕ, ◌<◌, length, Option}
+-- When a console stands for a run, and what it keeps of the marks of a run in any case.
+use Rattle.std.specs.Prelude.{◌≡◌, ℕ, ◌<◌, List, length, Option, Some}
+use Rattle.sha2.specs.Sha256.{sha256}
 use Rattle.keepers.specs.Told.{Images}
 use Rattle.rv_machine.specs.MachineState.{MachineState}
 use Rattle.rv_machine.specs.States.{state_number}
-use Rattle.image_store.specs.Shelves.{level_of}
+use Rattle.state_image.specs.Image.{image}
+use Rattle.image_store.specs.declared.shelf.Kept.{Kept}
+use Rattle.image_store.specs.Shelves.{ShelfState, level_of, kept_at}
 use Rattle.reverse_runner.specs.LevelsStand.{LevelStandsAt}
 use Rattle.reverse_runner.specs.SessionState.{SamePages}
 use Rattle.reverse_console.specs.ConsoleState.{ConsoleState}
-use Rattle.reverse_console.specs.Marks.{mark_count, marked_on}
+use Rattle.reverse_console.specs.Marks.{MarkPlan, mark_count, mark_level, marked, marked_on}
+use Rattle.reverse_console.specs.Seen.{Source}
 
 -- Over what its keepers tell, a console stands for the run from `first`: its machine maps the pages of the run, and each
 -- level stands for the images of the states that are marked on it.
@@ -15,3 +19,16 @@ pub record Stands (first : MachineState) (c : ConsoleState) (told : ℕ → Opti
   pub machine : SamePages c.work first
   pub levels : (k : ℕ) → k < length c.store →
       LevelStandsAt (state_number first c.journal) (marked_on c.plan (mark_count c.plan) k) (level_of c.store k) (told k)
+
+-- of mark i a store keeps the length and the SHA-256 of the image of its state in the run from `first`
+pub record IsMarkKept (first : MachineState) (journal : List (List ℕ)) (p : MarkPlan) (store : List ShelfState) (i : ℕ) : Type 0 where
+  pub kept : Kept
+  pub held : kept_at store (mark_level p i) (marked p i) ≡ Some kept
+  pub length_is : kept.length ≡ length (image (state_number first journal (marked p i)))
+  pub digest_is : kept.digest ≡ sha256 (image (state_number first journal (marked p i)))
+
+-- A source is one of the marks of the run from `first`: its machine maps the pages of the run, and it keeps the length and the
+-- SHA-256 of each mark's image. This is so also where keepers don't tell, so that it says of fetched bytes what it can.
+pub record KeepsMarks (first : MachineState) (from : Source) : Type 0 where
+  pub machine : SamePages from.machine first
+  pub marks : (i : ℕ) → i < mark_count from.plan → IsMarkKept first from.journal from.plan from.levels.store i

@@ -9,12 +9,12 @@ ghost use Rattle.reverse_runner.specs.KeepersSeen.{by_number, told_by, calls_to,
 ghost use Rattle.reverse_runner.specs.SessionState.{SamePages};
 ghost use Rattle.reverse_console.specs.Answer.{IsAnswer, IsOrder, IsGiven};
 ghost use Rattle.reverse_console.specs.ConsoleState.{GoesOn, source_of};
-ghost use Rattle.reverse_console.specs.Costs.{puts_of, place_said, GotAtMost, GotSome, Takes, TakesAtMost};
+ghost use Rattle.reverse_console.specs.Costs.{puts_of, place_said, GotAtMost, Takes, TookUntil};
 ghost use Rattle.reverse_console.specs.Marks.{MarkPlan, span, stride, marked, mark, mark_count, mark_of};
 ghost use Rattle.reverse_console.specs.Handling.{IsReady, source, Gets};
 ghost use Rattle.reverse_console.specs.Refusals.{IsOfPutting};
 ghost use Rattle.reverse_console.specs.Seen.{ComesFrom, IsAnswerSeen, IsMarkDamaged};
-ghost use Rattle.reverse_console.specs.Standing.{Stands};
+ghost use Rattle.reverse_console.specs.Standing.{Stands, KeepsMarks};
 ghost use Rattle.reverse_console.specs.declared.order.Order.{Order as AnOrder};
 
 use crate::desk::Desk;
@@ -74,6 +74,9 @@ impl Console {
         ensures begun { IfOk result (λ c. (c.plan ≡ (record { slots = slots_of book; count = count })) × (c.journal ≡ journal) × (c.place ≡ 0) × (c.ended ≡ false)) }
         ensures stands { ((k : ℕ) → k < length (slots_of book) → IsSome (told_by K.told keepers.old.items k)) → IfOk result (λ c. Stands start c (told_by K.told keepers.new.items)) }
 
+        // Of each mark it keeps what the image of its state is, over any keepers.
+        ensures marks { IfOk result (λ c. KeepsMarks start (source_of c (told_by K.told keepers.new.items))) }
+
         // It puts each mark on its level, and takes the steps to the last one.
         ensures counted { OnOk result (steps.new ≡ steps.old + marked (record { slots = slots_of book; count = count }) (mark_count (record { slots = slots_of book; count = count }) - 1)) }
         ensures called { OnOk result (Called (puts_of (record { slots = slots_of book; count = count }) (mark_count (record { slots = slots_of book; count = count }))) (calls_to K.put_count K.get_count K.free_count keepers.old.items) (calls_to K.put_count K.get_count K.free_count keepers.new.items)) }
@@ -81,7 +84,7 @@ impl Console {
         // What was done up to a refusal, and its cause.
         ensures counted_at_most { (steps.old ≤ steps.new) × (steps.new ≤ steps.old + marked (record { slots = slots_of book; count = count }) (mark_count (record { slots = slots_of book; count = count }) - 1)) }
         ensures called_at_most { CalledAtMost (puts_of (record { slots = slots_of book; count = count }) (mark_count (record { slots = slots_of book; count = count }))) (calls_to K.put_count K.get_count K.free_count keepers.old.items) (calls_to K.put_count K.get_count K.free_count keepers.new.items) }
-        ensures putting { IfErr result IsOfPutting }
+        ensures putting { IfErr result (IsOfPutting (record { slots = slots_of book; count = count })) }
         ensures keeper_cause { (k : ℕ) → result ≡ Err (RunFault.Keeper k) → (k < length (slots_of book)) × Rose (by_number 0 K.fault_count keepers.old.items k) (by_number 0 K.fault_count keepers.new.items k) }
         ensures keepers_quiet { ((k : ℕ) → result ≢ Err (RunFault.Keeper k)) → (j : ℕ) → by_number 0 K.fault_count keepers.new.items j ≡ by_number 0 K.fault_count keepers.old.items j }
         ensures keepers_later { (k : ℕ) → by_number 0 K.fault_count keepers.old.items k ≤ by_number 0 K.fault_count keepers.new.items k }
@@ -152,7 +155,7 @@ impl Console {
 
         // What stands after a refusal.
         ensures over { OnErr result (GoesOn self.old self.new × (self.new.place ≡ self.old.place) × (self.new.ended ≡ true)) }
-        ensures took_at_most { OnErr result (TakesAtMost self.old.plan (place_said self.old.plan.count self.old.place order.now) steps.old steps.new (calls_to K.put_count K.get_count K.free_count keepers.old.items) (calls_to K.put_count K.get_count K.free_count keepers.new.items)) }
+        ensures took_until { IfErr result (λ fault. TookUntil self.old.plan (place_said self.old.plan.count self.old.place order.now) fault steps.old steps.new (calls_to K.put_count K.get_count K.free_count keepers.old.items) (calls_to K.put_count K.get_count K.free_count keepers.new.items)) }
         ensures misses { result ≡ Err RunFault.Visitor → (n : ℕ) × ((s : MachineState) × (IsAnswerSeen (source_of self.old (told_by K.told keepers.old.items)) self.old.place order.now (Some n) × ComesFrom (source_of self.old (told_by K.told keepers.old.items)) (mark_of self.old.plan n) n s × V.missed visitor.old n s self.old.journal visitor.new)) }
         ensures misses_state { (first : MachineState) → IsMachineState first → Stands first self.old (told_by K.told keepers.old.items) → result ≡ Err RunFault.Visitor → (n : ℕ) × (IsAnswer first self.old.journal self.old.plan.count self.old.place order.now (Some n) × V.missed visitor.old n (state_number first self.old.journal n) self.old.journal visitor.new) }
         ensures unseen { OnErr result (result ≢ Err RunFault.Visitor → visitor.new ≡ visitor.old) }
@@ -166,7 +169,6 @@ impl Console {
         ensures cause { result ≡ Err RunFault.Visitor → Rose (V.fault_count visitor.old) (V.fault_count visitor.new) }
         ensures quiet { result ≢ Err RunFault.Visitor → V.fault_count visitor.new ≡ V.fault_count visitor.old }
         ensures later { V.fault_count visitor.old ≤ V.fault_count visitor.new }
-        ensures wants { result ≡ Err RunFault.Memory → GotSome self.old.plan (calls_to K.put_count K.get_count K.free_count keepers.old.items) (calls_to K.put_count K.get_count K.free_count keepers.new.items) }
 
         // The keepers tell what they told and have the slots that they had, and those past the levels of the book are as they were.
         ensures same { (k : ℕ) → told_by K.told keepers.new.items k ≡ told_by K.told keepers.old.items k }
@@ -216,7 +218,7 @@ fn answer<K: Keeper, V: Visitor, L: Ledger>(
     ensures unseen { OnErr result (result ≢ Err RunFault.Visitor → visitor.new ≡ visitor.old) }
     ensures gets { Gets K.told K.put_count K.get_count K.free_count K.slot_count K.fault_count marks.now journal.now (mark_count marks.now + 1) result desk.old desk.new keepers.old.items keepers.new.items }
     ensures takes { OnOk result (Takes marks.now (place_said marks.now.count place.old order.now) steps.old steps.new (calls_to K.put_count K.get_count K.free_count keepers.old.items) (calls_to K.put_count K.get_count K.free_count keepers.new.items)) }
-    ensures took_at_most { OnErr result (TakesAtMost marks.now (place_said marks.now.count place.old order.now) steps.old steps.new (calls_to K.put_count K.get_count K.free_count keepers.old.items) (calls_to K.put_count K.get_count K.free_count keepers.new.items)) }
+    ensures took_until { IfErr result (λ fault. TookUntil marks.now (place_said marks.now.count place.old order.now) fault steps.old steps.new (calls_to K.put_count K.get_count K.free_count keepers.old.items) (calls_to K.put_count K.get_count K.free_count keepers.new.items)) }
     ensures cause { result ≡ Err RunFault.Visitor → Rose (V.fault_count visitor.old) (V.fault_count visitor.new) }
     ensures quiet { result ≢ Err RunFault.Visitor → V.fault_count visitor.new ≡ V.fault_count visitor.old }
     ensures later { V.fault_count visitor.old ≤ V.fault_count visitor.new }

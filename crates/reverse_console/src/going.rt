@@ -13,8 +13,8 @@ ghost use Rattle.reverse_console.specs.Desks.{Fits, levels_in};
 ghost use Rattle.reverse_console.specs.Costs.{puts_of};
 ghost use Rattle.reverse_console.specs.Marks.{span, stride, marked, mark, mark_count, mark_of, mark_level};
 ghost use Rattle.reverse_console.specs.Causes.{KeepersStay, Quiet, HasCause};
-ghost use Rattle.reverse_console.specs.Handling.{AreSet, StandAt, IsReady, source, Gets};
-ghost use Rattle.reverse_console.specs.Refusals.{IsOfPutting};
+ghost use Rattle.reverse_console.specs.Handling.{AreSet, AreKept, StandAt, IsReady, source, Gets};
+ghost use Rattle.reverse_console.specs.Refusals.{IsOfPutting, IsOfGetting};
 ghost use Rattle.reverse_console.specs.Seen.{ComesFrom};
 
 use crate::desk::Desk;
@@ -39,13 +39,14 @@ fn set_mark<K: Keeper>(
     ensures set { OnOk result (AreSet marks.now (mark + 1) desk.new.store) }
     ensures stand { (first : MachineState) (journal : List (List ℕ)) → StandAt first journal marks.now mark desk.old.store (told_by K.told keepers.old.items) → desk.old.work ≡ state_number first journal (marked marks.now mark) →
         OnOk result (StandAt first journal marks.now (mark + 1) desk.new.store (told_by K.told keepers.new.items)) }
+    ensures kept { (first : MachineState) (journal : List (List ℕ)) → AreKept first journal marks.now mark desk.old.store → desk.old.work ≡ state_number first journal (marked marks.now mark) → OnOk result (AreKept first journal marks.now (mark + 1) desk.new.store) }
     ensures work { desk.new.work ≡ desk.old.work }
     ensures fits { Fits desk.new }
     ensures called { Called (one_put (mark_level marks.now mark)) (calls_to K.put_count K.get_count K.free_count keepers.old.items) (calls_to K.put_count K.get_count K.free_count keepers.new.items) }
     ensures stay { KeepersStay K.slot_count K.fault_count marks.now keepers.old.items keepers.new.items }
     ensures quiet { OnOk result (Quiet K.fault_count keepers.old.items keepers.new.items) }
     ensures cause { IfErr result (HasCause K.fault_count marks.now keepers.old.items keepers.new.items) }
-    ensures putting { IfErr result IsOfPutting }
+    ensures putting { IfErr result (IsOfPutting marks.now) }
 {
     marks.are_roomy();
     marks.have_room();
@@ -69,6 +70,7 @@ fn set_next<K: Keeper, L: Ledger>(
     ensures set { OnOk result (AreSet marks.now (mark + 1) desk.new.store) }
     ensures stand { (first : MachineState) (journal : List (List ℕ)) → StandAt first journal marks.now mark desk.old.store (told_by K.told keepers.old.items) → desk.new.work ≡ state_number first journal (marked marks.now mark) →
         OnOk result (StandAt first journal marks.now (mark + 1) desk.new.store (told_by K.told keepers.new.items)) }
+    ensures kept { (first : MachineState) (journal : List (List ℕ)) → AreKept first journal marks.now mark desk.old.store → desk.new.work ≡ state_number first journal (marked marks.now mark) → OnOk result (AreKept first journal marks.now (mark + 1) desk.new.store) }
     ensures work { desk.new.work ≡ state_number desk.old.work journal.now (stride marks.now) }
     ensures fits { Fits desk.new }
     ensures counted { steps.new ≡ steps.old + stride marks.now }
@@ -76,7 +78,7 @@ fn set_next<K: Keeper, L: Ledger>(
     ensures stay { KeepersStay K.slot_count K.fault_count marks.now keepers.old.items keepers.new.items }
     ensures quiet { OnOk result (Quiet K.fault_count keepers.old.items keepers.new.items) }
     ensures cause { IfErr result (HasCause K.fault_count marks.now keepers.old.items keepers.new.items) }
-    ensures putting { IfErr result IsOfPutting }
+    ensures putting { IfErr result (IsOfPutting marks.now) }
 {
     desk.advance(journal, marks.stride(), steps);
     set_mark(desk, marks, mark, keepers)
@@ -95,6 +97,7 @@ pub(crate) fn set_marks<K: Keeper, L: Ledger>(
     requires fits { Fits desk.old }
     ensures set { OnOk result (AreSet marks.now (mark_count marks.now) desk.new.store) }
     ensures stand { StandAt desk.old.work journal.now marks.now 0 desk.old.store (told_by K.told keepers.old.items) → OnOk result (StandAt desk.old.work journal.now marks.now (mark_count marks.now) desk.new.store (told_by K.told keepers.new.items)) }
+    ensures kept { OnOk result (AreKept desk.old.work journal.now marks.now (mark_count marks.now) desk.new.store) }
     ensures machine { SamePages desk.new.work desk.old.work }
     ensures fits { Fits desk.new }
     ensures counted { OnOk result (steps.new ≡ steps.old + marked marks.now (mark_count marks.now - 1)) }
@@ -104,7 +107,7 @@ pub(crate) fn set_marks<K: Keeper, L: Ledger>(
     ensures stay { KeepersStay K.slot_count K.fault_count marks.now keepers.old.items keepers.new.items }
     ensures quiet { OnOk result (Quiet K.fault_count keepers.old.items keepers.new.items) }
     ensures cause { IfErr result (HasCause K.fault_count marks.now keepers.old.items keepers.new.items) }
-    ensures putting { IfErr result IsOfPutting }
+    ensures putting { IfErr result (IsOfPutting marks.now) }
 {
     marks.have_room();
     set_mark(desk, marks, 0, keepers)?;
@@ -127,6 +130,7 @@ pub(crate) fn recall<K: Keeper>(
     ensures comes { OnOk result (ComesFrom (source marks.now journal.now desk.old (told_by K.told keepers.old.items)) mark (marked marks.now mark) desk.new.work) }
     ensures gets { Gets K.told K.put_count K.get_count K.free_count K.slot_count K.fault_count marks.now journal.now 1 result desk.old desk.new keepers.old.items keepers.new.items }
     ensures called { Called (one_get (mark_level marks.now mark)) (calls_to K.put_count K.get_count K.free_count keepers.old.items) (calls_to K.put_count K.get_count K.free_count keepers.new.items) }
+    ensures of { IfErr result (IsOfGetting (one_get (mark_level marks.now mark))) }
     ensures silent { result ≢ Err RunFault.Visitor }
 {
     marks.are_roomy();
@@ -154,7 +158,9 @@ pub(crate) fn go<K: Keeper, V: Visitor, L: Ledger>(
     ensures unseen { result ≢ Ok tt → result ≢ Err RunFault.Visitor → visitor.new ≡ visitor.old }
     ensures gets { Gets K.told K.put_count K.get_count K.free_count K.slot_count K.fault_count marks.now journal.now 1 result desk.old desk.new keepers.old.items keepers.new.items }
     ensures called { Called (one_get (mark_level marks.now (mark_of marks.now n))) (calls_to K.put_count K.get_count K.free_count keepers.old.items) (calls_to K.put_count K.get_count K.free_count keepers.new.items) }
+    ensures of { IfErr result (IsOfGetting (one_get (mark_level marks.now (mark_of marks.now n)))) }
     ensures counted { OnOk result (steps.new ≡ steps.old + (n - mark marks.now n)) }
+    ensures counted_unseen { result ≡ Err RunFault.Visitor → steps.new ≡ steps.old + (n - mark marks.now n) }
     ensures counted_at_most { (steps.old ≤ steps.new) × (steps.new ≤ steps.old + (n - mark marks.now n)) }
     ensures visitor_quiet { result ≢ Err RunFault.Visitor → V.fault_count visitor.new ≡ V.fault_count visitor.old }
     ensures visitor_later { V.fault_count visitor.old ≤ V.fault_count visitor.new }

@@ -7,7 +7,7 @@ ghost use Rattle.reverse_runner.specs.KeepersSeen.{told_by, calls_to, HaveRoom};
 ghost use Rattle.reverse_console.specs.Answer.{IsOrder};
 ghost use Rattle.reverse_console.specs.Causes.{KeepersStay, Quiet, HasCause};
 ghost use Rattle.reverse_console.specs.ConsoleState.{GoesOn, source_of};
-ghost use Rattle.reverse_console.specs.Costs.{place_said, Takes, TakesAtMost};
+ghost use Rattle.reverse_console.specs.Costs.{place_said, Takes, TookUntil};
 ghost use Rattle.reverse_console.specs.Marks.{span};
 ghost use Rattle.reverse_console.specs.ScriptAnswers.{place_after, moment, IsTextOf, IsShown, IsAnswered, AreWritten, IsBrokenOff, AreWrittenIn, IsBrokenOffIn};
 ghost use Rattle.reverse_console.specs.Seen.{IsAnswerSeen, IsMarkDamaged};
@@ -53,7 +53,7 @@ fn show<K: Keeper, O: Sink, L: Ledger>(
     ensures goes_on { GoesOn console.old console.new }
     ensures lasts { OnOk result (console.new.ended ≡ false) }
     ensures takes { OnOk result (Takes console.old.plan (place_said console.old.plan.count console.old.place order.now) steps.old steps.new (calls_to K.put_count K.get_count K.free_count keepers.old.items) (calls_to K.put_count K.get_count K.free_count keepers.new.items)) }
-    ensures took_at_most { OnErr result (TakesAtMost console.old.plan (place_said console.old.plan.count console.old.place order.now) steps.old steps.new (calls_to K.put_count K.get_count K.free_count keepers.old.items) (calls_to K.put_count K.get_count K.free_count keepers.new.items)) }
+    ensures took_until { IfErr result (λ fault. TookUntil console.old.plan (place_said console.old.plan.count console.old.place order.now) fault steps.old steps.new (calls_to K.put_count K.get_count K.free_count keepers.old.items) (calls_to K.put_count K.get_count K.free_count keepers.new.items)) }
     ensures same { (k : ℕ) → told_by K.told keepers.new.items k ≡ told_by K.told keepers.old.items k }
     ensures stay { KeepersStay K.slot_count K.fault_count console.old.plan keepers.old.items keepers.new.items }
     ensures quiet { OnOk result (Quiet K.fault_count keepers.old.items keepers.new.items) }
@@ -93,7 +93,7 @@ fn answer_line<K: Keeper, O: Sink, L: Ledger>(
     ensures stays { OnErr result (console.new.place ≡ console.old.place) }
     ensures goes_on { GoesOn console.old console.new }
     ensures lasts { OnOk result (console.new.ended ≡ false) }
-    ensures took_at_most { OnErr result (TakesAtMost console.old.plan (place_said console.old.plan.count console.old.place order.now) steps.old steps.new (calls_to K.put_count K.get_count K.free_count keepers.old.items) (calls_to K.put_count K.get_count K.free_count keepers.new.items)) }
+    ensures took_until { IfErr result (λ fault. TookUntil console.old.plan (place_said console.old.plan.count console.old.place order.now) fault steps.old steps.new (calls_to K.put_count K.get_count K.free_count keepers.old.items) (calls_to K.put_count K.get_count K.free_count keepers.new.items)) }
     ensures same { (k : ℕ) → told_by K.told keepers.new.items k ≡ told_by K.told keepers.old.items k }
     ensures stay { KeepersStay K.slot_count K.fault_count console.old.plan keepers.old.items keepers.new.items }
     ensures quiet { OnOk result (Quiet K.fault_count keepers.old.items keepers.new.items) }

@@ -1,14 +1,16 @@
-use Rattle.std.proofs.Common.{◌≡◌, ℕ, ◌+◌, true, false, None, Some, Ok, refl, ◌∙◌, ap, subst, arith}
-use Rattle.std.proofs.lemmas.Result.{err_from_is_err_and}
+use Rattle.std.proofs.Common.{◌≡◌, ℕ, ◌+◌, true, false, None, Some, Ok, Err, refl, sym, ◌∙◌, ap, subst, arith}
+use Rattle.std.proofs.lemmas.Result.{IfErr-at_err, err_from_is_err_and}
 use Rattle.reverse_runner.specs.KeepersSeen.{told_by, calls_to}
 use Rattle.reverse_runner.specs.declared.fault.RunFault.TheVariants.{Visitor}
 use Rattle.reverse_queries.proofs.Ways.{same_fault, on_err_always}
-use Rattle.reverse_console.specs.Costs.{place_said}
-use Rattle.reverse_console.specs.Marks.{mark_count, mark_of}
+use Rattle.reverse_runner.specs.Touching.{one_get}
+use Rattle.reverse_console.specs.Costs.{gets_of, place_said, Takes, TookUntil}
+use Rattle.reverse_console.specs.Marks.{mark_count, mark_level, mark_of}
+use Rattle.reverse_console.specs.Refusals.{IsOfGetting}
 use Rattle.reverse_console.specs.Handling.{source}
 use Rattle.reverse_console.specs.Seen.{IsAnswerSeen}
-use Rattle.reverse_console.proofs.Answering.{IsSaid, takes_found, took_found, takes_none, took_none, same_found, never_said, found_none, both_ways, pass_on}
-use Rattle.reverse_console.proofs.Getting.{gets_err, gets_more, gets_ok, gets_then, comes_then}
+use Rattle.reverse_console.proofs.Answering.{IsSaid, takes_found, took_found, takes_none, took_none, took_until, same_found, never_said, found_none, both_ways, pass_on}
+use Rattle.reverse_console.proofs.Getting.{err_at, gets_err, gets_more, gets_ok, gets_then, comes_then}
 use Rattle.reverse_console.proofs.Seeing.{answer_within}
 use Rattle.reverse_console.proofs.Walking.{ready_still}
 use Rattle.reverse_console.proofs.console.answer.Goals as goal
@@ -64,8 +66,8 @@ returns-in_err-found-clause-gets g c =
     gets_err g.K.Keeper.told g.K.Keeper.put_count g.K.Keeper.get_count g.K.Keeper.free_count g.K.Keeper.slot_count g.K.Keeper.fault_count p j (mark_count p + 1) c.new_place.result c.from_residual.result _ _ w v old mid c.in_err-found.was q.1 q.2
     (gets_more g.K.Keeper.told g.K.Keeper.put_count g.K.Keeper.get_count g.K.Keeper.free_count g.K.Keeper.slot_count g.K.Keeper.fault_count p j (mark_count p) (mark_count p + 1) c.new_place.result w v old mid (omega arith) c.new_place.ensures.gets)
 
-pub returns-in_err-found-clause-took_at_most : goal.returns-in_err-found-clause-took_at_most
-returns-in_err-found-clause-took_at_most g c =
+pub returns-in_err-found-clause-took_until : goal.returns-in_err-found-clause-took_until
+returns-in_err-found-clause-took_until g c =
     let p = c.args.marks.now in
     let j = c.args.journal.now in
     let old = c.args.keepers.now.items in
@@ -76,7 +78,14 @@ returns-in_err-found-clause-took_at_most g c =
     let said = place_said p.count c.args.place.now c.args.order.now in
     let gets = c.new_place.ensures.gets in
     let never = λ (m : ℕ) (e : said ≡ Some m). never_said c.new_place.result m _ (c.new_place.ensures.said m e).0 c.in_err-found.was in
-    on_err_always c.from_residual.result (took_none p said c.args.steps.now c.new_place.new.steps (mark_count p) (calls old) (calls mid) gets.marks never c.new_place.ensures.counted.0 c.new_place.ensures.counted.1 gets.few (omega arith) gets.reads.called)
+    let q = err_from_is_err_and c.from_residual.result c.from_residual.ensures.1 in
+    let G = IsOfGetting (gets_of p gets.marks) in
+    let of = subst G (sym q.2) (IfErr-at_err G c.in_err-found.was gets.of) in
+    let shown : q.0 ≡ Visitor → Takes p said c.args.steps.now c.new_place.new.steps (calls old) (calls mid) = λ e.
+    absurd (c.new_place.ensures.silent (same_fault c.new_place.result c.from_residual.result _ _ Visitor c.in_err-found.was q.1 q.2 (q.1 ∙ ap Err e))) in
+    let part = took_none p said q.0 c.args.steps.now c.new_place.new.steps (mark_count p) (calls old) (calls mid) gets.marks never c.new_place.ensures.counted.0 c.new_place.ensures.counted.1 gets.few (omega arith) gets.reads.called of in
+    err_at (λ fault. TookUntil p said fault c.args.steps.now c.new_place.new.steps (calls old) (calls mid)) c.from_residual.result q.0 q.1
+    (took_until p said (gets_of p gets.marks) q.0 c.args.steps.now c.new_place.new.steps (calls old) (calls mid) shown of part)
 
 pub returns-in_err-go-in-Some-clause-misses : goal.returns-in_err-go-in-Some-clause-misses
 returns-in_err-go-in-Some-clause-misses g c e =
@@ -114,8 +123,8 @@ returns-in_err-go-in-Some-clause-gets g c =
     let q = err_from_is_err_and c.from_residual-in_err-go-in-Some.result c.from_residual-in_err-go-in-Some.ensures.1 in
     gets_err g.K.Keeper.told g.K.Keeper.put_count g.K.Keeper.get_count g.K.Keeper.free_count g.K.Keeper.slot_count g.K.Keeper.fault_count p j (mark_count p + 1) c.go.result c.from_residual-in_err-go-in-Some.result _ _ w c.go.new.desk old c.go.new.keepers.items c.in_err-go-in-Some.was q.1 q.2 (gets_then g.K.Keeper.told g.K.Keeper.put_count g.K.Keeper.get_count g.K.Keeper.free_count g.K.Keeper.slot_count g.K.Keeper.fault_count p j (mark_count p) 1 c.new_place.result _ c.go.result w v c.go.new.desk old mid c.go.new.keepers.items c.in_ok-found.was c.new_place.ensures.gets c.go.ensures.gets)
 
-pub returns-in_err-go-in-Some-clause-took_at_most : goal.returns-in_err-go-in-Some-clause-took_at_most
-returns-in_err-go-in-Some-clause-took_at_most g c =
+pub returns-in_err-go-in-Some-clause-took_until : goal.returns-in_err-go-in-Some-clause-took_until
+returns-in_err-go-in-Some-clause-took_until g c =
     let p = c.args.marks.now in
     let j = c.args.journal.now in
     let old = c.args.keepers.now.items in
@@ -131,8 +140,17 @@ returns-in_err-go-in-Some-clause-took_at_most g c =
     let s = c.new_place.ensures.said m e in
     (same_found c.new_place.result m c.in-Some.n s.0 found, s.3, ap calls s.2) in
     let gets = gets_then g.K.Keeper.told g.K.Keeper.put_count g.K.Keeper.get_count g.K.Keeper.free_count g.K.Keeper.slot_count g.K.Keeper.fault_count p j (mark_count p) 1 c.new_place.result _ c.go.result w v c.go.new.desk old mid c.go.new.keepers.items c.in_ok-found.was c.new_place.ensures.gets c.go.ensures.gets in
-    on_err_always c.from_residual-in_err-go-in-Some.result
-    (took_found p said c.in-Some.n c.args.steps.now c.new_place.new.steps c.go.new.steps (mark_count p + 1) (calls old) (calls mid) (calls c.go.new.keepers.items) gets.marks is_said within c.new_place.ensures.counted.0 c.new_place.ensures.counted.1 c.go.ensures.counted_at_most.0 c.go.ensures.counted_at_most.1 c.go.ensures.called gets.few (omega arith) gets.reads.called)
+    let q = err_from_is_err_and c.from_residual-in_err-go-in-Some.result c.from_residual-in_err-go-in-Some.ensures.1 in
+    let G = IsOfGetting (gets_of p gets.marks) in
+    let O = IsOfGetting (one_get (mark_level p (mark_of p c.in-Some.n))) in
+    let of_all = subst G (sym q.2) (IfErr-at_err G c.in_err-go-in-Some.was gets.of) in
+    let of = subst O (sym q.2) (IfErr-at_err O c.in_err-go-in-Some.was c.go.ensures.of) in
+    let shown : q.0 ≡ Visitor → Takes p said c.args.steps.now c.go.new.steps (calls old) (calls c.go.new.keepers.items) = λ e.
+    let refused = same_fault c.go.result c.from_residual-in_err-go-in-Some.result _ _ Visitor c.in_err-go-in-Some.was q.1 q.2 (q.1 ∙ ap Err e) in
+    takes_found p said c.in-Some.n c.args.steps.now c.new_place.new.steps c.go.new.steps (mark_count p + 1) (calls old) (calls mid) (calls c.go.new.keepers.items) gets.marks is_said within c.new_place.ensures.counted.0 c.new_place.ensures.counted.1 (c.go.ensures.counted_unseen refused) c.go.ensures.called gets.few (omega arith) gets.reads.called in
+    let part = took_found p said q.0 c.in-Some.n c.args.steps.now c.new_place.new.steps c.go.new.steps (mark_count p + 1) (calls old) (calls mid) (calls c.go.new.keepers.items) gets.marks is_said within c.new_place.ensures.counted.0 c.new_place.ensures.counted.1 c.go.ensures.counted_at_most.0 c.go.ensures.counted_at_most.1 c.go.ensures.called gets.few (omega arith) gets.reads.called of of_all in
+    err_at (λ fault. TookUntil p said fault c.args.steps.now c.go.new.steps (calls old) (calls c.go.new.keepers.items)) c.from_residual-in_err-go-in-Some.result q.0 q.1
+    (took_until p said (gets_of p gets.marks) q.0 c.args.steps.now c.go.new.steps (calls old) (calls c.go.new.keepers.items) shown of_all part)
 
 pub returns-in_err-go-in-Some-clause-cause : goal.returns-in_err-go-in-Some-clause-cause
 returns-in_err-go-in-Some-clause-cause g c e =

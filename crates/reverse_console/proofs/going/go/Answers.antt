@@ -1,13 +1,15 @@
-use Rattle.std.proofs.Common.{ℕ, ◌≤◌, Err, Ok, sym, ◌∙◌, ap, subst, arith}
+use Rattle.std.proofs.Common.{ℕ, ◌≤◌, Err, Ok, IfErr, sym, ◌∙◌, ap, subst, arith}
 use Rattle.std.specs.Vec.{vec_capacity}
-use Rattle.std.proofs.lemmas.Result.{err_from_is_err_and}
+use Rattle.std.proofs.lemmas.Result.{IfErr-at_err, err_from_is_err_and}
 use Rattle.reverse_runner.specs.KeepersSeen.{calls_to, told_by, Called}
 use Rattle.reverse_runner.specs.Touching.{one_get}
+use Rattle.reverse_runner.specs.declared.fault.RunFault.{RunFault}
 use Rattle.reverse_runner.specs.declared.fault.RunFault.TheVariants.{Visitor}
 use Rattle.reverse_queries.proofs.Ways.{same_fault}
 use Rattle.reverse_console.specs.Marks.{marked, mark_of, mark_level}
 use Rattle.reverse_console.specs.Handling.{source}
-use Rattle.reverse_console.proofs.Getting.{fits_on, gets_err, gets_ok, gets_moved, gets_unseen}
+use Rattle.reverse_console.specs.Refusals.{IsOfGetting}
+use Rattle.reverse_console.proofs.Getting.{err_at, fits_on, gets_err, gets_ok, gets_moved, gets_unseen}
 use Rattle.reverse_console.proofs.Numbers.{mark_at_most, mark_of_known}
 use Rattle.reverse_console.proofs.Seeing.{went}
 use Rattle.reverse_console.proofs.going.go.Goals as goal
@@ -34,6 +36,20 @@ pub returns-in_err-recall-clause-called : goal.returns-in_err-recall-clause-call
 returns-in_err-recall-clause-called g c =
     let calls = calls_to g.K.Keeper.put_count g.K.Keeper.get_count g.K.Keeper.free_count in
     subst (λ (i : ℕ). Called (one_get (mark_level c.args.marks.now i)) (calls c.args.keepers.now.items) (calls c.recall.new.keepers.items)) c.of-mark.ensures c.recall.ensures.called
+
+pub returns-in_err-recall-clause-of : goal.returns-in_err-recall-clause-of
+returns-in_err-recall-clause-of g c =
+    let q = err_from_is_err_and c.from_residual.result c.from_residual.ensures.1 in
+    let P : ℕ → RunFault → Type 0 = λ i. IsOfGetting (one_get (mark_level c.args.marks.now i)) in
+    let R : ℕ → Type 0 = λ i. IfErr c.recall.result (P i) in
+    let of = subst R c.of-mark.ensures c.recall.ensures.of in
+    let i = mark_of c.args.marks.now c.args.n in
+    err_at (P i) c.from_residual.result q.0 q.1 (subst (P i) (sym q.2) (IfErr-at_err (P i) c.in_err-recall.was of))
+
+pub returns-in_err-recall-clause-counted_unseen : goal.returns-in_err-recall-clause-counted_unseen
+returns-in_err-recall-clause-counted_unseen g c e =
+    let q = err_from_is_err_and c.from_residual.result c.from_residual.ensures.1 in
+    absurd (c.recall.ensures.silent (same_fault c.recall.result c.from_residual.result _ _ Visitor c.in_err-recall.was q.1 q.2 e))
 
 pub returns-in-Ok-clause-got : goal.returns-in-Ok-clause-got
 returns-in-Ok-clause-got g c =
@@ -92,6 +108,11 @@ pub returns-in-Err-clause-called : goal.returns-in-Err-clause-called
 returns-in-Err-clause-called g c =
     let calls = calls_to g.K.Keeper.put_count g.K.Keeper.get_count g.K.Keeper.free_count in
     subst (λ (i : ℕ). Called (one_get (mark_level c.args.marks.now i)) (calls c.args.keepers.now.items) (calls c.recall.new.keepers.items)) c.of-mark.ensures c.recall.ensures.called
+
+pub returns-in-Err-clause-counted_unseen : goal.returns-in-Err-clause-counted_unseen
+returns-in-Err-clause-counted_unseen g c e =
+    let at = c.marked.ensures ∙ ap (marked c.args.marks.now) c.of-mark.ensures in
+    omega (arith, at)
 
 pub returns-in-Err-clause-counted_at_most : goal.returns-in-Err-clause-counted_at_most
 returns-in-Err-clause-counted_at_most g c =

@@ -8,7 +8,7 @@ use Rattle.reverse_runner.specs.KeepersSeen.{calls_to, told_by, Called, HaveRoom
 use Rattle.reverse_console.specs.Costs.{puts_of}
 use Rattle.reverse_console.specs.Marks.{marked, mark_count, span, stride}
 use Rattle.reverse_console.specs.Causes.{HasCause}
-use Rattle.reverse_console.specs.Handling.{AreSet, StandAt}
+use Rattle.reverse_console.specs.Handling.{AreSet, AreKept, StandAt}
 use Rattle.reverse_console.specs.Refusals.{IsOfPutting}
 use Rattle.reverse_console.proofs.Calling.{stay_then, cause_then}
 use Rattle.reverse_console.proofs.Getting.{err_at, at_ok}
@@ -32,6 +32,7 @@ loop-mark-init g c =
     record {
       set = done.set;
       stand = λ stands. stand_first stands;
+      kept = at_ok c.set_mark.result _ c.in_ok-set_mark.was (c.set_mark.ensures.kept c.args.desk.now.work c.args.journal.now (λ j lt. absurd (omega (arith, lt))) (sym (ap (state_number c.args.desk.now.work c.args.journal.now) (marked_first p))));
       work = c.set_mark.ensures.work ∙ sym (ap (state_number c.args.desk.now.work c.args.journal.now) first);
       fits = c.set_mark.ensures.fits;
       counted = omega (arith, first);
@@ -56,6 +57,7 @@ loop-mark-preserved g c =
     record {
       set = done.set;
       stand = λ stands. at_ok c.set_next.result _ c.in_ok-set_next.was (c.set_next.ensures.stand c.args.desk.now.work c.args.journal.now (so_far.stand stands) work);
+      kept = at_ok c.set_next.result _ c.in_ok-set_next.was (c.set_next.ensures.kept c.args.desk.now.work c.args.journal.now so_far.kept work);
       work = work ∙ sym (ap (state_number c.args.desk.now.work c.args.journal.now) here);
       fits = c.set_next.ensures.fits;
       counted = omega (arith, so_far.counted, c.set_next.ensures.counted, step, here);
@@ -87,7 +89,8 @@ returns-in_err-set_mark-clause-cause g c =
 pub returns-in_err-set_mark-clause-putting : goal.returns-in_err-set_mark-clause-putting
 returns-in_err-set_mark-clause-putting g c =
     let q = err_from_is_err_and c.from_residual.result c.from_residual.ensures.1 in
-    err_at IsOfPutting c.from_residual.result q.0 q.1 (subst IsOfPutting (sym q.2) (IfErr-at_err IsOfPutting c.in_err-set_mark.was c.set_mark.ensures.putting))
+    let P = IsOfPutting c.args.marks.now in
+    err_at P c.from_residual.result q.0 q.1 (subst P (sym q.2) (IfErr-at_err P c.in_err-set_mark.was c.set_mark.ensures.putting))
 
 pub returns-in_err-set_next-clause-machine : goal.returns-in_err-set_next-clause-machine
 returns-in_err-set_next-clause-machine g c =
@@ -127,7 +130,8 @@ returns-in_err-set_next-clause-cause g c =
 pub returns-in_err-set_next-clause-putting : goal.returns-in_err-set_next-clause-putting
 returns-in_err-set_next-clause-putting g c =
     let q = err_from_is_err_and c.from_residual-in_err-set_next.result c.from_residual-in_err-set_next.ensures.1 in
-    err_at IsOfPutting c.from_residual-in_err-set_next.result q.0 q.1 (subst IsOfPutting (sym q.2) (IfErr-at_err IsOfPutting c.in_err-set_next.was c.set_next.ensures.putting))
+    let P = IsOfPutting c.args.marks.now in
+    err_at P c.from_residual-in_err-set_next.result q.0 q.1 (subst P (sym q.2) (IfErr-at_err P c.in_err-set_next.was c.set_next.ensures.putting))
 
 pub returns-clause-set : goal.returns-clause-set
 returns-clause-set g c =
@@ -138,6 +142,11 @@ pub returns-clause-stand : goal.returns-clause-stand
 returns-clause-stand g c stands =
     let all : c.loop-mark.mark ≡ mark_count c.args.marks.now = omega (arith, c.number-mark-end.ensures, c.loop-mark.invariant.known) in
     subst (λ (i : ℕ). StandAt c.args.desk.now.work c.args.journal.now c.args.marks.now i c.loop-mark.desk.store (told_by g.K.Keeper.told c.loop-mark.keepers.items)) all (c.loop-mark.invariant.stand stands)
+
+pub returns-clause-kept : goal.returns-clause-kept
+returns-clause-kept g c =
+    let all : c.loop-mark.mark ≡ mark_count c.args.marks.now = omega (arith, c.number-mark-end.ensures, c.loop-mark.invariant.known) in
+    subst (λ (i : ℕ). AreKept c.args.desk.now.work c.args.journal.now c.args.marks.now i c.loop-mark.desk.store) all c.loop-mark.invariant.kept
 
 pub returns-clause-machine : goal.returns-clause-machine
 returns-clause-machine g c = ap (λ (s : MachineState). page_numbers s.memory) c.loop-mark.invariant.work ∙ state_number_keeps_pages c.args.desk.now.work c.args.journal.now (marked c.args.marks.now (c.loop-mark.mark - 1))

@@ -5,7 +5,7 @@ use Rattle.reverse_console.specs.Costs.{puts_of}
 use Rattle.reverse_console.specs.Desks.{Fits}
 use Rattle.reverse_console.specs.Marks.{marked, mark_count}
 use Rattle.reverse_console.specs.Causes.{KeepersStay, Quiet}
-use Rattle.reverse_console.specs.Handling.{AreSet, StandAt}
+use Rattle.reverse_console.specs.Handling.{AreSet, AreKept, StandAt}
 use Rattle.reverse_console.proofs.going.set_marks.Given as goal
 
 -- the marks so far are set, and the state in work is that of the last of them
@@ -15,6 +15,7 @@ invariant-loop-mark g l = record {
   stand :
       StandAt l.fn.desk.work l.journal l.marks 0 l.fn.desk.store (told_by g.K.Keeper.told l.fn.keepers.items) →
       StandAt l.fn.desk.work l.journal l.marks l.mark l.desk.store (told_by g.K.Keeper.told l.keepers.items);
+  kept : AreKept l.fn.desk.work l.journal l.marks l.mark l.desk.store;
   work : l.desk.work ≡ state_number l.fn.desk.work l.journal (marked l.marks (l.mark - 1));
   fits : Fits l.desk;
   counted : l.steps ≡ l.fn.steps + marked l.marks (l.mark - 1);

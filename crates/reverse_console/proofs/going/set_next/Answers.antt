@@ -2,7 +2,7 @@ use Rattle.std.proofs.Common.{sym, ◌∙◌, ap, subst, arith}
 use Rattle.std.specs.Vec.{vec_capacity}
 use Rattle.rv_machine.specs.States.{state_number}
 use Rattle.reverse_runner.specs.KeepersSeen.{told_by}
-use Rattle.reverse_console.specs.Handling.{AreSet, StandAt}
+use Rattle.reverse_console.specs.Handling.{AreSet, AreKept, StandAt}
 use Rattle.reverse_console.proofs.Getting.{fits_on}
 use Rattle.reverse_console.proofs.going.set_next.Goals as goal
 
@@ -18,6 +18,10 @@ pub returns-clause-stand : goal.returns-clause-stand
 returns-clause-stand g c first journal stands work =
     let told = told_by g.K.Keeper.told c.args.keepers.now.items in
     c.set_mark.ensures.stand first journal (subst (λ s. StandAt first journal c.args.marks.now c.args.mark s told) (sym c.advance.ensures.store) stands) (sym c.set_mark.ensures.work ∙ work)
+
+pub returns-clause-kept : goal.returns-clause-kept
+returns-clause-kept g c first journal kept work =
+    c.set_mark.ensures.kept first journal (subst (λ s. AreKept first journal c.args.marks.now c.args.mark s) (sym c.advance.ensures.store) kept) (sym c.set_mark.ensures.work ∙ work)
 
 pub returns-clause-work : goal.returns-clause-work
 returns-clause-work g c =

@@ -9,7 +9,7 @@ use Rattle.reverse_console.specs.declared.order.Order.{Order}
 use Rattle.reverse_console.specs.declared.order.Order.TheVariants.{Back}
 use Rattle.reverse_console.specs.Causes.{KeepersStay, HasCause}
 use Rattle.reverse_console.specs.ConsoleState.{source_of}
-use Rattle.reverse_console.specs.Costs.{place_said, TakesAtMost}
+use Rattle.reverse_console.specs.Costs.{place_said, TookUntil}
 use Rattle.reverse_console.specs.Marks.{MarkPlan}
 use Rattle.reverse_console.specs.ScriptAnswers.{moment, AreAnswered, AreAnswers, BreaksOffIn}
 use Rattle.reverse_console.proofs.Answering.{both_ways}
@@ -94,7 +94,7 @@ returns-in-Err-clause-broken_off g c =
     let G : ℕ → Type 0 = λ i. slice_get orders i ≡ Some order in
     let w = so_far.written in
     let L : ℕ → Type 0 = λ i. AreAnswered from (take i orders) w.answers w.text m0 m1 in
-    let P : MarkPlan → Type 0 = λ p. TakesAtMost p (place_said p.count mid.place order) c.loop-at.steps c.answer_line.new.steps calls1 calls2 in
+    let P : MarkPlan → Type 0 = λ p. TookUntil p (place_said p.count mid.place order) fault c.loop-at.steps c.answer_line.new.steps calls1 calls2 in
     let b = breaks_of from mid.place order fault w.text (sink.call_count c.loop-at.out) (sink.call_count c.answer_line.new.out) (sink.told c.args.out.now) (sink.told c.loop-at.out) (sink.told c.answer_line.new.out) w.written
     (λ e.
     let m = c.answer_line.ensures.missed (c.in-Err.is ∙ ap Err e) in
@@ -109,7 +109,7 @@ returns-in-Err-clause-broken_off g c =
       mid = m1;
       are = subst L back w.are;
       stays = c.in-Err.ensures.stays;
-      took = subst P so_far.goes.plan c.in-Err.ensures.took_at_most;
+      took = subst P so_far.goes.plan c.in-Err.ensures.took_until;
       wrote = b.1;
       breaks = b.0;
     }

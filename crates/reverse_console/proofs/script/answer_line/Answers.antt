@@ -3,9 +3,7 @@ use Rattle.keepers.specs.Counts.{raised}
 use Rattle.keepers.specs.Told.{Tells, AddsPrefix}
 use Rattle.reverse_runner.specs.KeepersSeen.{told_by}
 use Rattle.reverse_console.specs.ConsoleState.{source_of}
-use Rattle.reverse_console.specs.Costs.{place_said}
 use Rattle.reverse_console.specs.ScriptAnswers.{IsTextOf, place_after}
-use Rattle.reverse_console.proofs.Answering.{took_no_more}
 use Rattle.reverse_console.proofs.Getting.{at_ok}
 use Rattle.reverse_console.proofs.Scripts.{shown_some, shown_none, if_ok_at}
 use Rattle.reverse_console.proofs.script.answer_line.Goals as goal
@@ -56,10 +54,8 @@ returns-in-Err-clause-stays g c =
     let none = shown_none src h.0 c.in_ok-found.found (sink.call_count c.args.out.now) (sink.call_count c.show.new.out) (sink.told c.args.out.now) (sink.told c.show.new.out) h.1.2 c.if-found.false in
     h.1.1 ∙ ap (place_after c.args.console.now.place) none.0
 
-pub returns-in-Err-clause-took_at_most : goal.returns-in-Err-clause-took_at_most
-returns-in-Err-clause-took_at_most g c =
-    let p = c.args.console.now.plan in
-    took_no_more p (place_said p.count c.args.console.now.place c.args.order.now) _ _ _ _ (at_ok c.show.result _ c.in_ok-found.was c.show.ensures.takes)
+pub returns-in-Err-clause-took_until : goal.returns-in-Err-clause-took_until
+returns-in-Err-clause-took_until g c = at_ok c.show.result _ c.in_ok-found.was c.show.ensures.takes
 
 pub returns-in-Err-clause-cause : goal.returns-in-Err-clause-cause
 returns-in-Err-clause-cause g c = at_ok c.show.result _ c.in_ok-found.was c.show.ensures.quiet

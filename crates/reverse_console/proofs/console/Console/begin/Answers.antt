@@ -1,4 +1,4 @@
-use Rattle.std.proofs.Common.{◌<◌, ◌≤◌, List, length, map, Err, sym, ◌∙◌, ap, subst}
+use Rattle.std.proofs.Common.{◌<◌, ◌≤◌, List, length, map, Err, IfErr, sym, ◌∙◌, ap, subst}
 use Rattle.std.proofs.lemmas.Result.{IfErr-at_err, err_from_is_err_and}
 use Rattle.level_book.specs.declared.book.Slots.{Slots}
 use Rattle.rv_pages.specs.Memory.{page_numbers}
@@ -8,8 +8,10 @@ use Rattle.reverse_runner.specs.KeepersSeen.{told_by, HaveRoom}
 use Rattle.reverse_console.specs.Marks.{MarkPlan, span, mark_count}
 use Rattle.reverse_console.specs.Causes.{HasCause}
 use Rattle.reverse_console.specs.Handling.{AreSet, StandAt}
+use Rattle.reverse_console.specs.Refusals.{IsOfPutting}
+use Rattle.reverse_console.specs.Standing.{IsMarkKept}
 use Rattle.reverse_console.proofs.Calling.{quiet_else}
-use Rattle.reverse_console.proofs.Getting.{at_ok}
+use Rattle.reverse_console.proofs.Getting.{at_ok, err_at}
 use Rattle.reverse_console.proofs.Setting.{none_set, none_stand}
 use Rattle.reverse_console.proofs.console.Console.begin.Goals as goal
 
@@ -28,11 +30,26 @@ returns-in_err-set_marks-clause-keepers_quiet g c never =
     let H = HasCause g.K.Keeper.fault_count c.new-marks.result c.args.keepers.now.items c.set_marks.new.keepers.items in
     quiet_else g.K.Keeper.fault_count c.new-marks.result c.args.keepers.now.items c.set_marks.new.keepers.items q.0 (subst H (sym q.2) (IfErr-at_err H c.in_err-set_marks.was c.set_marks.ensures.cause)) (λ k e. never k (q.1 ∙ ap Err e))
 
+pub returns-in_err-set_marks-clause-putting : goal.returns-in_err-set_marks-clause-putting
+returns-in_err-set_marks-clause-putting g c =
+    let q = err_from_is_err_and c.from_residual.result c.from_residual.ensures.1 in
+    let P = IsOfPutting c.new-marks.result in
+    subst (λ (p : MarkPlan). IfErr c.from_residual.result (IsOfPutting p)) c.new-marks.ensures
+    (err_at P c.from_residual.result q.0 q.1 (subst P (sym q.2) (IfErr-at_err P c.in_err-set_marks.was c.set_marks.ensures.putting)))
+
 pub returns-in_err-set_marks-clause-others : goal.returns-in_err-set_marks-clause-others
 returns-in_err-set_marks-clause-others g c k past = c.set_marks.ensures.stay.others k (subst (λ (q : MarkPlan). length q.slots ≤ k) (sym c.new-marks.ensures) past)
 
 pub returns-clause-others : goal.returns-clause-others
 returns-clause-others g c k past = c.set_marks.ensures.stay.others k (subst (λ (q : MarkPlan). length q.slots ≤ k) (sym c.new-marks.ensures) past)
+
+pub returns-clause-marks : goal.returns-clause-marks
+returns-clause-marks g c =
+    let all = at_ok c.set_marks.result _ c.in_ok-set_marks.was c.set_marks.ensures.kept in
+    record {
+      machine = c.set_marks.ensures.machine ∙ ap (λ (s : MachineState). page_numbers s.memory) c.in-Ok.ensures.work;
+      marks = λ i known. subst (λ (s : MachineState). IsMarkKept s c.args.journal c.new-marks.result c.set_marks.new.desk.store i) c.in-Ok.ensures.work (all i known);
+    }
 
 pub returns-clause-stands : goal.returns-clause-stands
 returns-clause-stands g c tells =

@@ -1,10 +1,11 @@
-use Rattle.std.proofs.Common.{◌≡◌, ℕ, Bool, Option, Some, Err, IfOk, sym, ◌∙◌, subst}
+use Rattle.std.proofs.Common.{◌≡◌, ℕ, Bool, Option, Some, Err, IfOk, IfErr, sym, ◌∙◌, subst}
 use Rattle.rv_machine.specs.MachineState.{MachineState}
 use Rattle.rv_machine.specs.States.{state_number}
-use Rattle.reverse_runner.specs.KeepersSeen.{told_by}
+use Rattle.reverse_runner.specs.KeepersSeen.{told_by, calls_to}
 use Rattle.reverse_runner.specs.declared.fault.RunFault.TheVariants.{Visitor}
 use Rattle.reverse_console.specs.Answer.{IsAnswer, IsGiven}
 use Rattle.reverse_console.specs.ConsoleState.{ConsoleState, source_of}
+use Rattle.reverse_console.specs.Costs.{place_said, TookUntil}
 use Rattle.reverse_console.specs.Marks.{mark_of, mark_count}
 use Rattle.reverse_console.specs.Handling.{source}
 use Rattle.reverse_console.specs.Seen.{ComesFrom, IsAnswerSeen}
@@ -116,3 +117,10 @@ returns-clause-undamaged g c first is stands =
     let S : ConsoleState → Type 0 = λ s. Stands first s told in
     let st = subst S (sym c.self.view_is) stands in
     c.answer-outcome.ensures.gets.undamaged first is st.machine st.levels
+
+pub returns-clause-took_until : goal.returns-clause-took_until
+returns-clause-took_until g c =
+    let calls = calls_to g.K.Keeper.put_count g.K.Keeper.get_count g.K.Keeper.free_count in
+    let P : ConsoleState → Type 0 = λ s.
+    IfErr c.answer-outcome.result (λ fault. TookUntil s.plan (place_said s.plan.count s.place c.args.order.now) fault c.args.steps.now c.answer-outcome.new.steps (calls c.args.keepers.now.items) (calls c.answer-outcome.new.keepers.items)) in
+    subst P c.self.view_is c.answer-outcome.ensures.took_until
