@@ -12,8 +12,8 @@ use Rattle.requests.specs.declared.kind.PlanKind.TheVariants.{Revolve, Multistag
 use Rattle.requests.specs.declared.question.Question.{Question}
 use Rattle.requests.specs.declared.question.Question.TheVariants.{State, LastWrite, LastChange}
 use Rattle.requests.specs.Reading.{◌>>=◌}
-use Rattle.requests.specs.Request.{Run, Command, run, run_revolve, plan, plan_periodic, check, certify, price, ask, find, assemble, disassemble, demo, command_words, CanBeSpelled}
-use Rattle.requests.specs.Forms.{Place, fixed, named, named_or_none, schedule_named, numbered, addressed, digested, Value, word_at, Allows, taken, front_taken, Values, words_at, AllAllowed, all_taken, Form, form_taken, forms, first_of, command_of, run_form, run_revolve_form, plan_form, periodic_form, check_form, certify_form, price_form, ask_form, find_form, assemble_form, disassemble_form, demo_form}
+use Rattle.requests.specs.Request.{Run, Command, run, run_revolve, plan, plan_periodic, check, certify, price, ask, find, assemble, disassemble, move_about, demo, command_words, CanBeSpelled}
+use Rattle.requests.specs.Forms.{Place, fixed, named, named_or_none, schedule_named, numbered, addressed, digested, Value, word_at, Allows, taken, front_taken, Values, words_at, AllAllowed, all_taken, Form, form_taken, forms, first_of, command_of, run_form, run_revolve_form, plan_form, periodic_form, check_form, certify_form, price_form, ask_form, find_form, assemble_form, disassemble_form, move_about_form, demo_form}
 use Rattle.requests.proofs.Forming.{with_value}
 use Rattle.requests.proofs.Placed.{taken_again, taken_read}
 use Rattle.requests.proofs.Steps.{bind_some, and_parts, none_so, other_text}
@@ -50,7 +50,7 @@ abbrev IsRight : Form → Type 0
 IsRight f = (vs : Values f.places) → (command_words (f.make vs) ≡ words_at f.places vs) × (AllAllowed f.places vs → CanBeSpelled (f.make vs))
 
 forms_right : AllByRecursion IsRight forms
-forms_right = (λ vs. (refl, λ h. h), (λ vs. (refl, λ h. h), (λ vs. (refl, λ h. h), (λ vs. (refl, λ h. h), (λ vs. (refl, λ h. h), (λ vs. (refl, λ h. h), (λ vs. (refl, λ h. h), (λ vs. (refl, λ h. h), (λ vs. (refl, λ h. h), (λ vs. (refl, λ h. h), (λ vs. (refl, λ h. h), (λ vs. (refl, λ h. h), (λ vs. (refl, λ h. h), (λ vs. (refl, λ h. h), (λ vs. (refl, λ h. h), (λ vs. (refl, λ h. h), (λ vs. (refl, λ h. h), tt)))))))))))))))))
+forms_right = (λ vs. (refl, λ h. h), (λ vs. (refl, λ h. h), (λ vs. (refl, λ h. h), (λ vs. (refl, λ h. h), (λ vs. (refl, λ h. h), (λ vs. (refl, λ h. h), (λ vs. (refl, λ h. h), (λ vs. (refl, λ h. h), (λ vs. (refl, λ h. h), (λ vs. (refl, λ h. h), (λ vs. (refl, λ h. h), (λ vs. (refl, λ h. h), (λ vs. (refl, λ h. h), (λ vs. (refl, λ h. h), (λ vs. (refl, λ h. h), (λ vs. (refl, λ h. h), (λ vs. (refl, λ h. h), (λ vs. (refl, λ h. h), tt))))))))))))))))))
 
 -- the words are those of a command
 pub record IsCommand (words : List (List ℕ)) (c : Command) : Type 0 where
@@ -198,4 +198,5 @@ command_again (ask c) h = asked c.question c.run h
 command_again (find c) h = again (take 13 forms) find_form (drop 14 forms) (tt, (tt, (c.program, (c.journal, (c.steps, (c.digest, tt)))))) h refl
 command_again (assemble c) h = again (take 14 forms) assemble_form (drop 15 forms) (tt, (c.source, tt)) h refl
 command_again (disassemble c) h = again (take 15 forms) disassemble_form (drop 16 forms) (tt, (c.program, tt)) h refl
-command_again (demo c) h = again (take 16 forms) demo_form [] (tt, (c.number, (c.steps, (c.slots, tt)))) h refl
+command_again (move_about c) h = again (take 16 forms) move_about_form (drop 17 forms) (tt, (c.program, (c.journal, (c.book, (c.script, (c.steps, tt)))))) h refl
+command_again (demo c) h = again (take 17 forms) demo_form [] (tt, (c.number, (c.steps, (c.slots, tt)))) h refl

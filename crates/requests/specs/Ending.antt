@@ -13,6 +13,8 @@ use Rattle.cert_text.specs.declared.fault.CertFault.{CertFault}
 use Rattle.cert_text.specs.declared.fault.CertFault.TheVariants as certificate
 use Rattle.rv_asm.specs.declared.fault.AsmFault.{AsmFault}
 use Rattle.rv_asm.specs.declared.fault.AsmFault.TheVariants as source
+use Rattle.reverse_console.specs.declared.fault.ScriptFault.{ScriptFault}
+use Rattle.reverse_console.specs.declared.fault.ScriptFault.TheVariants as script
 use Rattle.bound_cert.specs.declared.verdict.Reason.{Reason}
 use Rattle.bound_cert.specs.declared.verdict.Reason.TheVariants as reason
 use Rattle.table_clauses.specs.declared.entry.Entry.{Entry}
@@ -107,6 +109,11 @@ abbrev pub bad_source : AsmFault → Ended
 bad_source (source.At rule line column) = ended_by 19 line column rule
 bad_source source.Memory = no_memory
 
+-- the bytes of the script are none; its line and its column
+abbrev pub bad_script : ScriptFault → Ended
+bad_script (script.At rule line column) = ended_by 20 line column rule
+bad_script script.Memory = no_memory
+
 -- a number is out of range; the bound that it passes, and the rule that gives the bound
 abbrev pub out_of_range : ℕ → ℕ → ℕ → Ended
 out_of_range number bound rule = ended_by 10 number bound rule
@@ -169,7 +176,8 @@ status_name status =
     else (if status == 16 then codes "NoKeeper"
     else (if status == 17 then codes "Memory"
     else (if status == 19 then codes "Source"
-    else codes "Done"))))))))))))))))
+    else (if status == 20 then codes "Script"
+    else codes "Done")))))))))))))))))
 
 -- the two digests of status 13, as lower-case hexadecimal digits
 abbrev pub digests_text : Ended → List ℕ

@@ -14,7 +14,7 @@ use Rattle.requests.specs.declared.question.Question.TheVariants.{State, LastWri
 use Rattle.requests.specs.Reading.{◌>>=◌, after_of}
 use Rattle.requests.specs.ChoiceReading.{number_of}
 use Rattle.requests.specs.Operands.{IsName, IsScheduleName, MayBeNamed, IsNumber, IsAddress, IsDigest, word_or_dash, address_word}
-use Rattle.requests.specs.Request.{Command, run, run_revolve, plan, plan_periodic, check, certify, price, ask, find, assemble, disassemble, demo, kind_word}
+use Rattle.requests.specs.Request.{Command, run, run_revolve, plan, plan_periodic, check, certify, price, ask, find, assemble, disassemble, move_about, demo, kind_word}
 
 -- ---- places
 
@@ -197,6 +197,12 @@ assemble_form = record { places = fixed (codes "asm") ∷ named ∷ []; make = �
 abbrev pub disassemble_form : Form
 disassemble_form = record { places = fixed (codes "disasm") ∷ named ∷ []; make = λ v. disassemble (record { program = v.1.0 }) }
 
+abbrev pub move_about_form : Form
+move_about_form = record {
+  places = fixed (codes "console") ∷ named ∷ named_or_none ∷ named ∷ named ∷ numbered ∷ [];
+  make = λ v. move_about (record { program = v.1.0; journal = v.1.1.0; book = v.1.1.1.0; script = v.1.1.1.1.0; steps = v.1.1.1.1.1.0 });
+}
+
 abbrev pub demo_form : Form
 demo_form = record {
   places = fixed (codes "demo") ∷ numbered ∷ numbered ∷ numbered ∷ [];
@@ -207,7 +213,7 @@ abbrev pub forms : List Form
 forms =
     run_revolve_form ∷ run_form ∷ plan_form Revolve ∷ plan_form Multistage ∷ plan_form Disk ∷ plan_form Hrevolve ∷ periodic_form
     ∷ check_form ∷ certify_form ∷ price_form ∷ ask_form (codes "state") numbered State ∷ ask_form (codes "last-write") addressed LastWrite
-    ∷ ask_form (codes "last-change") addressed LastChange ∷ find_form ∷ assemble_form ∷ disassemble_form ∷ demo_form ∷ []
+    ∷ ask_form (codes "last-change") addressed LastChange ∷ find_form ∷ assemble_form ∷ disassemble_form ∷ move_about_form ∷ demo_form ∷ []
 
 -- what was found before, or what the first of these forms takes that takes all words
 abbrev pub first_of : Option Command → List Form → List (List ℕ) → Option Command

@@ -40,6 +40,8 @@ pub data Operand : Type 0 where
   -- the name of a source of instructions, and of a program of raw words that are to be read
   a_source : List ℕ → Operand
   some_words : List ℕ → Operand
+  -- the name of a script of orders to a console
+  a_script : List ℕ → Operand
 
 -- ---- spelling
 
@@ -72,6 +74,7 @@ word_of (a_question steps question) = question_number question
 word_of (a_digest bytes) = encode_lower bytes
 word_of (a_source name) = name
 word_of (some_words name) = name
+word_of (a_script name) = name
 
 -- ---- what may be spelled
 
@@ -117,6 +120,7 @@ CanStand (a_question steps question) = IsQuestion question
 CanStand (a_digest bytes) = IsDigest bytes
 CanStand (a_source name) = IsName name
 CanStand (some_words name) = IsName name
+CanStand (a_script name) = IsName name
 
 -- ---- bounds
 
@@ -159,6 +163,7 @@ bounds_of unit (a_question steps question) = question_bound (unit * steps) quest
 bounds_of unit (a_digest bytes) = []
 bounds_of unit (a_source name) = []
 bounds_of unit (some_words name) = []
+bounds_of unit (a_script name) = []
 
 -- the product of a number and the unit, where it has bounds of its own
 abbrev pub products_of : (unit : ℕ) → Operand → List Bounded
@@ -189,6 +194,9 @@ source_input name = record { name = name; limit = 67108864 }
 abbrev pub words_input : List ℕ → Input
 words_input name = record { name = name; limit = 4194304 }
 
+abbrev pub script_input : List ℕ → Input
+script_input name = record { name = name; limit = 1048576 }
+
 -- without a name for recorded input none is read
 abbrev pub journal_inputs : Option (List ℕ) → List Input
 journal_inputs None = []
@@ -207,3 +215,4 @@ inputs_named (a_question steps question) = []
 inputs_named (a_digest bytes) = []
 inputs_named (a_source name) = source_input name ∷ []
 inputs_named (some_words name) = words_input name ∷ []
+inputs_named (a_script name) = script_input name ∷ []

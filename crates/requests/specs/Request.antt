@@ -16,6 +16,7 @@
 --     ask find PROGRAM JOURNAL N DIGEST
 --     asm SOURCE
 --     disasm PROGRAM
+--     console PROGRAM JOURNAL BOOK SCRIPT N
 --     demo NUMBER N SLOTS
 use Rattle.std.specs.Prelude.{◌≡◌, ℕ, ◌≤◌, ◌==◌, Bool, true, false, List, [], ◌∷◌, ◌++◌, codes, decimal, map, count_by, Option}
 use Rattle.std.specs.List.{AllByRecursion, list_any}
@@ -25,7 +26,7 @@ use Rattle.requests.specs.declared.kind.PlanKind.TheVariants.{Revolve, Multistag
 use Rattle.requests.specs.declared.question.Question.{Question}
 use Rattle.requests.specs.declared.question.Question.TheVariants.{State, LastWrite, LastChange}
 pub use Rattle.requests.specs.Operands.{steps_limit}
-use Rattle.requests.specs.Operands.{Limit, Operand, the_word, a_program, a_journal, a_book, a_schedule, a_certificate, run_steps, a_number, a_question, a_digest, a_source, some_words, word_of, IsName, IsNumber, CanStand}
+use Rattle.requests.specs.Operands.{Limit, Operand, the_word, a_program, a_journal, a_book, a_schedule, a_certificate, run_steps, a_number, a_question, a_digest, a_source, some_words, a_script, word_of, IsName, IsNumber, CanStand}
 
 -- ---- options
 
@@ -153,6 +154,14 @@ pub record Assemble : Type 0 where
 pub record Disassemble : Type 0 where
   pub program : List ℕ
 
+-- to move about in a run of so many instructions by the orders of a script
+pub record MoveAbout : Type 0 where
+  pub program : List ℕ
+  pub journal : Option (List ℕ)
+  pub book : List ℕ
+  pub script : List ℕ
+  pub steps : ℕ
+
 -- to run a program that is made from a number backward by the list of Revolve, with so many slots of memory
 pub record Demo : Type 0 where
   pub number : ℕ
@@ -172,6 +181,7 @@ pub data Command : Type 0 where
   find : Find → Command
   assemble : Assemble → Command
   disassemble : Disassemble → Command
+  move_about : MoveAbout → Command
   demo : Demo → Command
 
 -- the word of a kind of plans
@@ -229,6 +239,9 @@ operands (find c) =
     ∷ a_digest c.digest ∷ []
 operands (assemble c) = the_word (codes "asm") ∷ a_source c.source ∷ []
 operands (disassemble c) = the_word (codes "disasm") ∷ some_words c.program ∷ []
+operands (move_about c) =
+    the_word (codes "console") ∷ a_program c.program ∷ a_journal c.journal ∷ a_book c.book ∷ a_script c.script
+    ∷ a_number steps_limit c.steps ∷ []
 operands (demo c) = the_word (codes "demo") ∷ a_number seed_limit c.number ∷ a_number steps_limit c.steps ∷ a_number slots_limit c.slots ∷ []
 
 abbrev pub command_words : Command → List (List ℕ)

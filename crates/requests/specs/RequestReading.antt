@@ -12,6 +12,7 @@ use Rattle.requests.specs.declared.request.Ask as ask_in_memory
 use Rattle.requests.specs.declared.request.Find as find_in_memory
 use Rattle.requests.specs.declared.request.Assemble as assemble_in_memory
 use Rattle.requests.specs.declared.request.Disassemble as disassemble_in_memory
+use Rattle.requests.specs.declared.request.MoveAbout as move_about_in_memory
 use Rattle.requests.specs.declared.request.Demo as demo_in_memory
 use Rattle.requests.specs.declared.request.Command as command_in_memory
 use Rattle.requests.specs.declared.request.Command.TheVariants as the_command
@@ -21,7 +22,7 @@ use Rattle.requests.specs.declared.question.Question.{Question}
 use Rattle.requests.specs.Operands.{within, steps_limit, instructions_limit, question_bound}
 use Rattle.requests.specs.Reading.{◌>>=◌}
 use Rattle.requests.specs.Forms.{command_of}
-use Rattle.requests.specs.Request.{Run, RunRevolve, PlanFor, PlanPeriodic, Check, Certify, Price, Ask, Find, Assemble, Disassemble, Demo, Command, run, run_revolve, plan, plan_periodic, check, certify, price, ask, find, assemble, disassemble, demo, Request}
+use Rattle.requests.specs.Request.{Run, RunRevolve, PlanFor, PlanPeriodic, Check, Certify, Price, Ask, Find, Assemble, Disassemble, MoveAbout, Demo, Command, run, run_revolve, plan, plan_periodic, check, certify, price, ask, find, assemble, disassemble, move_about, demo, Request}
 use Rattle.requests.specs.ChoiceReading.{options_at, behind_options, are_single}
 
 -- the numbers of a run of so many steps, each of them a unit, and of a question about one
@@ -73,6 +74,15 @@ as_assemble c = record { source = c.source.now }
 abbrev pub as_disassemble : disassemble_in_memory.Disassemble → Disassemble
 as_disassemble c = record { program = c.program.now }
 
+abbrev pub as_move_about : move_about_in_memory.MoveAbout → MoveAbout
+as_move_about c = record {
+  program = c.program.now;
+  journal = option_map (λ name. name.now) c.journal;
+  book = c.book.now;
+  script = c.script.now;
+  steps = c.steps;
+}
+
 abbrev pub as_demo : demo_in_memory.Demo → Demo
 as_demo c = record { number = c.number; steps = c.steps; slots = c.slots }
 
@@ -88,6 +98,7 @@ as_command (the_command.Ask c) = ask (as_ask c)
 as_command (the_command.Find c) = find (as_find c)
 as_command (the_command.Assemble c) = assemble (as_assemble c)
 as_command (the_command.Disassemble c) = disassemble (as_disassemble c)
+as_command (the_command.MoveAbout c) = move_about (as_move_about c)
 as_command (the_command.Demo c) = demo (as_demo c)
 
 abbrev pub request_of : in_memory.Request → Request

@@ -10,6 +10,7 @@ use elf_load::ElfFault;
 use input_journal::JournalFault;
 use level_book::BookFault;
 use plan_types::Line;
+use reverse_console::ScriptFault;
 use rv_asm::AsmFault;
 use std::alloc::{AllocError, AllocFailed};
 use table_clauses::Entry;
@@ -19,17 +20,17 @@ use table_clauses::Entry;
 #[derive(Clone, Copy, Debug, PartialEq, Eq)]
 pub struct Ended {
     /// 0 Done, 2 Words, 3 Input, 4 Program, 5 Journal, 6 Book, 7 Text, 8 Invalid, 9 Certificate, 10 Limit, 11 NoPlan,
-    /// 12 Keeper, 13 Damaged, 14 Sink, 15 NotLeast, 16 NoKeeper, 17 Memory, 19 Source.
+    /// 12 Keeper, 13 Damaged, 14 Sink, 15 NotLeast, 16 NoKeeper, 17 Memory, 19 Source, 20 Script.
     pub status: u8,
-    /// The number of the input for 3; what the fault names for 4 and 6; the fault's place in bytes for 5; the line for 7, 9 and
-    /// 19; the action for 8 and 12 to 14; the number, or that of the input, for 10; the steps for 11; the number of levels for
+    /// The number of the input for 3; what the fault names for 4 and 6; the fault's place in bytes for 5; the line for 7, 9, 19
+    /// and 20; the action for 8, and the action or the order for 12 to 14; the number, or that of the input, for 10; the steps for 11; the number of levels for
     /// rule 1 of status 16, and the level for rule 2; the forward steps or the cost of the list for rule 4 of status 15.
     pub place: u64,
-    /// The second segment for rule 7 of status 4, the column for 7, 9 and 19, the level for rule 4 of status 8, the passed bound
+    /// The second segment for rule 7 of status 4, the column for 7, 9, 19 and 20, the level for rule 4 of status 8, the passed bound
     /// for 10, the room of the book for 11, the level for 12 and 13, the number of keepers for rule 1 of status 16, and of the
     /// keeper's slots for rule 2; the number that they differ from for rule 4 of status 15.
     pub more: u64,
-    /// The rule for 4 to 11, 15, 16 and 19.
+    /// The rule for 4 to 11, 15, 16, 19 and 20.
     pub rule: u16,
     /// The entry at which a certificate fails first, for rule 3 of status 15.
     pub entry: Entry,
@@ -310,6 +311,21 @@ impl From<AsmFault> for Ended {
     }
 }
 
+impl From<ScriptFault> for Ended {
+    ghost use Rattle.requests.specs.Ending.{bad_script};
+
+    ghost from_gives = { λ fault e. e ≡ bad_script fault };
+
+    fn from(fault: ScriptFault) -> Ended {
+        match fault {
+            ScriptFault::At { rule, line, column } => {
+                Ended::by(20, line as u64, column as u64, rule as u16)
+            }
+            ScriptFault::Memory => Ended::no_memory(),
+        }
+    }
+}
+
 /// Puts the text of an ending into a line, in place of what was there: nothing for status 0, and else `reversal: `, the
 /// status with its name, the place, the further number and the rule, the entry for rule 3 of status 15, and the two digests for
 /// status 13. It takes no memory.
@@ -418,6 +434,7 @@ fn name_of(status: u8) -> &'static [u8]
         16 => b"NoKeeper",
         17 => b"Memory",
         19 => b"Source",
+        20 => b"Script",
         _ => b"Done",
     }
 }

@@ -3,14 +3,14 @@ ghost use Rattle.std.specs.Prelude.{◌≡◌, ◌≢◌, ℕ, ◌+◌, ◌<◌,
 ghost use Rattle.std.specs.FinMap as finmap;
 ghost use Rattle.keepers.specs.Counts.{Rose};
 ghost use Rattle.keepers.specs.Told.{WhereTold};
-ghost use Rattle.requests.specs.Operands.{program_input, journal_input, book_input, schedule_input, certificate_input, source_input, words_input};
+ghost use Rattle.requests.specs.Operands.{program_input, journal_input, book_input, schedule_input, certificate_input, source_input, words_input, script_input};
 ghost use Rattle.requests.specs.Inputs.{inputs_of, names};
 ghost use Rattle.requests.specs.InputReading.{input_of, all, Reads, Stops};
-ghost use Rattle.requests.specs.Request.{run as run_command, run_revolve as run_revolve_command, find as find_command};
-ghost use Rattle.requests.specs.RequestReading.{as_run, as_run_revolve, as_find, as_command};
+ghost use Rattle.requests.specs.Request.{run as run_command, run_revolve as run_revolve_command, find as find_command, move_about as move_about_command};
+ghost use Rattle.requests.specs.RequestReading.{as_run, as_run_revolve, as_find, as_move_about, as_command};
 
 use crate::ended::Ended;
-use crate::request::{Command, Find, Run, RunRevolve};
+use crate::request::{Command, Find, MoveAbout, Run, RunRevolve};
 use keepers::{InputFault, Inputs, Whole};
 use std::alloc::Global;
 
@@ -28,6 +28,8 @@ const CERTIFICATE_LIMIT: u32 = 536_870_912;
 const SOURCE_LIMIT: u32 = 67_108_864;
 
 const WORDS_LIMIT: u32 = 4_194_304;
+
+const SCRIPT_LIMIT: u32 = 1_048_576;
 
 /// An input that is wanted: its name, and how many bytes it may have.
 #[derive(Clone, Copy, Debug)]
@@ -107,6 +109,15 @@ fn words_input(name: &[u8]) -> Input<'_>
     }
 }
 
+fn script_input(name: &[u8]) -> Input<'_>
+    ensures { input_of result ≡ script_input name.now }
+{
+    Input {
+        name,
+        limit: SCRIPT_LIMIT,
+    }
+}
+
 /// Reads the inputs of a command in the order of the words. One that can't be read, or is longer than its limit, is
 /// refused before the next is asked for.
 pub fn read_inputs<I: Inputs>(
@@ -149,6 +160,7 @@ pub fn read_inputs<I: Inputs>(
         Command::Disassemble(disassemble) => {
             read_all(alloc, &[words_input(disassemble.program)], inputs)
         }
+        Command::MoveAbout(about) => read_move_about_inputs(alloc, about, inputs),
         Command::Demo(_) => read_all(alloc, &[], inputs),
     }
 }
@@ -220,6 +232,32 @@ fn read_find_inputs<I: Inputs>(
     match find.journal {
         Some(name) => read_all(alloc, &[program, journal_input(name)], inputs),
         None => read_all(alloc, &[program], inputs),
+    }
+}
+
+// The same for a run that is moved about in.
+fn read_move_about_inputs<I: Inputs>(
+    alloc: Global,
+    about: &MoveAbout<'_>,
+    inputs: &mut I,
+) -> Result<Vec<Vec<u8>>, Ended>
+    ensures read { IfOk result (λ v. Reads (inputs_of (move_about_command (as_move_about about.now))) (I.told inputs.old) (I.asked inputs.old) (I.asked inputs.new)
+        (all (map (λ bytes. bytes.items) v.items))) }
+    ensures stops { IfErr result (λ e. Stops (inputs_of (move_about_command (as_move_about about.now))) (I.told inputs.old) e (I.asked inputs.old) (I.asked inputs.new)) }
+    ensures asked { (k : ℕ) × (I.asked inputs.new ≡ I.asked inputs.old ++ take k (names (inputs_of (move_about_command (as_move_about about.now))))) }
+    ensures quiet { IfOk result (λ _. I.fault_count inputs.new ≡ I.fault_count inputs.old) }
+    ensures cause { IfErr result (λ e. e.status ≡ 3 → Rose (I.fault_count inputs.old) (I.fault_count inputs.new)) }
+    ensures no_cause { IfErr result (λ e. e.status ≢ 3 → I.fault_count inputs.new ≡ I.fault_count inputs.old) }
+{
+    let program = program_input(about.program);
+    let book = book_input(about.book);
+    let script = script_input(about.script);
+    match about.journal {
+        Some(name) => {
+            let wanted = [program, journal_input(name), book, script];
+            read_all(alloc, &wanted, inputs)
+        }
+        None => read_all(alloc, &[program, book, script], inputs),
     }
 }
 

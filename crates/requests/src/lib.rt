@@ -26,7 +26,7 @@ pub use crate::options::Options;
 pub use crate::places::{KeepAt, keeper_places};
 pub use crate::question::Question;
 pub use crate::request::{
-    Ask, Assemble, Certify, Check, Command, Demo, Disassemble, Find, PlanFor, PlanPeriodic, Price,
-    Request, Run, RunRevolve, read_request,
+    Ask, Assemble, Certify, Check, Command, Demo, Disassemble, Find, MoveAbout, PlanFor,
+    PlanPeriodic, Price, Request, Run, RunRevolve, read_request,
 };
 pub use crate::words::Words;

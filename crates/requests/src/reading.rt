@@ -3,15 +3,15 @@ ghost use Rattle.std.specs.Prelude.{◌≡◌, map, codes};
 ghost use Rattle.requests.specs.Reading.{Gives};
 ghost use Rattle.requests.specs.Request.{kind_word};
 ghost use Rattle.requests.specs.declared.question.Question.TheVariants as about;
-ghost use Rattle.requests.specs.Forms.{numbered, addressed, run_form, run_revolve_form, plan_form, periodic_form, check_form, certify_form, price_form, ask_form, find_form, assemble_form, disassemble_form, demo_form, form_taken, command_of};
+ghost use Rattle.requests.specs.Forms.{numbered, addressed, run_form, run_revolve_form, plan_form, periodic_form, check_form, certify_form, price_form, ask_form, find_form, assemble_form, disassemble_form, move_about_form, demo_form, form_taken, command_of};
 ghost use Rattle.requests.specs.RequestReading.{as_command};
 
 use crate::kind::PlanKind;
 use crate::operands::Operands;
 use crate::question::Question;
 use crate::request::{
-    Ask, Assemble, Certify, Check, Command, Demo, Disassemble, Find, PlanFor, PlanPeriodic, Price,
-    Run, RunRevolve,
+    Ask, Assemble, Certify, Check, Command, Demo, Disassemble, Find, MoveAbout, PlanFor,
+    PlanPeriodic, Price, Run, RunRevolve,
 };
 
 /// The command that the words behind the options are.
@@ -34,6 +34,7 @@ pub fn read_command(words: &[Vec<u8>]) -> Option<Command<'_>>
         .or(read_find(words))
         .or(read_assemble(words))
         .or(read_disassemble(words))
+        .or(read_move_about(words))
         .or(read_demo(words))
 }
 
@@ -245,6 +246,25 @@ fn read_disassemble(words: &[Vec<u8>]) -> Option<Command<'_>>
     words.word(b"disasm");
     let program = words.name();
     words.finish(Command::Disassemble(Disassemble { program }))
+}
+
+fn read_move_about(words: &[Vec<u8>]) -> Option<Command<'_>>
+    ensures { Gives as_command result (form_taken move_about_form (map (λ w. w.items) words.now)) }
+{
+    let mut words = Operands::of(words);
+    words.word(b"console");
+    let program = words.name();
+    let journal = words.name_or_dash();
+    let book = words.name();
+    let script = words.name();
+    let steps = words.number();
+    words.finish(Command::MoveAbout(MoveAbout {
+        program,
+        journal,
+        book,
+        script,
+        steps,
+    }))
 }
 
 fn read_demo(words: &[Vec<u8>]) -> Option<Command<'_>>

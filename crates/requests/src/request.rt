@@ -54,6 +54,8 @@ pub enum Command<'a> {
     Assemble(Assemble<'a>),
     /// To write the line of each word of a raw program.
     Disassemble(Disassemble<'a>),
+    /// To move about in a run by the orders of a script.
+    MoveAbout(MoveAbout<'a>),
     /// To run a program that is made from a number.
     Demo(Demo),
 }
@@ -145,6 +147,16 @@ pub struct Assemble<'a> {
 #[derive(Clone, Copy, Debug)]
 pub struct Disassemble<'a> {
     pub program: &'a [u8],
+}
+
+/// To move about in a run of so many instructions by the orders of a script, with images at marks on the levels of a book.
+#[derive(Clone, Copy, Debug)]
+pub struct MoveAbout<'a> {
+    pub program: &'a [u8],
+    pub journal: Option<&'a [u8]>,
+    pub book: &'a [u8],
+    pub script: &'a [u8],
+    pub steps: u64,
 }
 
 /// To run a program that is made from a number backward by the list of Revolve, over so many steps, with so many slots of
@@ -367,6 +379,7 @@ impl Command<'_> {
             Command::Ask(ask) => question_refusal(unit, ask.run.steps, ask.question),
             Command::Find(find) => first_outside(&[steps_bound(find.steps)]),
             Command::Assemble(_) | Command::Disassemble(_) => None,
+            Command::MoveAbout(about) => first_outside(&[steps_bound(about.steps)]),
             Command::Demo(demo) => first_outside(&[
                 seed_bound(demo.number),
                 steps_bound(demo.steps),

@@ -22,7 +22,7 @@ use Rattle.schedule_rules.proofs.Judging.{take_one_more}
 use Rattle.reverse_queries.specs.Queries.{hands_out, front_to, up_to, IsLast}
 use Rattle.reverse_queries.specs.Performing.{calls_of_all, done_after, IsOut, FaultFits, RefusedIn}
 use Rattle.requests.specs.declared.ended.Ended.{Ended as Ending}
-use Rattle.requests.specs.Ending.{done, stopped}
+use Rattle.requests.specs.Ending.{done, stopped, keeper_failed, damaged}
 use Rattle.requests.proofs.Lists.{get_map}
 use Rattle.std.proofs.Math.Nat.{min-eq_left}
 use Rattle.reversal.specs.Job.{Run, last_of, state_of}
@@ -234,9 +234,10 @@ Refused Misses run list fault new a c = RefusedIn Misses list fault (fresh run) 
 
 -- a course that goes over the list of a run, and says nothing of the levels
 record IsAskedOver (run : Run) (course : Course) : Type 1 where
-  damage : (i k : ℕ) (put got : List ℕ) (a : Moment) → ComesToDamage run i k put got a → course.damage i k put got a
+  damage : (i k : ℕ) (put got : List ℕ) (a c : Moment) → ComesToDamage run i k put got a → course.damage i k put got a c
   wants : (d : Deed) → CallsSome d → course.may_want d
   holds : (Same : SameLevels) (shown : Shown) (i : ℕ) (a c : Moment) → course.holds Same shown i a c
+  place : (n : ℕ) → n ≡ course.storage_place n
   levels : (a : Moment) → AllTell course.levels a.images → AllTell (length run.slots) a.images
 
 module _ (run : Run) (course : Course) (over : IsAskedOver run course) (shown : Shown) (a c : Moment) (shows : course.shows shown a) where
@@ -247,13 +248,13 @@ module _ (run : Run) (course : Course) (over : IsAskedOver run course) (shown : 
   refused_by (Keeper k) i d broke Misses next held states same fits there through seen silent counts =
       let C : Calls → Type 0 = λ x. 0 < x.puts k + x.gets k + x.frees k in
       let fails : KeeperFails k a c = record { sink = counts.sink_quiet seen; keeper = counts.keeper k refl } in
-      inl (shown, (shows, inr (inr (inl (i, k, refl, failed_at course shown i d a c broke k (subst C (sym same) fits) (over.holds SparesNext shown i a c) fails)))))
+      inl (shown, (shows, inr (inr (inl (i, k, ap (λ (n : ℕ). keeper_failed n k) (over.place (i + 1)), failed_at course shown i d a c broke k (subst C (sym same) fits) (over.holds SparesNext shown i a c) fails)))))
   refused_by (Damaged k put got) i d broke Misses next held states same fits there through seen silent counts =
       let C : Calls → Type 0 = λ x. 0 < x.gets k in
       let comes : ComesToDamage run i k put got a = record { held = held; states = states; through = through; next = next; there = there; holds = fits } in
       let gets = subst C (sym same) (gets_pair (λ n. run.first) run.unit run.steps next fits.number k fits.pair) in
       let quiet : NothingFails a c = record { sink = counts.sink_quiet seen; keepers = counts.keepers_quiet (λ j e. cc) } in
-      inl (shown, (shows, inr (inr (inr (i, k, put, got, refl, damaged_at course shown i d a c broke k put got gets (over.damage i k put got a comes) (λ tells. silent k put got refl (over.levels a tells)) (over.holds AllLevels shown i a c) quiet)))))
+      inl (shown, (shows, inr (inr (inr (i, k, put, got, ap (λ (n : ℕ). damaged n k put got) (over.place (i + 1)), damaged_at course shown i d a c broke k put got gets (over.damage i k put got a c comes) (λ tells. silent k put got refl (over.levels a tells)) (over.holds AllLevels shown i a c) quiet)))))
   refused_by Visitor i d broke Misses next held states same fits there through seen silent counts = absurd (seen refl)
   refused_by Memory i d broke Misses next held states same fits there through seen silent counts =
       let C : Calls → Type 0 = λ x. (k : ℕ) × (0 < x.puts k + x.gets k + x.frees k) in
@@ -264,7 +265,7 @@ module _ (run : Run) (course : Course) (over : IsAskedOver run course) (shown : 
 -- ---- a state
 
 state_over : (place : ℕ) (run : Run) → IsAskedOver run (asking_state place run)
-state_over place run = record { damage = λ i k put got a h. h; wants = λ d h. h; holds = λ Same shown i a c. tt; levels = λ a h. h }
+state_over place run = record { damage = λ i k put got a c h. h; wants = λ d h. h; holds = λ Same shown i a c. tt; place = λ n. refl; levels = λ a h. h }
 
 module _ (run : Run) (place : ℕ) where
   abbrev front : List Action
@@ -272,7 +273,7 @@ module _ (run : Run) (place : ℕ) where
 
   -- what is shown where its state is this one
   abbrev with_state : MachineState → Shown
-  with_state s = record { states = settled (state_of run) place s; answer = None }
+  with_state s = record { states = settled (state_of run) place s; answer = None; orders = [] }
 
   -- over keepers that tell it is that of the run
   with_state_shown : (s : MachineState) (a : Moment) → (AllTell (length run.slots) a.images → s ≡ state_of run place) → AreOfRun run (with_state s).states a
@@ -286,7 +287,7 @@ module _ (run : Run) (place : ℕ) where
   state_refused : (Misses : Action → Holdings → Type 0) (fault : RunFault) (new : SessionState) (a c : Moment) (refused : Refused Misses run front fault new a c) → c.told ≡ a.told → c.writes ≡ a.writes → fault ≢ Visitor →
       ((k : ℕ) (put got : List ℕ) → fault ≡ Damaged k put got → AllTell (length run.slots) a.images → ⊥) → FaultCounts fault a c → WorksBy (asking_state place run) (fault_ending (refused.place + 1) fault) a c
   state_refused Misses fault new a c refused told wrote seen silent counts =
-      let shown : Shown = record { states = state_of run; answer = None } in
+      let shown : Shown = record { states = state_of run; answer = None; orders = [] } in
       let f = deed_for shown.states run.unit run.steps place in
       let quiet = hands_first run.unit run.steps place refused.place run.list refused.within f (place_silent shown.states run.unit run.steps place) in
       let broke = broken_at run.unit f (place_deeds shown.states run.unit run.steps place) front [] refused.place refused.next a c refused.there quiet.0 quiet.1 told wrote refused.counted refused.called in
@@ -379,11 +380,11 @@ module _ (run : Run) (place : ℕ) where
 -- ---- the last step that does something
 
 last_over : (Holds : States → ℕ → Type 0) (run : Run) → IsAskedOver run (asking_last Holds run)
-last_over Holds run = record { damage = λ i k put got a h. h; wants = λ d h. h; holds = λ Same shown i a c. tt; levels = λ a h. h }
+last_over Holds run = record { damage = λ i k put got a c h. h; wants = λ d h. h; holds = λ Same shown i a c. tt; place = λ n. refl; levels = λ a h. h }
 
 module _ (run : Run) (Holds : States → ℕ → Type 0) where
   abbrev with_answer : Option ℕ → Shown
-  with_answer answer = record { states = state_of run; answer = answer }
+  with_answer answer = record { states = state_of run; answer = answer; orders = [] }
 
   -- its list was refused, of which nothing had been done before
   pub last_refused : (fault : RunFault) (new : SessionState) (e : Ending) (a c : Moment) → length run.list ≤ 16777216 → Refused (λ action held. ⊥) run run.list fault new a c → e ≡ fault_ending (new.done + 1) fault →

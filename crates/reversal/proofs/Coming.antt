@@ -1,5 +1,5 @@
 -- A request comes to a decision: no table has a hole.
-use Rattle.std.proofs.Common.{◌*◌, ◌/◌, ◌%◌, ◌≡◌, ◌⊎◌, inl, inr, ℕ, zero, suc, ◌+◌, ◌<◌, ◌≤◌, ◌++◌, Bool, true, false, List, [], ◌∷◌, length, map, Option, None, Some, slice_get, slice_index_or, refl, subst, arith}
+use Rattle.std.proofs.Common.{◌*◌, ◌/◌, ◌%◌, ◌≡◌, ◌⊎◌, inl, inr, ℕ, zero, suc, ◌+◌, ◌<◌, ◌≤◌, ◌++◌, max, Bool, true, false, List, [], ◌∷◌, length, map, Option, None, Some, slice_get, slice_index_or, refl, subst, arith}
 use Rattle.std.specs.Prelude.{codes, decimal}
 use Rattle.std.specs.List.{AllByRecursion, flat_map}
 use Rattle.std.proofs.lemmas.Bool.{cases_lt, cases_eq}
@@ -50,21 +50,25 @@ use Rattle.cert_text.proofs.TextLaws.{certificate_or_fault}
 use Rattle.bound_cert.specs.Accepted.{class_of}
 use Rattle.bound_cert.proofs.Deciding.{accepted_or_refused, threshold_exists}
 use Rattle.requests.specs.declared.ended.Ended.{Ended}
-use Rattle.requests.specs.Ending.{few_keepers, small_keeper, unreadable, too_long, bad_program, bad_journal, bad_book, bad_text, invalid, bad_certificate, bad_source, out_of_range, no_plan, not_least}
+use Rattle.requests.specs.Ending.{few_keepers, small_keeper, unreadable, too_long, bad_program, bad_journal, bad_book, bad_text, invalid, bad_certificate, bad_source, bad_script, out_of_range, no_plan, not_least}
 use Rattle.requests.specs.declared.bounds.Bounded.{Bounded}
 use Rattle.requests.specs.declared.kind.PlanKind.{PlanKind}
 use Rattle.requests.specs.declared.kind.PlanKind.TheVariants.{Revolve, Multistage, Disk, Hrevolve}
-use Rattle.requests.specs.Request.{Choice, Run, RunRevolve, Find, Command, run, run_revolve, plan, plan_periodic, check, certify, price, ask, find, assemble, disassemble, demo, worker_count, plan_limit, says_raw, stack_pages, unit_count}
-use Rattle.requests.specs.Operands.{within, journal_inputs, journal_input, program_input, book_input, schedule_input, certificate_input, source_input, words_input, question_bound}
+use Rattle.requests.specs.Request.{Choice, Run, RunRevolve, Find, MoveAbout, Command, run, run_revolve, plan, plan_periodic, check, certify, price, ask, find, assemble, disassemble, move_about as move_about_command, demo, worker_count, plan_limit, says_raw, stack_pages, unit_count}
+use Rattle.requests.specs.Operands.{within, journal_inputs, journal_input, program_input, book_input, schedule_input, certificate_input, source_input, words_input, script_input, question_bound}
 use Rattle.requests.specs.Bounds.{option_numbers, command_numbers, IsWithin}
 use Rattle.requests.specs.Inputs.{Input, inputs_of}
 use Rattle.reversal.specs.Plans.{list_pieces, plan_pieces}
 use Rattle.reversal.specs.Pricing.{list_report}
-use Rattle.reversal.specs.Job.{Run as ARun, Job, write, perform, ask as ask_job, seek, demonstrate}
+use Rattle.reversal.specs.Job.{Run as ARun, Job, write, move_about, perform, ask as ask_job, seek, demonstrate}
 use Rattle.reversal.specs.Contents.{AreBytes, IsContent, DecisionsExist}
 use Rattle.reversal.specs.Table.{Decision, refuse, accept, Need, Read, Judge, Keep, Plan, Tabulate, Weigh, Decided}
 use Rattle.reversal.specs.Decision.{Take, DecidesBytes}
 use Rattle.reversal.specs.Fronts.{HasBookFault, IsStartOf, HasProgramFault, AreItemsOf, HasJournalFault, DecidesOver, DecidesOverBytes, in_units}
+use Rattle.reverse_console.specs.Script.{IsScript}
+use Rattle.reverse_console.specs.ScriptFaults.{HasFirstFault as ScriptFirst}
+use Rattle.reverse_console.proofs.ScriptWhole.{script_or_fault}
+use Rattle.reversal.specs.CommandConsole.{DecidesConsole}
 use Rattle.reversal.specs.CommandFind.{find_table}
 use Rattle.reversal.specs.CommandAssemble.{word_bytes, listing, DecidesAssemble, DecidesDisassemble}
 use Rattle.reversal.specs.Listing.{word_line}
@@ -233,6 +237,19 @@ pub find_comes : (options : List Choice) (steps : ℕ) (digest program : List �
 find_comes options steps digest program journal content =
     read_comes (IsStartOf (says_raw options) (stack_pages options) program) (HasProgramFault (says_raw options) (stack_pages options) program) bad_program _ (start_or_its_fault (says_raw options) (stack_pages options) program) (λ start is_start.
     read_comes (AreItemsOf journal) (HasJournalFault journal) bad_journal _ (items_or_fault journal content) (λ items are_items. (accept (seek start items steps (worker_count options) digest), refl)))
+
+pub console_comes : (options : List Choice) (steps : ℕ) (program : List ℕ) (journal : Option (List ℕ)) (book script counts : List ℕ) → IsContent journal → AreBytes book →
+    SomeDecision (DecidesConsole options steps program journal book script counts)
+console_comes options steps program journal book script counts content are =
+    let raw = says_raw options in
+    let stack = stack_pages options in
+    book_comes book _ (λ b is_book.
+    keep_comes (max steps 1) (slots_of b) counts _ (
+    need_comes (1 ≤ total_room b (max steps 1)) (no_plan steps (total_room b steps) 1) _ (at_most 1 (total_room b (max steps 1))) (λ slots.
+    read_comes (IsStartOf raw stack program) (HasProgramFault raw stack program) bad_program _ (start_or_its_fault raw stack program) (λ start is_start.
+    read_comes (AreItemsOf journal) (HasJournalFault journal) bad_journal _ (items_or_fault journal content) (λ items are_items.
+    read_comes (IsScript steps script) (ScriptFirst steps script) bad_script _ (script_or_fault steps script) (λ orders give.
+    (accept (move_about start items (record { slots = slots_of b; count = steps }) orders), refl)))))))
 
 pub assemble_comes : (source : List ℕ) → SomeDecision (DecidesAssemble source)
 assemble_comes source = read_comes (Means source) (HasFault source) bad_source _ (meaning_or_fault source) (λ words means. (accept (write (word_bytes words ∷ [])), refl))
@@ -433,6 +450,29 @@ find_given options c slots (Some journal) given contents = take_comes 1 (program
     of_two (p ∷ j ∷ []) e are = find_comes options c.steps c.digest p (Some j) are.1.0
     of_two (p ∷ j ∷ x ∷ rest) e are = absurd (omega (arith, e))
 
+abbrev console_inputs : Option (List ℕ) → MoveAbout → List Input
+console_inputs journal c = program_input c.program ∷ (journal_inputs journal ++ book_input c.book ∷ script_input c.script ∷ [])
+
+console_given : (options : List Choice) (c : MoveAbout) (slots : List ℕ) (journal : Option (List ℕ)) (given : List (Option (List ℕ))) → AllByRecursion IsContent given →
+    SomeDecision (λ d. Take 1 (console_inputs journal c) given d (λ bytes. DecidesBytes options (move_about_command c) bytes slots d))
+console_given options c slots None given contents = take_comes 1 (console_inputs None c) given (λ bytes d. DecidesBytes options (move_about_command c) bytes slots d) contents of_three
+  where
+    of_three : (bytes : List (List ℕ)) → length bytes ≡ 3 → AllByRecursion AreBytes bytes → SomeDecision (DecidesBytes options (move_about_command c) bytes slots)
+    of_three [] e are = absurd (omega (arith, e))
+    of_three (p ∷ []) e are = absurd (omega (arith, e))
+    of_three (p ∷ b ∷ []) e are = absurd (omega (arith, e))
+    of_three (p ∷ b ∷ s ∷ []) e are = console_comes options c.steps p None b s slots tt are.1.0
+    of_three (p ∷ b ∷ s ∷ x ∷ rest) e are = absurd (omega (arith, e))
+console_given options c slots (Some journal) given contents = take_comes 1 (console_inputs (Some journal) c) given (λ bytes d. DecidesBytes options (move_about_command c) bytes slots d) contents of_four
+  where
+    of_four : (bytes : List (List ℕ)) → length bytes ≡ 4 → AllByRecursion AreBytes bytes → SomeDecision (DecidesBytes options (move_about_command c) bytes slots)
+    of_four [] e are = absurd (omega (arith, e))
+    of_four (p ∷ []) e are = absurd (omega (arith, e))
+    of_four (p ∷ j ∷ []) e are = absurd (omega (arith, e))
+    of_four (p ∷ j ∷ b ∷ []) e are = absurd (omega (arith, e))
+    of_four (p ∷ j ∷ b ∷ s ∷ []) e are = console_comes options c.steps p (Some j) b s slots are.1.0 are.1.1.0
+    of_four (p ∷ j ∷ b ∷ s ∷ x ∷ rest) e are = absurd (omega (arith, e))
+
 -- a command of one, two or three inputs
 one_given : (Table : List (List ℕ) → Decision → Type 0) (a : Input) (given : List (Option (List ℕ))) → AllByRecursion IsContent given → ((x : List ℕ) → AreBytes x → SomeDecision (Table (x ∷ []))) →
     SomeDecision (λ d. Take 1 (a ∷ []) given d (λ bytes. Table bytes d))
@@ -488,6 +528,7 @@ command_comes options (assemble c) given slots within contents =
     one_given (λ bytes d. DecidesBytes options (assemble c) bytes slots d) (source_input c.source) given contents (λ source are. assemble_comes source)
 command_comes options (disassemble c) given slots within contents =
     one_given (λ bytes d. DecidesBytes options (disassemble c) bytes slots d) (words_input c.program) given contents (λ program are. disassemble_comes program are)
+command_comes options (move_about_command c) given slots within contents = console_given options c slots c.journal given contents
 command_comes options (demo c) given slots within contents = demo_comes c.number c.steps c.slots
 
 -- the numbers of a command are among those of its request

@@ -5,8 +5,8 @@ use Rattle.level_book.specs.BookCosts.{BookCosts, slots_of, names_of, room}
 use Rattle.level_book.specs.BookFaults.{IsBookText}
 use Rattle.level_book.specs.Valid.{Valid}
 use Rattle.action_text.specs.ScheduleText.{IsSchedule}
-use Rattle.requests.specs.Request.{Choice, says_raw, stack_pages, unit_count, Command, run, run_revolve, plan, plan_periodic, check, certify, price, ask, find, assemble, disassemble, demo, worker_count}
-use Rattle.requests.specs.Ending.{bad_program, bad_journal, bad_book, bad_text, bad_certificate, bad_source, no_plan}
+use Rattle.requests.specs.Request.{Choice, says_raw, stack_pages, unit_count, Command, run, run_revolve, plan, plan_periodic, check, certify, price, ask, find, assemble, disassemble, move_about, demo, worker_count}
+use Rattle.requests.specs.Ending.{bad_program, bad_journal, bad_book, bad_text, bad_certificate, bad_source, bad_script, no_plan}
 use Rattle.revolve_gen.specs.Written.{revolve_list}
 use Rattle.revolve_gen.proofs.Books.{book_right}
 use Rattle.multistage_gen.proofs.Unique.{plans_unique}
@@ -26,7 +26,7 @@ use Rattle.reversal.specs.Job.{Run, Job, perform, ask as ask_job, write, demonst
 use Rattle.reversal.specs.Table.{accept}
 use Rattle.reversal.specs.Fronts.{HasBookFault, IsStartOf, HasProgramFault, AreItemsOf, HasJournalFault, over_run, no_table, over_bytes, in_units}
 use Rattle.reversal.specs.Decision.{table_of}
-use Rattle.reversal.proofs.Refused.{book_one, book_fault_one, book_excludes, start_one, program_fault_one, start_excludes, items_one, journal_fault_one, items_exclude, list_one, text_fault_one, list_excludes, IsRefusing, refusing_at, program_refuses, journal_refuses, book_refuses, text_refuses, program_fault_is_other, journal_fault_is_other, text_fault_is_other, certificate_one, certificate_fault_one, certificate_excludes, certificate_refuses, certificate_fault_is_other, source_one, source_fault_one, source_excludes, source_refuses, source_fault_is_other}
+use Rattle.reversal.proofs.Refused.{book_one, book_fault_one, book_excludes, start_one, program_fault_one, start_excludes, items_one, journal_fault_one, items_exclude, list_one, text_fault_one, list_excludes, IsRefusing, refusing_at, program_refuses, journal_refuses, book_refuses, text_refuses, program_fault_is_other, journal_fault_is_other, text_fault_is_other, certificate_one, certificate_fault_one, certificate_excludes, certificate_refuses, certificate_fault_is_other, source_one, source_fault_one, source_excludes, source_refuses, source_fault_is_other, script_one, script_fault_one, script_excludes, script_refuses, script_fault_is_other}
 use Rattle.cert_text.specs.Meaning.{IsCertificateText}
 use Rattle.cert_text.specs.Faults.{HasFirstFault as CertificateFirst}
 use Rattle.reversal.proofs.LeastTables.{nested_same, disk_same}
@@ -36,6 +36,9 @@ use Rattle.rv_asm.specs.Source.{Means, HasFault}
 use Rattle.rv_asm.specs.Laws.{AreCanonical}
 use Rattle.reversal.specs.CommandAssemble.{listing, assemble_table, disassemble_table}
 use Rattle.reversal.proofs.WordLists.{one_words, one_lines, canonical_small}
+use Rattle.reverse_console.specs.Script.{IsScript}
+use Rattle.reverse_console.specs.ScriptFaults.{HasFirstFault as ScriptFirst}
+use Rattle.reversal.specs.CommandConsole.{console_table}
 use Rattle.reversal.specs.CommandFind.{find_table}
 use Rattle.reversal.specs.CommandRun.{run_revolve_table}
 use Rattle.reversal.specs.CommandPlan.{plan_revolve_table, plan_multistage_table, plan_disk_table, plan_hrevolve_table, plan_table, plan_periodic_table}
@@ -43,7 +46,7 @@ use Rattle.reversal.specs.CommandCheck.{check_table}
 use Rattle.reversal.specs.CommandCost.{price_table}
 use Rattle.reversal.specs.CommandCertify.{certify_table}
 use Rattle.reversal.specs.CommandDemo.{demo_table}
-use Rattle.reversal.proofs.Tables.{IsMet, asks, performs, seeks, writes, shows, IsRead, IsLast, IsSound}
+use Rattle.reversal.proofs.Tables.{IsMet, asks, performs, seeks, writes, moves, shows, IsRead, IsLast, IsSound}
 use Rattle.requests.specs.Bounds.{IsWithin}
 use Rattle.requests.specs.Operands.{question_bound}
 
@@ -90,6 +93,14 @@ source_read text = record {
   fault = source_fault_one text;
   excludes = source_excludes text;
   refuses = λ f h. source_refuses f (source_fault_is_other text f h);
+}
+
+script_read : (steps : ℕ) (text : List ℕ) → IsRead (IsScript steps text) (ScriptFirst steps text) bad_script
+script_read steps text = record {
+  one = script_one steps text;
+  fault = script_fault_one steps text;
+  excludes = script_excludes steps text;
+  refuses = λ f h. script_refuses f (script_fault_is_other steps text f h);
 }
 
 -- this job is to be done
@@ -247,6 +258,24 @@ disassemble_sound program = (
   },
 )
 
+console_sound : (options : List Choice) (steps : ℕ) (program : List ℕ) (journal : Option (List ℕ)) (book script counts : List ℕ) → IsSound (console_table options steps program journal book script counts)
+console_sound options steps program journal book script counts = (
+  book_read book,
+  λ b is. (
+    unplanned _ _ _,
+    λ slots. (
+      program_read (says_raw options) (stack_pages options) program,
+      λ start is_start. (
+        journal_read journal,
+        λ items are_items. (
+          script_read steps script,
+          λ orders are. done_last _ (moves start items (record { slots = slots_of b; count = steps }) orders refl),
+        ),
+      ),
+    ),
+  ),
+)
+
 none_sound : IsSound no_table
 none_sound = record { one = λ c d x y. absurd x; job = λ d x. absurd x }
 
@@ -281,5 +310,8 @@ tables_sound options (assemble r) (source ∷ []) slots = assemble_sound source
 tables_sound options (assemble r) other slots = none_sound
 tables_sound options (disassemble r) (program ∷ []) slots = disassemble_sound program
 tables_sound options (disassemble r) other slots = none_sound
+tables_sound options (move_about r) (program ∷ book ∷ script ∷ []) slots = console_sound options r.steps program None book script slots
+tables_sound options (move_about r) (program ∷ journal ∷ book ∷ script ∷ []) slots = console_sound options r.steps program (Some journal) book script slots
+tables_sound options (move_about r) other slots = none_sound
 tables_sound options (demo r) [] slots = demo_sound r.number r.steps r.slots
 tables_sound options (demo r) other slots = none_sound

@@ -1,9 +1,9 @@
 -- What a request comes to: one decision, and of a list that is performed that it is valid.
-use Rattle.std.proofs.Common.{◌≡◌, ◌⊎◌, inl, inr, ℕ, ◌+◌, ◌<◌, ◌≤◌, ◌++◌, Bool, true, false, cond, nat_le, List, [], ◌∷◌, length, map, append-nil, Option, None, Some, slice_get, Result, Ok, Err, IsErrAnd, IfErr, refl, sym, ◌∙◌, ap, subst, arith}
+use Rattle.std.proofs.Common.{◌≡◌, ◌⊎◌, inl, inr, ℕ, ◌+◌, ◌<◌, ◌≤◌, ◌++◌, max, Bool, true, false, cond, nat_le, List, [], ◌∷◌, length, map, append-nil, Option, None, Some, slice_get, Result, Ok, Err, IsErrAnd, IfErr, refl, sym, ◌∙◌, ap, subst, arith}
 use Rattle.std.specs.Prelude.{codes, decimal}
 use Rattle.std.proofs.lemmas.Bool.{leb-true, leb-false}
 use Rattle.std.proofs.lemmas.List.Folds.{fold-map}
-use Rattle.std.proofs.lemmas.List.Sums.{sum_by-append}
+use Rattle.std.proofs.lemmas.List.Sums.{sum_by-append, sum_by-cons}
 use Rattle.plan_types.specs.declared.action.Action.{Action}
 use Rattle.level_book.specs.declared.book.Slots.{Slots}
 use Rattle.level_book.specs.BookCosts.{BookCosts, slots_of, names_of, room, total_room}
@@ -14,7 +14,7 @@ use Rattle.rv_machine.specs.MachineState.{MachineState}
 use Rattle.reverse_runner.specs.KeepersSeen.{HaveRoom}
 use Rattle.requests.specs.declared.ended.Ended.{Ended}
 use Rattle.requests.specs.Request.{Choice, says_raw, stack_pages, unit_count, Command, Request}
-use Rattle.requests.specs.Ending.{no_memory, unreadable, too_long as longer, bad_program, bad_journal, bad_book, bad_text, invalid, bad_certificate, out_of_range, no_plan}
+use Rattle.requests.specs.Ending.{no_memory, unreadable, too_long as longer, bad_program, bad_journal, bad_book, bad_text, invalid, bad_certificate, bad_script, out_of_range, no_plan}
 use Rattle.revolve_gen.specs.Plans.{HasPlan}
 use Rattle.revolve_gen.specs.Written.{revolve_list}
 use Rattle.requests.specs.Inputs.{Input, inputs_of}
@@ -39,12 +39,16 @@ use Rattle.reversal.specs.Pricing.{list_report}
 use Rattle.level_book.specs.declared.book.Slots.TheVariants.{Unlimited}
 use Rattle.level_book.specs.DiskUnderTable.{IsGreatestDisk}
 use Rattle.disk_gen.specs.DiskWritten.{IsDiskWritten}
-use Rattle.reversal.specs.Job.{Run, Job, perform, ask as ask_job, seek, write, demonstrate}
+use Rattle.reversal.specs.Job.{Run, Job, perform, ask as ask_job, seek, write, move_about, demonstrate}
 use Rattle.reversal.specs.Course.{Shown}
 use Rattle.reversal.specs.Deeds.{silent_deed, writing, Deed, bytes_of, bytes_written, steps_made}
 use Rattle.reversal.specs.Table.{Decision, refuse, accept, Need, Read, Judge, Keep, Plan, IsFirstWide, Tabulate}
 use Rattle.reversal.specs.Decision.{Take, DecidesBytes, Decides, table_of, course_of}
 use Rattle.reversal.specs.CommandAsk.{answer_text}
+use Rattle.reversal.specs.CommandConsole.{setting_marks, DecidesConsole}
+use Rattle.reverse_console.specs.declared.order.Order.{Order}
+use Rattle.reverse_console.specs.Script.{IsScript}
+use Rattle.reverse_console.specs.ScriptFaults.{HasFirstFault as ScriptFirst}
 use Rattle.reversal.specs.CommandRun.{DecidesRunRevolve}
 use Rattle.reversal.specs.CommandPlan.{DecidesPlanRevolve, DecidesPlanMultistage, DecidesPlanDisk, DecidesPlanHrevolve, DecidesPlanPeriodic}
 use Rattle.reversal.specs.Fronts.{HasBookFault, IsStartOf, HasProgramFault, AreItemsOf, HasJournalFault, DecidesOver, in_units}
@@ -65,7 +69,7 @@ use Rattle.reversal.proofs.Weighing.{weigh_met, weigh_refuses}
 use Rattle.reversal.proofs.Keeping.{keep_refuses, keep_accepts, keep_passes}
 use Rattle.action_text.specs.Faults.{HasFirstFault}
 use Rattle.reversal.proofs.Answered.{bytes_asked, steps_asked}
-use Rattle.reversal.proofs.Tables.{IsMet, asks, performs, seeks, writes, shows, one_decided, comes_to}
+use Rattle.reversal.proofs.Tables.{IsMet, asks, performs, seeks, writes, moves, shows, one_decided, comes_to}
 use Rattle.reversal.proofs.Commanding.{tables_sound}
 use Rattle.reversal.proofs.Performing.{bytes_performed, steps_performed}
 
@@ -194,6 +198,7 @@ met_output job (performs run valid is) shown = subst (WritesOutput shown) (sym i
 met_output job (asks question run within valid is) shown = subst (WritesOutput shown) (sym is) (bytes_asked shown question run within valid)
 met_output job (seeks first journal steps workers digest is) shown = subst (WritesOutput shown) (sym is) (seek_output (answer_text shown.answer))
 met_output job (writes texts is) shown = subst (WritesOutput shown) (sym is) (append-nil (bytes_of texts))
+met_output job (moves first journal p orders is) shown = subst (WritesOutput shown) (sym is) refl
 met_output job (shows number first steps slots is) shown =
     let text = demonstration.summary number first steps slots in
     subst (WritesOutput shown) (sym is) (silent_bytes (demonstration.demo_list steps slots) (writing (text ∷ []) ∷ []) ∙ append-nil (text ++ []) ∙ append-nil text)
@@ -209,6 +214,7 @@ deeds_steps shown (perform run) = steps_performed shown.states run.unit run.step
 deeds_steps shown (ask_job question run) = steps_asked shown question run
 deeds_steps shown (seek first journal steps workers digest) = omega arith
 deeds_steps shown (write texts) = refl
+deeds_steps shown (move_about first journal p orders) = sum_by-cons (λ (d : Deed). d.steps) (setting_marks p) shown.orders
 deeds_steps shown (demonstrate number first steps slots) =
     sum_by-append (λ (d : Deed). d.steps) (map silent_deed (demonstration.demo_list steps slots)) (writing (demonstration.summary number first steps slots ∷ []) ∷ [])
     ∙ omega (arith, silent_steps (demonstration.demo_list steps slots))
@@ -410,6 +416,62 @@ pub revolve_accepted : (options : List Choice) (steps : ℕ) (program : List ℕ
     IsStartOf (says_raw options) (stack_pages options) program start → AreItemsOf journal items → DecidesRunRevolve options steps program journal book counts (accept (perform (in_units (unit_count options) start items steps (slots_of b) (revolve_list steps b))))
 revolve_accepted options steps program journal book counts b start items is_book room has is_start are_items =
     inr (b, is_book, keep_accepts steps (slots_of b) counts _ _ room (inr (has, inr (start, is_start, inr (items, are_items, refl)))))
+
+-- ---- the lines of a run that is moved about in
+
+module _ (options : List Choice) (steps : ℕ) (program : List ℕ) (journal : Option (List ℕ)) (book script counts : List ℕ) where
+  abbrev Refuses : Ended → Type 0
+  Refuses e = (e ≡ no_memory) ⊎ DecidesConsole options steps program journal book script counts (refuse e)
+
+  pub console_by_book : (e : Ended) → IsRefusal (HasBookFault book) bad_book e → Refuses e
+  console_by_book e h = read_refuses (IsBookText book) (HasBookFault book) bad_book e _ h
+
+  module _ (e : Ended) (b : BookCosts) (is_book : IsBookText book b) where
+    pub console_by_keepers : Keep (max steps 1) (slots_of b) counts (refuse e) ⊥ → Refuses e
+    console_by_keepers h = inr (inr (b, is_book, keep_refuses (max steps 1) (slots_of b) counts (refuse e) _ h))
+
+    module _ (room : HaveRoom (max steps 1) (slots_of b) counts) where
+      pub console_by_slots : (1 ≤ total_room b (max steps 1) → ⊥) → e ≡ no_plan steps (total_room b steps) 1 → Refuses e
+      console_by_slots none is =
+          read_passes (IsBookText book) (HasBookFault book) bad_book e _ b is_book
+          (keep_passes (max steps 1) (slots_of b) counts e _ room
+          (inr (inl (none, refuse_by e (no_plan steps (total_room b steps) 1) is))))
+
+      module _ (slots : 1 ≤ total_room b (max steps 1)) where
+        -- by what stands behind the slots
+        behind_slots : (Below : Type 0) → (e ≡ no_memory) ⊎ Below → (e ≡ no_memory) ⊎ Need (1 ≤ total_room b (max steps 1)) (no_plan steps (total_room b steps) 1) (refuse e) Below
+        behind_slots Below h = elim h [ inl memory ↦ inl memory | inr below ↦ inr (inr (slots, below)) ]
+
+        pub console_by_program : IsRefusal (HasProgramFault (says_raw options) (stack_pages options) program) bad_program e → Refuses e
+        console_by_program h =
+            read_passes (IsBookText book) (HasBookFault book) bad_book e _ b is_book
+            (keep_passes (max steps 1) (slots_of b) counts e _ room
+            (behind_slots _
+            (read_refuses (IsStartOf (says_raw options) (stack_pages options) program) (HasProgramFault (says_raw options) (stack_pages options) program) bad_program e _ h)))
+
+        module _ (start : MachineState) (is_start : IsStartOf (says_raw options) (stack_pages options) program start) where
+          pub console_by_journal : IsRefusal (HasJournalFault journal) bad_journal e → Refuses e
+          console_by_journal h =
+              read_passes (IsBookText book) (HasBookFault book) bad_book e _ b is_book
+              (keep_passes (max steps 1) (slots_of b) counts e _ room
+              (behind_slots _
+              (read_passes (IsStartOf (says_raw options) (stack_pages options) program) (HasProgramFault (says_raw options) (stack_pages options) program) bad_program e _ start is_start
+              (read_refuses (AreItemsOf journal) (HasJournalFault journal) bad_journal e _ h))))
+
+          pub console_by_script : (items : List (List ℕ)) → AreItemsOf journal items → IsRefusal (ScriptFirst steps script) bad_script e → Refuses e
+          console_by_script items are_items h =
+              read_passes (IsBookText book) (HasBookFault book) bad_book e _ b is_book
+              (keep_passes (max steps 1) (slots_of b) counts e _ room
+              (behind_slots _
+              (read_passes (IsStartOf (says_raw options) (stack_pages options) program) (HasProgramFault (says_raw options) (stack_pages options) program) bad_program e _ start is_start
+              (read_passes (AreItemsOf journal) (HasJournalFault journal) bad_journal e _ items are_items
+              (read_refuses (IsScript steps script) (ScriptFirst steps script) bad_script e _ h)))))
+
+  pub console_accepted : (b : BookCosts) (start : MachineState) (items : List (List ℕ)) (orders : List Order) → IsBookText book b → HaveRoom (max steps 1) (slots_of b) counts → 1 ≤ total_room b (max steps 1) →
+      IsStartOf (says_raw options) (stack_pages options) program start → AreItemsOf journal items → IsScript steps script orders →
+      DecidesConsole options steps program journal book script counts (accept (move_about start items (record { slots = slots_of b; count = steps }) orders))
+  console_accepted b start items orders is_book room slots is_start are_items give =
+      inr (b, is_book, keep_accepts (max steps 1) (slots_of b) counts _ _ room (inr (slots, inr (start, is_start, inr (items, are_items, inr (orders, give, refl))))))
 
 pub plan_by_book : (steps : ℕ) (book : List ℕ) (e : Ended) → IsRefusal (HasBookFault book) bad_book e → (e ≡ no_memory) ⊎ DecidesPlanRevolve steps book (refuse e)
 plan_by_book steps book e h = read_refuses (IsBookText book) (HasBookFault book) bad_book e _ h

@@ -153,10 +153,10 @@ one_more f ds i d at =
     let two = sum_by-append f (take i ds) (d ∷ []) in
     omega (arith, whole, two)
 
--- the deeds before one were done, and that one not, but that it made some of its calls
-pub broke_off : (ds : List Deed) (i : ℕ) (d : Deed) (a b c : Moment) → slice_get ds i ≡ Some d → Did (take i ds) a b → c.told ≡ b.told → c.writes ≡ b.writes → c.steps ≡ b.steps →
+-- the deeds before one were done, and that one not, but that it made some of its calls, and took no more steps than it may
+pub broke_off_spending : (ds : List Deed) (i : ℕ) (d : Deed) (a b c : Moment) → slice_get ds i ≡ Some d → Did (take i ds) a b → c.told ≡ b.told → c.writes ≡ b.writes → b.steps ≤ c.steps → c.steps ≤ b.steps + d.spent →
     CalledAtMost d.calls b.calls c.calls → (breaks : BreaksOff ds i a c) × (breaks.next ≡ d)
-broke_off ds i d a b c at before told writes steps called =
+broke_off_spending ds i d a b c at before told writes least spent called =
     let P : Option (List ℕ) → Type 0 = λ o. Tells a.told o (Adds (bytes_written (take i ds))) in
     let most = λ (f : Deed → ℕ). one_more f ds i d at in (
       record {
@@ -164,8 +164,8 @@ broke_off ds i d a b c at before told writes steps called =
         there = at;
         added = subst P (sym told) before.added;
         wrote = writes ∙ before.wrote;
-        steps_least = let same = steps ∙ before.counted in omega (arith, same);
-        steps_most = let same = steps ∙ before.counted in omega (arith, same);
+        steps_least = omega (arith, before.counted, least);
+        steps_most = omega (arith, before.counted, spent);
         called = record {
           put_calls = λ k. (
             low_part (a.calls.puts k) (b.calls.puts k) (c.calls.puts k) ((calls_made (take i ds)).puts k) (before.called.put_calls k) (called.put_calls k).0,
@@ -187,6 +187,11 @@ broke_off ds i d a b c at before told writes steps called =
       refl,
     )
 
+-- and took none
+pub broke_off : (ds : List Deed) (i : ℕ) (d : Deed) (a b c : Moment) → slice_get ds i ≡ Some d → Did (take i ds) a b → c.told ≡ b.told → c.writes ≡ b.writes → c.steps ≡ b.steps →
+    CalledAtMost d.calls b.calls c.calls → (breaks : BreaksOff ds i a c) × (breaks.next ≡ d)
+broke_off ds i d a b c at before told writes steps called = broke_off_spending ds i d a b c at before told writes (omega (arith, steps)) (omega (arith, steps)) called
+
 -- ---- how a course ends in a deed that broke off
 
 module _ (course : Course) (shown : Shown) (i : ℕ) (d : Deed) (a c : Moment) (broke : (breaks : BreaksOff (course.deeds shown) i a c) × (breaks.next ≡ d)) where
@@ -197,7 +202,7 @@ module _ (course : Course) (shown : Shown) (i : ℕ) (d : Deed) (a c : Moment) (
       record { breaks = broke.0; calls = subst C (sym broke.1) calls; held = held; fails = fails }
 
   -- an image of a level that the deed gets was damaged there
-  pub damaged_at : (level : ℕ) (put got : List ℕ) → 0 < d.calls.gets level → course.damage i level put got a → (AllTell course.levels a.images → ⊥) → course.holds AllLevels shown i a c → NothingFails a c → DamagedAt course shown i level put got a c
+  pub damaged_at : (level : ℕ) (put got : List ℕ) → 0 < d.calls.gets level → course.damage i level put got a c → (AllTell course.levels a.images → ⊥) → course.holds AllLevels shown i a c → NothingFails a c → DamagedAt course shown i level put got a c
   damaged_at level put got gets damaged silent held quiet =
       let C : Deed → Type 0 = λ e. 0 < e.calls.gets level in
       record { breaks = broke.0; gets = subst C (sym broke.1) gets; damaged = damaged; silent = silent; held = held; quiet = quiet }

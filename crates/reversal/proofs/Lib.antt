@@ -22,6 +22,7 @@ pub mod Drawing
 pub mod Demonstrating
 pub mod Silent
 pub mod Seeking
+pub mod MovingAbout
 pub mod Asked
 pub mod BookTexts
 pub mod Lengths

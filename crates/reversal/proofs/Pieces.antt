@@ -28,7 +28,7 @@ use Rattle.reversal.proofs.Doing.{tells_then, tells_nothing, raised_then, raised
 
 -- a text shows no states
 abbrev pub nothing_shown : Shown
-nothing_shown = record { states = λ n. record { pc = 0; registers = []; status = Running; item = 0; offset = 0; written = 0; memory = finmap.empty }; answer = None }
+nothing_shown = record { states = λ n. record { pc = 0; registers = []; status = Running; item = 0; offset = 0; written = 0; memory = finmap.empty }; answer = None; orders = [] }
 
 -- no keeper was called
 pub not_called : (calls : Calls) → Called no_calls calls calls

@@ -27,8 +27,13 @@ use Rattle.rv_asm.specs.declared.fault.AsmFault.{AsmFault}
 use Rattle.rv_asm.specs.declared.fault.AsmFault.TheVariants as source
 use Rattle.rv_asm.specs.Source.{Means, HasFault}
 use Rattle.rv_asm.proofs.Assembled.{one_meaning, one_fault as one_source_fault, no_fault as meanings_have_no_fault}
+use Rattle.reverse_console.specs.declared.fault.ScriptFault.{ScriptFault}
+use Rattle.reverse_console.specs.declared.fault.ScriptFault.TheVariants as script
+use Rattle.reverse_console.specs.Script.{IsScript}
+use Rattle.reverse_console.specs.ScriptFaults.{HasFirstFault as ScriptFirst}
+use Rattle.reverse_console.proofs.ScriptWhole.{one_script, one_fault as one_script_fault, no_fault as scripts_have_no_fault}
 use Rattle.requests.specs.declared.ended.Ended.{Ended}
-use Rattle.requests.specs.Ending.{bad_program, bad_journal, bad_book, bad_text, bad_certificate, bad_source}
+use Rattle.requests.specs.Ending.{bad_program, bad_journal, bad_book, bad_text, bad_certificate, bad_source, bad_script}
 use Rattle.reversal.specs.JobReading.{IsRefusal}
 use Rattle.reversal.specs.Fronts.{HasBookFault, IsStartOf, HasProgramFault, AreItemsOf, HasJournalFault}
 
@@ -118,6 +123,10 @@ pub source_refuses : (f : AsmFault) → (f ≡ source.Memory → ⊥) → IsRefu
 source_refuses source.Memory h = absurd (h refl)
 source_refuses (source.At rule line column) h = refusing_above _ 19 refl (omega arith)
 
+pub script_refuses : (f : ScriptFault) → (f ≡ script.Memory → ⊥) → IsRefusing (bad_script f)
+script_refuses script.Memory h = absurd (h refl)
+script_refuses (script.At rule line column) h = refusing_above _ 20 refl (omega arith)
+
 -- ---- want of memory is no fault of the bytes
 
 pub program_fault_is_other : (raw : Bool) (stack : ℕ) (bytes : List ℕ) (f : ElfFault) → HasProgramFault raw stack bytes f → f ≡ program.Memory → ⊥
@@ -142,6 +151,14 @@ source_fault_is_other text f (inr empty) e = absurd (cc (empty.1, e))
 pub source_refused : (text : List ℕ) (f : AsmFault) (e : Ended) → (f ≢ source.Memory → HasFault text f) → e ≡ bad_source f → IsRefusal (HasFault text) bad_source e
 source_refused text source.Memory e h is = inl is
 source_refused text (source.At rule line column) e h is = inr (source.At rule line column, h (λ same. absurd cc), is)
+
+pub script_fault_is_other : (steps : ℕ) (text : List ℕ) (f : ScriptFault) → ScriptFirst steps text f → f ≡ script.Memory → ⊥
+script_fault_is_other steps text f h e = let P : ScriptFault → Type 0 = λ x. ScriptFirst steps text x in subst P e h
+
+-- a script that isn't read has a fault, or memory ran out
+pub script_refused : (steps : ℕ) (text : List ℕ) (f : ScriptFault) (e : Ended) → (f ≢ script.Memory → ScriptFirst steps text f) → e ≡ bad_script f → IsRefusal (ScriptFirst steps text) bad_script e
+script_refused steps text script.Memory e h is = inl is
+script_refused steps text (script.At rule line column) e h is = inr (script.At rule line column, h (λ same. absurd cc), is)
 
 -- a file that isn't loaded has a fault, or memory ran out
 memory_by_number : (f : ElfFault) → number_of f ≡ 10 → f ≡ program.Memory
@@ -236,3 +253,14 @@ source_fault_one text a b h g = one_source_fault text a b h g
 
 pub source_excludes : (text : List ℕ) → Excludes (Means text) (HasFault text)
 source_excludes text words f h g = meanings_have_no_fault text words f h g
+
+-- scripts
+
+pub script_one : (steps : ℕ) (text : List ℕ) → IsOne (IsScript steps text)
+script_one steps text a b h g = one_script steps text a b h g
+
+pub script_fault_one : (steps : ℕ) (text : List ℕ) → IsOne (ScriptFirst steps text)
+script_fault_one steps text a b h g = one_script_fault steps text a b h g
+
+pub script_excludes : (steps : ℕ) (text : List ℕ) → Excludes (IsScript steps text) (ScriptFirst steps text)
+script_excludes steps text orders f h g = scripts_have_no_fault steps text orders f h g

@@ -32,7 +32,7 @@ module _ (first : MachineState) (journal : List (List ℕ)) (steps workers : ℕ
   course = searching first journal steps workers digest
 
   abbrev found : Option ℕ → Shown
-  found answer = record { states = λ n. first; answer = answer }
+  found answer = record { states = λ n. first; answer = answer; orders = [] }
 
   -- memory ran out on the way to the last segment
   pub marking_halted : c.told ≡ a.told → c.writes ≡ a.writes → a.steps ≤ c.steps → c.steps ≤ a.steps + last_start steps workers → NothingFails a c → WorksBy course no_memory a c

@@ -27,7 +27,7 @@ use Rattle.reversal.specs.Course.{Shown}
 
 -- what a run shows by its states alone
 abbrev pub shown_by : States → Shown
-shown_by states = record { states = states; answer = None }
+shown_by states = record { states = states; answer = None; orders = [] }
 
 -- with one state settled
 abbrev pub settled : States → ℕ → MachineState → States

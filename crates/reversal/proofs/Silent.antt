@@ -83,7 +83,7 @@ module _ (number : ℕ) (first : MachineState) (steps slots : ℕ) where
 
   -- no state is shown
   abbrev pub shown : Shown
-  shown = record { states = λ n. first; answer = None }
+  shown = record { states = λ n. first; answer = None; orders = [] }
 
   -- the actions were done up to one, which wanted memory
   pub halted : (d : Demonstrated) (a c : Moment) → d.actions ≡ demo_list steps slots → BreaksWithin d.actions a.steps c.steps → c.told ≡ a.told → c.writes ≡ a.writes → c.calls ≡ a.calls → NothingFails a c →

@@ -12,7 +12,9 @@ use Rattle.requests.specs.declared.question.Question.{Question}
 use Rattle.requests.specs.Operands.{question_bound}
 use Rattle.requests.specs.Bounds.{IsWithin}
 use Rattle.requests.specs.Ending.{invalid, out_of_range}
-use Rattle.reversal.specs.Job.{Run, last_of, Job, perform, ask as ask_job, seek, write, demonstrate}
+use Rattle.reverse_console.specs.declared.order.Order.{Order}
+use Rattle.reverse_console.specs.Marks.{MarkPlan}
+use Rattle.reversal.specs.Job.{Run, last_of, Job, perform, ask as ask_job, seek, write, move_about, demonstrate}
 use Rattle.reversal.specs.Table.{Decision, refuse, accept, Judge, IsFirstWide, Tabulate, Table, needs, reads, judges, keeps, tabulates, weighs, grants, ends, Decided}
 use Rattle.reversal.proofs.Refused.{IsRefusing, refusing_at, IsOne, Excludes}
 use Rattle.reversal.proofs.Keeping.{keep_one, keep_comes_to}
@@ -26,6 +28,7 @@ pub data IsMet (job : Job) : Type 0 where
   performs : (run : Run) → Valid run.steps run.slots run.list → job ≡ perform run → IsMet job
   seeks : (first : MachineState) (journal : List (List ℕ)) (steps workers : ℕ) (digest : List ℕ) → job ≡ seek first journal steps workers digest → IsMet job
   writes : (texts : List (List ℕ)) → job ≡ write texts → IsMet job
+  moves : (first : MachineState) (journal : List (List ℕ)) (p : MarkPlan) (orders : List Order) → job ≡ move_about first journal p orders → IsMet job
   shows : (number : ℕ) (first : MachineState) (steps slots : ℕ) → job ≡ demonstrate number first steps slots → IsMet job
 
 -- a refusal with a status of its own, or a job that may be accepted

@@ -1,6 +1,6 @@
 -- Words, their bytes and their lines: bytes are those of one list of words, and words have one list of lines, which is the one that is
 -- computed.
-use Rattle.std.proofs.Common.{◌≡◌, inl, inr, ℕ, zero, suc, ◌+◌, ◌*◌, ◌<◌, ◌≤◌, ◌^◌, ◌++◌, List, [], ◌∷◌, length, map, take, drop, Option, None, Some, get_or, refl, sym, ◌∙◌, ap, subst, arith}
+use Rattle.std.proofs.Common.{◌≡◌, inl, inr, ℕ, zero, suc, ◌*◌, ◌<◌, ◌≤◌, ◌++◌, List, [], ◌∷◌, length, map, take, drop, Option, None, Some, get_or, refl, sym, ◌∙◌, ap, arith}
 use Rattle.std.specs.Prelude.{find, min, codes}
 use Rattle.std.specs.Int.{to_le_bytes, from_le_bytes, w32}
 use Rattle.std.specs.List.{AllByRecursion}

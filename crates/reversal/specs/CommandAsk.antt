@@ -23,12 +23,13 @@ asking_state place run = record {
   deeds = λ shown. map (deed_for shown.states run.unit run.steps place) (front_to run.unit run.steps place run.list);
   output = λ shown. line_of shown.states place;
   steps = λ shown. run.unit * forward (front_to run.unit run.steps place run.list);
-  write_place = λ performed. performed;
+  write_place = λ place. place;
+  storage_place = λ place. place;
   shows = λ shown old. AreOfRun run shown.states old;
   answers = λ shown old new. IsFound (λ states. states place ≡ shown.states place) run (Some place) old new;
   answers_partly = λ shown performed old new. ComesTo (IsOut run.unit run.steps place (shown.states place)) run performed old;
   holds = λ Same shown performed old new. Unit {0};
-  damage = λ performed level put got old. ComesToDamage run performed level put got old;
+  damage = λ performed level put got old new. ComesToDamage run performed level put got old;
   may_want = CallsSome;
 }
 
@@ -53,12 +54,13 @@ asking_last Holds run = record {
   deeds = λ shown. map (unseen_deed run.unit) (up_to run.unit run.steps shown.answer run.list) ++ writing (answer_text shown.answer ∷ []) ∷ [];
   output = λ shown. answer_text shown.answer;
   steps = λ shown. run.unit * forward (up_to run.unit run.steps shown.answer run.list);
-  write_place = λ performed. 0;
+  write_place = λ place. 0;
+  storage_place = λ place. place;
   shows = λ shown old. AreOfRun run shown.states old;
   answers = λ shown old new. IsLastStep Holds run shown.answer old new;
   answers_partly = λ shown performed old new. IsLastStep Holds run shown.answer old new;
   holds = λ Same shown performed old new. Unit {0};
-  damage = λ performed level put got old. ComesToDamage run performed level put got old;
+  damage = λ performed level put got old new. ComesToDamage run performed level put got old;
   may_want = CallsSome;
 }
 

@@ -28,10 +28,11 @@ demonstrating number first steps slots = record {
   output = λ shown. summary number first steps slots;
   steps = λ shown. forward (demo_list steps slots);
   write_place = λ place. 0;
+  storage_place = λ place. place;
   shows = λ shown old. Unit {0};
   answers = λ shown old new. Unit {0};
   answers_partly = λ shown performed old new. Unit {0};
   holds = λ Same shown performed old new. Unit {0};
-  damage = λ performed level put got old. ⊥;
+  damage = λ performed level put got old new. ⊥;
   may_want = λ deed. deed.pieces ≡ [];
 }

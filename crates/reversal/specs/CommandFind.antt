@@ -32,10 +32,11 @@ searching first journal steps workers digest = record {
   output = λ shown. answer_text shown.answer;
   steps = λ shown. last_start steps workers;
   write_place = λ place. 0;
+  storage_place = λ place. place;
   shows = λ shown old. Unit {0};
   answers = λ shown old new. Found (quest_of first journal steps digest) shown.answer;
   answers_partly = λ shown performed old new. Found (quest_of first journal steps digest) shown.answer;
   holds = λ Same shown performed old new. Unit {0};
-  damage = λ performed level put got old. ⊥;
+  damage = λ performed level put got old new. ⊥;
   may_want = λ deed. Unit {0};
 }

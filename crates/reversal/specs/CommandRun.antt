@@ -33,10 +33,11 @@ performing run = record {
   output = λ shown. lines_down shown.states (last_of run);
   steps = λ shown. run.unit * forward run.list;
   write_place = λ place. place;
+  storage_place = λ place. place;
   shows = λ shown old. AreOfRun run shown.states old;
   answers = λ shown old new. Unit {0};
   answers_partly = λ shown performed old new. Unit {0};
   holds = λ Same shown performed old new. Went Same run performed shown.states old new;
-  damage = λ performed level put got old. ComesToDamage run performed level put got old;
+  damage = λ performed level put got old new. ComesToDamage run performed level put got old;
   may_want = CallsSome;
 }

@@ -10,10 +10,12 @@ use Rattle.reversal.specs.Moment.{Moment, NothingFails, SinkFails, KeeperFails, 
 use Rattle.reversal.specs.Deeds.{Deed, States, bytes_of, bytes_written, writes_made, steps_made, calls_made, Did, CallsLevel}
 use Rattle.reversal.specs.Going.{SameLevels, AllLevels, SparesNext}
 
--- What a job shows: states by their numbers, and the number of the step that a question is about, if there is one.
+-- What a job shows: states by their numbers, the number of the step that a question is about, if there is one, and what the orders
+-- to a console did, of which there are none elsewhere.
 pub record Shown : Type 0 where
   pub states : States
   pub answer : Option ℕ
+  pub orders : List Deed
 
 -- What a job is, in terms of what it shows. Moments are those before the call and after it.
 pub record Course : Type 1 where
@@ -23,8 +25,10 @@ pub record Course : Type 1 where
   pub deeds : Shown → List Deed
   pub output : Shown → List ℕ
   pub steps : Shown → ℕ
-  -- the place that an ending has where a write of the deed with this number failed
+  -- the place that an ending has where a write of the deed with this number failed, and where a keeper failed in it or gave
+  -- damaged bytes
   pub write_place : ℕ → ℕ
+  pub storage_place : ℕ → ℕ
   -- whose states are shown
   pub shows : Shown → Moment → Type 0
   -- what the answer is, where it was given, and where so many deeds were done and it was written in part
@@ -33,7 +37,7 @@ pub record Course : Type 1 where
   -- what is held on the levels, where so many deeds were done
   pub holds : SameLevels → Shown → (performed : ℕ) → Moment → Moment → Type 0
   -- what is damaged of what came back from a level behind so many deeds, by the digests of what was put and got
-  pub damage : (performed level : ℕ) → (put got : List ℕ) → Moment → Type 0
+  pub damage : (performed level : ℕ) → (put got : List ℕ) → Moment → Moment → Type 0
   -- which deeds may want memory
   pub may_want : Deed → Type 0
 
@@ -94,7 +98,7 @@ pub record FailsAt (course : Course) (shown : Shown) (performed level : ℕ) (ol
 pub record DamagedAt (course : Course) (shown : Shown) (performed level : ℕ) (put got : List ℕ) (old new : Moment) : Type 0 where
   pub breaks : BreaksOff (course.deeds shown) performed old new
   pub gets : 0 < breaks.next.calls.gets level
-  pub damaged : course.damage performed level put got old
+  pub damaged : course.damage performed level put got old new
   pub silent : AllTell course.levels old.images → ⊥
   pub held : course.holds AllLevels shown performed old new
   pub quiet : NothingFails old new
@@ -114,8 +118,8 @@ abbrev pub Ends : Course → Shown → Ended → Moment → Moment → Type 0
 Ends course shown e old new =
     ((e ≡ done) × Done course shown old new)
     ⊎ ((performed : ℕ) × (e ≡ stopped (course.write_place (performed + 1))) × Stops course shown performed old new)
-    ⊎ ((performed : ℕ) × (level : ℕ) × (e ≡ keeper_failed (performed + 1) level) × FailsAt course shown performed level old new)
-    ⊎ ((performed : ℕ) × (level : ℕ) × (put : List ℕ) × (got : List ℕ) × (e ≡ damaged (performed + 1) level put got)
+    ⊎ ((performed : ℕ) × (level : ℕ) × (e ≡ keeper_failed (course.storage_place (performed + 1)) level) × FailsAt course shown performed level old new)
+    ⊎ ((performed : ℕ) × (level : ℕ) × (put : List ℕ) × (got : List ℕ) × (e ≡ damaged (course.storage_place (performed + 1)) level put got)
     × DamagedAt course shown performed level put got old new)
 
 -- the same of what the job shows

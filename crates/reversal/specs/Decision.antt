@@ -4,12 +4,12 @@
 use Rattle.std.specs.Prelude.{◌≡◌, ◌⊎◌, ℕ, ◌+◌, ◌*◌, ◌≤◌, ◌++◌, slice_get, List, [], ◌∷◌, length, take, Option, None, Some}
 use Rattle.keepers.specs.Told.{Files, WhereTold}
 use Rattle.requests.specs.declared.ended.Ended.{Ended}
-use Rattle.requests.specs.Request.{Choice, unit_count, run_revolve, plan, plan_periodic, certify, price, find, assemble, disassemble, demo, Command, run, check, Request, ask as ask_command}
+use Rattle.requests.specs.Request.{Choice, unit_count, run_revolve, plan, plan_periodic, certify, price, find, assemble, disassemble, move_about as move_about_command, demo, Command, run, check, Request, ask as ask_command}
 use Rattle.requests.specs.Ending.{unreadable, too_long}
 use Rattle.requests.specs.Operands.{question_bound}
 use Rattle.requests.specs.Bounds.{IsWithin}
 use Rattle.requests.specs.Inputs.{Input, inputs_of, names, contents, asked_count}
-use Rattle.reversal.specs.Job.{ask, Job, perform, seek, write, demonstrate}
+use Rattle.reversal.specs.Job.{ask, Job, perform, seek, write, move_about, demonstrate}
 use Rattle.reversal.specs.Moment.{Moment}
 use Rattle.reversal.specs.Course.{Course, EndsShowing}
 use Rattle.reversal.specs.Table.{Decision, Need, Table, Decided, refuse, accept, grants}
@@ -22,6 +22,7 @@ use Rattle.reversal.specs.CommandCheck.{check_table}
 use Rattle.reversal.specs.CommandCost.{price_table}
 use Rattle.reversal.specs.CommandCertify.{certify_table}
 use Rattle.reversal.specs.CommandAssemble.{assemble_table, disassemble_table}
+use Rattle.reversal.specs.CommandConsole.{console_table, moving_about}
 use Rattle.reversal.specs.CommandDemo.{demo_table, demonstrating}
 use Rattle.reversal.specs.CommandFind.{find_table, searching}
 
@@ -59,6 +60,9 @@ table_of options (assemble c) (source ∷ []) slots = assemble_table source
 table_of options (assemble c) _ slots = no_table
 table_of options (disassemble c) (program ∷ []) slots = disassemble_table program
 table_of options (disassemble c) _ slots = no_table
+table_of options (move_about_command c) (program ∷ book ∷ script ∷ []) slots = console_table options c.steps program None book script slots
+table_of options (move_about_command c) (program ∷ journal ∷ book ∷ script ∷ []) slots = console_table options c.steps program (Some journal) book script slots
+table_of options (move_about_command c) _ slots = no_table
 table_of options (demo c) [] slots = demo_table c.number c.steps c.slots
 table_of options (demo c) _ slots = no_table
 
@@ -86,6 +90,7 @@ course_of (perform over) = performing over
 course_of (ask question over) = asking question over
 course_of (seek first journal steps workers digest) = searching first journal steps workers digest
 course_of (write texts) = texts_course texts
+course_of (move_about first journal p orders) = moving_about first journal p orders
 course_of (demonstrate number first steps slots) = demonstrating number first steps slots
 
 -- how a call ends by a decision: by the refusal's own ending, or by that of a job, with the states that it shows

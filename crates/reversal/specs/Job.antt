@@ -5,6 +5,8 @@ use Rattle.level_book.specs.declared.book.Slots.{Slots}
 use Rattle.rv_machine.specs.MachineState.{MachineState}
 use Rattle.rv_machine.specs.States.{state_number}
 use Rattle.reverse_runner.specs.Units.{unit_states}
+use Rattle.reverse_console.specs.declared.order.Order.{Order}
+use Rattle.reverse_console.specs.Marks.{MarkPlan}
 use Rattle.requests.specs.declared.question.Question.{Question}
 
 -- A run of a program, and a list that goes over it: the first state, the recorded input, how many steps of the machine a step of
@@ -39,6 +41,8 @@ pub data Job : Type 0 where
   seek : MachineState → List (List ℕ) → (steps workers : ℕ) → (digest : List ℕ) → Job
   -- texts, each in one write
   write : List (List ℕ) → Job
+  -- orders that move about in a run from a state, with images kept at its marks
+  move_about : MachineState → List (List ℕ) → MarkPlan → List Order → Job
   -- Revolve's list over the run from a state, which was made from a number, for so many steps and slots, with images in
   -- memory of its own and no line written; and then a summary of it
   demonstrate : (number : ℕ) → MachineState → (steps slots : ℕ) → Job

@@ -1,5 +1,5 @@
 -- No public clause cites this file. The job that one in memory is, and what holds of it.
-use Rattle.std.specs.Prelude.{◌≡◌, ◌⊎◌, ℕ, ◌*◌, ◌<◌, ◌≤◌, ◌^◌, ◌++◌, List, [], ◌∷◌, length, Option, None, Some}
+use Rattle.std.specs.Prelude.{◌≡◌, ◌⊎◌, ℕ, ◌*◌, ◌<◌, ◌≤◌, ◌^◌, ◌++◌, max, slice_get, List, [], ◌∷◌, length, Option, None, Some}
 use Rattle.std.specs.Vec.{vec_capacity}
 use Rattle.std.specs.List.{AllByRecursion}
 use Rattle.plan_types.specs.declared.action.Action.{Action}
@@ -14,13 +14,16 @@ use Rattle.revolve_gen.specs.Plans as revolve
 use Rattle.reverse_runner.specs.KeepersSeen.{HaveRoom}
 use Rattle.requests.specs.declared.ended.Ended.{Ended}
 use Rattle.reversal.specs.declared.job.Job as in_memory
-use Rattle.reversal.specs.declared.job.Job.TheVariants.{Perform, Ask, Find, Write, Bytes, Report, Plan, List as ListWords, Demonstrate}
+use Rattle.reversal.specs.declared.job.Job.TheVariants.{Perform, Ask, Find, Write, Bytes, Report, Plan, List as ListWords, MoveAbout, Demonstrate}
 use Rattle.reversal.specs.declared.planning.Plan as plan_in_memory
 use Rattle.reversal.specs.declared.demo.Demonstration as demo_in_memory
 use Rattle.reversal.specs.declared.job.Performance.{Performance}
 use Rattle.reversal.specs.declared.asking.Asking.{Asking}
 use Rattle.reversal.specs.declared.asking.Over.{Over}
 use Rattle.reversal.specs.declared.finding.Finding.{Finding}
+use Rattle.reversal.specs.declared.moving.Moving.{Moving}
+use Rattle.reverse_console.specs.declared.order.Order.{Order}
+use Rattle.reverse_console.specs.Answer.{IsOrder}
 use Rattle.cost_fold.specs.CountsOf.{all_of}
 use Rattle.cost_report.specs.Report.{report_lines}
 use Rattle.reversal.specs.ActionsLeft.{left_of}
@@ -29,7 +32,7 @@ use Rattle.reversal.specs.Listing.{word_pieces}
 use Rattle.requests.specs.Operands.{question_bound}
 use Rattle.requests.specs.Bounds.{IsWithin}
 use Rattle.reverse_runner.specs.SessionState.{SessionState}
-use Rattle.reversal.specs.Job.{Run, Job, perform, ask, seek, write, demonstrate}
+use Rattle.reversal.specs.Job.{Run, Job, perform, ask, seek, write, move_about, demonstrate}
 use Rattle.reversal.specs.Moment.{Moment}
 use Rattle.reversal.specs.Course.{Course, EndsShowing, HaltsShowing}
 use Rattle.reversal.specs.Fronts.{in_units}
@@ -58,6 +61,10 @@ run_over o = in_units o.unit o.start o.journal o.steps (slots_of o.book) o.list.
 abbrev pub run_from : SessionState → List Action → Run
 run_from s list = record { first = s.work; journal = s.journal; unit = s.unit; steps = s.situation.steps; slots = s.situation.slots; list = list }
 
+-- what is moved about in, and by which orders
+abbrev pub moves : Moving → Job
+moves m = move_about m.start m.journal (record { slots = slots_of m.book; count = m.steps }) m.orders.items
+
 abbrev pub job_of : in_memory.Job → Job
 job_of (Perform p) = perform (performed_run p)
 job_of (Ask a) = ask a.question (run_over a.over)
@@ -67,6 +74,7 @@ job_of (Bytes bytes) = write (bytes.items ∷ [])
 job_of (Report p) = write (report_lines p.book p.counts)
 job_of (Plan p) = write (pieces_of p)
 job_of (ListWords l) = write (word_pieces l.words.items)
+job_of (MoveAbout m) = moves m
 job_of (Demonstrate d) = demonstrate d.number d.start d.steps d.slots
 
 -- a list that is performed is valid
@@ -104,6 +112,13 @@ pub record IsSearchable (f : Finding) : Type 0 where
   pub steps : f.steps ≤ 1000000
   pub workers : (1 ≤ f.workers) × (f.workers ≤ 64)
 
+-- a run that is moved about in has a slot for a mark, and each order may be given in it
+pub record CanMoveAbout (m : Moving) : Type 0 where
+  pub steps : m.steps ≤ 1000000
+  pub slots : 1 ≤ total_room m.book (max m.steps 1)
+  pub few : length m.orders.items < 2 ^ 32
+  pub orders : (i : ℕ) (order : Order) → slice_get m.orders.items i ≡ Some order → IsOrder m.steps order
+
 abbrev pub CanBeDone : in_memory.Job → Type 0
 CanBeDone (Perform p) = IsPerformable p
 CanBeDone (Ask a) = CanBeAsked a
@@ -113,6 +128,7 @@ CanBeDone (Bytes bytes) = Unit {0}
 CanBeDone (Report p) = all_of p.counts * 1000000 < 2 ^ 64
 CanBeDone (Plan p) = IsWritable p
 CanBeDone (ListWords l) = 5184 ≤ vec_capacity l.piece
+CanBeDone (MoveAbout m) = CanMoveAbout m
 CanBeDone (Demonstrate d) = IsShowable d
 
 -- keepers with so many slots have room for what a job keeps
@@ -125,6 +141,7 @@ KeepersHaveRoom (Bytes bytes) counts = Unit {0}
 KeepersHaveRoom (Report p) counts = Unit {0}
 KeepersHaveRoom (Plan p) counts = Unit {0}
 KeepersHaveRoom (ListWords l) counts = Unit {0}
+KeepersHaveRoom (MoveAbout m) counts = HaveRoom (max m.steps 1) (slots_of m.book) counts
 KeepersHaveRoom (Demonstrate d) counts = Unit {0}
 
 -- why bytes aren't read: they have a fault, by which the call ends, or memory ran out

@@ -12,6 +12,7 @@ pub mod CommandPlan
 pub mod CommandCheck
 pub mod CommandCost
 pub mod CommandCertify
+pub mod CommandConsole
 pub mod CommandDemo
 pub mod CommandFind
 pub mod CommandAssemble

@@ -11,10 +11,11 @@ texts_course texts = record {
   output = λ shown. bytes_of texts;
   steps = λ shown. 0;
   write_place = λ place. 0;
+  storage_place = λ place. place;
   shows = λ shown old. Unit {0};
   answers = λ shown old new. Unit {0};
   answers_partly = λ shown performed old new. Unit {0};
   holds = λ Same shown performed old new. Unit {0};
-  damage = λ performed level put got old. ⊥;
+  damage = λ performed level put got old new. ⊥;
   may_want = λ deed. ⊥;
 }

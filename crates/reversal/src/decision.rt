@@ -30,6 +30,7 @@ use crate::demo::decide_demo;
 use crate::finding::decide_find;
 use crate::job::{Job, Performance};
 use crate::listing::decide_disassemble;
+use crate::moving::decide_move_about;
 use crate::plan_kinds::{decide_plan, decide_plan_periodic};
 use crate::planning::decide_run_revolve;
 use crate::pricing::decide_price;
@@ -86,6 +87,9 @@ pub fn decide<R: Threads + Sync>(
         Command::Find(find) => decide_find(alloc, &request.options, find, bytes),
         Command::Assemble(assemble) => decide_assemble(alloc, assemble, bytes),
         Command::Disassemble(disassemble) => decide_disassemble(alloc, disassemble, bytes),
+        Command::MoveAbout(about) => {
+            decide_move_about(alloc, &request.options, about, bytes, counts)
+        }
         Command::Demo(demo) => decide_demo(alloc, demo),
     }
 }

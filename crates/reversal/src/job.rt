@@ -21,6 +21,7 @@ use crate::asking::Asking;
 use crate::demo::Demonstration;
 use crate::finding::Finding;
 use crate::listing::Listing;
+use crate::moving::Moving;
 use crate::planning::Plan;
 use crate::pricing::Pricing;
 use input_journal::Journal;
@@ -53,6 +54,8 @@ pub enum Job {
     Plan(Plan),
     /// To write the lines of words.
     List(Listing),
+    /// To move about in a run by orders.
+    MoveAbout(Moving),
     /// To run a program that is made from a number, and to write a summary.
     Demonstrate(Demonstration),
 }
@@ -96,6 +99,7 @@ impl Job {
             Job::Report(pricing) => pricing.write(out),
             Job::Plan(plan) => plan.write(out),
             Job::List(listing) => listing.write(out),
+            Job::MoveAbout(moving) => moving.move_about(alloc, keepers, out, counter),
             Job::Demonstrate(demonstration) => demonstration.show(alloc, out, counter),
         }
     }
@@ -177,7 +181,7 @@ fn perform_all<K: Keeper, O: Sink, L: Ledger>(
     Ended::done()
 }
 
-/// How a call ends whose session refused the action at a place for this fault.
+/// How a call ends whose session refused the action at a place, or whose console the order there, for this fault.
 pub fn fault_ending(place: u64, fault: RunFault) -> Ended
     requires over { fault ≢ fault_is.Ended }
     ensures { result ≡ fault_ending place fault }

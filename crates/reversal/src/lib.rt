@@ -18,6 +18,7 @@ mod job;
 pub mod laws;
 mod line_hasher;
 mod listing;
+mod moving;
 mod multistage;
 mod periodic;
 mod plan_kinds;

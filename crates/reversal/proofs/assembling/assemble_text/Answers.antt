@@ -1,11 +1,9 @@
 use Rattle.std.proofs.Common.{inr, List, ℕ, [], ◌∷◌, refl, sym, ap, subst, ◌∙◌}
 use Rattle.rv_asm.specs.Source.{HasFault}
 use Rattle.requests.specs.Ending.{bad_source}
-use Rattle.requests.specs.declared.ended.Ended.{Ended}
 use Rattle.reversal.specs.Job.{write}
 use Rattle.reversal.specs.Table.{accept}
 use Rattle.reversal.specs.CommandAssemble.{word_bytes, DecidesAssemble}
-use Rattle.reversal.specs.JobReading.{IsRefusal}
 use Rattle.reversal.proofs.Deciding.{on_error, read_refuses}
 use Rattle.reversal.proofs.Refused.{source_refused}
 use Rattle.reversal.proofs.assembling.assemble_text.Goals as goal

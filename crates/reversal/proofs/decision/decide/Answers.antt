@@ -283,6 +283,26 @@ returns-in-Disassemble-clause-refused g c =
 pub returns-in-Disassemble-clause-room : goal.returns-in-Disassemble-clause-room
 returns-in-Disassemble-clause-room g c = if_okay c.decide_disassemble.result _ _ (λ job h. h c.args.counts.now) c.decide_disassemble.ensures.room
 
+pub decide_move_about-requires-clause-stack : goal.decide_move_about-requires-clause-stack
+decide_move_about-requires-clause-stack g c = stack_within c.args.request.now.options (all_front _ _ c.requires.numbers)
+
+pub decide_move_about-requires-clause-steps : goal.decide_move_about-requires-clause-steps
+decide_move_about-requires-clause-steps g c =
+    let P : Command → Type 0 = λ x. AllByRecursion IsWithin (command_numbers (unit_count c.args.request.now.options) (as_command x)) in
+    (subst P c.in-MoveAbout.is (all_after _ _ c.requires.numbers)).0.1
+
+pub returns-in-MoveAbout-clause-accepted : goal.returns-in-MoveAbout-clause-accepted
+returns-in-MoveAbout-clause-accepted g c =
+    let bytes : List (List ℕ) = map (λ b. b.items) c.args.bytes.now in
+    let P : Command → Type 0 = λ x. IfOk c.decide_move_about.result (λ job. DecidesBytes c.args.request.now.options (as_command x) bytes c.args.counts.now (accept (job_of job))) in
+    subst P (sym c.in-MoveAbout.is) c.decide_move_about.ensures.accepted
+
+pub returns-in-MoveAbout-clause-refused : goal.returns-in-MoveAbout-clause-refused
+returns-in-MoveAbout-clause-refused g c =
+    let bytes : List (List ℕ) = map (λ b. b.items) c.args.bytes.now in
+    let P : Command → Type 0 = λ x. IfErr c.decide_move_about.result (λ e. (e ≡ no_memory) ⊎ DecidesBytes c.args.request.now.options (as_command x) bytes c.args.counts.now (refuse e)) in
+    subst P (sym c.in-MoveAbout.is) c.decide_move_about.ensures.refused
+
 pub returns-in-Demo-clause-accepted : goal.returns-in-Demo-clause-accepted
 returns-in-Demo-clause-accepted g c =
     let bytes : List (List ℕ) = map (λ b. b.items) c.args.bytes.now in

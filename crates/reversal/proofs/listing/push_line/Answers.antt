@@ -1,5 +1,4 @@
 use Rattle.std.proofs.Common.{◌≡◌, ◌++◌, [], ◌∷◌, List, ℕ, ap, subst, ◌∙◌, arith, rules}
-use Rattle.reversal.specs.Listing.{ended_line}
 use Rattle.reversal.proofs.WordLists.{is_word_line}
 use Rattle.reversal.proofs.listing.push_line.Goals as goal
 

@@ -69,6 +69,13 @@ returns-in-List-clause-works g c =
     (moment g.O.Sink.told g.O.Sink.call_count g.O.Sink.fault_count g.K.Keeper.told g.K.Keeper.put_count g.K.Keeper.get_count g.K.Keeper.free_count g.K.Keeper.fault_count c.write-in-List.new.out c.args.keepers.now.items c.args.counter.now) in
     inr (subst P (sym c.in-List.is) (inl (c.write-in-List.ensures (moment g.O.Sink.told g.O.Sink.call_count g.O.Sink.fault_count g.K.Keeper.told g.K.Keeper.put_count g.K.Keeper.get_count g.K.Keeper.free_count g.K.Keeper.fault_count c.args.out.now c.args.keepers.now.items c.args.counter.now) c.args.counter.now)))
 
+pub returns-in-MoveAbout-clause-works : goal.returns-in-MoveAbout-clause-works
+returns-in-MoveAbout-clause-works g c =
+    let P : Job → Type 0 = λ j. Works (job_of j) c.move_about.result
+    (moment g.O.Sink.told g.O.Sink.call_count g.O.Sink.fault_count g.K.Keeper.told g.K.Keeper.put_count g.K.Keeper.get_count g.K.Keeper.free_count g.K.Keeper.fault_count c.args.out.now c.args.keepers.now.items c.args.counter.now)
+    (moment g.O.Sink.told g.O.Sink.call_count g.O.Sink.fault_count g.K.Keeper.told g.K.Keeper.put_count g.K.Keeper.get_count g.K.Keeper.free_count g.K.Keeper.fault_count c.move_about.new.out c.move_about.new.keepers.items c.move_about.new.counter) in
+    inr (subst P (sym c.in-MoveAbout.is) c.move_about.ensures.works)
+
 pub returns-in-Demonstrate-clause-works : goal.returns-in-Demonstrate-clause-works
 returns-in-Demonstrate-clause-works g c =
     let P : Job → Type 0 = λ j. IsUntouched c.show.result c.args.out.now c.show.new.out c.args.keepers.now c.args.keepers.now c.args.counter.now c.show.new.counter ⊎ Works (job_of j) c.show.result

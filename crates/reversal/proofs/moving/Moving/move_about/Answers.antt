@@ -1,0 +1,119 @@
+use Rattle.std.proofs.Common.{◌≡◌, ℕ, ◌≤◌, List, length, map, Some, Err, refl, sym, ◌∙◌, ap, subst, slice_get}
+use Rattle.std.proofs.lemmas.List.{length-map}
+use Rattle.keepers.specs.Counts.{Rose}
+use Rattle.level_book.specs.BookCosts.{slots_of}
+use Rattle.reverse_runner.specs.KeepersSeen.{by_number, told_by, calls_to, HaveRoom}
+use Rattle.reverse_runner.specs.declared.fault.RunFault.TheVariants as fault_is
+use Rattle.reverse_console.specs.declared.order.Order.{Order}
+use Rattle.reverse_console.specs.Answer.{IsOrder}
+use Rattle.reverse_console.specs.ConsoleState.{ConsoleState, source_of}
+use Rattle.reverse_console.specs.Marks.{MarkPlan, span}
+use Rattle.reverse_console.specs.Standing.{Stands}
+use Rattle.reverse_console.proofs.Calling.{keeper_cause, quiet_else, not_ended}
+use Rattle.reverse_console.proofs.Scripts.{if_ok_at, same_err}
+use Rattle.requests.specs.declared.ended.Ended.{Ended}
+use Rattle.requests.specs.Ending.{done}
+use Rattle.reversal.specs.Job.{move_about}
+use Rattle.reversal.specs.Moment.{moment, AllTell}
+use Rattle.reversal.specs.CommandConsole.{IsOfMarks}
+use Rattle.reversal.specs.JobReading.{Works, moves, fault_ending}
+use Rattle.reversal.proofs.MovingAbout.{marks_refused, all_answered, order_refused}
+use Rattle.reversal.proofs.moving.Moving.move_about.Goals as goal
+
+-- lists with as many slots are of one length
+same_length : {K : Type 0} (slots : K → ℕ) (old new : List K) → map slots new ≡ map slots old → length new ≡ length old
+same_length slots old new e = sym (length-map new slots) ∙ ap (λ (l : List ℕ). length l) e ∙ length-map old slots
+
+pub returns-in-Err-clause-works : goal.returns-in-Err-clause-works
+returns-in-Err-clause-works g c =
+    let m = c.args.self in
+    let fault = c.in-Err.fault in
+    let p : MarkPlan = record { slots = slots_of m.book; count = m.steps } in
+    let a = moment g.O.Sink.told g.O.Sink.call_count g.O.Sink.fault_count g.K.Keeper.told g.K.Keeper.put_count g.K.Keeper.get_count g.K.Keeper.free_count g.K.Keeper.fault_count c.args.out.now c.args.keepers.now.items c.args.counter.now in
+    let b = moment g.O.Sink.told g.O.Sink.call_count g.O.Sink.fault_count g.K.Keeper.told g.K.Keeper.put_count g.K.Keeper.get_count g.K.Keeper.free_count g.K.Keeper.fault_count c.args.out.now c.begin.new.keepers.items c.begin.new.steps in
+    let E : Ended → Type 0 = λ e. Works (moves m) e a b in
+    subst E (sym c.fault_ending.ensures)
+    (marks_refused m.start m.journal p m.orders.items a b refl refl c.begin.ensures.counted_at_most.0 c.begin.ensures.counted_at_most.1 c.begin.ensures.called_at_most refl fault c.in-Err.ensures.putting
+    (λ k e. (c.begin.ensures.keeper_cause k (c.in-Err.is ∙ ap Err e)).1)
+    (λ never. c.begin.ensures.keepers_quiet (λ k e. never k (same_err c.begin.result fault (fault_is.Keeper k) c.in-Err.is e))))
+
+pub returns-in-Err-clause-others : goal.returns-in-Err-clause-others
+returns-in-Err-clause-others g c = (same_length g.K.Keeper.slot_count c.args.keepers.now.items c.begin.new.keepers.items c.begin.ensures.slots, c.begin.ensures.others)
+
+pub returns-in-Ok-answer_all-clause-works : goal.returns-in-Ok-answer_all-clause-works
+returns-in-Ok-answer_all-clause-works g c =
+    let m = c.args.self in
+    let console = c.in-Ok.console in
+    let p : MarkPlan = record { slots = slots_of m.book; count = m.steps } in
+    let told = told_by g.K.Keeper.told c.begin.new.keepers.items in
+    let from = source_of console told in
+    let a = moment g.O.Sink.told g.O.Sink.call_count g.O.Sink.fault_count g.K.Keeper.told g.K.Keeper.put_count g.K.Keeper.get_count g.K.Keeper.free_count g.K.Keeper.fault_count c.args.out.now c.args.keepers.now.items c.args.counter.now in
+    let b = moment g.O.Sink.told g.O.Sink.call_count g.O.Sink.fault_count g.K.Keeper.told g.K.Keeper.put_count g.K.Keeper.get_count g.K.Keeper.free_count g.K.Keeper.fault_count c.answer_all.new.out c.answer_all.new.keepers.items c.answer_all.new.steps in
+    let is : IsOfMarks m.start m.journal p b.images from = record { plan = c.in-Ok.ensures.begun.0; journal = c.in-Ok.ensures.begun.1; told = λ k. sym (c.answer_all.ensures.same k); marks = c.in-Ok.ensures.marks } in
+    let stands = λ (tells : AllTell (length p.slots) a.images). if_ok_at (λ (x : ConsoleState). Stands m.start x told) c.begin.result console c.in-Ok.is (c.begin.ensures.stands tells) in
+    let states = λ (tells : AllTell (length p.slots) a.images). c.sees_its_run.ensures.states m.start told c.is_machine_state.ensures (stands tells) in
+    let sees = λ (tells : AllTell (length p.slots) a.images). c.sees_its_run.ensures.answers m.start told c.is_machine_state.ensures (stands tells) in
+    let quiet = c.begin.ensures.keepers_quiet (λ k e. absurd (cc (c.in-Ok.is, e))) in
+    let E : Ended → Type 0 = λ e. Works (moves m) e a b in
+    let J : List Order → Type 0 = λ l. Works (move_about m.start m.journal p l) done a b in
+    subst E (sym c.done.ensures) (subst J c.deref.ensures.value
+    (all_answered m.start m.journal p c.deref.result.now from a b console.place c.answer_all.new.console.place c.begin.new.steps (calls_to g.K.Keeper.put_count g.K.Keeper.get_count g.K.Keeper.free_count c.begin.new.keepers.items)
+    is c.in-Ok.ensures.begun.2 c.in-Ok.ensures.counted c.in-Ok.ensures.called states sees c.in-Ok-answer_all.ensures.written
+    (record { sink = c.in-Ok-answer_all.ensures.sink_still; keepers = λ k. c.in-Ok-answer_all.ensures.quiet k ∙ quiet k })))
+
+pub returns-in-Ok-answer_all-clause-others : goal.returns-in-Ok-answer_all-clause-others
+returns-in-Ok-answer_all-clause-others g c =
+    let stay = c.answer_all.ensures.stay in
+    let S : MarkPlan → Type 0 = λ q. (k : ℕ) → length q.slots ≤ k → slice_get c.answer_all.new.keepers.items k ≡ slice_get c.begin.new.keepers.items k in
+    let others = subst S c.in-Ok.ensures.begun.0 stay.others in
+    (same_length g.K.Keeper.slot_count c.args.keepers.now.items c.answer_all.new.keepers.items (stay.slots_same ∙ c.begin.ensures.slots), λ k past. others k past ∙ c.begin.ensures.others k past)
+
+pub returns-clause-works : goal.returns-clause-works
+returns-clause-works g c =
+    let m = c.args.self in
+    let stop = c.in-Err-answer_all.stop in
+    let console = c.in-Ok.console in
+    let p : MarkPlan = record { slots = slots_of m.book; count = m.steps } in
+    let told = told_by g.K.Keeper.told c.begin.new.keepers.items in
+    let from = source_of console told in
+    let a = moment g.O.Sink.told g.O.Sink.call_count g.O.Sink.fault_count g.K.Keeper.told g.K.Keeper.put_count g.K.Keeper.get_count g.K.Keeper.free_count g.K.Keeper.fault_count c.args.out.now c.args.keepers.now.items c.args.counter.now in
+    let b = moment g.O.Sink.told g.O.Sink.call_count g.O.Sink.fault_count g.K.Keeper.told g.K.Keeper.put_count g.K.Keeper.get_count g.K.Keeper.free_count g.K.Keeper.fault_count c.answer_all.new.out c.answer_all.new.keepers.items c.answer_all.new.steps in
+    let is : IsOfMarks m.start m.journal p b.images from = record { plan = c.in-Ok.ensures.begun.0; journal = c.in-Ok.ensures.begun.1; told = λ k. sym (c.answer_all.ensures.same k); marks = c.in-Ok.ensures.marks } in
+    let stands = λ (tells : AllTell (length p.slots) a.images). if_ok_at (λ (x : ConsoleState). Stands m.start x told) c.begin.result console c.in-Ok.is (c.begin.ensures.stands tells) in
+    let states = λ (tells : AllTell (length p.slots) a.images). c.sees_its_run.ensures.states m.start told c.is_machine_state.ensures (stands tells) in
+    let sees = λ (tells : AllTell (length p.slots) a.images). c.sees_its_run.ensures.answers m.start told c.is_machine_state.ensures (stands tells) in
+    let f = g.K.Keeper.fault_count in
+    let before = c.begin.new.keepers.items in
+    let after = c.answer_all.new.keepers.items in
+    let quiet = c.begin.ensures.keepers_quiet (λ k e. absurd (cc (c.in-Ok.is, e))) in
+    let cause = c.in-Err-answer_all.ensures.cause in
+    let E : Ended → Type 0 = λ e. Works (moves m) e a b in
+    let J : List Order → Type 0 = λ l. Works (move_about m.start m.journal p l) (fault_ending stop.order stop.fault) a b in
+    let N : ℕ → Type 0 = λ n. Works (moves m) (fault_ending n stop.fault) a b in
+    subst E (sym c.fault_ending-in-Err-answer_all.ensures) (subst N (sym c.from.ensures) (subst J c.deref.ensures.value
+    (order_refused m.start m.journal p c.deref.result.now from a b console.place c.answer_all.new.console.place c.begin.new.steps (calls_to g.K.Keeper.put_count g.K.Keeper.get_count g.K.Keeper.free_count before)
+    is c.in-Ok.ensures.begun.2 c.in-Ok.ensures.counted c.in-Ok.ensures.called states sees stop.order stop.fault c.in-Err-answer_all.ensures.broken_off
+    (not_ended f console.plan before after stop.fault cause)
+    (λ k e. (let rose = (keeper_cause f console.plan before after stop.fault k cause e).1 in let N : ℕ → Type 0 = λ n. Rose n (by_number 0 f after k) in subst N (quiet k) rose))
+    (λ never k. quiet_else f console.plan before after stop.fault cause never k ∙ quiet k)
+    c.in-Err-answer_all.ensures.sink_cause c.in-Err-answer_all.ensures.sink_quiet c.in-Err-answer_all.ensures.damaged
+    (λ tells. c.in-Err-answer_all.ensures.undamaged m.start c.is_machine_state.ensures (stands tells)))))
+
+pub returns-clause-others : goal.returns-clause-others
+returns-clause-others g c =
+    let stay = c.answer_all.ensures.stay in
+    let S : MarkPlan → Type 0 = λ q. (k : ℕ) → length q.slots ≤ k → slice_get c.answer_all.new.keepers.items k ≡ slice_get c.begin.new.keepers.items k in
+    let others = subst S c.in-Ok.ensures.begun.0 stay.others in
+    (same_length g.K.Keeper.slot_count c.args.keepers.now.items c.answer_all.new.keepers.items (stay.slots_same ∙ c.begin.ensures.slots), λ k past. others k past ∙ c.begin.ensures.others k past)
+
+pub answer_all-requires-clause-orders : goal.answer_all-requires-clause-orders
+answer_all-requires-clause-orders g c i order there =
+    let P : MarkPlan → Type 0 = λ q. IsOrder q.count order in
+    let S : List Order → Type 0 = λ l. slice_get l i ≡ Some order in
+    subst P (sym c.in-Ok.ensures.begun.0) (c.requires.can_be_done.orders i order (subst S c.deref.ensures.value there))
+
+pub answer_all-requires-clause-room : goal.answer_all-requires-clause-room
+answer_all-requires-clause-room g c =
+    let P : MarkPlan → Type 0 = λ q. HaveRoom (span q) q.slots (map g.K.Keeper.slot_count c.args.keepers.now.items) in
+    let R : List ℕ → Type 0 = λ l. HaveRoom (span c.in-Ok.console.plan) c.in-Ok.console.plan.slots l in
+    subst R (sym c.begin.ensures.slots) (subst P (sym c.in-Ok.ensures.begun.0) c.requires.room)

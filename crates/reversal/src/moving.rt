@@ -1,0 +1,184 @@
+// Moving about in a run by the orders of a script.
+ghost use Rattle.std.specs.Prelude.{◌≡◌, ◌≢◌, ◌⊎◌, ◌<◌, ◌≤◌, ◌^◌, ℕ, List, map, max, length, slice_get, Some, IfOk, IfErr, OnOk};
+ghost use Rattle.std.specs.Option.{option_copied};
+ghost use Rattle.std.specs.Vec.{vec_len};
+ghost use Rattle.level_book.specs.BookCosts.{slots_of, total_room};
+ghost use Rattle.reverse_runner.specs.KeepersSeen.{HaveRoom};
+ghost use Rattle.reverse_console.specs.declared.order.Order.{Order as AnOrder};
+ghost use Rattle.reverse_console.specs.Answer.{IsOrder};
+ghost use Rattle.reverse_console.specs.Script.{IsScript};
+ghost use Rattle.reverse_console.specs.ScriptFaults.{HasFirstFault};
+ghost use Rattle.requests.specs.Request.{move_about as move_about_command, stack_pages};
+ghost use Rattle.requests.specs.Inputs.{inputs_of};
+ghost use Rattle.requests.specs.InputReading.{AreWithinLimits};
+ghost use Rattle.requests.specs.RequestReading.{as_move_about};
+ghost use Rattle.requests.specs.Ending.{no_memory, no_plan, bad_script};
+ghost use Rattle.reversal.specs.Moment.{moment};
+ghost use Rattle.reversal.specs.Table.{accept, refuse};
+ghost use Rattle.reversal.specs.CommandConsole.{DecidesConsole};
+ghost use Rattle.reversal.specs.Decision.{KeepsOthers, DecidesBytes};
+ghost use Rattle.reversal.specs.JobReading.{moves, job_of, CanMoveAbout, CanBeDone, KeepersHaveRoom, IsRefusal, Works};
+
+use crate::decision::{book_in, journal_in, keep, start_of};
+use crate::job::{Job, fault_ending};
+use input_journal::Journal;
+use keepers::{Keeper, Sink};
+use level_book::Book;
+use requests::{Ended, MoveAbout, Options};
+use reverse_console::{Console, Order, answer_all, read_orders};
+use rv_machine::{State, Steps};
+use std::alloc::Global;
+use std::sync::ledger::Ledger;
+
+/// A run of so many steps, the book on whose levels the images of its marks are kept, and orders that move about in it.
+#[derive(Drop)]
+pub struct Moving {
+    pub start: State,
+    pub journal: Journal,
+    pub steps: u32,
+    pub book: Book,
+    pub orders: Vec<Order>,
+}
+
+impl Moving {
+    /// Sets the marks, and answers the orders, one after the other. An ending has the number of the order, and 0 for the marks.
+    pub fn move_about<K: Keeper, O: Sink, L: Ledger>(
+        self,
+        alloc: Global,
+        keepers: &mut Vec<K>,
+        out: &mut O,
+        counter: &mut Steps<L>,
+    ) -> Ended
+        requires can_be_done { CanMoveAbout self }
+        requires room { HaveRoom (max self.steps 1) (slots_of self.book) (map K.slot_count keepers.old.items) }
+        ensures works { Works (moves self) result
+            (moment O.told O.call_count O.fault_count K.told K.put_count K.get_count K.free_count K.fault_count out.old keepers.old.items counter.old)
+            (moment O.told O.call_count O.fault_count K.told K.put_count K.get_count K.free_count K.fault_count out.new keepers.new.items counter.new) }
+        ensures others { KeepsOthers (accept (moves self)) keepers.old.items keepers.new.items }
+    {
+        let Moving {
+            start,
+            journal,
+            steps,
+            book,
+            orders,
+        } = self;
+        start.is_machine_state();
+        match Console::begin(alloc, start, journal, steps, book, keepers, counter) {
+            Err(fault) => fault_ending(0, fault),
+            Ok(mut console) => {
+                console.sees_its_run();
+                match answer_all(&mut console, &orders, keepers, out, counter) {
+                    Ok(()) => Ended::done(),
+                    Err(stop) => fault_ending(u64::from(stop.order), stop.fault),
+                }
+            }
+        }
+    }
+}
+
+// The texts that a run is told by that is moved about in, and that of the orders.
+#[derive(Clone, Copy)]
+struct Texts<'a> {
+    program: &'a [u8],
+    journal: Option<&'a [u8]>,
+    book: &'a [u8],
+    script: &'a [u8],
+}
+
+/// What a request to move about in a run comes to by the bytes of its inputs and the numbers of the keepers' slots.
+pub fn decide_move_about(
+    alloc: Global,
+    options: &Options,
+    about: &MoveAbout<'_>,
+    bytes: &[Vec<u8>],
+    counts: &[u32],
+) -> Result<Job, Ended>
+    requires stack { (1 ≤ stack_pages options.now) × (stack_pages options.now ≤ 1024) }
+    requires steps { about.now.steps ≤ 1000000 }
+    requires inputs { AreWithinLimits (inputs_of (move_about_command (as_move_about about.now))) (map (λ b. b.items) bytes.now) }
+    ensures accepted { IfOk result (λ job. DecidesBytes options.now (move_about_command (as_move_about about.now))
+        (map (λ b. b.items) bytes.now) counts.now (accept (job_of job))) }
+    ensures can_be_done { IfOk result CanBeDone }
+    ensures room { IfOk result (λ job. KeepersHaveRoom job counts.now) }
+    ensures refused { IfErr result (λ e. (e ≡ no_memory)
+        ⊎ DecidesBytes options.now (move_about_command (as_move_about about.now)) (map (λ b. b.items) bytes.now) counts.now (refuse e)) }
+{
+    let steps = about.steps as u32;
+    match bytes {
+        [program, book, script] => {
+            let texts = Texts {
+                program,
+                journal: None,
+                book,
+                script,
+            };
+            decide_texts(alloc, options, steps, texts, counts)
+        }
+        [program, journal, book, script] => {
+            let texts = Texts {
+                program,
+                journal: Some(journal),
+                book,
+                script,
+            };
+            decide_texts(alloc, options, steps, texts, counts)
+        }
+        _ => unreachable!(),
+    }
+}
+
+fn decide_texts(
+    alloc: Global,
+    options: &Options,
+    steps: u32,
+    texts: Texts<'_>,
+    counts: &[u32],
+) -> Result<Job, Ended>
+    requires stack { (1 ≤ stack_pages options.now) × (stack_pages options.now ≤ 1024) }
+    requires steps { steps ≤ 1000000 }
+    requires short { length texts.script.now ≤ 1048576 }
+    ensures accepted { IfOk result (λ job. DecidesConsole options.now steps texts.entry.program.now
+        (option_copied texts.entry.journal) texts.entry.book.now texts.entry.script.now counts.now (accept (job_of job))) }
+    ensures can_be_done { IfOk result CanBeDone }
+    ensures room { IfOk result (λ job. KeepersHaveRoom job counts.now) }
+    ensures refused { IfErr result (λ e. (e ≡ no_memory) ⊎ DecidesConsole options.now steps texts.entry.program.now
+        (option_copied texts.entry.journal) texts.entry.book.now texts.entry.script.now counts.now (refuse e)) }
+{
+    let book = book_in(alloc, texts.book)?;
+    keep(steps.max(1), &book, counts)?;
+    find_slot(steps, &book)?;
+    let start = start_of(alloc, options, texts.program)?;
+    let journal = journal_in(alloc, texts.journal)?;
+    let orders = orders_in(alloc, texts.script, steps)?;
+    Ok(Job::MoveAbout(Moving {
+        start,
+        journal,
+        steps,
+        book,
+        orders,
+    }))
+}
+
+// Looks for a slot for a mark on some level of the book.
+fn find_slot(steps: u32, book: &Book) -> Result<(), Ended>
+    ensures slots { OnOk result (1 ≤ total_room book.now (max steps 1)) }
+    ensures refused { IfErr result (λ e. (1 ≤ total_room book.now (max steps 1) → ⊥) × (e ≡ no_plan steps (total_room book.now steps) 1)) }
+{
+    if book.total_room(steps.max(1)) == 0 {
+        return Err(Ended::no_plan(steps, book.total_room(steps), 1));
+    }
+    Ok(())
+}
+
+// The orders that the bytes of a script give in a run of so many steps.
+fn orders_in(alloc: Global, bytes: &[u8], steps: u32) -> Result<Vec<Order>, Ended>
+    requires steps { steps ≤ 1000000 }
+    requires short { length bytes.now ≤ 1048576 }
+    ensures found { IfOk result (λ orders. IsScript steps bytes.now orders.items) }
+    ensures orders { IfOk result (λ orders. (i : ℕ) (order : AnOrder) → slice_get orders.items i ≡ Some order → IsOrder steps order) }
+    ensures few { IfOk result (λ orders. vec_len orders < 2 ^ 32) }
+    ensures refused { IfErr result (IsRefusal (HasFirstFault steps bytes.now) bad_script) }
+{
+    Ok(read_orders(alloc, bytes, steps)?)
+}
