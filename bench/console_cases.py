@@ -1,7 +1,6 @@
 #!/usr/bin/env python3
-"""Makes crates/reversal_calls/data/moved.jsonl: calls of a command `console PROGRAM JOURNAL BOOK SCRIPT N`, which is to answer the orders
-of a script over the crate reverse_console, and isn't there yet. Each order is given where it may go wrong, each call of the storage and of
-the output fails in turn, and each fault of a script is made. What has to come is by bench/reading.
+"""Makes crates/reversal_calls/data/moved.jsonl: calls of `console`. Each order is given where it may go wrong, calls of the storage, of
+the output and of the inputs fail in turn, and each fault of a script is made. What has to come is by bench/reading.
 
     bench/console_cases.py      writes the file anew, and tells how many calls it has
 """
