@@ -9,6 +9,7 @@ import json
 import os
 import struct
 
+import hostile_cases
 from reading import Call
 from reading.sources import assembled
 
@@ -48,8 +49,8 @@ def book(*slots):
     return json.dumps(dict(forward=1, reverse=1, levels=levels), separators=(",", ":"))
 
 
-def add(name, program, levels, script, count, journal=None, fails=None, options=()):
-    words = ["--raw", *options, "console", "p", "j" if journal is not None else "-", "b", "s", str(count)]
+def add(name, program, levels, script, count, journal=None, fails=None, options=(), kind=("--raw",)):
+    words = [*kind, *options, "console", "p", "j" if journal is not None else "-", "b", "s", str(count)]
     inputs = {"p": program, "b": book(*levels).encode(), "s": script if isinstance(script, bytes) else script.encode()}
     if journal is not None:
         inputs["j"] = journal
@@ -114,6 +115,15 @@ def storage():
             add(f"no slot on {len(levels)} levels, {count} steps", WRITER, levels, "goto 99\n", count)
 
 
+def tour():
+    # the program file that adds up its recorded input, in a run of a thousand steps: where its counter was written and changed
+    script = "goto 1000\nback-write 0x00011000\nback 1\nback-to 0x00010014\nback-change 0x00011000\nrun-to 0x0001002c\nback-to 0x00020000\n"
+    add("a tour of a program file over two levels", hostile_cases.COUNTER, [4, 8], script, 1000, hostile_cases.NINETY_BYTES, kind=())
+    add("the second mark on the slow level can't be put", hostile_cases.COUNTER, [4, 8], script, 1000, hostile_cases.NINETY_BYTES, {"keeper": [1, "put", 2]}, kind=())
+    add("a state past the end of a program file's run", hostile_cases.COUNTER, [4, 8], "goto 1001\n", 1000, hostile_cases.NINETY_BYTES, kind=())
+    add("back from the start of a program file's run", hostile_cases.COUNTER, [4, 8], "back 5\n", 0, hostile_cases.NINETY_BYTES, kind=())
+
+
 def scripts():
     texts = ["jump 3", "goto", "goto ", "goto 5 6", "goto 5 # to five", "goto 5#", "goto 11", "goto 1000000", "goto 1000001", "goto 01", "goto 00", "goto -1", "goto +1",
              "goto 0x5", "goto 5.", "goto x", "GOTO 5", "back", "back 1000001", "back 1 1", "step", "step 1000001", "step 99999999999999999999", "back-to", "back-to 5",
@@ -133,7 +143,7 @@ def scripts():
     add("the slots are looked at before the program", b"\0", [0], "jump", 10)
 
 
-for make in (orders, storage, scripts):
+for make in (orders, storage, tour, scripts):
     make()
 names = [case["name"] for case in CASES]
 assert len(set(names)) == len(names), [name for name in names if names.count(name) > 1]
