@@ -2,6 +2,7 @@
 -- which bounds its number has to be, and which input its name is that of. All that words, bounds and inputs say of a command follows
 -- from its operands.
 use Rattle.std.specs.Prelude.{◌≡◌, ◌≢◌, ℕ, ◌*◌, ◌<◌, ◌^◌, ◌++◌, List, [], ◌∷◌, length, codes, decimal, Option, None, Some}
+use Rattle.plan_types.specs.declared.limits.TheConstants.{MOST_STEPS}
 use Rattle.hex.specs.Hex.{IsBytes, encode_lower}
 use Rattle.state_image.specs.Line.{hex_word}
 use Rattle.requests.specs.declared.bounds.Bounded.{Bounded}
@@ -130,11 +131,11 @@ within limit n = record { number = n; least = limit.least; greatest = limit.grea
 
 -- rule 1: a number of steps
 abbrev pub steps_limit : Limit
-steps_limit = record { least = 0; greatest = 1000000; rule = 1 }
+steps_limit = record { least = 0; greatest = MOST_STEPS; rule = 1 }
 
 -- rule 13: the instructions of a run that a list goes over
 abbrev pub instructions_limit : Limit
-instructions_limit = record { least = 0; greatest = 1000000; rule = 13 }
+instructions_limit = record { least = 0; greatest = MOST_STEPS; rule = 13 }
 
 -- rule 6: a state is one of the run, of which this is the last
 abbrev pub place_limit : ℕ → Limit

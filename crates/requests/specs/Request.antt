@@ -20,6 +20,7 @@
 --     demo NUMBER N SLOTS
 use Rattle.std.specs.Prelude.{◌≡◌, ℕ, ◌≤◌, ◌==◌, Bool, true, false, List, [], ◌∷◌, ◌++◌, codes, decimal, map, count_by, Option}
 use Rattle.std.specs.List.{AllByRecursion, list_any}
+use Rattle.plan_types.specs.declared.limits.TheConstants.{MOST_SLOTS, MOST_STEPS}
 use Rattle.requests.specs.declared.words.Words.{Words}
 use Rattle.requests.specs.declared.kind.PlanKind.{PlanKind}
 use Rattle.requests.specs.declared.kind.PlanKind.TheVariants.{Revolve, Multistage, Disk, Hrevolve}
@@ -208,10 +209,10 @@ plan_limit Disk = record { least = 0; greatest = 8192; rule = 1 }
 plan_limit Hrevolve = record { least = 0; greatest = 2048; rule = 1 }
 
 abbrev pub period_limit : Limit
-period_limit = record { least = 1; greatest = 1000000; rule = 2 }
+period_limit = record { least = 1; greatest = MOST_STEPS; rule = 2 }
 
 abbrev pub slots_limit : Limit
-slots_limit = record { least = 0; greatest = 1000000; rule = 10 }
+slots_limit = record { least = 0; greatest = MOST_SLOTS; rule = 10 }
 
 abbrev pub seed_limit : Limit
 seed_limit = record { least = 0; greatest = 4294967295; rule = 11 }

@@ -9,11 +9,12 @@ use Rattle.rv_machine.specs.States.{state_number}
 use Rattle.reverse_runner.specs.declared.fault.RunFault.{RunFault}
 use Rattle.reverse_runner.specs.declared.fault.RunFault.TheVariants as fault_is
 use Rattle.reverse_runner.specs.KeepersSeen.{Calls, Called, CalledAtMost}
+use Rattle.reverse_runner.specs.Touching.{one_get}
 use Rattle.reverse_runner.proofs.AllCalls.{at_most}
 use Rattle.reverse_console.specs.declared.order.Order.{Order}
 use Rattle.reverse_console.specs.Answer.{IsAnswer}
 use Rattle.reverse_console.specs.Costs.{puts_of, gets_of, place_said, Takes, TookInPart}
-use Rattle.reverse_console.specs.Marks.{MarkPlan, stride, marked, mark_count, mark_level}
+use Rattle.reverse_console.specs.Marks.{MarkPlan, stride, marked, mark_of, mark_count, mark_level}
 use Rattle.reverse_console.specs.Refusals.{IsOfPutting, IsOfGetting}
 use Rattle.reverse_console.specs.ScriptAnswers.{Moment as Between, place_after, AreAnswered, AreWritten, IsBrokenOff}
 use Rattle.reverse_console.specs.Seen.{Source, ComesFrom, IsAnswerSeen, IsMarkDamaged}
@@ -66,7 +67,17 @@ record MovedInPart (p : MarkPlan) (said : Option ℕ) (fault : RunFault) (steps 
   of : IsOfGetting move.calls fault
 
 moved_in_part : (p : MarkPlan) (said : Option ℕ) (fault : RunFault) (steps steps' : ℕ) (calls calls' : Calls) → TookInPart p said fault steps steps' calls calls' → MovedInPart p said fault steps steps' calls calls'
-moved_in_part p (Some n) fault steps steps' calls calls' part = record { move = going_to p n; is = refl; silent = refl; least = part.0; most = part.1; called = part.2; of = part.3 }
+moved_in_part p (Some n) fault steps steps' calls calls' part =
+    let idle = part.0 in
+    record {
+      move = going_to p n;
+      is = refl;
+      silent = refl;
+      least = omega (arith, idle);
+      most = omega (arith, idle);
+      called = at_most (one_get (mark_level p (mark_of p n))) calls calls' part.1;
+      of = part.2;
+    }
 moved_in_part p None fault steps steps' calls calls' part =
     let got = part.2 in
     let most = p.count + 2 * stride p in

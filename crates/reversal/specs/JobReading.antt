@@ -3,6 +3,7 @@ use Rattle.std.specs.Prelude.{◌≡◌, ◌⊎◌, ℕ, ◌*◌, ◌<◌, ◌�
 use Rattle.std.specs.Vec.{vec_capacity}
 use Rattle.std.specs.List.{AllByRecursion}
 use Rattle.plan_types.specs.declared.action.Action.{Action}
+use Rattle.plan_types.specs.declared.limits.TheConstants.{MOST_ACTIONS, MOST_SLOTS, MOST_STEPS}
 use Rattle.level_book.specs.BookCosts.{BookCosts, slots_of, names_of, total_room, plain}
 use Rattle.level_book.specs.Valid.{Valid}
 use Rattle.action_text.specs.Canonical.{HasSpelling}
@@ -79,18 +80,18 @@ job_of (Demonstrate d) = demonstrate d.number d.start d.steps d.slots
 
 -- a list that is performed is valid
 pub record IsPerformable (p : Performance) : Type 0 where
-  pub steps : p.steps ≤ 1000000
+  pub steps : p.steps ≤ MOST_STEPS
   pub unit : (1 ≤ p.unit) × (p.unit ≤ 1024)
-  pub instructions : p.unit * p.steps ≤ 1000000
-  pub few : length (left_of p.actions) ≤ 16777216
+  pub instructions : p.unit * p.steps ≤ MOST_STEPS
+  pub few : length (left_of p.actions) ≤ MOST_ACTIONS
   pub valid : Valid p.steps (slots_of p.book) (left_of p.actions)
 
 -- a list is valid that a question is about, and its number is within its bounds
 pub record IsOver (o : Over) : Type 0 where
-  pub steps : o.steps ≤ 1000000
+  pub steps : o.steps ≤ MOST_STEPS
   pub unit : (1 ≤ o.unit) × (o.unit ≤ 1024)
-  pub instructions : o.unit * o.steps ≤ 1000000
-  pub few : length o.list.items ≤ 16777216
+  pub instructions : o.unit * o.steps ≤ MOST_STEPS
+  pub few : length o.list.items ≤ MOST_ACTIONS
   pub valid : Valid o.steps (slots_of o.book) o.list.items
 
 pub record CanBeAsked (a : Asking) : Type 0 where
@@ -103,18 +104,18 @@ pub record IsWritable (p : plan_in_memory.Plan) : Type 0 where
   pub reserved : 5184 ≤ vec_capacity p.piece
 
 pub record IsShowable (d : demo_in_memory.Demonstration) : Type 0 where
-  pub steps : d.steps ≤ 1000000
-  pub slots : d.slots ≤ 1000000
+  pub steps : d.steps ≤ MOST_STEPS
+  pub slots : d.slots ≤ MOST_SLOTS
   pub plan : revolve.HasPlan d.steps (total_room (plain d.slots) d.steps)
 
 -- a search has few states, and workers within their bounds
 pub record IsSearchable (f : Finding) : Type 0 where
-  pub steps : f.steps ≤ 1000000
+  pub steps : f.steps ≤ MOST_STEPS
   pub workers : (1 ≤ f.workers) × (f.workers ≤ 64)
 
 -- a run that is moved about in has a slot for a mark, and each order may be given in it
 pub record CanMoveAbout (m : Moving) : Type 0 where
-  pub steps : m.steps ≤ 1000000
+  pub steps : m.steps ≤ MOST_STEPS
   pub slots : 1 ≤ total_room m.book (max m.steps 1)
   pub few : length m.orders.items < 2 ^ 32
   pub orders : (i : ℕ) (order : Order) → slice_get m.orders.items i ≡ Some order → IsOrder m.steps order

@@ -1,5 +1,6 @@
 // A question about a run, and how it is answered.
 ghost use Rattle.std.specs.Prelude.{◌≡◌, ◌≢◌, ◌⊎◌, ◌≤◌, ◌<◌, ◌+◌, ◌*◌, ℕ, length, map, Option};
+ghost use Rattle.plan_types.specs.declared.limits.TheConstants.{MOST_ACTIONS};
 ghost use Rattle.keepers.specs.Told.{Images, Tells, AddsPrefix};
 ghost use Rattle.keepers.specs.Counts.{Rose, raised};
 ghost use Rattle.level_book.specs.BookCosts.{slots_of};
@@ -106,7 +107,7 @@ fn show_state<K: Keeper, O: Sink, L: Ledger>(
     requires stands { (told : ℕ → Option Images) → AllTell (length session.old.situation.slots) told → StandsAt session.old.work session.old told }
     requires state { IsMachineState session.old.work }
     requires valid { Valid session.old.situation.steps session.old.situation.slots list.now }
-    requires few { length list.now ≤ 16777216 }
+    requires few { length list.now ≤ MOST_ACTIONS }
     requires room { HaveRoom session.old.situation.steps session.old.situation.slots (map K.slot_count keepers.old.items) }
     requires place { place ≤ session.old.unit * session.old.situation.steps }
     ensures works { Works (ask (about.State place) (run_from session.old list.now)) result
@@ -134,7 +135,7 @@ fn tell_last_write<K: Keeper, O: Sink, L: Ledger>(
     requires stands { (told : ℕ → Option Images) → AllTell (length session.old.situation.slots) told → StandsAt session.old.work session.old told }
     requires state { IsMachineState session.old.work }
     requires valid { Valid session.old.situation.steps session.old.situation.slots list.now }
-    requires few { length list.now ≤ 16777216 }
+    requires few { length list.now ≤ MOST_ACTIONS }
     requires room { HaveRoom session.old.situation.steps session.old.situation.slots (map K.slot_count keepers.old.items) }
     requires address { address ≤ 4294967292 }
     ensures works { Works (ask (about.LastWrite address) (run_from session.old list.now)) result
@@ -161,7 +162,7 @@ fn tell_last_change<K: Keeper, O: Sink, L: Ledger>(
     requires stands { (told : ℕ → Option Images) → AllTell (length session.old.situation.slots) told → StandsAt session.old.work session.old told }
     requires state { IsMachineState session.old.work }
     requires valid { Valid session.old.situation.steps session.old.situation.slots list.now }
-    requires few { length list.now ≤ 16777216 }
+    requires few { length list.now ≤ MOST_ACTIONS }
     requires room { HaveRoom session.old.situation.steps session.old.situation.slots (map K.slot_count keepers.old.items) }
     requires address { address ≤ 4294967292 }
     ensures works { Works (ask (about.LastChange address) (run_from session.old list.now)) result

@@ -1,5 +1,6 @@
 // Whether a list is the least by its certificate: of all valid lists, or of its class.
 ghost use Rattle.std.specs.Prelude.{◌≡◌, ◌⊎◌, ℕ, ◌≤◌, List, length, map, codes, IfOk, IfErr, OnOk};
+ghost use Rattle.plan_types.specs.declared.limits.TheConstants.{MOST_ACTIONS, MOST_STEPS};
 ghost use Rattle.level_book.specs.BookCosts.{slots_of};
 ghost use Rattle.level_book.specs.Valid.{Valid};
 ghost use Rattle.cert_text.specs.Meaning.{IsCertificateText};
@@ -26,7 +27,7 @@ use std::alloc::Global;
 
 /// What a request for a proof that a list is least comes to by the bytes of its inputs.
 pub fn decide_certify(alloc: Global, certify: &Certify<'_>, bytes: &[Vec<u8>]) -> Result<Job, Ended>
-    requires steps { certify.now.steps ≤ 1000000 }
+    requires steps { certify.now.steps ≤ MOST_STEPS }
     requires inputs { AreWithinLimits (inputs_of (certify_command (as_certify certify.now))) (map (λ b. b.items) bytes.now) }
     ensures accepted { IfOk result (λ job. (slots : List ℕ) → (options : List Choice) →
         DecidesBytes options (certify_command (as_certify certify.now)) (map (λ b. b.items) bytes.now) slots (accept (job_of job))) }
@@ -49,7 +50,7 @@ fn certify_texts(
     schedule: &[u8],
     certificate: &[u8],
 ) -> Result<Job, Ended>
-    requires steps { steps ≤ 1000000 }
+    requires steps { steps ≤ MOST_STEPS }
     requires short { length schedule.now ≤ 536870912 }
     requires small { length certificate.now ≤ 536870912 }
     ensures accepted { IfOk result (λ job. DecidesCertify steps book.now schedule.now certificate.now (accept (job_of job))) }
@@ -86,7 +87,7 @@ fn certificate_in(
     steps: u32,
     book: &Book,
 ) -> Result<Certificate, Ended>
-    requires steps { steps ≤ 1000000 }
+    requires steps { steps ≤ MOST_STEPS }
     requires small { length bytes.now ≤ 536870912 }
     ensures found { IfOk result (IsCertificateText steps book.now bytes.now) }
     ensures refused { IfErr result (IsRefusal (HasFirstFault steps book.now bytes.now) bad_certificate) }
@@ -102,8 +103,8 @@ fn weigh(
     book: &Book,
     certificate: &Certificate,
 ) -> Result<Class, Ended>
-    requires steps { steps ≤ 1000000 }
-    requires few { length list.now ≤ 16777216 }
+    requires steps { steps ≤ MOST_STEPS }
+    requires few { length list.now ≤ MOST_ACTIONS }
     ensures accepted { IfOk result (λ class. (class ≡ class_of certificate.now) × IsAccepted list.now steps book.now certificate.now) }
     ensures refused { IfErr result (IsUnweighed steps book.now list.now certificate.now) }
 {

@@ -2,6 +2,7 @@
 ghost use Rattle.std.specs.Prelude.{◌≡◌, ◌⊎◌, ℕ, ◌*◌, ◌≤◌, ◌++◌, List, [], ◌∷◌, length, map, codes, decimal, IfOk, IfErr, OnOk};
 ghost use Rattle.std.specs.Option.{option_copied};
 ghost use Rattle.std.specs.List.{AllByRecursion};
+ghost use Rattle.plan_types.specs.declared.limits.TheConstants.{MOST_STEPS};
 ghost use Rattle.level_book.specs.BookCosts.{slots_of, names_of};
 ghost use Rattle.level_book.specs.BookFaults.{IsBookText};
 ghost use Rattle.level_book.specs.Valid.{Valid, BrokenAt};
@@ -104,8 +105,8 @@ fn decide_run(
 ) -> Result<Job, Ended>
     requires stack { (1 ≤ stack_pages options.now) × (stack_pages options.now ≤ 1024) }
     requires unit { (1 ≤ unit_count options.now) × (unit_count options.now ≤ 1024) }
-    requires steps { run.now.steps ≤ 1000000 }
-    requires instructions { unit_count options.now * run.now.steps ≤ 1000000 }
+    requires steps { run.now.steps ≤ MOST_STEPS }
+    requires instructions { unit_count options.now * run.now.steps ≤ MOST_STEPS }
     requires inputs { AreWithinLimits (inputs_of (run_command (as_run run.now))) (map (λ b. b.items) bytes.now) }
     ensures accepted { IfOk result (λ job. DecidesBytes options.now (run_command (as_run run.now)) (map (λ b. b.items) bytes.now) counts.now
         (accept (job_of job))) }
@@ -152,8 +153,8 @@ fn decide_ask(
 ) -> Result<Job, Ended>
     requires stack { (1 ≤ stack_pages options.now) × (stack_pages options.now ≤ 1024) }
     requires unit { (1 ≤ unit_count options.now) × (unit_count options.now ≤ 1024) }
-    requires steps { ask.now.run.steps ≤ 1000000 }
-    requires instructions { unit_count options.now * ask.now.run.steps ≤ 1000000 }
+    requires steps { ask.now.run.steps ≤ MOST_STEPS }
+    requires instructions { unit_count options.now * ask.now.run.steps ≤ MOST_STEPS }
     requires question { IsWithin (question_bound (unit_count options.now * ask.now.run.steps) ask.now.question) }
     requires inputs { AreWithinLimits (inputs_of (ask_command (as_ask ask.now))) (map (λ b. b.items) bytes.now) }
     ensures accepted { IfOk result (λ job. DecidesBytes options.now (ask_command (as_ask ask.now)) (map (λ b. b.items) bytes.now) counts.now
@@ -179,8 +180,8 @@ fn decide_over(
 ) -> Result<Over, Ended>
     requires stack { (1 ≤ stack_pages options.now) × (stack_pages options.now ≤ 1024) }
     requires unit { (1 ≤ unit_count options.now) × (unit_count options.now ≤ 1024) }
-    requires steps { steps ≤ 1000000 }
-    requires instructions { unit_count options.now * steps ≤ 1000000 }
+    requires steps { steps ≤ MOST_STEPS }
+    requires instructions { unit_count options.now * steps ≤ MOST_STEPS }
     requires inputs { (r : RunCommand) × AreWithinLimits (inputs_of (run_command r)) (map (λ b. b.items) bytes.now) }
     ensures accepted { IfOk result (λ o. (job : ARun → AJob) →
         DecidesOverBytes job options.now steps (map (λ b. b.items) bytes.now) counts.now (accept (job (run_over o)))) }
@@ -223,8 +224,8 @@ fn decide_texts(
 ) -> Result<Over, Ended>
     requires stack { (1 ≤ stack_pages options.now) × (stack_pages options.now ≤ 1024) }
     requires unit { (1 ≤ unit_count options.now) × (unit_count options.now ≤ 1024) }
-    requires steps { steps ≤ 1000000 }
-    requires instructions { unit_count options.now * steps ≤ 1000000 }
+    requires steps { steps ≤ MOST_STEPS }
+    requires instructions { unit_count options.now * steps ≤ MOST_STEPS }
     requires short { length texts.schedule.now ≤ 536870912 }
     ensures accepted { IfOk result (λ o. (job : ARun → AJob) →
         DecidesOver job options.now steps texts.entry.program.now (option_copied texts.entry.journal) texts.entry.book.now texts.entry.schedule.now counts.now (accept (job (run_over o)))) }
@@ -253,7 +254,7 @@ fn decide_texts(
 
 // The same for the judgement of a schedule.
 fn decide_check(alloc: Global, check: &Check<'_>, bytes: &[Vec<u8>]) -> Result<Job, Ended>
-    requires steps { check.now.steps ≤ 1000000 }
+    requires steps { check.now.steps ≤ MOST_STEPS }
     requires inputs { AreWithinLimits (inputs_of (check_command (as_check check.now))) (map (λ b. b.items) bytes.now) }
     ensures accepted { IfOk result (λ job. (slots : List ℕ) → (options : List Choice) →
         DecidesBytes options (check_command (as_check check.now)) (map (λ b. b.items) bytes.now) slots (accept (job_of job))) }
@@ -270,7 +271,7 @@ fn decide_check(alloc: Global, check: &Check<'_>, bytes: &[Vec<u8>]) -> Result<J
 }
 
 fn judge_texts(alloc: Global, steps: u32, book: &[u8], schedule: &[u8]) -> Result<Job, Ended>
-    requires steps { steps ≤ 1000000 }
+    requires steps { steps ≤ MOST_STEPS }
     requires short { length schedule.now ≤ 536870912 }
     ensures accepted { IfOk result (λ job. DecidesCheck steps book.now schedule.now (accept (job_of job))) }
     ensures can_be_done { IfOk result CanBeDone }
@@ -364,7 +365,7 @@ pub(crate) fn list_in(alloc: Global, bytes: &[u8], book: &Book) -> Result<Vec<Ac
 
 // Judges a list.
 pub(crate) fn judge(alloc: Global, list: &[Action], steps: u32, book: &Book) -> Result<(), Ended>
-    requires { steps ≤ 1000000 }
+    requires { steps ≤ MOST_STEPS }
     ensures valid { OnOk result (Valid steps (slots_of book.now) list.now) }
     ensures broken { IfErr result (λ e. (e ≡ no_memory) ⊎ ((e ≡ invalid e.place e.more e.rule)
         × BrokenAt steps (slots_of book.now) list.now e.place e.rule e.more × (Valid steps (slots_of book.now) list.now → ⊥))) }

@@ -2,6 +2,7 @@
 ghost use Rattle.std.specs.Prelude.{◌≡◌, ◌≢◌, ◌⊎◌, ◌↔◌, ℕ, ◌+◌, ◌*◌, ◌%◌, ◌^◌, ◌<◌, ◌≤◌, ◌++◌, List, [], ◌∷◌, length, Option, decimal, MatchOption, IfOk, IfErr, OnOk};
 ghost use Rattle.std.specs.Int.{w32, to_le_bytes};
 ghost use Rattle.plan_types.specs.declared.action.Action.{Action};
+ghost use Rattle.plan_types.specs.declared.limits.TheConstants.{MOST_SLOTS, MOST_STEPS};
 ghost use Rattle.level_book.specs.BookCosts.{slots_of, total_room, plain};
 ghost use Rattle.level_book.specs.CostFold.{forward};
 ghost use Rattle.level_book.specs.Valid.{Valid};
@@ -54,8 +55,8 @@ const DRAWS: u32 = 62;
 /// What a request for a demonstration comes to.
 pub fn decide_demo(alloc: Global, demo: &Demo) -> Result<Job, Ended>
     requires number { demo.now.number ≤ 4294967295 }
-    requires steps { demo.now.steps ≤ 1000000 }
-    requires slots { demo.now.slots ≤ 1000000 }
+    requires steps { demo.now.steps ≤ MOST_STEPS }
+    requires slots { demo.now.slots ≤ MOST_SLOTS }
     ensures accepted { IfOk result (λ job. DecidesDemo demo.now.number demo.now.steps demo.now.slots (accept (job_of job))) }
     ensures can_be_done { IfOk result CanBeDone }
     ensures room { IfOk result (λ job. (counts : List ℕ) → KeepersHaveRoom job counts) }
@@ -224,8 +225,8 @@ impl Demonstrated {
         steps: u32,
         slots: u32,
     ) -> Result<Demonstrated, AllocError>
-        requires steps { steps ≤ 1000000 }
-        requires slots { slots ≤ 1000000 }
+        requires steps { steps ≤ MOST_STEPS }
+        requires slots { slots ≤ MOST_SLOTS }
         requires plan { HasPlan steps (total_room (plain slots) steps) }
         ensures start { IfOk result IsAtStart }
         ensures session { IfOk result (λ d. d.session ≡ begun start [] 1 steps (slots_of (plain slots))) }
@@ -268,8 +269,8 @@ impl Demonstrated {
 
 // What is written of a run.
 fn summary(number: u32, steps: u32, slots: u32, digest: &[u8; 32]) -> Line
-    requires steps { steps ≤ 1000000 }
-    requires slots { slots ≤ 1000000 }
+    requires steps { steps ≤ MOST_STEPS }
+    requires slots { slots ≤ MOST_SLOTS }
     requires plan { HasPlan steps (total_room (plain slots) steps) }
     ensures { result ≡ summary_text number steps slots (forward (demo_list steps slots)) digest.now }
 {
@@ -297,8 +298,8 @@ fn push_number(line: &mut Line, before: &[u8], n: u64)
 
 // The forward steps of the list.
 fn forward_steps(steps: u32, slots: u32) -> u64
-    requires steps { steps ≤ 1000000 }
-    requires slots { slots ≤ 1000000 }
+    requires steps { steps ≤ MOST_STEPS }
+    requires slots { slots ≤ MOST_SLOTS }
     requires plan { HasPlan steps (total_room (plain slots) steps) }
     ensures { result ≡ forward (demo_list steps slots) }
 {

@@ -1,6 +1,7 @@
 // The search of a run for the last state that has a digest.
 ghost use Rattle.std.specs.Prelude.{◌≡◌, ◌⊎◌, ℕ, ◌≤◌, List, map, IfOk, IfErr};
 ghost use Rattle.std.specs.Option.{option_copied};
+ghost use Rattle.plan_types.specs.declared.limits.TheConstants.{MOST_STEPS};
 ghost use Rattle.requests.specs.Request.{find as find_command, stack_pages, worker_count};
 ghost use Rattle.requests.specs.Inputs.{inputs_of};
 ghost use Rattle.requests.specs.InputReading.{AreWithinLimits};
@@ -77,7 +78,7 @@ pub fn decide_find(
 ) -> Result<Job, Ended>
     requires stack { (1 ≤ stack_pages options.now) × (stack_pages options.now ≤ 1024) }
     requires workers { (1 ≤ worker_count options.now) × (worker_count options.now ≤ 64) }
-    requires steps { find.now.steps ≤ 1000000 }
+    requires steps { find.now.steps ≤ MOST_STEPS }
     requires inputs { AreWithinLimits (inputs_of (find_command (as_find find.now))) (map (λ b. b.items) bytes.now) }
     ensures accepted { IfOk result (λ job. (slots : List ℕ) →
         DecidesBytes options.now (find_command (as_find find.now)) (map (λ b. b.items) bytes.now) slots (accept (job_of job))) }
@@ -102,7 +103,7 @@ fn find_in(
 ) -> Result<Job, Ended>
     requires stack { (1 ≤ stack_pages options.now) × (stack_pages options.now ≤ 1024) }
     requires workers { (1 ≤ worker_count options.now) × (worker_count options.now ≤ 64) }
-    requires steps { find.now.steps ≤ 1000000 }
+    requires steps { find.now.steps ≤ MOST_STEPS }
     ensures accepted { IfOk result (λ job. Decided (find_table options.now find.now.steps find.now.digest program.now (option_copied journal.entry))
         (accept (job_of job))) }
     ensures can_be_done { IfOk result CanBeDone }

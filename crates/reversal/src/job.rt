@@ -1,5 +1,6 @@
 // What is to be done of a call that isn't refused.
 ghost use Rattle.std.specs.Prelude.{◌≡◌, ◌≢◌, ◌⊎◌, ◌≤◌, ℕ, [], ◌∷◌, length, map, Option};
+ghost use Rattle.plan_types.specs.declared.limits.TheConstants.{MOST_ACTIONS};
 ghost use Rattle.keepers.specs.Told.{Images};
 ghost use Rattle.level_book.specs.BookCosts.{slots_of};
 ghost use Rattle.level_book.specs.Valid.{Valid};
@@ -162,7 +163,7 @@ fn perform_all<K: Keeper, O: Sink, L: Ledger>(
     requires alone { (told : ℕ → Option Images) → AllEmpty (length session.old.situation.slots) told → AreAlone (levels_of session.old told) }
     requires state { IsMachineState session.old.work }
     requires valid { Valid session.old.situation.steps session.old.situation.slots (left_of actions.old) }
-    requires few { length (left_of actions.old) ≤ 16777216 }
+    requires few { length (left_of actions.old) ≤ MOST_ACTIONS }
     requires room { HaveRoom session.old.situation.steps session.old.situation.slots (map K.slot_count keepers.old.items) }
     ensures works { Works (perform (run_from session.old (left_of actions.old))) result
         (moment O.told O.call_count O.fault_count K.told K.put_count K.get_count K.free_count K.fault_count out.old keepers.old.items counter.old)

@@ -1,6 +1,7 @@
 // Laws of requests and decisions. Each function does nothing; its contract is the law.
 ghost use Rattle.std.specs.Prelude.{◌≡◌, ℕ, ◌+◌, ◌≤◌, ◌++◌, List, [], ◌∷◌, Option};
 ghost use Rattle.plan_types.specs.declared.action.Action.{Action};
+ghost use Rattle.plan_types.specs.declared.limits.TheConstants.{MOST_STEPS};
 ghost use Rattle.level_book.specs.BookCosts.{BookCosts, slots_of, names_of, total_room};
 ghost use Rattle.binomials.specs.Advances.{least_advances};
 ghost use Rattle.rv_machine.specs.MachineState.{MachineState};
@@ -90,7 +91,7 @@ pub fn revolve_runs_are_least()
 /// A periodic plan is valid and is read again as it was made: where a request for one comes to its job, the text of the periodic
 /// list of the book is written; that list is valid for the book, and read as a schedule the text says it.
 pub fn periodic_plans_are_read_again()
-    ensures { (steps period : ℕ) (book : List ℕ) (job : Job) → steps ≤ 1000000 → 1 ≤ period → DecidesPlanPeriodic steps period book (accept job) →
+    ensures { (steps period : ℕ) (book : List ℕ) (job : Job) → steps ≤ MOST_STEPS → 1 ≤ period → DecidesPlanPeriodic steps period book (accept job) →
         (b : BookCosts) × IsBookText book b × (job ≡ write (list_pieces (names_of b) (periodic_list steps period b)))
         × Valid steps (slots_of b) (periodic_list steps period b)
         × ((shown : Shown) → IsSchedule (names_of b) ((course_of job).output shown) (periodic_list steps period b)) }
@@ -98,7 +99,7 @@ pub fn periodic_plans_are_read_again()
 
 /// What is written of a plan of Revolve is read again: as a schedule that says its list, and as a text that says its certificate.
 pub fn plans_are_read_again()
-    ensures { (steps : ℕ) (book : List ℕ) (job : Job) → steps ≤ 1000000 → DecidesPlanRevolve steps book (accept job) →
+    ensures { (steps : ℕ) (book : List ℕ) (job : Job) → steps ≤ MOST_STEPS → DecidesPlanRevolve steps book (accept job) →
         (b : BookCosts) × IsBookText book b × ((shown : Shown) →
         IsSchedule (names_of b) ((course_of job).output shown) (revolve_list steps b)
         × IsCertificateText steps b ((course_of job).output shown) (certificate_of steps b)) }
@@ -134,5 +135,5 @@ pub fn multistage_plans_are_least()
         × (job ≡ write (list_pieces (names_of b) list ++ pieces (certified.Places threshold)))
         × IsMultistage steps b list × IsAccepted list steps b (certified.Places threshold)
         × ((other : List Action) → IsMultistage steps b other → cost list b ≤ cost other b)
-        × (steps ≤ 1000000 → SaysAgain steps b job list (certified.Places threshold)) }
+        × (steps ≤ MOST_STEPS → SaysAgain steps b job list (certified.Places threshold)) }
 {}

@@ -2,6 +2,7 @@
 ghost use Rattle.std.specs.Prelude.{◌≡◌, ◌≢◌, ◌⊎◌, ◌<◌, ◌≤◌, ◌^◌, ℕ, List, map, max, length, slice_get, Some, IfOk, IfErr, OnOk};
 ghost use Rattle.std.specs.Option.{option_copied};
 ghost use Rattle.std.specs.Vec.{vec_len};
+ghost use Rattle.plan_types.specs.declared.limits.TheConstants.{MOST_STEPS};
 ghost use Rattle.level_book.specs.BookCosts.{slots_of, total_room};
 ghost use Rattle.reverse_runner.specs.KeepersSeen.{HaveRoom};
 ghost use Rattle.reverse_console.specs.declared.order.Order.{Order as AnOrder};
@@ -95,7 +96,7 @@ pub fn decide_move_about(
     counts: &[u32],
 ) -> Result<Job, Ended>
     requires stack { (1 ≤ stack_pages options.now) × (stack_pages options.now ≤ 1024) }
-    requires steps { about.now.steps ≤ 1000000 }
+    requires steps { about.now.steps ≤ MOST_STEPS }
     requires inputs { AreWithinLimits (inputs_of (move_about_command (as_move_about about.now))) (map (λ b. b.items) bytes.now) }
     ensures accepted { IfOk result (λ job. DecidesBytes options.now (move_about_command (as_move_about about.now))
         (map (λ b. b.items) bytes.now) counts.now (accept (job_of job))) }
@@ -136,7 +137,7 @@ fn decide_texts(
     counts: &[u32],
 ) -> Result<Job, Ended>
     requires stack { (1 ≤ stack_pages options.now) × (stack_pages options.now ≤ 1024) }
-    requires steps { steps ≤ 1000000 }
+    requires steps { steps ≤ MOST_STEPS }
     requires short { length texts.script.now ≤ 1048576 }
     ensures accepted { IfOk result (λ job. DecidesConsole options.now steps texts.entry.program.now
         (option_copied texts.entry.journal) texts.entry.book.now texts.entry.script.now counts.now (accept (job_of job))) }
@@ -173,7 +174,7 @@ fn find_slot(steps: u32, book: &Book) -> Result<(), Ended>
 
 // The orders that the bytes of a script give in a run of so many steps.
 fn orders_in(alloc: Global, bytes: &[u8], steps: u32) -> Result<Vec<Order>, Ended>
-    requires steps { steps ≤ 1000000 }
+    requires steps { steps ≤ MOST_STEPS }
     requires short { length bytes.now ≤ 1048576 }
     ensures found { IfOk result (λ orders. IsScript steps bytes.now orders.items) }
     ensures orders { IfOk result (λ orders. (i : ℕ) (order : AnOrder) → slice_get orders.items i ≡ Some order → IsOrder steps order) }

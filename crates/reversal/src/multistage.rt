@@ -1,5 +1,6 @@
 // The multistage list for the two levels of a book, as text.
 ghost use Rattle.std.specs.Prelude.{◌≡◌, ◌⊎◌, ℕ, ◌≤◌, List, length, IfOk, IfErr};
+ghost use Rattle.plan_types.specs.declared.limits.TheConstants.{MOST_ACTIONS, MOST_STEPS};
 ghost use Rattle.level_book.specs.BookCosts.{total_room};
 ghost use Rattle.revolve_gen.specs.Plans.{HasPlan};
 ghost use Rattle.revolve_gen.specs.Multistage.{IsMultistage};
@@ -23,7 +24,7 @@ use std::alloc::Global;
 
 /// What a multistage plan comes to by the bytes of its book: the text of its list and of its certificate.
 pub fn multistage_text(alloc: Global, steps: u32, book: &[u8]) -> Result<Job, Ended>
-    requires steps { steps ≤ 1000000 }
+    requires steps { steps ≤ MOST_STEPS }
     ensures accepted { IfOk result (λ job. DecidesPlanMultistage steps book.now (accept (job_of job))) }
     ensures can_be_done { IfOk result CanBeDone }
     ensures room { IfOk result (λ job. (counts : List ℕ) → KeepersHaveRoom job counts) }
@@ -38,10 +39,10 @@ pub fn multistage_text(alloc: Global, steps: u32, book: &[u8]) -> Result<Job, En
 
 // The multistage list for so many steps and a book.
 fn list_for(alloc: Global, steps: u32, book: &Book) -> Result<Vec<Action>, Ended>
-    requires { steps ≤ 1000000 }
+    requires { steps ≤ MOST_STEPS }
     ensures list { IfOk result (λ list. IsMultistageList steps book.now list.items) }
     ensures class { IfOk result (λ list. IsMultistage steps book.now list.items) }
-    ensures few { IfOk result (λ list. length list.items ≤ 16777216) }
+    ensures few { IfOk result (λ list. length list.items ≤ MOST_ACTIONS) }
     ensures refused { IfErr result (λ e. (e ≡ no_memory)
         ⊎ ((length book.now.levels ≡ 2 → ⊥) × (e ≡ no_plan steps (total_room book.now steps) 2))
         ⊎ ((length book.now.levels ≡ 2) × (HasPlan steps (total_room book.now steps) → ⊥) × (e ≡ no_plan steps (total_room book.now steps) 1))) }

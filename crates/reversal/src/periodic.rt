@@ -1,5 +1,6 @@
 // The periodic list for the two levels of a book, as text.
 ghost use Rattle.std.specs.Prelude.{◌≡◌, ◌⊎◌, ℕ, ◌≤◌, List, IfOk, IfErr, OnOk};
+ghost use Rattle.plan_types.specs.declared.limits.TheConstants.{MOST_STEPS};
 ghost use Rattle.level_book.specs.BookCosts.{total_room};
 ghost use Rattle.disk_gen.specs.Periodic.{periodic_list};
 ghost use Rattle.disk_gen.specs.Plans.{HasPeriodicPlan};
@@ -21,9 +22,9 @@ use std::alloc::Global;
 
 /// What a periodic plan comes to by the bytes of its book: the text of its list.
 pub fn periodic_text(alloc: Global, steps: u32, period: u32, book: &[u8]) -> Result<Job, Ended>
-    requires steps { steps ≤ 1000000 }
+    requires steps { steps ≤ MOST_STEPS }
     requires some { 1 ≤ period }
-    requires small { period ≤ 1000000 }
+    requires small { period ≤ MOST_STEPS }
     ensures accepted { IfOk result (λ job. DecidesPlanPeriodic steps period book.now (accept (job_of job))) }
     ensures can_be_done { IfOk result CanBeDone }
     ensures room { IfOk result (λ job. (counts : List ℕ) → KeepersHaveRoom job counts) }
@@ -37,9 +38,9 @@ pub fn periodic_text(alloc: Global, steps: u32, period: u32, book: &[u8]) -> Res
 
 // The periodic list for so many steps, a period and a book.
 fn periodic_for(alloc: Global, steps: u32, period: u32, book: &Book) -> Result<Periodic, Ended>
-    requires steps { steps ≤ 1000000 }
+    requires steps { steps ≤ MOST_STEPS }
     requires some { 1 ≤ period }
-    requires small { period ≤ 1000000 }
+    requires small { period ≤ MOST_STEPS }
     ensures list { IfOk result (λ p. p ≡ periodic_list steps period book.now) }
     ensures plan { OnOk result (HasPeriodicPlan steps period book.now) }
     ensures refused { IfErr result (λ e. (e ≡ no_memory) ⊎ IsUnperiodic steps period book.now e) }

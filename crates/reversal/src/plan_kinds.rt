@@ -1,6 +1,7 @@
 // What requests for plans come to.
 ghost use Rattle.std.specs.Prelude.{◌≡◌, ◌⊎◌, ℕ, ◌≤◌, List, map, IfOk, IfErr};
 ghost use Rattle.std.specs.List.{AllByRecursion};
+ghost use Rattle.plan_types.specs.declared.limits.TheConstants.{MOST_STEPS};
 ghost use Rattle.requests.specs.Request.{Choice, plan_limit, plan as plan_command, plan_periodic as plan_periodic_command};
 ghost use Rattle.requests.specs.Operands.{within};
 ghost use Rattle.requests.specs.Bounds.{IsWithin};
@@ -76,9 +77,9 @@ pub fn decide_plan_periodic(
     plan: &PlanPeriodic<'_>,
     bytes: &[Vec<u8>],
 ) -> Result<Job, Ended>
-    requires steps { plan.now.steps ≤ 1000000 }
+    requires steps { plan.now.steps ≤ MOST_STEPS }
     requires some { 1 ≤ plan.now.period }
-    requires small { plan.now.period ≤ 1000000 }
+    requires small { plan.now.period ≤ MOST_STEPS }
     requires inputs { AreWithinLimits (inputs_of (plan_periodic_command (as_plan_periodic plan.now))) (map (λ b. b.items) bytes.now) }
     ensures accepted { IfOk result (λ job. (slots : List ℕ) → (options : List Choice) →
         DecidesBytes options (plan_periodic_command (as_plan_periodic plan.now)) (map (λ b. b.items) bytes.now) slots (accept (job_of job))) }

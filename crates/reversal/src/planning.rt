@@ -4,6 +4,7 @@ ghost use Rattle.std.specs.List.{AllByRecursion};
 ghost use Rattle.std.specs.Option.{option_copied};
 ghost use Rattle.std.specs.Vec.{vec_len, vec_capacity};
 ghost use Rattle.plan_types.specs.declared.action.Action.{Action};
+ghost use Rattle.plan_types.specs.declared.limits.TheConstants.{MOST_STEPS};
 ghost use Rattle.level_book.specs.BookCosts.{names_of, total_room};
 ghost use Rattle.action_text.specs.Canonical.{HasSpelling};
 ghost use Rattle.cert_text.specs.Canonical.{pieces};
@@ -61,8 +62,8 @@ pub fn decide_run_revolve(
 ) -> Result<Job, Ended>
     requires stack { (1 ≤ stack_pages options.now) × (stack_pages options.now ≤ 1024) }
     requires unit { (1 ≤ unit_count options.now) × (unit_count options.now ≤ 1024) }
-    requires steps { run.now.steps ≤ 1000000 }
-    requires instructions { unit_count options.now * run.now.steps ≤ 1000000 }
+    requires steps { run.now.steps ≤ MOST_STEPS }
+    requires instructions { unit_count options.now * run.now.steps ≤ MOST_STEPS }
     requires inputs { AreWithinLimits (inputs_of (run_revolve_command (as_run_revolve run.now))) (map (λ b. b.items) bytes.now) }
     ensures accepted { IfOk result (λ job. DecidesBytes options.now (run_revolve_command (as_run_revolve run.now))
         (map (λ b. b.items) bytes.now) counts.now (accept (job_of job))) }
@@ -102,8 +103,8 @@ fn decide_texts(
 ) -> Result<Job, Ended>
     requires stack { (1 ≤ stack_pages options.now) × (stack_pages options.now ≤ 1024) }
     requires unit { (1 ≤ unit_count options.now) × (unit_count options.now ≤ 1024) }
-    requires steps { steps ≤ 1000000 }
-    requires instructions { unit_count options.now * steps ≤ 1000000 }
+    requires steps { steps ≤ MOST_STEPS }
+    requires instructions { unit_count options.now * steps ≤ MOST_STEPS }
     ensures accepted { IfOk result (λ job. DecidesRunRevolve options.now steps texts.entry.program.now
         (option_copied texts.entry.journal) texts.entry.book.now counts.now (accept (job_of job))) }
     ensures can_be_done { IfOk result CanBeDone }
@@ -128,7 +129,7 @@ fn decide_texts(
 
 /// What a plan of Revolve comes to by the bytes of its book: the text of its list, and of its certificate.
 pub fn revolve_text(alloc: Global, steps: u32, book: &[u8]) -> Result<Job, Ended>
-    requires steps { steps ≤ 1000000 }
+    requires steps { steps ≤ MOST_STEPS }
     ensures accepted { IfOk result (λ job. DecidesPlanRevolve steps book.now (accept (job_of job))) }
     ensures can_be_done { IfOk result CanBeDone }
     ensures room { IfOk result (λ job. (counts : List ℕ) → KeepersHaveRoom job counts) }
@@ -180,7 +181,7 @@ pub fn certified_text(
 
 // The list of Revolve for so many steps and a book.
 fn revolve_for(alloc: Global, steps: u32, book: &Book) -> Result<Revolve, Ended>
-    requires { steps ≤ 1000000 }
+    requires { steps ≤ MOST_STEPS }
     ensures list { IfOk result (λ r. r ≡ revolve_list steps book.now) }
     ensures plan { OnOk result (HasPlan steps (total_room book.now steps)) }
     ensures refused { IfErr result (λ e. (e ≡ no_memory)

@@ -1,5 +1,6 @@
 // What a schedule costs.
 ghost use Rattle.std.specs.Prelude.{◌≡◌, ◌≢◌, ◌⊎◌, ℕ, ◌*◌, ◌^◌, ◌<◌, ◌≤◌, List, length, map, Option, IfOk, IfErr};
+ghost use Rattle.plan_types.specs.declared.limits.TheConstants.{MOST_ACTIONS, MOST_STEPS};
 ghost use Rattle.level_book.specs.BookCosts.{slots_of};
 ghost use Rattle.level_book.specs.Valid.{Valid};
 ghost use Rattle.cost_fold.specs.CountsOf.{all_of};
@@ -51,7 +52,7 @@ impl Pricing {
 
 /// What a request for the cost of a schedule comes to by the bytes of its inputs.
 pub fn decide_price(alloc: Global, price: &Price<'_>, bytes: &[Vec<u8>]) -> Result<Job, Ended>
-    requires steps { price.now.steps ≤ 1000000 }
+    requires steps { price.now.steps ≤ MOST_STEPS }
     requires inputs { AreWithinLimits (inputs_of (price_command (as_price price.now))) (map (λ b. b.items) bytes.now) }
     ensures accepted { IfOk result (λ job. (slots : List ℕ) → (options : List Choice) →
         DecidesBytes options (price_command (as_price price.now)) (map (λ b. b.items) bytes.now) slots (accept (job_of job))) }
@@ -68,7 +69,7 @@ pub fn decide_price(alloc: Global, price: &Price<'_>, bytes: &[Vec<u8>]) -> Resu
 }
 
 fn price_texts(alloc: Global, steps: u32, book: &[u8], schedule: &[u8]) -> Result<Job, Ended>
-    requires steps { steps ≤ 1000000 }
+    requires steps { steps ≤ MOST_STEPS }
     requires short { length schedule.now ≤ 536870912 }
     ensures accepted { IfOk result (λ job. DecidesPrice steps book.now schedule.now (accept (job_of job))) }
     ensures can_be_done { IfOk result CanBeDone }
@@ -84,8 +85,8 @@ fn price_texts(alloc: Global, steps: u32, book: &[u8], schedule: &[u8]) -> Resul
 
 // The counts of a valid list.
 fn counts_of(list: &[Action], steps: u32, book: &Book) -> Counts
-    requires steps { steps ≤ 1000000 }
-    requires few { length list.now ≤ 16777216 }
+    requires steps { steps ≤ MOST_STEPS }
+    requires few { length list.now ≤ MOST_ACTIONS }
     requires valid { Valid steps (slots_of book.now) list.now }
     ensures report { report_lines book.now result ≡ list_report book.now list.now }
     ensures bounded { all_of result * 1000000 < 2 ^ 64 }

@@ -1,14 +1,13 @@
 -- What an order takes.
-use Rattle.std.proofs.Common.{◌≡◌, ℕ, ◌+◌, ◌-◌, ◌≤◌, Bool, List, length, Some, None, Option, Result, Ok, Err, OnOk, IfOk, IfErr, refl, sym, subst, arith}
+use Rattle.std.proofs.Common.{◌≡◌, ◌≢◌, ℕ, ◌+◌, ◌-◌, ◌≤◌, Bool, List, length, Some, None, Option, Result, Ok, Err, OnOk, IfOk, IfErr, refl, sym, ◌∙◌, subst, arith}
 use Rattle.std.proofs.lemmas.Result.{IfErr-at_err}
 use Rattle.keepers.specs.Told.{Images}
 use Rattle.rv_machine.specs.MachineState.{MachineState, IsMachineState}
 use Rattle.rv_machine.specs.States.{state_number}
-use Rattle.reverse_runner.specs.KeepersSeen.{Calls, Called, CalledAtMost}
+use Rattle.reverse_runner.specs.KeepersSeen.{Calls, Called}
 use Rattle.reverse_runner.specs.Touching.{one_get}
 use Rattle.reverse_runner.specs.declared.fault.RunFault.{RunFault}
 use Rattle.reverse_runner.specs.declared.fault.RunFault.TheVariants.{Keeper, Damaged, Visitor, Memory, Ended}
-use Rattle.reverse_runner.proofs.AllCalls.{at_most}
 use Rattle.reverse_console.specs.Answer.{IsGiven}
 use Rattle.reverse_console.specs.Costs.{gets_of, GotAtMost, Takes, TookInPart, TookUntil}
 use Rattle.reverse_console.specs.Refusals.{IsOfGetting}
@@ -46,18 +45,15 @@ takes_found p None n steps mid steps' most calls calls1 calls' marks is within l
 
 -- it was found, and getting its mark failed
 pub took_found : (p : MarkPlan) (said : Option ℕ) (fault : RunFault) (n steps mid steps' most : ℕ) (calls calls1 calls' : Calls) (marks : List ℕ) → IsSaid said n steps mid calls calls1 → n ≤ p.count → steps ≤ mid → mid ≤ steps + p.count →
-    mid ≤ steps' → steps' ≤ mid + (n - mark p n) → Called (one_get (mark_level p (mark_of p n))) calls1 calls' → length marks ≤ most → most ≤ mark_count p + 2 → Called (gets_of p marks) calls calls' →
+    steps' ≡ mid → Called (one_get (mark_level p (mark_of p n))) calls1 calls' → length marks ≤ most → most ≤ mark_count p + 2 → Called (gets_of p marks) calls calls' →
     IsOfGetting (one_get (mark_level p (mark_of p n))) fault → IsOfGetting (gets_of p marks) fault → TookInPart p said fault steps steps' calls calls'
-took_found p (Some m) fault n steps mid steps' most calls calls1 calls' marks is within low high rises counted called few le all of of_all =
+took_found p (Some m) fault n steps mid steps' most calls calls1 calls' marks is within low high idle called few le all of of_all =
     let at = is m refl in
-    let P : ℕ → Type 0 = λ x. (steps ≤ steps') × (steps' ≤ steps + (x - mark p x)) × CalledAtMost (one_get (mark_level p (mark_of p x))) calls calls' × IsOfGetting (one_get (mark_level p (mark_of p x))) fault in
-    let Q : Calls → Type 0 = λ c. CalledAtMost (one_get (mark_level p (mark_of p n))) c calls' in
-    let same = at.1 in
-    subst P (sym at.0) (omega (arith, rises, same), omega (arith, counted, same), subst Q at.2 (at_most (one_get (mark_level p (mark_of p n))) calls1 calls' called), of)
-took_found p None fault n steps mid steps' most calls calls1 calls' marks is within low high rises counted called few le all of of_all =
-    let near = near_mark p n within in
-    let under = mark_at_most p n in
-    (omega (arith, low, rises), omega (arith, high, counted, near, under), record { marks = marks; few = omega (arith, few, le); called = all; of = of_all })
+    let P : ℕ → Type 0 = λ x. (steps' ≡ steps) × Called (one_get (mark_level p (mark_of p x))) calls calls' × IsOfGetting (one_get (mark_level p (mark_of p x))) fault in
+    let Q : Calls → Type 0 = λ c. Called (one_get (mark_level p (mark_of p n))) c calls' in
+    subst P (sym at.0) (idle ∙ at.1, subst Q at.2 called, of)
+took_found p None fault n steps mid steps' most calls calls1 calls' marks is within low high idle called few le all of of_all =
+    (omega (arith, low, idle), omega (arith, high, idle), record { marks = marks; few = omega (arith, few, le); called = all; of = of_all })
 
 -- none was found
 pub takes_none : (p : MarkPlan) (said : Option ℕ) (steps steps' most : ℕ) (calls calls' : Calls) (marks : List ℕ) → ((m : ℕ) → said ≡ Some m → ⊥) → steps ≤ steps' → steps' ≤ steps + p.count → length marks ≤ most → most ≤ mark_count p + 2 →
@@ -73,11 +69,11 @@ took_none p None fault steps steps' most calls calls' marks never low high few l
 
 -- what an order took up to a fault of getting or of the visitor
 pub took_until : (p : MarkPlan) (said : Option ℕ) (c : Calls) (fault : RunFault) (steps steps' : ℕ) (calls calls' : Calls) → (fault ≡ Visitor → Takes p said steps steps' calls calls') → IsOfGetting c fault →
-    TookInPart p said fault steps steps' calls calls' → TookUntil p said fault steps steps' calls calls'
-took_until p said c (Keeper k) steps steps' calls calls' whole of part = part
-took_until p said c (Damaged k put got) steps steps' calls calls' whole of part = part
+    (fault ≢ Visitor → TookInPart p said fault steps steps' calls calls') → TookUntil p said fault steps steps' calls calls'
+took_until p said c (Keeper k) steps steps' calls calls' whole of part = part (λ e. cc)
+took_until p said c (Damaged k put got) steps steps' calls calls' whole of part = part (λ e. cc)
 took_until p said c Visitor steps steps' calls calls' whole of part = whole refl
-took_until p said c Memory steps steps' calls calls' whole of part = part
+took_until p said c Memory steps steps' calls calls' whole of part = part (λ e. cc)
 took_until p said c Ended steps steps' calls calls' whole of part = absurd of
 
 -- ---- the answer over a run
@@ -118,6 +114,10 @@ found_none r m first second = cc
 
 pub both_ways : {T E : Type 0} (r : Result T E) {x : T} (y : E) → r ≡ Ok x → r ≡ Err y → ⊥
 both_ways r y first second = cc
+
+-- a fault that isn't the visitor's is not what a call answered
+pub other_fault : {T : Type 0} (r : Result T RunFault) (x y : RunFault) → r ≡ Err x → y ≡ x → y ≢ Visitor → r ≢ Err Visitor
+other_fault r x y first same other e = other cc
 
 -- a fault of a call is that which is passed on
 pub pass_on : {T U E : Type 0} (r : Result T E) (s : Result U E) (x y z : E) → r ≡ Err x → s ≡ Err y → y ≡ x → r ≡ Err z → s ≡ Err z

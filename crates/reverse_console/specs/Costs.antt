@@ -1,6 +1,6 @@
 -- What an order takes: machine steps, and images that are got.
 use Rattle.std.specs.Prelude.{◌≡◌, ℕ, ◌+◌, ◌-◌, ◌*◌, ◌==◌, ◌≤◌, min, List, length, count_by, Option, None, Some}
-use Rattle.reverse_runner.specs.KeepersSeen.{Calls, Called, CalledAtMost}
+use Rattle.reverse_runner.specs.KeepersSeen.{Calls, Called}
 use Rattle.reverse_runner.specs.Touching.{one_get}
 use Rattle.reverse_runner.specs.declared.fault.RunFault.{RunFault}
 use Rattle.reverse_runner.specs.declared.fault.RunFault.TheVariants.{Visitor, Ended}
@@ -43,11 +43,11 @@ abbrev pub Takes : MarkPlan → Option ℕ → ℕ → ℕ → Calls → Calls �
 Takes p (Some n) steps steps' calls calls' = (steps' ≡ steps + (n - mark p n)) × Called (one_get (mark_level p (mark_of p n))) calls calls'
 Takes p None steps steps' calls calls' = (steps ≤ steps') × (steps' ≤ steps + (p.count + 2 * stride p)) × GotAtMost p (mark_count p + 2) calls calls'
 
--- What an order took that was broken off while it got marks: it is no more, and the fault came from getting one of them.
+-- What an order took that was broken off while it got marks: where it says its place, its mark was got, and no step was
+-- taken; else it is no more. The fault came from getting a mark that was got.
 abbrev pub TookInPart : MarkPlan → Option ℕ → RunFault → ℕ → ℕ → Calls → Calls → Type 0
 TookInPart p (Some n) fault steps steps' calls calls' =
-    (steps ≤ steps') × (steps' ≤ steps + (n - mark p n)) × CalledAtMost (one_get (mark_level p (mark_of p n))) calls calls'
-    × IsOfGetting (one_get (mark_level p (mark_of p n))) fault
+    (steps' ≡ steps) × Called (one_get (mark_level p (mark_of p n))) calls calls' × IsOfGetting (one_get (mark_level p (mark_of p n))) fault
 TookInPart p None fault steps steps' calls calls' =
     (steps ≤ steps') × (steps' ≤ steps + (p.count + 2 * stride p)) × GotUntil p (mark_count p + 2) fault calls calls'
 

@@ -1,6 +1,7 @@
 -- Which bytes are a script, and which orders it gives. Each line is blank, a comment, or an order: a command, and a number or
 -- an address behind it.
 use Rattle.std.specs.Prelude.{◌≡◌, ◌≤◌, ◌⊎◌, ℕ, true, List, [], ◌∷◌, ◌++◌, codes, decimal}
+use Rattle.plan_types.specs.declared.limits.TheConstants.{MOST_STEPS}
 use Rattle.action_text.specs.Tokens.{Token}
 use Rattle.action_text.specs.ScheduleText.{lines}
 use Rattle.state_image.specs.Line.{hex_word}
@@ -44,9 +45,9 @@ operand_word _ n = address_word n
 
 -- a number is at most 1,000,000, and an address has 32 bits
 abbrev pub greatest : Command → ℕ
-greatest command.Back = 1000000
-greatest command.Step = 1000000
-greatest command.Goto = 1000000
+greatest command.Back = MOST_STEPS
+greatest command.Step = MOST_STEPS
+greatest command.Goto = MOST_STEPS
 greatest _ = 0xFFFFFFFF
 
 -- a text is the operand of a command

@@ -1,5 +1,6 @@
 // The words of an order: its command, and what stands behind it.
 ghost use Rattle.std.specs.Prelude.{◌≡◌, ◌≤◌, IfSome};
+ghost use Rattle.plan_types.specs.declared.limits.TheConstants.{MOST_STEPS};
 ghost use Rattle.action_text.specs.Reading.{GivesSome, digits_at, number_at, number_of as number_in};
 ghost use Rattle.reverse_console.specs.Script.{order_with as order_of_command};
 ghost use Rattle.reverse_console.specs.ScriptFaults.{rule_of as rule_of_command};
@@ -95,7 +96,7 @@ pub(crate) fn operand_of(command: Command, word: &[u8]) -> Option<u32>
 // The number that the digits at the front of the bytes make, and the bytes after them, unless it is above 1,000,000.
 #[tactic(auto, unfolding(action_text::specs::Reading::digits_at))]
 fn digits(bytes: &[u8]) -> Option<(u32, &[u8])>
-    ensures { GivesSome (λ x. (x.0, x.1.now)) result (digits_at 1000000 0 bytes.now) }
+    ensures { GivesSome (λ x. (x.0, x.1.now)) result (digits_at MOST_STEPS 0 bytes.now) }
 {
     let mut n = 0;
     let mut rest = bytes;
@@ -113,7 +114,7 @@ fn digits(bytes: &[u8]) -> Option<(u32, &[u8])>
 // The same, without a leading zero.
 #[tactic(auto, unfolding(action_text::specs::Reading::number_at))]
 fn number_at(bytes: &[u8]) -> Option<(u32, &[u8])>
-    ensures { GivesSome (λ x. (x.0, x.1.now)) result (number_at 1000000 bytes.now) }
+    ensures { GivesSome (λ x. (x.0, x.1.now)) result (number_at MOST_STEPS bytes.now) }
 {
     match bytes {
         [b'0', b'0'..=b'9', ..] => None,

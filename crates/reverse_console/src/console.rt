@@ -1,5 +1,6 @@
 // A console.
 ghost use Rattle.std.specs.Prelude.{◌≡◌, ◌≢◌, ◌+◌, ◌-◌, ◌*◌, ◌<◌, ◌≤◌, ◌↔◌, ℕ, List, [], true, false, length, map, max, slice_get, Option, Some, None, Ok, Err, IfOk, IfErr, OnOk, OnErr, IsErrOf, IsSome};
+ghost use Rattle.plan_types.specs.declared.limits.TheConstants.{MOST_STEPS};
 ghost use Rattle.keepers.specs.Counts.{Rose};
 ghost use Rattle.keepers.specs.Told.{Images};
 ghost use Rattle.level_book.specs.BookCosts.{slots_of, total_room};
@@ -66,27 +67,38 @@ impl Console {
         keepers: &mut Vec<K>,
         steps: &mut Steps<L>,
     ) -> Result<Console, RunFault>
-        requires count { count ≤ 1000000 }
+        requires count { count ≤ MOST_STEPS }
         requires slots { 1 ≤ total_room book (max count 1) }
         requires room { HaveRoom (max count 1) (slots_of book) (map K.slot_count keepers.old.items) }
 
         // It is at state 0, and stands for the run over keepers that tell.
-        ensures begun { IfOk result (λ c. (c.plan ≡ (record { slots = slots_of book; count = count })) × (c.journal ≡ journal) × (c.place ≡ 0) × (c.ended ≡ false)) }
-        ensures stands { ((k : ℕ) → k < length (slots_of book) → IsSome (told_by K.told keepers.old.items k)) → IfOk result (λ c. Stands start c (told_by K.told keepers.new.items)) }
+        ensures begun { IfOk result (λ c. (c.plan ≡ (record { slots = slots_of book; count = count })) × (c.journal ≡ journal) × (c.place ≡ 0)
+            × (c.ended ≡ false)) }
+        ensures stands { ((k : ℕ) → k < length (slots_of book) → IsSome (told_by K.told keepers.old.items k)) →
+            IfOk result (λ c. Stands start c (told_by K.told keepers.new.items)) }
 
         // Of each mark it keeps what the image of its state is, over any keepers.
         ensures marks { IfOk result (λ c. KeepsMarks start (source_of c (told_by K.told keepers.new.items))) }
 
         // It puts each mark on its level, and takes the steps to the last one.
-        ensures counted { OnOk result (steps.new ≡ steps.old + marked (record { slots = slots_of book; count = count }) (mark_count (record { slots = slots_of book; count = count }) - 1)) }
-        ensures called { OnOk result (Called (puts_of (record { slots = slots_of book; count = count }) (mark_count (record { slots = slots_of book; count = count }))) (calls_to K.put_count K.get_count K.free_count keepers.old.items) (calls_to K.put_count K.get_count K.free_count keepers.new.items)) }
+        ensures counted { OnOk result (steps.new
+            ≡ steps.old + marked (record { slots = slots_of book; count = count }) (mark_count (record { slots = slots_of book; count = count }) - 1)) }
+        ensures called { OnOk result (Called (puts_of (record { slots = slots_of book; count = count })
+            (mark_count (record { slots = slots_of book; count = count }))) (calls_to K.put_count K.get_count K.free_count keepers.old.items)
+            (calls_to K.put_count K.get_count K.free_count keepers.new.items)) }
 
         // What was done up to a refusal, and its cause.
-        ensures counted_at_most { (steps.old ≤ steps.new) × (steps.new ≤ steps.old + marked (record { slots = slots_of book; count = count }) (mark_count (record { slots = slots_of book; count = count }) - 1)) }
-        ensures called_at_most { CalledAtMost (puts_of (record { slots = slots_of book; count = count }) (mark_count (record { slots = slots_of book; count = count }))) (calls_to K.put_count K.get_count K.free_count keepers.old.items) (calls_to K.put_count K.get_count K.free_count keepers.new.items) }
+        ensures counted_at_most { (steps.old ≤ steps.new)
+            × (steps.new ≤ steps.old + marked (record { slots = slots_of book; count = count })
+            (mark_count (record { slots = slots_of book; count = count }) - 1)) }
+        ensures called_at_most { CalledAtMost (puts_of (record { slots = slots_of book; count = count })
+            (mark_count (record { slots = slots_of book; count = count }))) (calls_to K.put_count K.get_count K.free_count keepers.old.items)
+            (calls_to K.put_count K.get_count K.free_count keepers.new.items) }
         ensures putting { IfErr result (IsOfPutting (record { slots = slots_of book; count = count })) }
-        ensures keeper_cause { (k : ℕ) → result ≡ Err (RunFault.Keeper k) → (k < length (slots_of book)) × Rose (by_number 0 K.fault_count keepers.old.items k) (by_number 0 K.fault_count keepers.new.items k) }
-        ensures keepers_quiet { ((k : ℕ) → result ≢ Err (RunFault.Keeper k)) → (j : ℕ) → by_number 0 K.fault_count keepers.new.items j ≡ by_number 0 K.fault_count keepers.old.items j }
+        ensures keeper_cause { (k : ℕ) → result ≡ Err (RunFault.Keeper k) → (k < length (slots_of book))
+            × Rose (by_number 0 K.fault_count keepers.old.items k) (by_number 0 K.fault_count keepers.new.items k) }
+        ensures keepers_quiet { ((k : ℕ) → result ≢ Err (RunFault.Keeper k)) → (j : ℕ) →
+            by_number 0 K.fault_count keepers.new.items j ≡ by_number 0 K.fault_count keepers.old.items j }
         ensures keepers_later { (k : ℕ) → by_number 0 K.fault_count keepers.old.items k ≤ by_number 0 K.fault_count keepers.new.items k }
 
         // The keepers have the slots that they had, and those past the levels of the book are as they were.
@@ -117,8 +129,11 @@ impl Console {
     /// Does nothing. Its contract is a law: where the console stands for a run, the states that come from marks are those of
     /// the run with their numbers, and the answers that are seen are those of the run.
     pub fn sees_its_run(&self)
-        ensures states { (first : MachineState) (told : ℕ → Option Images) → IsMachineState first → Stands first self.now told → (i n : ℕ) (s : MachineState) → ComesFrom (source_of self.now told) i n s → s ≡ state_number first self.now.journal n }
-        ensures answers { (first : MachineState) (told : ℕ → Option Images) → IsMachineState first → Stands first self.now told → (place : ℕ) (order : AnOrder) (answer : Option ℕ) → IsAnswerSeen (source_of self.now told) place order answer → IsAnswer first self.now.journal self.now.plan.count place order answer }
+        ensures states { (first : MachineState) (told : ℕ → Option Images) → IsMachineState first → Stands first self.now told →
+            (i n : ℕ) (s : MachineState) → ComesFrom (source_of self.now told) i n s → s ≡ state_number first self.now.journal n }
+        ensures answers { (first : MachineState) (told : ℕ → Option Images) → IsMachineState first → Stands first self.now told →
+            (place : ℕ) (order : AnOrder) (answer : Option ℕ) → IsAnswerSeen (source_of self.now told) place order answer →
+            IsAnswer first self.now.journal self.now.plan.count place order answer }
     {
         self.marks.are_roomy();
         self.marks.have_room();
@@ -138,34 +153,53 @@ impl Console {
 
         // A console that has ended does nothing.
         ensures ended { IsErrOf result RunFault.Ended ↔ (self.old.ended ≡ true) }
-        ensures inert { result ≡ Err RunFault.Ended → (self.new ≡ self.old) × (keepers.new ≡ keepers.old) × (visitor.new ≡ visitor.old) × (steps.new ≡ steps.old) }
+        ensures inert { result ≡ Err RunFault.Ended → (self.new ≡ self.old) × (keepers.new ≡ keepers.old) × (visitor.new ≡ visitor.old)
+            × (steps.new ≡ steps.old) }
 
         // The answer, where the console stands for a run, and that it stands for it from then on.
-        ensures answer { (first : MachineState) → IsMachineState first → Stands first self.old (told_by K.told keepers.old.items) → IfOk result (λ found. (new : Option ℕ) × (IsAnswer first self.old.journal self.old.plan.count self.old.place order.now new
-            × IsGiven (λ before n s after. V.got before n s self.old.journal after) (λ n s. s ≡ state_number first self.old.journal n) new found self.old.place self.new.place visitor.old visitor.new)) }
-        ensures stands { (first : MachineState) → IsMachineState first → Stands first self.old (told_by K.told keepers.old.items) → OnOk result (Stands first self.new (told_by K.told keepers.new.items)) }
+        ensures answer { (first : MachineState) → IsMachineState first → Stands first self.old (told_by K.told keepers.old.items) →
+            IfOk result (λ found. (new : Option ℕ) × (IsAnswer first self.old.journal self.old.plan.count self.old.place order.now new
+            × IsGiven (λ before n s after. V.got before n s self.old.journal after) (λ n s. s ≡ state_number first self.old.journal n) new found
+            self.old.place self.new.place visitor.old visitor.new)) }
+        ensures stands { (first : MachineState) → IsMachineState first → Stands first self.old (told_by K.told keepers.old.items) →
+            OnOk result (Stands first self.new (told_by K.told keepers.new.items)) }
 
         // The answer by the bytes that were fetched, also where it stands for none.
-        ensures seen { IfOk result (λ found. (new : Option ℕ) × (IsAnswerSeen (source_of self.old (told_by K.told keepers.old.items)) self.old.place order.now new
-            × IsGiven (λ before n s after. V.got before n s self.old.journal after) (λ n s. ComesFrom (source_of self.old (told_by K.told keepers.old.items)) (mark_of self.old.plan n) n s) new found self.old.place self.new.place visitor.old visitor.new)) }
+        ensures seen { IfOk result (λ found. (new : Option ℕ)
+            × (IsAnswerSeen (source_of self.old (told_by K.told keepers.old.items)) self.old.place order.now new
+            × IsGiven (λ before n s after. V.got before n s self.old.journal after)
+            (λ n s. ComesFrom (source_of self.old (told_by K.told keepers.old.items)) (mark_of self.old.plan n) n s) new found self.old.place
+            self.new.place visitor.old visitor.new)) }
 
         // What it took.
-        ensures takes { OnOk result (Takes self.old.plan (place_said self.old.plan.count self.old.place order.now) steps.old steps.new (calls_to K.put_count K.get_count K.free_count keepers.old.items) (calls_to K.put_count K.get_count K.free_count keepers.new.items)) }
+        ensures takes { OnOk result (Takes self.old.plan (place_said self.old.plan.count self.old.place order.now) steps.old steps.new
+            (calls_to K.put_count K.get_count K.free_count keepers.old.items) (calls_to K.put_count K.get_count K.free_count keepers.new.items)) }
         ensures goes_on { OnOk result (GoesOn self.old self.new × (self.new.ended ≡ false)) }
 
         // What stands after a refusal.
         ensures over { OnErr result (GoesOn self.old self.new × (self.new.place ≡ self.old.place) × (self.new.ended ≡ true)) }
-        ensures took_until { IfErr result (λ fault. TookUntil self.old.plan (place_said self.old.plan.count self.old.place order.now) fault steps.old steps.new (calls_to K.put_count K.get_count K.free_count keepers.old.items) (calls_to K.put_count K.get_count K.free_count keepers.new.items)) }
-        ensures misses { result ≡ Err RunFault.Visitor → (n : ℕ) × ((s : MachineState) × (IsAnswerSeen (source_of self.old (told_by K.told keepers.old.items)) self.old.place order.now (Some n) × ComesFrom (source_of self.old (told_by K.told keepers.old.items)) (mark_of self.old.plan n) n s × V.missed visitor.old n s self.old.journal visitor.new)) }
-        ensures misses_state { (first : MachineState) → IsMachineState first → Stands first self.old (told_by K.told keepers.old.items) → result ≡ Err RunFault.Visitor → (n : ℕ) × (IsAnswer first self.old.journal self.old.plan.count self.old.place order.now (Some n) × V.missed visitor.old n (state_number first self.old.journal n) self.old.journal visitor.new) }
+        ensures took_until { IfErr result (λ fault. TookUntil self.old.plan (place_said self.old.plan.count self.old.place order.now) fault steps.old
+            steps.new (calls_to K.put_count K.get_count K.free_count keepers.old.items) (calls_to K.put_count K.get_count K.free_count keepers.new.items)) }
+        ensures misses { result ≡ Err RunFault.Visitor → (n : ℕ)
+            × ((s : MachineState) × (IsAnswerSeen (source_of self.old (told_by K.told keepers.old.items)) self.old.place order.now (Some n)
+            × ComesFrom (source_of self.old (told_by K.told keepers.old.items)) (mark_of self.old.plan n) n s
+            × V.missed visitor.old n s self.old.journal visitor.new)) }
+        ensures misses_state { (first : MachineState) → IsMachineState first → Stands first self.old (told_by K.told keepers.old.items) →
+            result ≡ Err RunFault.Visitor → (n : ℕ)
+            × (IsAnswer first self.old.journal self.old.plan.count self.old.place order.now (Some n)
+            × V.missed visitor.old n (state_number first self.old.journal n) self.old.journal visitor.new) }
         ensures unseen { OnErr result (result ≢ Err RunFault.Visitor → visitor.new ≡ visitor.old) }
 
         // The cause of each refusal.
-        ensures keeper_cause { (k : ℕ) → result ≡ Err (RunFault.Keeper k) → (k < length self.old.plan.slots) × Rose (by_number 0 K.fault_count keepers.old.items k) (by_number 0 K.fault_count keepers.new.items k) }
-        ensures keepers_quiet { ((k : ℕ) → result ≢ Err (RunFault.Keeper k)) → (j : ℕ) → by_number 0 K.fault_count keepers.new.items j ≡ by_number 0 K.fault_count keepers.old.items j }
+        ensures keeper_cause { (k : ℕ) → result ≡ Err (RunFault.Keeper k) → (k < length self.old.plan.slots)
+            × Rose (by_number 0 K.fault_count keepers.old.items k) (by_number 0 K.fault_count keepers.new.items k) }
+        ensures keepers_quiet { ((k : ℕ) → result ≢ Err (RunFault.Keeper k)) → (j : ℕ) →
+            by_number 0 K.fault_count keepers.new.items j ≡ by_number 0 K.fault_count keepers.old.items j }
         ensures keepers_later { (k : ℕ) → by_number 0 K.fault_count keepers.old.items k ≤ by_number 0 K.fault_count keepers.new.items k }
-        ensures damaged { (k : ℕ) (put got : List ℕ) → result ≡ Err (RunFault.Damaged k put got) → IsMarkDamaged (source_of self.old (told_by K.told keepers.old.items)) k put got }
-        ensures undamaged { (first : MachineState) → IsMachineState first → Stands first self.old (told_by K.told keepers.old.items) → (k : ℕ) (put got : List ℕ) → result ≢ Err (RunFault.Damaged k put got) }
+        ensures damaged { (k : ℕ) (put got : List ℕ) → result ≡ Err (RunFault.Damaged k put got) →
+            IsMarkDamaged (source_of self.old (told_by K.told keepers.old.items)) k put got }
+        ensures undamaged { (first : MachineState) → IsMachineState first → Stands first self.old (told_by K.told keepers.old.items) →
+            (k : ℕ) (put got : List ℕ) → result ≢ Err (RunFault.Damaged k put got) }
         ensures cause { result ≡ Err RunFault.Visitor → Rose (V.fault_count visitor.old) (V.fault_count visitor.new) }
         ensures quiet { result ≢ Err RunFault.Visitor → V.fault_count visitor.new ≡ V.fault_count visitor.old }
         ensures later { V.fault_count visitor.old ≤ V.fault_count visitor.new }
@@ -210,15 +244,24 @@ fn answer<K: Keeper, V: Visitor, L: Ledger>(
     requires within { place.old ≤ marks.now.count }
     requires order { IsOrder marks.now.count order.now }
     requires ready { IsReady marks.now desk.old (map K.slot_count keepers.old.items) }
-    ensures seen { IfOk result (λ found. (new : Option ℕ) × (IsAnswerSeen (source marks.now journal.now desk.old (told_by K.told keepers.old.items)) place.old order.now new
-        × IsGiven (λ before n s after. V.got before n s journal.now after) (λ n s. ComesFrom (source marks.now journal.now desk.old (told_by K.told keepers.old.items)) (mark_of marks.now n) n s) new found place.old place.new visitor.old visitor.new)) }
+    ensures seen { IfOk result (λ found. (new : Option ℕ)
+        × (IsAnswerSeen (source marks.now journal.now desk.old (told_by K.told keepers.old.items)) place.old order.now new
+        × IsGiven (λ before n s after. V.got before n s journal.now after)
+        (λ n s. ComesFrom (source marks.now journal.now desk.old (told_by K.told keepers.old.items)) (mark_of marks.now n) n s) new found place.old
+        place.new visitor.old visitor.new)) }
     ensures within { place.new ≤ marks.now.count }
     ensures stays { OnErr result (place.new ≡ place.old) }
-    ensures misses { result ≡ Err RunFault.Visitor → (n : ℕ) × ((s : MachineState) × (IsAnswerSeen (source marks.now journal.now desk.old (told_by K.told keepers.old.items)) place.old order.now (Some n) × ComesFrom (source marks.now journal.now desk.old (told_by K.told keepers.old.items)) (mark_of marks.now n) n s × V.missed visitor.old n s journal.now visitor.new)) }
+    ensures misses { result ≡ Err RunFault.Visitor → (n : ℕ)
+        × ((s : MachineState) × (IsAnswerSeen (source marks.now journal.now desk.old (told_by K.told keepers.old.items)) place.old order.now (Some n)
+        × ComesFrom (source marks.now journal.now desk.old (told_by K.told keepers.old.items)) (mark_of marks.now n) n s
+        × V.missed visitor.old n s journal.now visitor.new)) }
     ensures unseen { OnErr result (result ≢ Err RunFault.Visitor → visitor.new ≡ visitor.old) }
-    ensures gets { Gets K.told K.put_count K.get_count K.free_count K.slot_count K.fault_count marks.now journal.now (mark_count marks.now + 1) result desk.old desk.new keepers.old.items keepers.new.items }
-    ensures takes { OnOk result (Takes marks.now (place_said marks.now.count place.old order.now) steps.old steps.new (calls_to K.put_count K.get_count K.free_count keepers.old.items) (calls_to K.put_count K.get_count K.free_count keepers.new.items)) }
-    ensures took_until { IfErr result (λ fault. TookUntil marks.now (place_said marks.now.count place.old order.now) fault steps.old steps.new (calls_to K.put_count K.get_count K.free_count keepers.old.items) (calls_to K.put_count K.get_count K.free_count keepers.new.items)) }
+    ensures gets { Gets K.told K.put_count K.get_count K.free_count K.slot_count K.fault_count marks.now journal.now (mark_count marks.now + 1) result
+        desk.old desk.new keepers.old.items keepers.new.items }
+    ensures takes { OnOk result (Takes marks.now (place_said marks.now.count place.old order.now) steps.old steps.new
+        (calls_to K.put_count K.get_count K.free_count keepers.old.items) (calls_to K.put_count K.get_count K.free_count keepers.new.items)) }
+    ensures took_until { IfErr result (λ fault. TookUntil marks.now (place_said marks.now.count place.old order.now) fault steps.old steps.new
+        (calls_to K.put_count K.get_count K.free_count keepers.old.items) (calls_to K.put_count K.get_count K.free_count keepers.new.items)) }
     ensures cause { result ≡ Err RunFault.Visitor → Rose (V.fault_count visitor.old) (V.fault_count visitor.new) }
     ensures quiet { result ≢ Err RunFault.Visitor → V.fault_count visitor.new ≡ V.fault_count visitor.old }
     ensures later { V.fault_count visitor.old ≤ V.fault_count visitor.new }
@@ -249,8 +292,10 @@ fn new_place<K: Keeper, L: Ledger>(
     requires order { IsOrder marks.now.count order.now }
     requires ready { IsReady marks.now desk.old (map K.slot_count keepers.old.items) }
     ensures seen { IfOk result (IsAnswerSeen (source marks.now journal.now desk.old (told_by K.told keepers.old.items)) place order.now) }
-    ensures said { (n : ℕ) → place_said marks.now.count place order.now ≡ Some n → (result ≡ Ok (Some n)) × (desk.new ≡ desk.old) × (keepers.new.items ≡ keepers.old.items) × (steps.new ≡ steps.old) }
-    ensures gets { Gets K.told K.put_count K.get_count K.free_count K.slot_count K.fault_count marks.now journal.now (mark_count marks.now) result desk.old desk.new keepers.old.items keepers.new.items }
+    ensures said { (n : ℕ) → place_said marks.now.count place order.now ≡ Some n → (result ≡ Ok (Some n)) × (desk.new ≡ desk.old)
+        × (keepers.new.items ≡ keepers.old.items) × (steps.new ≡ steps.old) }
+    ensures gets { Gets K.told K.put_count K.get_count K.free_count K.slot_count K.fault_count marks.now journal.now (mark_count marks.now) result desk.old
+        desk.new keepers.old.items keepers.new.items }
     ensures counted { (steps.old ≤ steps.new) × (steps.new ≤ steps.old + marks.now.count) }
     ensures silent { result ≢ Err RunFault.Visitor }
 {

@@ -107,7 +107,8 @@ impl Desk {
     pub fn decode(&mut self, level: u8) -> Result<(), RunFault>
         requires { Fits self.old }
         ensures decoded { OnOk result (IsDecoded self.old.work self.new.work self.old.buffer.items) }
-        ensures damaged { IfErr result (λ fault. (fault ≡ RunFault.Damaged level (sha256 self.old.buffer.items) (sha256 self.old.buffer.items)) × IsNoImage self.old.work self.old.buffer.items) }
+        ensures damaged { IfErr result (λ fault. (fault ≡ RunFault.Damaged level (sha256 self.old.buffer.items) (sha256 self.old.buffer.items))
+            × IsNoImage self.old.work self.old.buffer.items) }
         ensures pages { SamePages self.new.work self.old.work }
         ensures store { self.new.store ≡ self.old.store }
         ensures fits { Fits self.new }
@@ -142,11 +143,14 @@ impl Desk {
         requires room { held (level_of self.old.store level).pairs < (level_of self.old.store level).room }
         requires size { vec_len self.old.buffer < 2 ^ 32 }
         requires slots { (level_of self.old.store level).room ≤ by_number 0 K.slot_count keepers.old.items level }
-        ensures keeps { OnOk result (Keeps (levels_in self.old (told_by K.told keepers.old.items)) (levels_in self.new (told_by K.told keepers.new.items)) level n self.old.buffer.items) }
-        ensures others { (j : ℕ) → j ≢ level → IsAsBefore (levels_in self.old (told_by K.told keepers.old.items)) (levels_in self.new (told_by K.told keepers.new.items)) j }
+        ensures keeps { OnOk result (Keeps (levels_in self.old (told_by K.told keepers.old.items)) (levels_in self.new (told_by K.told keepers.new.items))
+            level n self.old.buffer.items) }
+        ensures others { (j : ℕ) → j ≢ level → IsAsBefore (levels_in self.old (told_by K.told keepers.old.items))
+            (levels_in self.new (told_by K.told keepers.new.items)) j }
         ensures count { length self.new.store ≡ length self.old.store }
         ensures states { (self.new.work ≡ self.old.work) × (self.new.buffer ≡ self.old.buffer) }
-        ensures called { Called (one_put level) (calls_to K.put_count K.get_count K.free_count keepers.old.items) (calls_to K.put_count K.get_count K.free_count keepers.new.items) }
+        ensures called { Called (one_put level) (calls_to K.put_count K.get_count K.free_count keepers.old.items)
+            (calls_to K.put_count K.get_count K.free_count keepers.new.items) }
         ensures remain { Remain K.slot_count K.fault_count keepers.old.items keepers.new.items }
         ensures keepers { OthersRemain level keepers.old.items keepers.new.items }
         ensures caused { IsCaused K.fault_count keepers.old.items keepers.new.items result }
@@ -171,13 +175,16 @@ impl Desk {
         requires held { IsSome (kept_at self.old.store level n) }
         requires slots { (level_of self.old.store level).room ≤ by_number 0 K.slot_count keepers.old.items level }
         ensures fetched { OnOk result (IsFetched (levels_in self.old (told_by K.told keepers.old.items)) level n self.new.buffer.items) }
-        ensures damaged { (k : ℕ) (put got : List ℕ) → result ≡ Err (RunFault.Damaged k put got) → (k ≡ level) × IsOther (levels_in self.old (told_by K.told keepers.old.items)) level n put got }
-        ensures sound { (images : Images) → LevelStands (level_of self.old.store level) (told_by K.told keepers.old.items level) images → IfErr result (IsKeeping level) }
+        ensures damaged { (k : ℕ) (put got : List ℕ) → result ≡ Err (RunFault.Damaged k put got) → (k ≡ level)
+            × IsOther (levels_in self.old (told_by K.told keepers.old.items)) level n put got }
+        ensures sound { (images : Images) → LevelStands (level_of self.old.store level) (told_by K.told keepers.old.items level) images →
+            IfErr result (IsKeeping level) }
         ensures fault { IfErr result (IsFetching level) }
         ensures same { (j : ℕ) → IsAsBefore (levels_in self.old (told_by K.told keepers.old.items)) (levels_in self.new (told_by K.told keepers.new.items)) j }
         ensures reserved { vec_capacity self.old.buffer ≤ vec_capacity self.new.buffer }
         ensures states { (self.new.work ≡ self.old.work) × (self.new.store ≡ self.old.store) }
-        ensures called { Called (one_get level) (calls_to K.put_count K.get_count K.free_count keepers.old.items) (calls_to K.put_count K.get_count K.free_count keepers.new.items) }
+        ensures called { Called (one_get level) (calls_to K.put_count K.get_count K.free_count keepers.old.items)
+            (calls_to K.put_count K.get_count K.free_count keepers.new.items) }
         ensures remain { Remain K.slot_count K.fault_count keepers.old.items keepers.new.items }
         ensures keepers { OthersRemain level keepers.old.items keepers.new.items }
         ensures caused { IsCaused K.fault_count keepers.old.items keepers.new.items result }

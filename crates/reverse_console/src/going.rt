@@ -37,12 +37,16 @@ fn set_mark<K: Keeper>(
     requires room { HaveRoom (span marks.now) marks.now.slots (map K.slot_count keepers.old.items) }
     requires fits { Fits desk.old }
     ensures set { OnOk result (AreSet marks.now (mark + 1) desk.new.store) }
-    ensures stand { (first : MachineState) (journal : List (List ℕ)) → StandAt first journal marks.now mark desk.old.store (told_by K.told keepers.old.items) → desk.old.work ≡ state_number first journal (marked marks.now mark) →
+    ensures stand { (first : MachineState) (journal : List (List ℕ)) →
+        StandAt first journal marks.now mark desk.old.store (told_by K.told keepers.old.items) →
+        desk.old.work ≡ state_number first journal (marked marks.now mark) →
         OnOk result (StandAt first journal marks.now (mark + 1) desk.new.store (told_by K.told keepers.new.items)) }
-    ensures kept { (first : MachineState) (journal : List (List ℕ)) → AreKept first journal marks.now mark desk.old.store → desk.old.work ≡ state_number first journal (marked marks.now mark) → OnOk result (AreKept first journal marks.now (mark + 1) desk.new.store) }
+    ensures kept { (first : MachineState) (journal : List (List ℕ)) → AreKept first journal marks.now mark desk.old.store →
+        desk.old.work ≡ state_number first journal (marked marks.now mark) → OnOk result (AreKept first journal marks.now (mark + 1) desk.new.store) }
     ensures work { desk.new.work ≡ desk.old.work }
     ensures fits { Fits desk.new }
-    ensures called { Called (one_put (mark_level marks.now mark)) (calls_to K.put_count K.get_count K.free_count keepers.old.items) (calls_to K.put_count K.get_count K.free_count keepers.new.items) }
+    ensures called { Called (one_put (mark_level marks.now mark)) (calls_to K.put_count K.get_count K.free_count keepers.old.items)
+        (calls_to K.put_count K.get_count K.free_count keepers.new.items) }
     ensures stay { KeepersStay K.slot_count K.fault_count marks.now keepers.old.items keepers.new.items }
     ensures quiet { OnOk result (Quiet K.fault_count keepers.old.items keepers.new.items) }
     ensures cause { IfErr result (HasCause K.fault_count marks.now keepers.old.items keepers.new.items) }
@@ -68,13 +72,17 @@ fn set_next<K: Keeper, L: Ledger>(
     requires room { HaveRoom (span marks.now) marks.now.slots (map K.slot_count keepers.old.items) }
     requires fits { Fits desk.old }
     ensures set { OnOk result (AreSet marks.now (mark + 1) desk.new.store) }
-    ensures stand { (first : MachineState) (journal : List (List ℕ)) → StandAt first journal marks.now mark desk.old.store (told_by K.told keepers.old.items) → desk.new.work ≡ state_number first journal (marked marks.now mark) →
+    ensures stand { (first : MachineState) (journal : List (List ℕ)) →
+        StandAt first journal marks.now mark desk.old.store (told_by K.told keepers.old.items) →
+        desk.new.work ≡ state_number first journal (marked marks.now mark) →
         OnOk result (StandAt first journal marks.now (mark + 1) desk.new.store (told_by K.told keepers.new.items)) }
-    ensures kept { (first : MachineState) (journal : List (List ℕ)) → AreKept first journal marks.now mark desk.old.store → desk.new.work ≡ state_number first journal (marked marks.now mark) → OnOk result (AreKept first journal marks.now (mark + 1) desk.new.store) }
+    ensures kept { (first : MachineState) (journal : List (List ℕ)) → AreKept first journal marks.now mark desk.old.store →
+        desk.new.work ≡ state_number first journal (marked marks.now mark) → OnOk result (AreKept first journal marks.now (mark + 1) desk.new.store) }
     ensures work { desk.new.work ≡ state_number desk.old.work journal.now (stride marks.now) }
     ensures fits { Fits desk.new }
     ensures counted { steps.new ≡ steps.old + stride marks.now }
-    ensures called { Called (one_put (mark_level marks.now mark)) (calls_to K.put_count K.get_count K.free_count keepers.old.items) (calls_to K.put_count K.get_count K.free_count keepers.new.items) }
+    ensures called { Called (one_put (mark_level marks.now mark)) (calls_to K.put_count K.get_count K.free_count keepers.old.items)
+        (calls_to K.put_count K.get_count K.free_count keepers.new.items) }
     ensures stay { KeepersStay K.slot_count K.fault_count marks.now keepers.old.items keepers.new.items }
     ensures quiet { OnOk result (Quiet K.fault_count keepers.old.items keepers.new.items) }
     ensures cause { IfErr result (HasCause K.fault_count marks.now keepers.old.items keepers.new.items) }
@@ -96,14 +104,17 @@ pub(crate) fn set_marks<K: Keeper, L: Ledger>(
     requires room { HaveRoom (span marks.now) marks.now.slots (map K.slot_count keepers.old.items) }
     requires fits { Fits desk.old }
     ensures set { OnOk result (AreSet marks.now (mark_count marks.now) desk.new.store) }
-    ensures stand { StandAt desk.old.work journal.now marks.now 0 desk.old.store (told_by K.told keepers.old.items) → OnOk result (StandAt desk.old.work journal.now marks.now (mark_count marks.now) desk.new.store (told_by K.told keepers.new.items)) }
+    ensures stand { StandAt desk.old.work journal.now marks.now 0 desk.old.store (told_by K.told keepers.old.items) →
+        OnOk result (StandAt desk.old.work journal.now marks.now (mark_count marks.now) desk.new.store (told_by K.told keepers.new.items)) }
     ensures kept { OnOk result (AreKept desk.old.work journal.now marks.now (mark_count marks.now) desk.new.store) }
     ensures machine { SamePages desk.new.work desk.old.work }
     ensures fits { Fits desk.new }
     ensures counted { OnOk result (steps.new ≡ steps.old + marked marks.now (mark_count marks.now - 1)) }
     ensures counted_at_most { (steps.old ≤ steps.new) × (steps.new ≤ steps.old + marked marks.now (mark_count marks.now - 1)) }
-    ensures called { OnOk result (Called (puts_of marks.now (mark_count marks.now)) (calls_to K.put_count K.get_count K.free_count keepers.old.items) (calls_to K.put_count K.get_count K.free_count keepers.new.items)) }
-    ensures called_at_most { CalledAtMost (puts_of marks.now (mark_count marks.now)) (calls_to K.put_count K.get_count K.free_count keepers.old.items) (calls_to K.put_count K.get_count K.free_count keepers.new.items) }
+    ensures called { OnOk result (Called (puts_of marks.now (mark_count marks.now)) (calls_to K.put_count K.get_count K.free_count keepers.old.items)
+        (calls_to K.put_count K.get_count K.free_count keepers.new.items)) }
+    ensures called_at_most { CalledAtMost (puts_of marks.now (mark_count marks.now)) (calls_to K.put_count K.get_count K.free_count keepers.old.items)
+        (calls_to K.put_count K.get_count K.free_count keepers.new.items) }
     ensures stay { KeepersStay K.slot_count K.fault_count marks.now keepers.old.items keepers.new.items }
     ensures quiet { OnOk result (Quiet K.fault_count keepers.old.items keepers.new.items) }
     ensures cause { IfErr result (HasCause K.fault_count marks.now keepers.old.items keepers.new.items) }
@@ -127,9 +138,12 @@ pub(crate) fn recall<K: Keeper>(
 ) -> Result<(), RunFault>
     requires known { mark < mark_count marks.now }
     requires ready { IsReady marks.now desk.old (map K.slot_count keepers.old.items) }
-    ensures comes { OnOk result (ComesFrom (source marks.now journal.now desk.old (told_by K.told keepers.old.items)) mark (marked marks.now mark) desk.new.work) }
-    ensures gets { Gets K.told K.put_count K.get_count K.free_count K.slot_count K.fault_count marks.now journal.now 1 result desk.old desk.new keepers.old.items keepers.new.items }
-    ensures called { Called (one_get (mark_level marks.now mark)) (calls_to K.put_count K.get_count K.free_count keepers.old.items) (calls_to K.put_count K.get_count K.free_count keepers.new.items) }
+    ensures comes { OnOk result (ComesFrom (source marks.now journal.now desk.old (told_by K.told keepers.old.items)) mark (marked marks.now mark)
+        desk.new.work) }
+    ensures gets { Gets K.told K.put_count K.get_count K.free_count K.slot_count K.fault_count marks.now journal.now 1 result desk.old desk.new
+        keepers.old.items keepers.new.items }
+    ensures called { Called (one_get (mark_level marks.now mark)) (calls_to K.put_count K.get_count K.free_count keepers.old.items)
+        (calls_to K.put_count K.get_count K.free_count keepers.new.items) }
     ensures of { IfErr result (IsOfGetting (one_get (mark_level marks.now mark))) }
     ensures silent { result ≢ Err RunFault.Visitor }
 {
@@ -153,15 +167,22 @@ pub(crate) fn go<K: Keeper, V: Visitor, L: Ledger>(
 ) -> Result<(), RunFault>
     requires within { n ≤ marks.now.count }
     requires ready { IsReady marks.now desk.old (map K.slot_count keepers.old.items) }
-    ensures got { OnOk result ((s : MachineState) × (ComesFrom (source marks.now journal.now desk.old (told_by K.told keepers.old.items)) (mark_of marks.now n) n s × V.got visitor.old n s journal.now visitor.new)) }
-    ensures missed { result ≡ Err RunFault.Visitor → (s : MachineState) × (ComesFrom (source marks.now journal.now desk.old (told_by K.told keepers.old.items)) (mark_of marks.now n) n s × V.missed visitor.old n s journal.now visitor.new) }
+    ensures got { OnOk result ((s : MachineState)
+        × (ComesFrom (source marks.now journal.now desk.old (told_by K.told keepers.old.items)) (mark_of marks.now n) n s
+        × V.got visitor.old n s journal.now visitor.new)) }
+    ensures missed { result ≡ Err RunFault.Visitor → (s : MachineState)
+        × (ComesFrom (source marks.now journal.now desk.old (told_by K.told keepers.old.items)) (mark_of marks.now n) n s
+        × V.missed visitor.old n s journal.now visitor.new) }
     ensures unseen { result ≢ Ok tt → result ≢ Err RunFault.Visitor → visitor.new ≡ visitor.old }
-    ensures gets { Gets K.told K.put_count K.get_count K.free_count K.slot_count K.fault_count marks.now journal.now 1 result desk.old desk.new keepers.old.items keepers.new.items }
-    ensures called { Called (one_get (mark_level marks.now (mark_of marks.now n))) (calls_to K.put_count K.get_count K.free_count keepers.old.items) (calls_to K.put_count K.get_count K.free_count keepers.new.items) }
+    ensures gets { Gets K.told K.put_count K.get_count K.free_count K.slot_count K.fault_count marks.now journal.now 1 result desk.old desk.new
+        keepers.old.items keepers.new.items }
+    ensures called { Called (one_get (mark_level marks.now (mark_of marks.now n))) (calls_to K.put_count K.get_count K.free_count keepers.old.items)
+        (calls_to K.put_count K.get_count K.free_count keepers.new.items) }
     ensures of { IfErr result (IsOfGetting (one_get (mark_level marks.now (mark_of marks.now n)))) }
     ensures counted { OnOk result (steps.new ≡ steps.old + (n - mark marks.now n)) }
     ensures counted_unseen { result ≡ Err RunFault.Visitor → steps.new ≡ steps.old + (n - mark marks.now n) }
     ensures counted_at_most { (steps.old ≤ steps.new) × (steps.new ≤ steps.old + (n - mark marks.now n)) }
+    ensures idle { result ≢ Ok tt → result ≢ Err RunFault.Visitor → steps.new ≡ steps.old }
     ensures visitor_quiet { result ≢ Err RunFault.Visitor → V.fault_count visitor.new ≡ V.fault_count visitor.old }
     ensures visitor_later { V.fault_count visitor.old ≤ V.fault_count visitor.new }
     ensures visitor_cause { result ≡ Err RunFault.Visitor → Rose (V.fault_count visitor.old) (V.fault_count visitor.new) }

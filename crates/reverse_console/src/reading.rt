@@ -2,6 +2,7 @@
 ghost use Rattle.std.specs.Prelude.{◌≡◌, ◌≢◌, ◌⊎◌, ◌≤◌, ◌<◌, ◌^◌, ◌++◌, ℕ, List, [], length, slice_get, Some, MatchResult, IfOk, IfErr, OnOk};
 ghost use Rattle.std.specs.Vec.{vec_len};
 ghost use Rattle.std.specs.Option.{option_to_list};
+ghost use Rattle.plan_types.specs.declared.limits.TheConstants.{MOST_STEPS};
 ghost use Rattle.reverse_console.specs.declared.order.Order.{Order as AnOrder};
 ghost use Rattle.reverse_console.specs.declared.fault.ScriptFault.{ScriptFault as AFault};
 ghost use Rattle.reverse_console.specs.Answer.{IsOrder};
@@ -19,7 +20,7 @@ use std::alloc::Global;
 /// takes memory for the list alone.
 pub fn read_orders(alloc: Global, bytes: &[u8], count: u32) -> Result<Vec<Order>, ScriptFault>
     requires few { length bytes.now < 2 ^ 31 }
-    requires count { count ≤ 1000000 }
+    requires count { count ≤ MOST_STEPS }
     // What is read is said so, and what is said so is read, unless memory runs out.
     ensures found { IfOk result (λ orders. IsScript count bytes.now orders.items) }
     ensures only { (orders : List AnOrder) → IsScript count bytes.now orders →

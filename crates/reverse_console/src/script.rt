@@ -42,7 +42,8 @@ fn show<K: Keeper, O: Sink, L: Ledger>(
     ensures shown { IfOk result (λ found. (answer : Option ℕ)
         × (IsAnswerSeen (source_of console.old (told_by K.told keepers.old.items)) console.old.place order.now answer
         × (console.new.place ≡ place_after console.old.place answer)
-        × IsShown (source_of console.old (told_by K.told keepers.old.items)) answer found (O.call_count out.old) (O.call_count out.new) (O.told out.old) (O.told out.new))) }
+        × IsShown (source_of console.old (told_by K.told keepers.old.items)) answer found (O.call_count out.old) (O.call_count out.new) (O.told out.old)
+        (O.told out.new))) }
     ensures missed { result ≡ Err RunFault.Visitor → (n : ℕ) × ((piece : List ℕ)
         × (IsAnswerSeen (source_of console.old (told_by K.told keepers.old.items)) console.old.place order.now (Some n)
         × IsTextOf (source_of console.old (told_by K.told keepers.old.items)) (Some n) piece
@@ -52,14 +53,18 @@ fn show<K: Keeper, O: Sink, L: Ledger>(
     ensures stays { OnErr result (console.new.place ≡ console.old.place) }
     ensures goes_on { GoesOn console.old console.new }
     ensures lasts { OnOk result (console.new.ended ≡ false) }
-    ensures takes { OnOk result (Takes console.old.plan (place_said console.old.plan.count console.old.place order.now) steps.old steps.new (calls_to K.put_count K.get_count K.free_count keepers.old.items) (calls_to K.put_count K.get_count K.free_count keepers.new.items)) }
-    ensures took_until { IfErr result (λ fault. TookUntil console.old.plan (place_said console.old.plan.count console.old.place order.now) fault steps.old steps.new (calls_to K.put_count K.get_count K.free_count keepers.old.items) (calls_to K.put_count K.get_count K.free_count keepers.new.items)) }
+    ensures takes { OnOk result (Takes console.old.plan (place_said console.old.plan.count console.old.place order.now) steps.old steps.new
+        (calls_to K.put_count K.get_count K.free_count keepers.old.items) (calls_to K.put_count K.get_count K.free_count keepers.new.items)) }
+    ensures took_until { IfErr result (λ fault. TookUntil console.old.plan (place_said console.old.plan.count console.old.place order.now) fault steps.old
+        steps.new (calls_to K.put_count K.get_count K.free_count keepers.old.items) (calls_to K.put_count K.get_count K.free_count keepers.new.items)) }
     ensures same { (k : ℕ) → told_by K.told keepers.new.items k ≡ told_by K.told keepers.old.items k }
     ensures stay { KeepersStay K.slot_count K.fault_count console.old.plan keepers.old.items keepers.new.items }
     ensures quiet { OnOk result (Quiet K.fault_count keepers.old.items keepers.new.items) }
     ensures cause { IfErr result (HasCause K.fault_count console.old.plan keepers.old.items keepers.new.items) }
-    ensures damaged { (k : ℕ) (put got : List ℕ) → result ≡ Err (RunFault.Damaged k put got) → IsMarkDamaged (source_of console.old (told_by K.told keepers.old.items)) k put got }
-    ensures undamaged { (first : MachineState) → IsMachineState first → Stands first console.old (told_by K.told keepers.old.items) → (k : ℕ) (put got : List ℕ) → result ≢ Err (RunFault.Damaged k put got) }
+    ensures damaged { (k : ℕ) (put got : List ℕ) → result ≡ Err (RunFault.Damaged k put got) →
+        IsMarkDamaged (source_of console.old (told_by K.told keepers.old.items)) k put got }
+    ensures undamaged { (first : MachineState) → IsMachineState first → Stands first console.old (told_by K.told keepers.old.items) →
+        (k : ℕ) (put got : List ℕ) → result ≢ Err (RunFault.Damaged k put got) }
     ensures sink_cause { result ≡ Err RunFault.Visitor → Rose (O.fault_count out.old) (O.fault_count out.new) }
     ensures sink_quiet { result ≢ Err RunFault.Visitor → O.fault_count out.new ≡ O.fault_count out.old }
     ensures sink_later { O.fault_count out.old ≤ O.fault_count out.new }
@@ -93,13 +98,16 @@ fn answer_line<K: Keeper, O: Sink, L: Ledger>(
     ensures stays { OnErr result (console.new.place ≡ console.old.place) }
     ensures goes_on { GoesOn console.old console.new }
     ensures lasts { OnOk result (console.new.ended ≡ false) }
-    ensures took_until { IfErr result (λ fault. TookUntil console.old.plan (place_said console.old.plan.count console.old.place order.now) fault steps.old steps.new (calls_to K.put_count K.get_count K.free_count keepers.old.items) (calls_to K.put_count K.get_count K.free_count keepers.new.items)) }
+    ensures took_until { IfErr result (λ fault. TookUntil console.old.plan (place_said console.old.plan.count console.old.place order.now) fault steps.old
+        steps.new (calls_to K.put_count K.get_count K.free_count keepers.old.items) (calls_to K.put_count K.get_count K.free_count keepers.new.items)) }
     ensures same { (k : ℕ) → told_by K.told keepers.new.items k ≡ told_by K.told keepers.old.items k }
     ensures stay { KeepersStay K.slot_count K.fault_count console.old.plan keepers.old.items keepers.new.items }
     ensures quiet { OnOk result (Quiet K.fault_count keepers.old.items keepers.new.items) }
     ensures cause { IfErr result (HasCause K.fault_count console.old.plan keepers.old.items keepers.new.items) }
-    ensures damaged { (k : ℕ) (put got : List ℕ) → result ≡ Err (RunFault.Damaged k put got) → IsMarkDamaged (source_of console.old (told_by K.told keepers.old.items)) k put got }
-    ensures undamaged { (first : MachineState) → IsMachineState first → Stands first console.old (told_by K.told keepers.old.items) → (k : ℕ) (put got : List ℕ) → result ≢ Err (RunFault.Damaged k put got) }
+    ensures damaged { (k : ℕ) (put got : List ℕ) → result ≡ Err (RunFault.Damaged k put got) →
+        IsMarkDamaged (source_of console.old (told_by K.told keepers.old.items)) k put got }
+    ensures undamaged { (first : MachineState) → IsMachineState first → Stands first console.old (told_by K.told keepers.old.items) →
+        (k : ℕ) (put got : List ℕ) → result ≢ Err (RunFault.Damaged k put got) }
     ensures sink_cause { result ≡ Err RunFault.Visitor → Rose (O.fault_count out.old) (O.fault_count out.new) }
     ensures sink_quiet { result ≢ Err RunFault.Visitor → O.fault_count out.new ≡ O.fault_count out.old }
     ensures sink_later { O.fault_count out.old ≤ O.fault_count out.new }
@@ -138,17 +146,24 @@ pub fn answer_all<K: Keeper, O: Sink, L: Ledger>(
         (O.told out.old) (O.told out.new)) }
 
     // The same where the console stands for a run, which it does from then on.
-    ensures written_in_run { (first : MachineState) → IsMachineState first → Stands first console.old (told_by K.told keepers.old.items) → OnOk result (AreWrittenIn first console.old.journal console.old.plan.count console.old.place orders.now console.new.place (O.told out.old) (O.told out.new)) }
-    ensures broken_off_in_run { (first : MachineState) → IsMachineState first → Stands first console.old (told_by K.told keepers.old.items) → IfErr result (λ stop. IsBrokenOffIn first console.old.journal console.old.plan.count console.old.place orders.now stop.order stop.fault console.new.place (O.told out.old) (O.told out.new)) }
-    ensures stands { (first : MachineState) → Stands first console.old (told_by K.told keepers.old.items) → Stands first console.new (told_by K.told keepers.new.items) }
+    ensures written_in_run { (first : MachineState) → IsMachineState first → Stands first console.old (told_by K.told keepers.old.items) →
+        OnOk result (AreWrittenIn first console.old.journal console.old.plan.count console.old.place orders.now console.new.place (O.told out.old)
+        (O.told out.new)) }
+    ensures broken_off_in_run { (first : MachineState) → IsMachineState first → Stands first console.old (told_by K.told keepers.old.items) →
+        IfErr result (λ stop. IsBrokenOffIn first console.old.journal console.old.plan.count console.old.place orders.now stop.order stop.fault
+        console.new.place (O.told out.old) (O.told out.new)) }
+    ensures stands { (first : MachineState) → Stands first console.old (told_by K.told keepers.old.items) →
+        Stands first console.new (told_by K.told keepers.new.items) }
     ensures goes_on { GoesOn console.old console.new }
     ensures lasts { OnOk result (console.new.ended ≡ false) }
 
     // The cause of each refusal; no fault says that the console had ended.
     ensures cause { IfErr result (λ stop. HasCause K.fault_count console.old.plan keepers.old.items keepers.new.items stop.fault) }
     ensures quiet { OnOk result (Quiet K.fault_count keepers.old.items keepers.new.items) }
-    ensures damaged { IfErr result (λ stop. (k : ℕ) (put got : List ℕ) → stop.fault ≡ RunFault.Damaged k put got → IsMarkDamaged (source_of console.old (told_by K.told keepers.old.items)) k put got) }
-    ensures undamaged { (first : MachineState) → IsMachineState first → Stands first console.old (told_by K.told keepers.old.items) → IfErr result (λ stop. (k : ℕ) (put got : List ℕ) → stop.fault ≢ RunFault.Damaged k put got) }
+    ensures damaged { IfErr result (λ stop. (k : ℕ) (put got : List ℕ) → stop.fault ≡ RunFault.Damaged k put got →
+        IsMarkDamaged (source_of console.old (told_by K.told keepers.old.items)) k put got) }
+    ensures undamaged { (first : MachineState) → IsMachineState first → Stands first console.old (told_by K.told keepers.old.items) →
+        IfErr result (λ stop. (k : ℕ) (put got : List ℕ) → stop.fault ≢ RunFault.Damaged k put got) }
     ensures sink_cause { IfErr result (λ stop. stop.fault ≡ RunFault.Visitor → Rose (O.fault_count out.old) (O.fault_count out.new)) }
     ensures sink_quiet { IfErr result (λ stop. stop.fault ≢ RunFault.Visitor → O.fault_count out.new ≡ O.fault_count out.old) }
     ensures sink_still { OnOk result (O.fault_count out.new ≡ O.fault_count out.old) }

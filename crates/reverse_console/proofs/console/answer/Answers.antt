@@ -1,4 +1,4 @@
-use Rattle.std.proofs.Common.{◌≡◌, ℕ, ◌+◌, true, false, None, Some, Ok, Err, refl, sym, ◌∙◌, ap, subst, arith}
+use Rattle.std.proofs.Common.{◌≡◌, ◌≢◌, ℕ, ◌+◌, true, false, None, Some, Ok, Err, refl, sym, ◌∙◌, ap, subst, arith}
 use Rattle.std.proofs.lemmas.Result.{IfErr-at_err, err_from_is_err_and}
 use Rattle.reverse_runner.specs.KeepersSeen.{told_by, calls_to}
 use Rattle.reverse_runner.specs.declared.fault.RunFault.TheVariants.{Visitor}
@@ -9,7 +9,7 @@ use Rattle.reverse_console.specs.Marks.{mark_count, mark_level, mark_of}
 use Rattle.reverse_console.specs.Refusals.{IsOfGetting}
 use Rattle.reverse_console.specs.Handling.{source}
 use Rattle.reverse_console.specs.Seen.{IsAnswerSeen}
-use Rattle.reverse_console.proofs.Answering.{IsSaid, takes_found, took_found, takes_none, took_none, took_until, same_found, never_said, found_none, both_ways, pass_on}
+use Rattle.reverse_console.proofs.Answering.{IsSaid, takes_found, took_found, takes_none, took_none, took_until, same_found, other_fault, never_said, found_none, both_ways, pass_on}
 use Rattle.reverse_console.proofs.Getting.{err_at, gets_err, gets_more, gets_ok, gets_then, comes_then}
 use Rattle.reverse_console.proofs.Seeing.{answer_within}
 use Rattle.reverse_console.proofs.Walking.{ready_still}
@@ -85,7 +85,7 @@ returns-in_err-found-clause-took_until g c =
     absurd (c.new_place.ensures.silent (same_fault c.new_place.result c.from_residual.result _ _ Visitor c.in_err-found.was q.1 q.2 (q.1 ∙ ap Err e))) in
     let part = took_none p said q.0 c.args.steps.now c.new_place.new.steps (mark_count p) (calls old) (calls mid) gets.marks never c.new_place.ensures.counted.0 c.new_place.ensures.counted.1 gets.few (omega arith) gets.reads.called of in
     err_at (λ fault. TookUntil p said fault c.args.steps.now c.new_place.new.steps (calls old) (calls mid)) c.from_residual.result q.0 q.1
-    (took_until p said (gets_of p gets.marks) q.0 c.args.steps.now c.new_place.new.steps (calls old) (calls mid) shown of part)
+    (took_until p said (gets_of p gets.marks) q.0 c.args.steps.now c.new_place.new.steps (calls old) (calls mid) shown of (λ ne. part))
 
 pub returns-in_err-go-in-Some-clause-misses : goal.returns-in_err-go-in-Some-clause-misses
 returns-in_err-go-in-Some-clause-misses g c e =
@@ -148,7 +148,8 @@ returns-in_err-go-in-Some-clause-took_until g c =
     let shown : q.0 ≡ Visitor → Takes p said c.args.steps.now c.go.new.steps (calls old) (calls c.go.new.keepers.items) = λ e.
     let refused = same_fault c.go.result c.from_residual-in_err-go-in-Some.result _ _ Visitor c.in_err-go-in-Some.was q.1 q.2 (q.1 ∙ ap Err e) in
     takes_found p said c.in-Some.n c.args.steps.now c.new_place.new.steps c.go.new.steps (mark_count p + 1) (calls old) (calls mid) (calls c.go.new.keepers.items) gets.marks is_said within c.new_place.ensures.counted.0 c.new_place.ensures.counted.1 (c.go.ensures.counted_unseen refused) c.go.ensures.called gets.few (omega arith) gets.reads.called in
-    let part = took_found p said q.0 c.in-Some.n c.args.steps.now c.new_place.new.steps c.go.new.steps (mark_count p + 1) (calls old) (calls mid) (calls c.go.new.keepers.items) gets.marks is_said within c.new_place.ensures.counted.0 c.new_place.ensures.counted.1 c.go.ensures.counted_at_most.0 c.go.ensures.counted_at_most.1 c.go.ensures.called gets.few (omega arith) gets.reads.called of of_all in
+    let idle = λ (ne : q.0 ≢ Visitor). c.go.ensures.idle (λ e. absurd (both_ways c.go.result _ e c.in_err-go-in-Some.was)) (other_fault c.go.result _ q.0 c.in_err-go-in-Some.was q.2 ne) in
+    let part = λ (ne : q.0 ≢ Visitor). took_found p said q.0 c.in-Some.n c.args.steps.now c.new_place.new.steps c.go.new.steps (mark_count p + 1) (calls old) (calls mid) (calls c.go.new.keepers.items) gets.marks is_said within c.new_place.ensures.counted.0 c.new_place.ensures.counted.1 (idle ne) c.go.ensures.called gets.few (omega arith) gets.reads.called of of_all in
     err_at (λ fault. TookUntil p said fault c.args.steps.now c.go.new.steps (calls old) (calls c.go.new.keepers.items)) c.from_residual-in_err-go-in-Some.result q.0 q.1
     (took_until p said (gets_of p gets.marks) q.0 c.args.steps.now c.go.new.steps (calls old) (calls c.go.new.keepers.items) shown of_all part)
 
