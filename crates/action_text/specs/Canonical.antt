@@ -1,6 +1,7 @@
 -- The one spelling of an action that is written: one space after each comma and no other blank.
 use Rattle.std.specs.Prelude.{◌≡◌, ℕ, ◌+◌, ◌<◌, ◌≤◌, List, [], ◌∷◌, ◌++◌, length, codes, decimal, slice_index_or}
 use Rattle.std.specs.List.{flat_map}
+use Rattle.plan_types.specs.declared.limits.TheConstants.{MOST_STEPS}
 use Rattle.plan_types.specs.declared.action.Keep.{Keep}
 use Rattle.plan_types.specs.declared.action.Keep.TheVariants.{Nothing, Store, Tape}
 use Rattle.plan_types.specs.declared.action.Dest.{Dest}
@@ -65,10 +66,10 @@ CanKeep names from to Tape = to ≡ from + 1
 -- an action has a spelling where its numbers are at most 1,000,000, its levels are there, and a Tape or a Reverse is of one
 -- step
 abbrev pub HasSpelling : List (List ℕ) → Action → Type 0
-HasSpelling names (Forward from to keep) = (from ≤ 1000000) × (to ≤ 1000000) × CanKeep names from to keep
-HasSpelling names (Reverse from to) = (from ≤ 1000000) × (to ≤ 1000000) × (from ≡ to + 1)
-HasSpelling names (Copy n k dest) = (n ≤ 1000000) × IsLevelOf names k × IsDestOf names dest
-HasSpelling names (Move n k dest) = (n ≤ 1000000) × IsLevelOf names k × IsDestOf names dest
+HasSpelling names (Forward from to keep) = (from ≤ MOST_STEPS) × (to ≤ MOST_STEPS) × CanKeep names from to keep
+HasSpelling names (Reverse from to) = (from ≤ MOST_STEPS) × (to ≤ MOST_STEPS) × (from ≡ to + 1)
+HasSpelling names (Copy n k dest) = (n ≤ MOST_STEPS) × IsLevelOf names k × IsDestOf names dest
+HasSpelling names (Move n k dest) = (n ≤ MOST_STEPS) × IsLevelOf names k × IsDestOf names dest
 HasSpelling names EndForward = Unit {0}
 HasSpelling names EndReverse = Unit {0}
 

@@ -1,5 +1,6 @@
 -- The first line with a fault, and its place. The rules are 1 NotAction, 2 Number, 3 Level, 4 Profile, 5 TooMany.
 use Rattle.std.specs.Prelude.{◌≡◌, ◌≤◌, ◌+◌, ℕ, List, [], ◌∷◌, ◌++◌, length, Option, Some, None, if◌then◌else◌}
+use Rattle.plan_types.specs.declared.limits.TheConstants.{MOST_ACTIONS}
 use Rattle.plan_types.specs.declared.action.Action.{Action}
 use Rattle.action_text.specs.declared.fault.TextFault.{TextFault}
 use Rattle.action_text.specs.declared.fault.TextFault.TheVariants.{At, Memory}
@@ -33,7 +34,7 @@ pub record IsUnexpected (names : List (List ℕ)) (tokens : List Token) (rule co
 
 -- the most actions stand before the line, and its first token, in this column, is the name of an action
 pub record IsTooMany (names : List (List ℕ)) (done : ℕ) (tokens : List Token) (column : ℕ) : Type 0 where
-  pub full : done ≡ 16777216
+  pub full : done ≡ MOST_ACTIONS
   pub token : Token
   pub after : List Token
   pub parts : tokens ≡ token ∷ after
@@ -72,7 +73,7 @@ pub record FirstFault (names : List (List ℕ)) (bytes : List ℕ) (rule line co
   pub after : List (List ℕ)
   pub parts : lines bytes ≡ before ++ here ∷ after
   pub done : List Action
-  pub few : length done ≤ 16777216
+  pub few : length done ≤ MOST_ACTIONS
   pub says : LinesSay names before done
   pub some : IsPassed here → ⊥
   pub fault : FaultIn names (length done) here rule column

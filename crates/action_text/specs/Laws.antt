@@ -1,6 +1,7 @@
 -- What the definitions imply, for levels whose names are names and apart.
 use Rattle.std.specs.Prelude.{◌≡◌, ◌≢◌, ◌≤◌, ◌⊎◌, ℕ, List, [], ◌∷◌, ◌++◌, length}
 use Rattle.std.specs.List.{AllByRecursion, flat_map}
+use Rattle.plan_types.specs.declared.limits.TheConstants.{MOST_ACTIONS}
 use Rattle.plan_types.specs.declared.action.Action.{Action}
 use Rattle.level_book.specs.Names.{AreNames}
 use Rattle.action_text.specs.declared.fault.TextFault.{TextFault}
@@ -17,11 +18,13 @@ abbrev pub OneFault : Type 0
 OneFault = (names : List (List ℕ)) → AreNames names → (bytes : List ℕ) (a b : TextFault) → HasFirstFault names bytes a → HasFirstFault names bytes b → a ≡ b
 
 abbrev pub SchedulesHaveNoFault : Type 0
-SchedulesHaveNoFault = (names : List (List ℕ)) → AreNames names → (bytes : List ℕ) (list : List Action) (fault : TextFault) → IsSchedule names bytes list → HasFirstFault names bytes fault → ⊥
+SchedulesHaveNoFault = (names : List (List ℕ)) → AreNames names → (bytes : List ℕ) (list : List Action) (fault : TextFault) →
+    IsSchedule names bytes list → HasFirstFault names bytes fault → ⊥
 
 -- all bytes are a schedule or have a first fault
 abbrev pub ScheduleOrFault : Type 0
-ScheduleOrFault = (names : List (List ℕ)) → AreNames names → (bytes : List ℕ) → ((list : List Action) × IsSchedule names bytes list) ⊎ ((fault : TextFault) × HasFirstFault names bytes fault)
+ScheduleOrFault = (names : List (List ℕ)) → AreNames names → (bytes : List ℕ) →
+    ((list : List Action) × IsSchedule names bytes list) ⊎ ((fault : TextFault) × HasFirstFault names bytes fault)
 
 -- a line behind a list, as a certificate has it: it begins with `#!`, and byte 10 ends it and stands in it nowhere else
 abbrev pub certificate_line : List ℕ → List ℕ
@@ -33,7 +36,7 @@ HasOneEnd text = AllByRecursion (λ b. b ≢ 10) text
 -- the canonical text of a list, with such lines behind it, is read as that list
 abbrev pub CanonicalIsRead : Type 0
 CanonicalIsRead =
-    (names : List (List ℕ)) → AreNames names → (list : List Action) → length list ≤ 16777216 → AllByRecursion (HasSpelling names) list →
+    (names : List (List ℕ)) → AreNames names → (list : List Action) → length list ≤ MOST_ACTIONS → AllByRecursion (HasSpelling names) list →
     (texts : List (List ℕ)) → AllByRecursion HasOneEnd texts → IsSchedule names (text_of names list ++ flat_map certificate_line texts) list
 
 -- two actions with one canonical spelling are one

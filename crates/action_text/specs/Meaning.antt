@@ -1,5 +1,6 @@
 -- What the tokens of a line say: an action, or nothing.
 use Rattle.std.specs.Prelude.{◌≡◌, ℕ, ◌+◌, ◌≤◌, ◌⊎◌, List, [], ◌∷◌, Some, codes, decimal, slice_get}
+use Rattle.plan_types.specs.declared.limits.TheConstants.{MOST_STEPS}
 use Rattle.plan_types.specs.declared.action.Keep.TheVariants.{Nothing, Store, Tape}
 use Rattle.plan_types.specs.declared.action.Dest.{Dest}
 use Rattle.plan_types.specs.declared.action.Dest.TheVariants.{Work, Level}
@@ -29,23 +30,23 @@ NamesDest names (Level k) text = slice_get names k ≡ Some text
 -- the texts say this action, over levels with these names; a tape and a Reverse are of one step
 abbrev pub Says : List (List ℕ) → List (List ℕ) → Action → Type 0
 Says names texts (Forward from to Nothing) =
-    (from ≤ 1000000) × (to ≤ 1000000)
+    (from ≤ MOST_STEPS) × (to ≤ MOST_STEPS)
     × ((texts ≡ forward_call from to (codes "False") (codes "False") (codes "NONE"))
     ⊎ (texts ≡ forward_call from to (codes "False") (codes "False") (codes "WORK")))
 Says names texts (Forward from to (Store k)) =
-    (from ≤ 1000000) × (to ≤ 1000000)
+    (from ≤ MOST_STEPS) × (to ≤ MOST_STEPS)
     × (name : List ℕ) × (slice_get names k ≡ Some name) × (texts ≡ forward_call from to (codes "True") (codes "False") name)
 Says names texts (Forward from to Tape) =
-    (from ≤ 1000000) × (to ≤ 1000000)
+    (from ≤ MOST_STEPS) × (to ≤ MOST_STEPS)
     × (to ≡ from + 1) × (texts ≡ forward_call from to (codes "False") (codes "True") (codes "WORK"))
 Says names texts (Reverse from to) =
-    (from ≤ 1000000) × (to ≤ 1000000)
+    (from ≤ MOST_STEPS) × (to ≤ MOST_STEPS)
     × (from ≡ to + 1) × (texts ≡ call (codes "Reverse") (decimal from ∷ decimal to ∷ codes "True" ∷ []))
 Says names texts (Copy n k dest) =
-    (n ≤ 1000000) × (name : List ℕ) × (slice_get names k ≡ Some name)
+    (n ≤ MOST_STEPS) × (name : List ℕ) × (slice_get names k ≡ Some name)
     × (target : List ℕ) × NamesDest names dest target × (texts ≡ call (codes "Copy") (decimal n ∷ name ∷ target ∷ []))
 Says names texts (Move n k dest) =
-    (n ≤ 1000000) × (name : List ℕ) × (slice_get names k ≡ Some name)
+    (n ≤ MOST_STEPS) × (name : List ℕ) × (slice_get names k ≡ Some name)
     × (target : List ℕ) × NamesDest names dest target × (texts ≡ call (codes "Move") (decimal n ∷ name ∷ target ∷ []))
 Says names texts EndForward = texts ≡ call (codes "EndForward") []
 Says names texts EndReverse = texts ≡ call (codes "EndReverse") []

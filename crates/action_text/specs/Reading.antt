@@ -4,6 +4,7 @@ use Rattle.std.specs.Prelude.{◌≡◌, ◌+◌, ◌-◌, ◌*◌, ◌==◌, �
 use Rattle.std.specs.Char.{is_ascii_digit}
 use Rattle.std.specs.Option.{option_to_list}
 use Rattle.std.specs.Str.{bytes_eq}
+use Rattle.plan_types.specs.declared.limits.TheConstants.{MOST_ACTIONS, MOST_STEPS}
 use Rattle.plan_types.specs.declared.action.Keep.TheVariants.{Nothing, Store, Tape}
 use Rattle.plan_types.specs.declared.action.Dest.{Dest}
 use Rattle.plan_types.specs.declared.action.Dest.TheVariants.{Work, Level}
@@ -71,7 +72,7 @@ whole None = None
 whole (Some x) = if length x.1 == 0 then Some x.0 else None
 
 unfoldable pub number_of : List ℕ → Option ℕ
-number_of text = whole (number_at 1000000 text)
+number_of text = whole (number_at MOST_STEPS text)
 
 -- what was read at the front of bytes, unless a run goes on behind it
 abbrev pub alone : {A : Type 0} → Option (A × List ℕ) → Option A
@@ -302,13 +303,13 @@ next_line (line ∷ later) = whole_line line later
 unfoldable pub lines_of : List (List ℕ) → List Action → ℕ → List (List ℕ) → Result (List Action) TextFault
 lines_of names list n [] = Ok list
 lines_of names list n (line ∷ later) =
-    in_line n (line_of names (length list == 16777216) (whole_line line later))
+    in_line n (line_of names (length list == MOST_ACTIONS) (whole_line line later))
     >>= λ found. lines_of names (list ++ option_to_list found) (n + 1) later
 
 -- the same of what is left of a line, and the lines after it
 unfoldable pub here_of : List (List ℕ) → List Action → ℕ → Rest → Result (List Action) TextFault
 here_of names list n rest =
-    in_line n (line_of names (length list == 16777216) rest)
+    in_line n (line_of names (length list == MOST_ACTIONS) rest)
     >>= λ found. lines_of names (list ++ option_to_list found) (n + 1) rest.later
 
 unfoldable pub reading : List (List ℕ) → List ℕ → Result (List Action) TextFault

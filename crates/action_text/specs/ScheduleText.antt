@@ -1,5 +1,6 @@
 -- Which bytes are the text of a list of actions.
 use Rattle.std.specs.Prelude.{◌≤◌, ◌⊎◌, ◌==◌, ℕ, List, [], ◌∷◌, map, length, if◌then◌else◌}
+use Rattle.plan_types.specs.declared.limits.TheConstants.{MOST_ACTIONS}
 use Rattle.plan_types.specs.declared.action.Action.{Action}
 use Rattle.action_text.specs.Tokens.{tokens}
 use Rattle.action_text.specs.Meaning.{Says, IsPassed}
@@ -28,5 +29,5 @@ LinesSay names (line ∷ rest) (a ∷ list) =
 
 -- the bytes say this list, of at most 16,777,216 actions
 pub record IsSchedule (names : List (List ℕ)) (bytes : List ℕ) (list : List Action) : Type 0 where
-  pub few : length list ≤ 16777216
+  pub few : length list ≤ MOST_ACTIONS
   pub says : LinesSay names (lines bytes) list

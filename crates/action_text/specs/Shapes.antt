@@ -1,6 +1,7 @@
 -- What may stand at each place of a line, a row for each kind of action. The names of the actions and their arguments are
 -- those of the checkpoint_schedules manual.
 use Rattle.std.specs.Prelude.{◌≡◌, ℕ, ◌≤◌, ◌⊎◌, List, [], ◌∷◌, Option, Some, None, Contains, codes, decimal}
+use Rattle.plan_types.specs.declared.limits.TheConstants.{MOST_STEPS}
 use Rattle.action_text.specs.Tokens.{Token}
 
 -- what may stand at one place: this very text, a number, a truth, a level, a level or the work state, a level, the work
@@ -35,7 +36,7 @@ shapes =
 -- a text that may stand there; numbers are at most 1,000,000, in decimal digits without a leading zero
 abbrev pub TakesToken : List (List ℕ) → Want → List ℕ → Type 0
 TakesToken names (exactly wanted) text = text ≡ wanted
-TakesToken names number text = (n : ℕ) × (n ≤ 1000000) × (text ≡ decimal n)
+TakesToken names number text = (n : ℕ) × (n ≤ MOST_STEPS) × (text ≡ decimal n)
 TakesToken names truth text = (text ≡ codes "True") ⊎ (text ≡ codes "False")
 TakesToken names level text = Contains names text
 TakesToken names target text = Contains names text ⊎ (text ≡ codes "WORK")

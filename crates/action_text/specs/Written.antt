@@ -1,5 +1,6 @@
 -- No public clause cites this file. What stands at the front of bytes in its canonical spelling, and the rest behind it.
 use Rattle.std.specs.Prelude.{◌≡◌, ◌≤◌, ℕ, List, ◌++◌, codes, decimal}
+use Rattle.plan_types.specs.declared.limits.TheConstants.{MOST_STEPS}
 use Rattle.plan_types.specs.declared.action.Keep.{Keep}
 use Rattle.plan_types.specs.declared.action.Dest.{Dest}
 use Rattle.plan_types.specs.declared.action.Action.{Action}
@@ -22,7 +23,7 @@ pub record IsKeepAt (names : List (List ℕ)) (from to : ℕ) (bytes : List ℕ)
 
 -- the arguments of a Copy or a Move
 pub record IsImageAt (names : List (List ℕ)) (bytes : List ℕ) (n k : ℕ) (dest : Dest) (rest : List ℕ) : Type 0 where
-  pub low : n ≤ 1000000
+  pub low : n ≤ MOST_STEPS
   pub level : IsLevelOf names k
   pub goes : IsDestOf names dest
   pub parts : bytes ≡ codes "(" ++ (decimal n ++ (copy_text names k dest ++ rest))

@@ -1,6 +1,7 @@
 // Actions in their canonical spelling, which are read by bytes, some at once. Where none is found, one may stand there in
 // another spelling, of which the tokens tell.
 ghost use Rattle.std.specs.Prelude.{◌≡◌, ◌≤◌, List, ℕ, ◌++◌, codes, IfSome};
+ghost use Rattle.plan_types.specs.declared.limits.TheConstants.{MOST_STEPS};
 ghost use Rattle.level_book.specs.BookCosts.{names_of};
 ghost use Rattle.action_text.specs.Written.{IsLevelAt, IsDestAt, IsKeepAt, IsImageAt, IsActionAt};
 
@@ -49,7 +50,7 @@ fn forward_at<'a>(bytes: &'a [u8], book: &Book) -> Option<(Action, &'a [u8])>
 // What a Forward with these numbers keeps, by its last three arguments.
 #[inline(always)]
 fn keep_at<'a>(bytes: &'a [u8], from: u32, to: u32, book: &Book) -> Option<(Keep, &'a [u8])>
-    requires { from ≤ 1000000 }
+    requires { from ≤ MOST_STEPS }
     ensures { IfSome result (λ x. IsKeepAt (names_of book.now) from to bytes.now x.0 x.1.now) }
 {
     let Some(second) = behind_eight(bytes, b", False,") else {

@@ -1,5 +1,6 @@
 // A cursor over the bytes of a text, which goes from token to token of a line, and from line to line.
 ghost use Rattle.std.specs.Prelude.{◌≡◌, ◌≢◌, ◌<◌, ◌≤◌, ◌+◌, ◌-◌, ◌^◌, ◌∷◌, [], false, true, length, IsTrue, MatchResult, IfOk, IfErr, OnOk, Ok, Err, Some, IfSome, MatchOption};
+ghost use Rattle.plan_types.specs.declared.limits.TheConstants.{MOST_STEPS};
 ghost use Rattle.level_book.specs.BookCosts.{names_of};
 ghost use Rattle.action_text.specs.Tokens.{is_blank, is_run_byte, starts_run};
 ghost use Rattle.action_text.specs.ScheduleText.{lines};
@@ -125,7 +126,7 @@ impl<'a> Cursor<'a> {
     #[inline(always)]
     pub(crate) fn take_number(&mut self) -> Option<u32>
         ensures value { Takes result (number_of (text_at self.old)) self.old self.new }
-        ensures small { IfSome result (λ n. n ≤ 1000000) }
+        ensures small { IfSome result (λ n. n ≤ MOST_STEPS) }
     {
         let (n, behind) = number_at(after_blanks(self.rest))?;
         if starts_run(behind) {

@@ -1,5 +1,6 @@
 // The fields of an action: each is the next token of its line, which goes by a value.
 ghost use Rattle.std.specs.Prelude.{◌≡◌, ◌≤◌, Some, Ok, Err, MatchResult, IfOk, OnOk};
+ghost use Rattle.plan_types.specs.declared.limits.TheConstants.{MOST_STEPS};
 ghost use Rattle.level_book.specs.BookCosts.{names_of};
 ghost use Rattle.action_text.specs.Reading.{text_at, number_of, truth_of, level_of, target_of, place_of, number_next, truth_next, level_next, target_next, place_next, number_rule, not_action};
 
@@ -18,7 +19,7 @@ pub(crate) fn next_number(cursor: &mut Cursor) -> Result<u32, LineFault>
         × (number_of (text_at cursor.old) ≡ Some x))
         (λ e. number_next cursor.old ≡ Err e) }
     ensures later { OnOk result (cursor.new.later ≡ cursor.old.later) }
-    ensures small { IfOk result (λ n. n ≤ 1000000) }
+    ensures small { IfOk result (λ n. n ≤ MOST_STEPS) }
 {
     match cursor.take_number() {
         Some(x) => Ok(x),

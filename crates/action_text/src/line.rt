@@ -1,5 +1,6 @@
 // A line of a schedule, with a function for each kind of action.
 ghost use Rattle.std.specs.Prelude.{◌≡◌, ◌≤◌, [], OnOk};
+ghost use Rattle.plan_types.specs.declared.limits.TheConstants.{MOST_STEPS};
 ghost use Rattle.level_book.specs.BookCosts.{names_of};
 ghost use Rattle.action_text.specs.declared.words.Kind.TheVariants as kinds;
 ghost use Rattle.action_text.specs.Reading.{Gives, arguments_of, forward_said, reverse_said, line_of};
@@ -99,7 +100,7 @@ fn forward(cursor: &mut Cursor, book: &Book) -> Result<Option<Action>, LineFault
 
 // The Forward of these arguments.
 fn forward_said(from: u32, to: u32, state: bool, tape: bool, place: Place) -> Option<Action>
-    requires { from ≤ 1000000 }
+    requires { from ≤ MOST_STEPS }
     ensures { result ≡ forward_said from to state tape place }
 {
     let keep = match (state, tape, place) {
@@ -130,7 +131,7 @@ fn reverse(cursor: &mut Cursor) -> Result<Option<Action>, LineFault>
 
 // The Reverse of these arguments.
 fn reverse_said(from: u32, to: u32, is_true: bool) -> Option<Action>
-    requires { to ≤ 1000000 }
+    requires { to ≤ MOST_STEPS }
     ensures { result ≡ reverse_said from to is_true }
 {
     if is_true && from == to + 1 {

@@ -1,5 +1,6 @@
 // A number in decimal digits.
 ghost use Rattle.std.specs.Prelude.{◌≡◌, ◌≤◌, IfSome};
+ghost use Rattle.plan_types.specs.declared.limits.TheConstants.{MOST_STEPS};
 ghost use Rattle.action_text.specs.Reading.{GivesSome, digits_at, number_at};
 
 use plan_types::MOST_STEPS;
@@ -7,8 +8,8 @@ use plan_types::MOST_STEPS;
 // The number that the digits at the front of the bytes make, and the bytes after them, unless it is over 1,000,000.
 #[tactic(auto, unfolding(crate::specs::Reading::digits_at))]
 fn digits(bytes: &[u8]) -> Option<(u32, &[u8])>
-    ensures value { GivesSome (λ x. (x.0, x.1.now)) result (digits_at 1000000 0 bytes.now) }
-    ensures small { IfSome result (λ x. x.0 ≤ 1000000) }
+    ensures value { GivesSome (λ x. (x.0, x.1.now)) result (digits_at MOST_STEPS 0 bytes.now) }
+    ensures small { IfSome result (λ x. x.0 ≤ MOST_STEPS) }
 {
     let mut n = 0;
     let mut rest = bytes;
@@ -26,8 +27,8 @@ fn digits(bytes: &[u8]) -> Option<(u32, &[u8])>
 // The same, without a leading zero.
 #[tactic(auto, unfolding(crate::specs::Reading::number_at))]
 pub(crate) fn number_at(bytes: &[u8]) -> Option<(u32, &[u8])>
-    ensures value { GivesSome (λ x. (x.0, x.1.now)) result (number_at 1000000 bytes.now) }
-    ensures small { IfSome result (λ x. x.0 ≤ 1000000) }
+    ensures value { GivesSome (λ x. (x.0, x.1.now)) result (number_at MOST_STEPS bytes.now) }
+    ensures small { IfSome result (λ x. x.0 ≤ MOST_STEPS) }
 {
     match bytes {
         [b'0', b'0'..=b'9', ..] => None,

@@ -1,5 +1,6 @@
 // The canonical spelling of an action.
 ghost use Rattle.std.specs.Prelude.{◌≡◌, ◌≤◌, ◌+◌, ◌<◌, ◌++◌, length, slice_get, Some, codes, decimal};
+ghost use Rattle.plan_types.specs.declared.limits.TheConstants.{MOST_STEPS};
 ghost use Rattle.level_book.specs.BookCosts.{names_of};
 ghost use Rattle.action_text.specs.Canonical.{canonical, HasSpelling, IsLevelOf, IsKeepOf, IsDestOf, one_number, name_of, keep_text, copy_text, dest_text};
 
@@ -32,7 +33,7 @@ pub fn print_action(action: &Action, book: &Book, line: &mut Line)
 // Adds a text and two numbers, with a comma between them.
 fn push_numbers(line: &mut Line, before: &[u8], n: u32, m: u32)
     requires room { length line.old + length before.now ≤ 20 }
-    requires numbers { (n ≤ 1000000) × (m ≤ 1000000) }
+    requires numbers { (n ≤ MOST_STEPS) × (m ≤ MOST_STEPS) }
     ensures text { line.new ≡ line.old ++ before.now ++ decimal n ++ codes ", " ++ decimal m }
     ensures short { length line.new ≤ 36 }
 {
@@ -43,7 +44,7 @@ fn push_numbers(line: &mut Line, before: &[u8], n: u32, m: u32)
 // Adds a text and a number.
 fn push_number(line: &mut Line, before: &[u8], n: u32)
     requires room { length line.old + length before.now ≤ 60 }
-    requires number { n ≤ 1000000 }
+    requires number { n ≤ MOST_STEPS }
     ensures text { line.new ≡ line.old ++ before.now ++ decimal n }
     ensures short { length line.new ≤ length line.old + length before.now + 7 }
 {
@@ -82,7 +83,7 @@ fn push_name(line: &mut Line, before: &[u8], k: u8, book: &Book)
 // Adds the spelling of a Copy or a Move, which begins with this text.
 fn push_copy(line: &mut Line, before: &[u8], n: u32, from: u8, dest: Dest, book: &Book)
     requires room { length line.old + length before.now ≤ 5 }
-    requires number { n ≤ 1000000 }
+    requires number { n ≤ MOST_STEPS }
     requires level { IsLevelOf (names_of book.now) from }
     requires dest { IsDestOf (names_of book.now) dest }
     ensures text { line.new ≡ line.old ++ (one_number before.now n (copy_text (names_of book.now) from dest)) }

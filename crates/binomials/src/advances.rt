@@ -1,5 +1,6 @@
 // Repeats, advanced steps and the split of a stretch.
 ghost use Rattle.std.specs.Prelude.{◌≡◌, ◌<◌, ◌≤◌, ◌*◌};
+ghost use Rattle.plan_types.specs.declared.limits.TheConstants.{MOST_STEPS};
 ghost use Rattle.binomials.specs.Advances.{IsRepeats, repeats, least_advances, split};
 ghost use Rattle.binomials.specs.Laws.{IsSplit};
 
@@ -9,7 +10,7 @@ use crate::climb::climb_to;
 /// β(c, r − 1) < l ≤ β(c, r). It takes no memory.
 pub fn repeats(l: u32, c: u32) -> u32
     requires some { 1 ≤ l }
-    requires short { l ≤ 1000000 }
+    requires short { l ≤ MOST_STEPS }
     requires slots { 1 ≤ c }
     ensures value { result ≡ repeats l c }
     ensures between { IsRepeats l c result }
@@ -22,7 +23,7 @@ pub fn repeats(l: u32, c: u32) -> u32
 /// r · l − β(c + 1, r − 1). It takes no memory.
 pub fn least_advances(l: u32, c: u32) -> u64
     requires some { 1 ≤ l }
-    requires short { l ≤ 1000000 }
+    requires short { l ≤ MOST_STEPS }
     requires slots { 1 ≤ c }
     ensures value { result ≡ least_advances l c }
 
@@ -36,7 +37,7 @@ pub fn least_advances(l: u32, c: u32) -> u64
 /// How many steps from its start a stretch of `l` steps is split: max(1, β(c, r − 2), l − β(c − 1, r)). It takes no memory.
 pub fn split(l: u32, c: u32) -> u32
     requires some { 2 ≤ l }
-    requires short { l ≤ 1000000 }
+    requires short { l ≤ MOST_STEPS }
     requires slots { 1 ≤ c }
     ensures value { result ≡ split l c }
     ensures within { IsSplit l c result }

@@ -1,5 +1,6 @@
 // The binomial numbers round the number of repeats of a stretch.
 ghost use Rattle.std.specs.Prelude.{◌≤◌};
+ghost use Rattle.plan_types.specs.declared.limits.TheConstants.{MOST_STEPS};
 ghost use Rattle.binomials.specs.Climbed.{IsClimb};
 
 // For the number r of repeats of a stretch with c slots.
@@ -20,7 +21,7 @@ pub(crate) struct Climb {
 // Climbs from β(c, 0) to the first number that is no less than the steps. With one slot they are 1, 2, 3 and so on.
 pub(crate) fn climb_to(steps: u32, slots: u32) -> Climb
     requires some { 1 ≤ steps }
-    requires short { steps ≤ 1000000 }
+    requires short { steps ≤ MOST_STEPS }
     requires slots { 1 ≤ slots }
     ensures { IsClimb steps slots result }
 {

@@ -48,7 +48,8 @@ FailsFirst tests WrongShape = tests.Right × (tests.Sized → ⊥)
 FailsFirst tests OutsideClass = tests.Right × tests.Sized × (tests.Member → ⊥)
 FailsFirst tests (Inequality place) = tests.Right × tests.Sized × tests.Member × tests.BreaksFirst place
 FailsFirst tests (ValueDiffers cost_is value_is) =
-    tests.Right × tests.Sized × tests.Member × tests.Under × (tests.top ≢ number tests.list_cost) × (cost_is ≡ tests.list_cost) × (value_is ≡ entry_value tests.top)
+    tests.Right × tests.Sized × tests.Member × tests.Under × (tests.top ≢ number tests.list_cost) × (cost_is ≡ tests.list_cost)
+    × (value_is ≡ entry_value tests.top)
 
 -- ---- of tables for the nested class
 

@@ -35,7 +35,8 @@ FindsOn level levels Holds found = MatchOption found ((p : ℕ) → p < length l
 abbrev pub FindsMisfit : ℕ → ℕ → BookCosts → List Action → Level → Level → List ℕ → Option Entry → Type 0
 FindsMisfit threshold steps book list fast slow levels found =
     MatchOption found ((e : Entry) → Misfits threshold steps book list fast slow levels e → ⊥)
-    (λ e. Misfits threshold steps book list fast slow levels e × ((other : Entry) → StandsBefore other e → Misfits threshold steps book list fast slow levels other → ⊥))
+    (λ e. Misfits threshold steps book list fast slow levels e × ((other : Entry) → StandsBefore other e →
+    Misfits threshold steps book list fast slow levels other → ⊥))
 
 -- the number of a k is this, or it is negative and this is None
 abbrev pub FindsNumber : ℕ → ℕ → ℕ → Option ℕ → Type 0

@@ -1,5 +1,6 @@
 // The number of a certificate.
 ghost use Rattle.std.specs.Prelude.{◌≡◌, ◌≤◌, ◌^◌, min};
+ghost use Rattle.plan_types.specs.declared.limits.TheConstants.{MOST_STEPS};
 ghost use Rattle.binomials.specs.Binomials.{beta_before};
 ghost use Rattle.bound_cert.specs.Verdicts.{FindsNumber};
 
@@ -7,7 +8,7 @@ use binomials::beta;
 
 // N + k · N − β(c + 1, k − 1) for N steps and c slots, and None where that is negative. It takes no memory.
 pub(crate) fn bound(steps: u32, slots: u32, k: u32) -> Option<u64>
-    requires short { steps ≤ 1000000 }
+    requires short { steps ≤ MOST_STEPS }
     requires slots { slots ≤ steps }
     ensures { FindsNumber steps slots k result }
 {

@@ -1,5 +1,6 @@
 // The certificates of lists that are planned.
 ghost use Rattle.std.specs.Prelude.{◌≡◌, ◌<◌, ◌≤◌, ◌+◌, ℕ, List, length, IfOk};
+ghost use Rattle.plan_types.specs.declared.limits.TheConstants.{MOST_ACTIONS, MOST_STEPS};
 ghost use Rattle.plan_types.specs.declared.action.Action.{Action};
 ghost use Rattle.level_book.specs.BookCosts.{BookCosts, IsWithinLimits, slots_of, total_room};
 ghost use Rattle.level_book.specs.Valid.{Valid};
@@ -34,7 +35,7 @@ use std::alloc::{AllocError, Global};
 
 /// The certificate of the list that `revolve_gen::revolve_list` gives for these steps and this book. It takes no memory.
 pub fn certify_revolve(steps: u32, book: &Book) -> Certificate
-    requires short { steps ≤ 1000000 }
+    requires short { steps ≤ MOST_STEPS }
     requires plan { HasPlan steps (total_room book.now steps) }
     ensures few { steps ≤ 1 → result ≡ Certificate.Revolve 0 steps }
     ensures more { 2 ≤ steps → result ≡ Certificate.Revolve (repeats steps (total_room book.now steps))
@@ -67,8 +68,9 @@ pub fn certify_places(
     list: &[Action],
     book: &Book,
 ) -> Result<Certificate, AllocError>
-    requires { (steps : ℕ) × (steps ≤ 1000000) × IsMultistage steps book.now list.now }
-    ensures threshold { IfOk result (λ certificate. (steps : ℕ) → IsMultistage steps book.now list.now → IsPlaces (λ threshold. IsThresholdOf threshold steps book.now list.now) certificate) }
+    requires { (steps : ℕ) × (steps ≤ MOST_STEPS) × IsMultistage steps book.now list.now }
+    ensures threshold { IfOk result (λ certificate. (steps : ℕ) → IsMultistage steps book.now list.now →
+        IsPlaces (λ threshold. IsThresholdOf threshold steps book.now list.now) certificate) }
     ensures text { IfOk result (λ certificate. (steps : ℕ) → HasText steps book.now certificate) }
 
     // It is accepted for the list that is planned.
@@ -86,8 +88,8 @@ fn certify_for(
     steps: u32,
     book: &Book,
 ) -> Result<Certificate, AllocError>
-    requires short { steps ≤ 1000000 }
-    requires few { length list.now ≤ 16777216 }
+    requires short { steps ≤ MOST_STEPS }
+    requires few { length list.now ≤ MOST_ACTIONS }
     requires class { IsMultistage steps book.now list.now }
     ensures threshold { IfOk result (IsPlaces (λ threshold. IsThresholdOf threshold steps book.now list.now)) }
     ensures text { IfOk result (λ certificate. (n : ℕ) → HasText n book.now certificate) }
@@ -107,10 +109,12 @@ pub fn certify_nested(tables: Tables) -> Certificate
     ensures value { result ≡ Certificate.Nested tables }
 
     // Of the greatest tables it has a text, and it is accepted for the list that is read from them.
-    ensures text { (steps : ℕ) (book : BookCosts) → IsWithinLimits book → TablesFit steps book → AreFor steps book tables → IsGreatest steps book (tables_in tables) →
+    ensures text { (steps : ℕ) (book : BookCosts) → IsWithinLimits book → TablesFit steps book → AreFor steps book tables →
+        IsGreatest steps book (tables_in tables) →
         HasText steps book result }
     ensures accepted { (list : List Action) (steps : ℕ) (book : BookCosts) → IsWithinLimits book → TablesFit steps book → AreFor steps book tables →
-        IsGreatest steps book (tables_in tables) → nested.HasNestedPlan steps book → IsWritten steps book (tables_in tables) list → IsAccepted list steps book result }
+        IsGreatest steps book (tables_in tables) → nested.HasNestedPlan steps book → IsWritten steps book (tables_in tables) list →
+        IsAccepted list steps book result }
 {
     tables.is_shaped();
     let _levels = tables.levels();

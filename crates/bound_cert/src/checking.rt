@@ -1,5 +1,6 @@
 // Whether a certificate is accepted for a list.
 ghost use Rattle.std.specs.Prelude.{◌≡◌, ◌≤◌, ◌↔◌, ℕ, List, length, IfOk};
+ghost use Rattle.plan_types.specs.declared.limits.TheConstants.{MOST_ACTIONS, MOST_STEPS};
 ghost use Rattle.plan_types.specs.declared.action.Action.{Action};
 ghost use Rattle.level_book.specs.BookCosts.{slots_of};
 ghost use Rattle.level_book.specs.Valid.{Valid};
@@ -33,9 +34,10 @@ pub fn check_certificate(
     book: &Book,
     certificate: &Certificate,
 ) -> Result<CertVerdict, AllocError>
-    requires short { steps ≤ 1000000 }
-    requires few { length list.now ≤ 16777216 }
-    ensures accepted { IfOk result (λ v. (class : Class) → (v ≡ CertVerdict.Least class) ↔ ((class ≡ class_of certificate.now) × IsAccepted list.now steps book.now certificate.now)) }
+    requires short { steps ≤ MOST_STEPS }
+    requires few { length list.now ≤ MOST_ACTIONS }
+    ensures accepted { IfOk result (λ v. (class : Class) →
+        (v ≡ CertVerdict.Least class) ↔ ((class ≡ class_of certificate.now) × IsAccepted list.now steps book.now certificate.now)) }
     ensures refused { IfOk result (λ v. (reason : Reason) → (v ≡ CertVerdict.Not reason) ↔ (IsFirstReason list.now steps book.now certificate.now reason)) }
 
     // An accepted certificate shows that no valid list takes fewer forward steps, or that no list of the class costs less.
@@ -64,8 +66,8 @@ fn weigh(
     book: &Book,
     certificate: &Certificate,
 ) -> Result<CertVerdict, AllocError>
-    requires short { steps ≤ 1000000 }
-    requires few { length list.now ≤ 16777216 }
+    requires short { steps ≤ MOST_STEPS }
+    requires few { length list.now ≤ MOST_ACTIONS }
     requires valid { Valid steps (slots_of book.now) list.now }
     ensures { IfOk result (IsVerdict list.now steps book.now certificate.now) }
 {
@@ -82,8 +84,8 @@ fn weigh(
 
 // The forward steps of a valid list, taped ones included.
 fn forward_steps(list: &[Action], steps: u32, book: &Book) -> u64
-    requires short { steps ≤ 1000000 }
-    requires few { length list.now ≤ 16777216 }
+    requires short { steps ≤ MOST_STEPS }
+    requires few { length list.now ≤ MOST_ACTIONS }
     requires valid { Valid steps (slots_of book.now) list.now }
     ensures { result ≡ forward list.now }
 {

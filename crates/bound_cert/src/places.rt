@@ -1,5 +1,6 @@
 // Whether a threshold fits the places of a list.
 ghost use Rattle.std.specs.Prelude.{◌≡◌, ℕ, ◌<◌, ◌≤◌, ◌^◌, List, [], ◌∷◌, length, slice_index, IfOk};
+ghost use Rattle.plan_types.specs.declared.limits.TheConstants.{MOST_ACTIONS, MOST_STEPS};
 ghost use Rattle.plan_types.specs.declared.action.Action.{Action};
 ghost use Rattle.level_book.specs.declared.book.Level.{Level};
 ghost use Rattle.level_book.specs.BookCosts.{BookCosts, slots_of, room};
@@ -26,8 +27,8 @@ pub(crate) fn weigh_places(
     book: &Book,
     threshold: u64,
 ) -> Result<CertVerdict, AllocError>
-    requires short { steps ≤ 1000000 }
-    requires few { length list.now ≤ 16777216 }
+    requires short { steps ≤ MOST_STEPS }
+    requires few { length list.now ≤ MOST_ACTIONS }
     requires valid { Valid steps (slots_of book.now) list.now }
     ensures { IfOk result (IsVerdict list.now steps book.now (Certificate.Places threshold)) }
 {

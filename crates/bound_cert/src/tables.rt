@@ -1,5 +1,6 @@
 // Whether tables show that a list costs the least of its class.
 ghost use Rattle.std.specs.Prelude.{◌≡◌, ◌≤◌, ◌<◌, ◌*◌, ◌^◌, length, IfOk};
+ghost use Rattle.plan_types.specs.declared.limits.TheConstants.{MOST_ACTIONS, MOST_STEPS};
 ghost use Rattle.level_book.specs.BookCosts.{slots_of};
 ghost use Rattle.level_book.specs.Valid.{Valid};
 ghost use Rattle.level_book.specs.CostFold.{cost};
@@ -28,8 +29,8 @@ pub(crate) fn weigh_nested(
     book: &Book,
     tables: &Tables,
 ) -> Result<CertVerdict, AllocError>
-    requires short { steps ≤ 1000000 }
-    requires few { length list.now ≤ 16777216 }
+    requires short { steps ≤ MOST_STEPS }
+    requires few { length list.now ≤ MOST_ACTIONS }
     requires valid { Valid steps (slots_of book.now) list.now }
     ensures { IfOk result (IsVerdict list.now steps book.now (Certificate.Nested tables.now)) }
 {
@@ -54,8 +55,8 @@ pub(crate) fn weigh_disk(
     book: &Book,
     tables: &DiskTables,
 ) -> Result<CertVerdict, AllocError>
-    requires short { steps ≤ 1000000 }
-    requires few { length list.now ≤ 16777216 }
+    requires short { steps ≤ MOST_STEPS }
+    requires few { length list.now ≤ MOST_ACTIONS }
     requires valid { Valid steps (slots_of book.now) list.now }
     ensures { IfOk result (IsVerdict list.now steps book.now (Certificate.Disk tables.now)) }
 {
@@ -97,8 +98,8 @@ fn disk_top_of(tables: &DiskTables, steps: u32) -> Cost
 
 // What a valid list costs.
 fn list_cost(list: &[Action], steps: u32, book: &Book) -> u64
-    requires short { steps ≤ 1000000 }
-    requires few { length list.now ≤ 16777216 }
+    requires short { steps ≤ MOST_STEPS }
+    requires few { length list.now ≤ MOST_ACTIONS }
     requires valid { Valid steps (slots_of book.now) list.now }
     ensures { result ≡ cost list.now book.now }
 {

@@ -68,7 +68,8 @@ pub record Goes (wants : List Want) (old new : Left) : Type 0 where
 -- the same of lines
 pub record Passes (wants : List (List Want)) (old new : Unread) : Type 0 where
   pub count : new.count ≡ old.count
-  pub fault : (more : List (List Want)) (rule line column : ℕ) → IsLineFault more new.lines new.count rule line column → IsLineFault (wants ++ more) old.lines old.count rule line column
+  pub fault : (more : List (List Want)) (rule line column : ℕ) → IsLineFault more new.lines new.count rule line column →
+      IsLineFault (wants ++ more) old.lines old.count rule line column
 
 -- a fault in lines where these are wanted, whatever more is wanted behind them
 abbrev pub IsAmong : List (List Want) → Unread → CertFault → Type 0

@@ -1,5 +1,6 @@
 -- Which text says which certificate.
 use Rattle.std.specs.Prelude.{◌≡◌, ℕ, ◌^◌, ◌<◌, ◌≤◌, List, map, length, slice_index_or}
+use Rattle.plan_types.specs.declared.limits.TheConstants.{MOST_STEPS}
 use Rattle.level_book.specs.BookCosts.{BookCosts}
 use Rattle.level_book.specs.UnderTable.{Entry}
 use Rattle.cost_tables.specs.TableRows.{TableRows, tables_in, AreFor, TablesFit, FastestTablesFit, fastest}
@@ -43,7 +44,7 @@ pub record HaveDiskText (steps : ℕ) (book : BookCosts) (t : DiskRows) : Type 0
 
 -- Which certificates have a text for so many steps and a book: their numbers are below 2^64, and a k is at most 1,000,000.
 abbrev pub HasText : ℕ → BookCosts → Certificate → Type 0
-HasText steps book (Revolve k value) = (k ≤ 1000000) × (value < 2 ^ 64)
+HasText steps book (Revolve k value) = (k ≤ MOST_STEPS) × (value < 2 ^ 64)
 HasText steps book (Places threshold) = threshold < 2 ^ 64
 HasText steps book (Nested t) = HaveText steps book t
 HasText steps book (Disk t) = HaveDiskText steps book t

@@ -1,6 +1,7 @@
 -- What the lines of a certificate must be: the word that is wanted at each place, by the kind that the first word names.
 use Rattle.std.specs.Prelude.{◌≡◌, ◌⊎◌, ℕ, ◌+◌, ◌-◌, ◌^◌, ◌<◌, ◌≤◌, List, [], ◌∷◌, ◌++◌, length, map, replicate, codes, decimal}
 use Rattle.std.specs.List.{range_with_len, flat_map}
+use Rattle.cert_text.specs.declared.reading.TheConstants.{MOST_REPEATS}
 use Rattle.level_book.specs.BookCosts.{BookCosts, room}
 use Rattle.cost_tables.specs.TableRows as tables
 use Rattle.cert_text.specs.declared.kind.Kind.{Kind}
@@ -31,7 +32,7 @@ kind_word Disk = codes "disk"
 
 -- what is wanted behind that word in its line: k, which is at most 1,000,000, and the value; or the threshold
 abbrev pub first_wants : Kind → List Want
-first_wants Revolve = number_to 1000000 ∷ number_to greatest ∷ []
+first_wants Revolve = number_to MOST_REPEATS ∷ number_to greatest ∷ []
 first_wants Places = number_to greatest ∷ []
 first_wants Nested = []
 first_wants Disk = []

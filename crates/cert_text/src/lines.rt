@@ -17,7 +17,10 @@ pub(crate) struct MarkedLine<'a> {
 pub(crate) fn next_marked(bytes: &[u8], before: u32) -> Result<MarkedLine<'_>, u32>
     requires { before + length bytes.now < 2 ^ 31 }
     ensures { MatchResult result
-        (λ line. (marked (before + 1) (lines bytes.now) ≡ record { number = line.number; text = line.text.now } ∷ marked (line.number + 1) (lines line.later.now))
+        (λ line. (marked (before + 1) (lines bytes.now) ≡ record {
+          number = line.number;
+          text = line.text.now;
+        } ∷ marked (line.number + 1) (lines line.later.now))
         × (line.number + line_count (lines line.later.now) ≡ before + line_count (lines bytes.now))
         × (length line.text.now < 2 ^ 31) × (line.number + length line.later.now < 2 ^ 31))
         (λ all. (marked (before + 1) (lines bytes.now) ≡ []) × (all ≡ before + line_count (lines bytes.now)) × (all < 2 ^ 31)) }

@@ -89,7 +89,8 @@ pub(crate) fn read_levels(
     requires row { length row.old ≡ tables.old.steps }
     requires narrow { (k : ℕ) → k < length tables.old.rooms → slice_index_or tables.old.rooms k 0 ≤ 64 }
     ensures { MatchResult result
-        (λ _. Reads (flat_map (wants_for tables.old) (range_with_len 0 (length tables.old.rooms))) (flat_map (level_lines tables.new) (range_with_len 0 (length tables.old.rooms))) reader.old reader.new
+        (λ _. Reads (flat_map (wants_for tables.old) (range_with_len 0 (length tables.old.rooms)))
+        (flat_map (level_lines tables.new) (range_with_len 0 (length tables.old.rooms))) reader.old reader.new
         × ((k : ℕ) → k < length tables.old.rooms → HaveWords tables.new k) × (tables.new.steps ≡ tables.old.steps) × (tables.new.rooms ≡ tables.old.rooms))
         (λ fault. IsAmong (flat_map (wants_for tables.old) (range_with_len 0 (length tables.old.rooms))) reader.old fault) }
 {

@@ -14,8 +14,10 @@ use keepers::{Sink, SinkFault};
 
 // Writes disk tables.
 pub(crate) fn print_disk<O: Sink>(tables: &DiskTables, out: &mut O) -> Result<(), SinkFault>
-    ensures ok { OnOk result (AddsLines (pieces (certificate.Disk tables.now)) (seen O.told O.call_count O.fault_count out.old) (seen O.told O.call_count O.fault_count out.new)) }
-    ensures stopped { OnErr result (StopsIn (pieces (certificate.Disk tables.now)) (seen O.told O.call_count O.fault_count out.old) (seen O.told O.call_count O.fault_count out.new)) }
+    ensures ok { OnOk result (AddsLines (pieces (certificate.Disk tables.now)) (seen O.told O.call_count O.fault_count out.old)
+        (seen O.told O.call_count O.fault_count out.new)) }
+    ensures stopped { OnErr result (StopsIn (pieces (certificate.Disk tables.now)) (seen O.told O.call_count O.fault_count out.old)
+        (seen O.told O.call_count O.fault_count out.new)) }
 {
     print_word(b"disk", out)?;
     print_levels(tables.fast(), out)?;
@@ -26,8 +28,10 @@ pub(crate) fn print_disk<O: Sink>(tables: &DiskTables, out: &mut O) -> Result<()
 
 // The line of the entries over both levels for stretches whose first state is in work.
 fn print_disk_fresh<O: Sink>(tables: &DiskTables, out: &mut O) -> Result<(), SinkFault>
-    ensures ok { OnOk result (AddsLines (writes (row_line (codes "Fd" ∷ []) tables.now.fast.steps (disk_tables_in tables.now).disk_fresh ∷ [])) (seen O.told O.call_count O.fault_count out.old) (seen O.told O.call_count O.fault_count out.new)) }
-    ensures stopped { OnErr result (StopsIn (writes (row_line (codes "Fd" ∷ []) tables.now.fast.steps (disk_tables_in tables.now).disk_fresh ∷ [])) (seen O.told O.call_count O.fault_count out.old) (seen O.told O.call_count O.fault_count out.new)) }
+    ensures ok { OnOk result (AddsLines (writes (row_line (codes "Fd" ∷ []) tables.now.fast.steps (disk_tables_in tables.now).disk_fresh ∷ []))
+        (seen O.told O.call_count O.fault_count out.old) (seen O.told O.call_count O.fault_count out.new)) }
+    ensures stopped { OnErr result (StopsIn (writes (row_line (codes "Fd" ∷ []) tables.now.fast.steps (disk_tables_in tables.now).disk_fresh ∷ []))
+        (seen O.told O.call_count O.fault_count out.old) (seen O.told O.call_count O.fault_count out.new)) }
 {
     let mut piece = Piece::new();
     piece.word(b"Fd", out)?;
@@ -39,8 +43,10 @@ fn print_disk_fresh<O: Sink>(tables: &DiskTables, out: &mut O) -> Result<(), Sin
 
 // That of stretches whose first state is held on level 1.
 fn print_disk_held<O: Sink>(tables: &DiskTables, out: &mut O) -> Result<(), SinkFault>
-    ensures ok { OnOk result (AddsLines (writes (row_line (codes "Hd" ∷ []) tables.now.fast.steps (disk_tables_in tables.now).disk_held ∷ [])) (seen O.told O.call_count O.fault_count out.old) (seen O.told O.call_count O.fault_count out.new)) }
-    ensures stopped { OnErr result (StopsIn (writes (row_line (codes "Hd" ∷ []) tables.now.fast.steps (disk_tables_in tables.now).disk_held ∷ [])) (seen O.told O.call_count O.fault_count out.old) (seen O.told O.call_count O.fault_count out.new)) }
+    ensures ok { OnOk result (AddsLines (writes (row_line (codes "Hd" ∷ []) tables.now.fast.steps (disk_tables_in tables.now).disk_held ∷ []))
+        (seen O.told O.call_count O.fault_count out.old) (seen O.told O.call_count O.fault_count out.new)) }
+    ensures stopped { OnErr result (StopsIn (writes (row_line (codes "Hd" ∷ []) tables.now.fast.steps (disk_tables_in tables.now).disk_held ∷ []))
+        (seen O.told O.call_count O.fault_count out.old) (seen O.told O.call_count O.fault_count out.new)) }
 {
     let mut piece = Piece::new();
     piece.word(b"Hd", out)?;

@@ -15,8 +15,10 @@ use keepers::{Sink, SinkFault};
 
 // Writes tables over the levels of a book.
 pub(crate) fn print_nested<O: Sink>(tables: &Tables, out: &mut O) -> Result<(), SinkFault>
-    ensures ok { OnOk result (AddsLines (pieces (certificate.Nested tables.now)) (seen O.told O.call_count O.fault_count out.old) (seen O.told O.call_count O.fault_count out.new)) }
-    ensures stopped { OnErr result (StopsIn (pieces (certificate.Nested tables.now)) (seen O.told O.call_count O.fault_count out.old) (seen O.told O.call_count O.fault_count out.new)) }
+    ensures ok { OnOk result (AddsLines (pieces (certificate.Nested tables.now)) (seen O.told O.call_count O.fault_count out.old)
+        (seen O.told O.call_count O.fault_count out.new)) }
+    ensures stopped { OnErr result (StopsIn (pieces (certificate.Nested tables.now)) (seen O.told O.call_count O.fault_count out.old)
+        (seen O.told O.call_count O.fault_count out.new)) }
 {
     print_word(b"nested", out)?;
     print_levels(tables, out)?;
@@ -25,8 +27,10 @@ pub(crate) fn print_nested<O: Sink>(tables: &Tables, out: &mut O) -> Result<(), 
 
 // The lines of all levels.
 pub(crate) fn print_levels<O: Sink>(tables: &Tables, out: &mut O) -> Result<(), SinkFault>
-    ensures ok { OnOk result (AddsLines (writes (flat_map (level_lines tables.now) (range_with_len 0 (length tables.now.rooms)))) (seen O.told O.call_count O.fault_count out.old) (seen O.told O.call_count O.fault_count out.new)) }
-    ensures stopped { OnErr result (StopsIn (writes (flat_map (level_lines tables.now) (range_with_len 0 (length tables.now.rooms)))) (seen O.told O.call_count O.fault_count out.old) (seen O.told O.call_count O.fault_count out.new)) }
+    ensures ok { OnOk result (AddsLines (writes (flat_map (level_lines tables.now) (range_with_len 0 (length tables.now.rooms))))
+        (seen O.told O.call_count O.fault_count out.old) (seen O.told O.call_count O.fault_count out.new)) }
+    ensures stopped { OnErr result (StopsIn (writes (flat_map (level_lines tables.now) (range_with_len 0 (length tables.now.rooms))))
+        (seen O.told O.call_count O.fault_count out.old) (seen O.told O.call_count O.fault_count out.new)) }
 {
     for k in 0..tables.levels() {
         print_level(k, tables, out)?;
@@ -37,8 +41,10 @@ pub(crate) fn print_levels<O: Sink>(tables: &Tables, out: &mut O) -> Result<(), 
 // The lines of level k.
 fn print_level<O: Sink>(k: u8, tables: &Tables, out: &mut O) -> Result<(), SinkFault>
     requires { k < length tables.now.rooms }
-    ensures ok { OnOk result (AddsLines (writes (level_lines tables.now k)) (seen O.told O.call_count O.fault_count out.old) (seen O.told O.call_count O.fault_count out.new)) }
-    ensures stopped { OnErr result (StopsIn (writes (level_lines tables.now k)) (seen O.told O.call_count O.fault_count out.old) (seen O.told O.call_count O.fault_count out.new)) }
+    ensures ok { OnOk result (AddsLines (writes (level_lines tables.now k)) (seen O.told O.call_count O.fault_count out.old)
+        (seen O.told O.call_count O.fault_count out.new)) }
+    ensures stopped { OnErr result (StopsIn (writes (level_lines tables.now k)) (seen O.told O.call_count O.fault_count out.old)
+        (seen O.told O.call_count O.fault_count out.new)) }
 {
     print_fresh(k, tables, out)?;
     print_held(k, tables, out)
@@ -47,8 +53,10 @@ fn print_level<O: Sink>(k: u8, tables: &Tables, out: &mut O) -> Result<(), SinkF
 // A line of one word.
 pub(crate) fn print_word<O: Sink>(word: &[u8], out: &mut O) -> Result<(), SinkFault>
     requires { length word.now ≤ 20 }
-    ensures ok { OnOk result (AddsLines (writes ((word.now ∷ []) ∷ [])) (seen O.told O.call_count O.fault_count out.old) (seen O.told O.call_count O.fault_count out.new)) }
-    ensures stopped { OnErr result (StopsIn (writes ((word.now ∷ []) ∷ [])) (seen O.told O.call_count O.fault_count out.old) (seen O.told O.call_count O.fault_count out.new)) }
+    ensures ok { OnOk result (AddsLines (writes ((word.now ∷ []) ∷ [])) (seen O.told O.call_count O.fault_count out.old)
+        (seen O.told O.call_count O.fault_count out.new)) }
+    ensures stopped { OnErr result (StopsIn (writes ((word.now ∷ []) ∷ [])) (seen O.told O.call_count O.fault_count out.old)
+        (seen O.told O.call_count O.fault_count out.new)) }
 {
     let mut piece = Piece::new();
     piece.word(word, out)?;
@@ -58,8 +66,12 @@ pub(crate) fn print_word<O: Sink>(word: &[u8], out: &mut O) -> Result<(), SinkFa
 // The lines of level k for stretches whose first state is in work.
 fn print_fresh<O: Sink>(k: u8, tables: &Tables, out: &mut O) -> Result<(), SinkFault>
     requires { k < length tables.now.rooms }
-    ensures ok { OnOk result (AddsLines (writes (row_lines (codes "F") k tables.now.steps (slice_index_or tables.now.rooms k 0 + 1) (λ m l. (tables_in tables.now).fresh k l m))) (seen O.told O.call_count O.fault_count out.old) (seen O.told O.call_count O.fault_count out.new)) }
-    ensures stopped { OnErr result (StopsIn (writes (row_lines (codes "F") k tables.now.steps (slice_index_or tables.now.rooms k 0 + 1) (λ m l. (tables_in tables.now).fresh k l m))) (seen O.told O.call_count O.fault_count out.old) (seen O.told O.call_count O.fault_count out.new)) }
+    ensures ok { OnOk result (AddsLines (writes
+        (row_lines (codes "F") k tables.now.steps (slice_index_or tables.now.rooms k 0 + 1) (λ m l. (tables_in tables.now).fresh k l m)))
+        (seen O.told O.call_count O.fault_count out.old) (seen O.told O.call_count O.fault_count out.new)) }
+    ensures stopped { OnErr result (StopsIn
+        (writes (row_lines (codes "F") k tables.now.steps (slice_index_or tables.now.rooms k 0 + 1) (λ m l. (tables_in tables.now).fresh k l m)))
+        (seen O.told O.call_count O.fault_count out.old) (seen O.told O.call_count O.fault_count out.new)) }
 {
     let room = tables.room(k);
     for m in 0..room {
@@ -71,8 +83,12 @@ fn print_fresh<O: Sink>(k: u8, tables: &Tables, out: &mut O) -> Result<(), SinkF
 fn print_fresh_row<O: Sink>(k: u8, m: u32, tables: &Tables, out: &mut O) -> Result<(), SinkFault>
     requires k { k < length tables.now.rooms }
     requires m { m ≤ slice_index_or tables.now.rooms k 0 }
-    ensures ok { OnOk result (AddsLines (writes (row_line (codes "F" ∷ decimal k ∷ decimal m ∷ []) tables.now.steps (λ l. (tables_in tables.now).fresh k l m) ∷ [])) (seen O.told O.call_count O.fault_count out.old) (seen O.told O.call_count O.fault_count out.new)) }
-    ensures stopped { OnErr result (StopsIn (writes (row_line (codes "F" ∷ decimal k ∷ decimal m ∷ []) tables.now.steps (λ l. (tables_in tables.now).fresh k l m) ∷ [])) (seen O.told O.call_count O.fault_count out.old) (seen O.told O.call_count O.fault_count out.new)) }
+    ensures ok { OnOk result (AddsLines (writes
+        (row_line (codes "F" ∷ decimal k ∷ decimal m ∷ []) tables.now.steps (λ l. (tables_in tables.now).fresh k l m) ∷ []))
+        (seen O.told O.call_count O.fault_count out.old) (seen O.told O.call_count O.fault_count out.new)) }
+    ensures stopped { OnErr result (StopsIn
+        (writes (row_line (codes "F" ∷ decimal k ∷ decimal m ∷ []) tables.now.steps (λ l. (tables_in tables.now).fresh k l m) ∷ []))
+        (seen O.told O.call_count O.fault_count out.old) (seen O.told O.call_count O.fault_count out.new)) }
 {
     let mut piece = Piece::new();
     put_head(b"F", k, m, &mut piece, out)?;
@@ -85,8 +101,12 @@ fn print_fresh_row<O: Sink>(k: u8, m: u32, tables: &Tables, out: &mut O) -> Resu
 // Those of stretches whose first state is held on the level.
 fn print_held<O: Sink>(k: u8, tables: &Tables, out: &mut O) -> Result<(), SinkFault>
     requires { k < length tables.now.rooms }
-    ensures ok { OnOk result (AddsLines (writes (row_lines (codes "H") k tables.now.steps (slice_index_or tables.now.rooms k 0) (λ m l. (tables_in tables.now).held k l m))) (seen O.told O.call_count O.fault_count out.old) (seen O.told O.call_count O.fault_count out.new)) }
-    ensures stopped { OnErr result (StopsIn (writes (row_lines (codes "H") k tables.now.steps (slice_index_or tables.now.rooms k 0) (λ m l. (tables_in tables.now).held k l m))) (seen O.told O.call_count O.fault_count out.old) (seen O.told O.call_count O.fault_count out.new)) }
+    ensures ok { OnOk result (AddsLines (writes
+        (row_lines (codes "H") k tables.now.steps (slice_index_or tables.now.rooms k 0) (λ m l. (tables_in tables.now).held k l m)))
+        (seen O.told O.call_count O.fault_count out.old) (seen O.told O.call_count O.fault_count out.new)) }
+    ensures stopped { OnErr result (StopsIn
+        (writes (row_lines (codes "H") k tables.now.steps (slice_index_or tables.now.rooms k 0) (λ m l. (tables_in tables.now).held k l m)))
+        (seen O.told O.call_count O.fault_count out.old) (seen O.told O.call_count O.fault_count out.new)) }
 {
     for m in 0..tables.room(k) {
         print_held_row(k, m, tables, out)?;
@@ -97,8 +117,12 @@ fn print_held<O: Sink>(k: u8, tables: &Tables, out: &mut O) -> Result<(), SinkFa
 fn print_held_row<O: Sink>(k: u8, m: u32, tables: &Tables, out: &mut O) -> Result<(), SinkFault>
     requires k { k < length tables.now.rooms }
     requires m { m < slice_index_or tables.now.rooms k 0 }
-    ensures ok { OnOk result (AddsLines (writes (row_line (codes "H" ∷ decimal k ∷ decimal m ∷ []) tables.now.steps (λ l. (tables_in tables.now).held k l m) ∷ [])) (seen O.told O.call_count O.fault_count out.old) (seen O.told O.call_count O.fault_count out.new)) }
-    ensures stopped { OnErr result (StopsIn (writes (row_line (codes "H" ∷ decimal k ∷ decimal m ∷ []) tables.now.steps (λ l. (tables_in tables.now).held k l m) ∷ [])) (seen O.told O.call_count O.fault_count out.old) (seen O.told O.call_count O.fault_count out.new)) }
+    ensures ok { OnOk result (AddsLines (writes
+        (row_line (codes "H" ∷ decimal k ∷ decimal m ∷ []) tables.now.steps (λ l. (tables_in tables.now).held k l m) ∷ []))
+        (seen O.told O.call_count O.fault_count out.old) (seen O.told O.call_count O.fault_count out.new)) }
+    ensures stopped { OnErr result (StopsIn
+        (writes (row_line (codes "H" ∷ decimal k ∷ decimal m ∷ []) tables.now.steps (λ l. (tables_in tables.now).held k l m) ∷ []))
+        (seen O.told O.call_count O.fault_count out.old) (seen O.told O.call_count O.fault_count out.new)) }
 {
     let mut piece = Piece::new();
     put_head(b"H", k, m, &mut piece, out)?;
@@ -117,8 +141,10 @@ fn put_head<O: Sink>(
     out: &mut O,
 ) -> Result<(), SinkFault>
     requires { length letter.now ≤ 20 }
-    ensures ok { OnOk result (Puts (letter.now ∷ decimal k ∷ decimal m ∷ []) piece.old.room piece.old.text piece.new.room piece.new.text (seen O.told O.call_count O.fault_count out.old) (seen O.told O.call_count O.fault_count out.new)) }
-    ensures stopped { OnErr result (StopsAt (letter.now ∷ decimal k ∷ decimal m ∷ []) piece.old.room piece.old.text (seen O.told O.call_count O.fault_count out.old) (seen O.told O.call_count O.fault_count out.new)) }
+    ensures ok { OnOk result (Puts (letter.now ∷ decimal k ∷ decimal m ∷ []) piece.old.room piece.old.text piece.new.room piece.new.text
+        (seen O.told O.call_count O.fault_count out.old) (seen O.told O.call_count O.fault_count out.new)) }
+    ensures stopped { OnErr result (StopsAt (letter.now ∷ decimal k ∷ decimal m ∷ []) piece.old.room piece.old.text
+        (seen O.told O.call_count O.fault_count out.old) (seen O.told O.call_count O.fault_count out.new)) }
 {
     piece.word(letter, out)?;
     piece.number(k as u64, out)?;
@@ -127,8 +153,10 @@ fn put_head<O: Sink>(
 
 // The word of an entry.
 pub(crate) fn put_cost<O: Sink>(cost: Cost, piece: &mut Piece, out: &mut O) -> Result<(), SinkFault>
-    ensures ok { OnOk result (Puts (cost_word cost ∷ []) piece.old.room piece.old.text piece.new.room piece.new.text (seen O.told O.call_count O.fault_count out.old) (seen O.told O.call_count O.fault_count out.new)) }
-    ensures stopped { OnErr result (StopsAt (cost_word cost ∷ []) piece.old.room piece.old.text (seen O.told O.call_count O.fault_count out.old) (seen O.told O.call_count O.fault_count out.new)) }
+    ensures ok { OnOk result (Puts (cost_word cost ∷ []) piece.old.room piece.old.text piece.new.room piece.new.text
+        (seen O.told O.call_count O.fault_count out.old) (seen O.told O.call_count O.fault_count out.new)) }
+    ensures stopped { OnErr result (StopsAt (cost_word cost ∷ []) piece.old.room piece.old.text (seen O.told O.call_count O.fault_count out.old)
+        (seen O.told O.call_count O.fault_count out.new)) }
 {
     match cost {
         Cost::Number(n) => piece.number(n, out),

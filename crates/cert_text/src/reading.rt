@@ -1,5 +1,7 @@
 // Texts that are read as certificates.
 ghost use Rattle.std.specs.Prelude.{◌≡◌, ◌⊎◌, ◌<◌, ◌≤◌, ◌+◌, ◌^◌, ℕ, [], ◌∷◌, length, decimal, MatchResult, IfOk, IfErr, Ok, Err};
+ghost use Rattle.plan_types.specs.declared.limits.TheConstants.{MOST_STEPS};
+ghost use Rattle.cert_text.specs.declared.reading.TheConstants.{MOST_REPEATS};
 ghost use Rattle.level_book.specs.BookCosts.{BookCosts};
 ghost use Rattle.cert_text.specs.declared.certificate.Certificate.{Certificate};
 ghost use Rattle.cert_text.specs.declared.fault.CertFault.{CertFault};
@@ -34,10 +36,11 @@ pub fn read_certificate(
     book: &Book,
 ) -> Result<Certificate, CertFault>
     requires small { length bytes.now < 2 ^ 31 }
-    requires few { steps ≤ 1000000 }
+    requires few { steps ≤ MOST_STEPS }
     // What is read is said so, and what is said so is read.
     ensures found { IfOk result (IsCertificateText steps book.now bytes.now) }
-    ensures only { (certificate : Certificate) → IsCertificateText steps book.now bytes.now certificate → (result ≡ Ok certificate) ⊎ (result ≡ Err CertFault.Memory) }
+    ensures only { (certificate : Certificate) → IsCertificateText steps book.now bytes.now certificate →
+        (result ≡ Ok certificate) ⊎ (result ≡ Err CertFault.Memory) }
 
     // What is refused has that fault first, or there was no memory, and what has a fault is refused for it.
     ensures refused { IfErr result (λ fault. (fault ≡ CertFault.Memory) ⊎ HasFirstFault steps book.now bytes.now fault) }
@@ -49,7 +52,8 @@ pub fn read_certificate(
 // The same, by one clause for each outcome.
 fn read(alloc: Global, bytes: &[u8], steps: u32, book: &Book) -> Result<Certificate, CertFault>
     requires { length bytes.now < 2 ^ 31 }
-    ensures { MatchResult result (λ certificate. IsCertificateText steps book.now bytes.now certificate) (λ fault. (fault ≡ CertFault.Memory) ⊎ HasFirstFault steps book.now bytes.now fault) }
+    ensures { MatchResult result (λ certificate. IsCertificateText steps book.now bytes.now certificate) (λ fault. (fault ≡ CertFault.Memory)
+        ⊎ HasFirstFault steps book.now bytes.now fault) }
 {
     let mut reader = Reader::new(bytes);
     match reader.line() {
@@ -97,7 +101,7 @@ fn revolve(
 // The repeats and the value, with no word behind them.
 fn repeats(words: &mut Words<'_>) -> Result<(u64, u64), LineFault>
     ensures { MatchResult result
-        (λ p. (p.0 ≤ 1000000) × (p.1 < 2 ^ 64) × (texts words.old.words ≡ decimal p.0 ∷ decimal p.1 ∷ []))
+        (λ p. (p.0 ≤ MOST_REPEATS) × (p.1 < 2 ^ 64) × (texts words.old.words ≡ decimal p.0 ∷ decimal p.1 ∷ []))
         (λ fault. IsWordFault (first_wants Kind.Revolve) words.old.words words.old.end (number_of_rule fault.rule) fault.column) }
 {
     let k = words.number(MOST_REPEATS)?;
@@ -139,7 +143,11 @@ fn threshold(words: &mut Words<'_>) -> Result<u64, LineFault>
 // The fault of tables that are too large, at the word that names them.
 fn too_large(first: &MarkedLine<'_>) -> CertFault
     requires { length first.now.text.now < 2 ^ 31 }
-    ensures { result ≡ CertFault.At 5 first.now.number (first_column (words_of record { number = first.now.number; text = first.now.text.now }) (end_of record { number = first.now.number; text = first.now.text.now })) }
+    ensures { result ≡ CertFault.At 5 first.now.number
+        (first_column (words_of record { number = first.now.number; text = first.now.text.now }) (end_of record {
+          number = first.now.number;
+          text = first.now.text.now;
+        })) }
 {
     CertFault::At {
         rule: 5,
@@ -160,7 +168,12 @@ fn nested(
     requires { length first.now.text.now < 2 ^ 31 }
     ensures { MatchResult result
         (λ certificate. SaysRest Kind.Nested steps book.now words.old reader.old certificate)
-        (λ fault. (fault ≡ CertFault.Memory) ⊎ IsAt (IsSizedFault Kind.Nested steps book.now first.now.number (first_column (words_of record { number = first.now.number; text = first.now.text.now }) (end_of record { number = first.now.number; text = first.now.text.now })) words.old reader.old) fault) }
+        (λ fault. (fault ≡ CertFault.Memory)
+        ⊎ IsAt (IsSizedFault Kind.Nested steps book.now first.now.number
+        (first_column (words_of record { number = first.now.number; text = first.now.text.now }) (end_of record {
+          number = first.now.number;
+          text = first.now.text.now;
+        })) words.old reader.old) fault) }
 {
     if !Tables::fits(steps, book) {
         return Err(too_large(first));
@@ -185,7 +198,12 @@ fn disk(
     requires { length first.now.text.now < 2 ^ 31 }
     ensures { MatchResult result
         (λ certificate. SaysRest Kind.Disk steps book.now words.old reader.old certificate)
-        (λ fault. (fault ≡ CertFault.Memory) ⊎ IsAt (IsSizedFault Kind.Disk steps book.now first.now.number (first_column (words_of record { number = first.now.number; text = first.now.text.now }) (end_of record { number = first.now.number; text = first.now.text.now })) words.old reader.old) fault) }
+        (λ fault. (fault ≡ CertFault.Memory)
+        ⊎ IsAt (IsSizedFault Kind.Disk steps book.now first.now.number
+        (first_column (words_of record { number = first.now.number; text = first.now.text.now }) (end_of record {
+          number = first.now.number;
+          text = first.now.text.now;
+        })) words.old reader.old) fault) }
 {
     if !DiskTables::fits(steps, book) {
         return Err(too_large(first));

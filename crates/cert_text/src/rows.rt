@@ -23,7 +23,8 @@ pub(crate) fn read_row(
     row: &mut [Cost],
 ) -> Result<(), CertFault>
     ensures { MatchResult result
-        (λ _. Reads (row_wants (letter.now ∷ decimal k ∷ decimal m ∷ []) (length row.old) ∷ []) (((letter.now ∷ decimal k ∷ decimal m ∷ []) ++ map cost_word row.new) ∷ []) reader.old reader.new
+        (λ _. Reads (row_wants (letter.now ∷ decimal k ∷ decimal m ∷ []) (length row.old) ∷ []) (((letter.now ∷ decimal k ∷ decimal m ∷ [])
+        ++ map cost_word row.new) ∷ []) reader.old reader.new
         × ((i : ℕ) → i < length row.old → HasWord (value_of (slice_index_or row.new i Cost.Never))))
         (λ fault. IsAmong (row_wants (letter.now ∷ decimal k ∷ decimal m ∷ []) (length row.old) ∷ []) reader.old fault) }
 {
@@ -45,8 +46,10 @@ fn row_words(
 ) -> Result<(), LineFault>
     ensures { MatchResult result
         (λ _. (texts words.old.words ≡ (letter.now ∷ decimal k ∷ decimal m ∷ []) ++ map cost_word row.new)
-        × FitAll (row_wants (letter.now ∷ decimal k ∷ decimal m ∷ []) (length row.old)) words.old.words × ((i : ℕ) → i < length row.old → HasWord (value_of (slice_index_or row.new i Cost.Never))))
-        (λ fault. IsWordFault (row_wants (letter.now ∷ decimal k ∷ decimal m ∷ []) (length row.old)) words.old.words words.old.end (number_of_rule fault.rule) fault.column) }
+        × FitAll (row_wants (letter.now ∷ decimal k ∷ decimal m ∷ []) (length row.old)) words.old.words × ((i : ℕ) → i < length row.old →
+        HasWord (value_of (slice_index_or row.new i Cost.Never))))
+        (λ fault. IsWordFault (row_wants (letter.now ∷ decimal k ∷ decimal m ∷ []) (length row.old)) words.old.words words.old.end
+        (number_of_rule fault.rule) fault.column) }
 {
     words.this_word(letter)?;
     words.this_number(k as u64)?;
@@ -57,7 +60,8 @@ fn row_words(
 // As many entries as a row has, and no word behind them.
 fn entries(words: &mut Words<'_>, row: &mut [Cost]) -> Result<(), LineFault>
     ensures { MatchResult result
-        (λ _. (texts words.old.words ≡ map cost_word row.new) × FitAll (replicate (length row.old) an_entry) words.old.words × ((i : ℕ) → i < length row.old → HasWord (value_of (slice_index_or row.new i Cost.Never))))
+        (λ _. (texts words.old.words ≡ map cost_word row.new) × FitAll (replicate (length row.old) an_entry) words.old.words × ((i : ℕ) →
+        i < length row.old → HasWord (value_of (slice_index_or row.new i Cost.Never))))
         (λ fault. IsWordFault (replicate (length row.old) an_entry) words.old.words words.old.end (number_of_rule fault.rule) fault.column) }
 {
     for i in 0..row.len() {
@@ -89,7 +93,8 @@ pub(crate) fn read_column(
 fn column_words(letters: &[u8], words: &mut Words<'_>, row: &mut [Cost]) -> Result<(), LineFault>
     ensures { MatchResult result
         (λ _. (texts words.old.words ≡ (letters.now ∷ []) ++ map cost_word row.new)
-        × FitAll (row_wants (letters.now ∷ []) (length row.old)) words.old.words × ((i : ℕ) → i < length row.old → HasWord (value_of (slice_index_or row.new i Cost.Never))))
+        × FitAll (row_wants (letters.now ∷ []) (length row.old)) words.old.words × ((i : ℕ) → i < length row.old →
+        HasWord (value_of (slice_index_or row.new i Cost.Never))))
         (λ fault. IsWordFault (row_wants (letters.now ∷ []) (length row.old)) words.old.words words.old.end (number_of_rule fault.rule) fault.column) }
 {
     words.this_word(letters)?;

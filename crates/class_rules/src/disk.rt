@@ -1,5 +1,6 @@
 // Whether a list is in the disk class.
 ghost use Rattle.std.specs.Prelude.{◌≡◌, ◌↔◌, ℕ, ◌≤◌, [], ◌∷◌, length, slice_get, Some, IfOk, IsTrue};
+ghost use Rattle.plan_types.specs.declared.limits.TheConstants.{MOST_STEPS};
 ghost use Rattle.level_book.specs.BookCosts.{slots_of};
 ghost use Rattle.level_book.specs.DiskClass.{Disk, ForwardsFirst, NeverStores};
 
@@ -11,7 +12,7 @@ use std::alloc::{AllocError, Global};
 /// Whether the list is in the disk class for so many steps and this book, and so nested and valid. It takes the memory that
 /// `in_nested` takes.
 pub fn in_disk(alloc: Global, list: &[Action], steps: u32, book: &Book) -> Result<bool, AllocError>
-    requires { steps ≤ 1000000 }
+    requires { steps ≤ MOST_STEPS }
     ensures { IfOk result (λ is. IsTrue is ↔ Disk steps (slots_of book.now) list.now) }
 {
     if !has_unlimited_disk(book) || !has_forwards_first(list) {

@@ -1,5 +1,6 @@
 // Whether a list is in the multistage class.
 ghost use Rattle.std.specs.Prelude.{◌≡◌, ◌↔◌, ℕ, ◌+◌, ◌≤◌, max, false, length, MatchOption, IfOk, IsTrue, vec_len};
+ghost use Rattle.plan_types.specs.declared.limits.TheConstants.{MOST_STEPS};
 ghost use Rattle.level_book.specs.BookCosts.{slots_of};
 ghost use Rattle.revolve_gen.specs.Stack.{placed, places_used};
 ghost use Rattle.revolve_gen.specs.Multistage.{IsMultistage, HasPlaces};
@@ -18,7 +19,7 @@ pub fn in_multistage(
     steps: u32,
     book: &Book,
 ) -> Result<bool, AllocError>
-    requires { steps ≤ 1000000 }
+    requires { steps ≤ MOST_STEPS }
     ensures { IfOk result (λ is. IsTrue is ↔ IsMultistage steps book.now list.now) }
 {
     let levels = place_levels(alloc, list, steps, book)?;
@@ -33,8 +34,9 @@ pub fn place_levels(
     steps: u32,
     book: &Book,
 ) -> Result<Option<Vec<u8>>, AllocError>
-    requires { steps ≤ 1000000 }
-    ensures { IfOk result (λ found. MatchOption found (IsMultistage steps book.now list.now → ⊥) (λ levels. HasPlaceLevels steps book.now list.now levels.items)) }
+    requires { steps ≤ MOST_STEPS }
+    ensures { IfOk result (λ found. MatchOption found (IsMultistage steps book.now list.now →
+        ⊥) (λ levels. HasPlaceLevels steps book.now list.now levels.items)) }
 {
     let slots = book.total_room(steps);
     if book.levels() != 2 || steps >= 2 && slots == 0 {
@@ -56,7 +58,8 @@ fn levels_of(
     list: &[Action],
     mut expected: Revolve,
 ) -> Result<Option<Vec<u8>>, AllocError>
-    ensures { IfOk result (λ found. MatchOption found ((level : ℕ → ℕ) → list.now ≡ placed level 0 expected → ⊥) (λ levels. AreTheLevels expected list.now levels.items)) }
+    ensures { IfOk result (λ found. MatchOption found ((level : ℕ → ℕ) → list.now ≡ placed level 0 expected →
+        ⊥) (λ levels. AreTheLevels expected list.now levels.items)) }
 {
     let mut levels = Vec::new(alloc);
     let mut held = 0;

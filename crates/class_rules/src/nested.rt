@@ -1,5 +1,6 @@
 // Whether a list is in the nested class.
 ghost use Rattle.std.specs.Prelude.{◌≡◌, ◌↔◌, ℕ, ◌≤◌, [], ◌∷◌, IfOk, IsTrue, MatchOption};
+ghost use Rattle.plan_types.specs.declared.limits.TheConstants.{MOST_STEPS};
 ghost use Rattle.level_book.specs.BookCosts.{slots_of};
 ghost use Rattle.level_book.specs.NestedClass.{Nested, IsNestedFrom, KeepsFaster};
 ghost use Rattle.class_rules.specs.Stacks.{images_of, IsStack};
@@ -18,7 +19,7 @@ pub fn in_nested(
     steps: u32,
     book: &Book,
 ) -> Result<bool, AllocError>
-    requires { steps ≤ 1000000 }
+    requires { steps ≤ MOST_STEPS }
     ensures { IfOk result (λ is. IsTrue is ↔ Nested steps (slots_of book.now) list.now) }
 {
     match check(alloc, list, steps, book)? {
@@ -51,7 +52,8 @@ fn step(
 ) -> Result<Option<u32>, AllocError>
     requires { IsStack images.old }
     ensures held { IfOk result (λ _. IsStack images.new) }
-    ensures nested { IfOk result (λ after. MatchOption after (IsNestedFrom left (images_of images.old) (action ∷ rest.now) → ⊥) (λ l. IsNestedFrom left (images_of images.old) (action ∷ rest.now) ↔ IsNestedFrom l (images_of images.new) rest.now)) }
+    ensures nested { IfOk result (λ after. MatchOption after (IsNestedFrom left (images_of images.old) (action ∷ rest.now) →
+        ⊥) (λ l. IsNestedFrom left (images_of images.old) (action ∷ rest.now) ↔ IsNestedFrom l (images_of images.new) rest.now)) }
 {
     match action {
         Action::Forward { from, keep, .. } => match keep {

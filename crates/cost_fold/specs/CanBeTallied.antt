@@ -1,6 +1,7 @@
 -- Which actions can be counted in so many bits: those that name levels below 4, and step forward within the greatest
 -- number of steps.
 use Rattle.std.specs.Prelude.{ℕ, ◌<◌, ◌≤◌}
+use Rattle.plan_types.specs.declared.limits.TheConstants.{MOST_STEPS}
 use Rattle.plan_types.specs.declared.action.Keep.TheVariants.{Nothing, Store, Tape}
 use Rattle.plan_types.specs.declared.action.Dest.TheVariants.{Work, Level}
 use Rattle.plan_types.specs.declared.action.Action.{Action}
@@ -8,7 +9,7 @@ use Rattle.plan_types.specs.declared.action.Action.TheVariants.{Forward, Reverse
 
 -- a Forward from one state to another leads on, to state 1,000,000 at most
 abbrev pub LeadsOn : ℕ → ℕ → Type 0
-LeadsOn from to = (from ≤ to) × (to ≤ 1000000)
+LeadsOn from to = (from ≤ to) × (to ≤ MOST_STEPS)
 
 -- the action names no level but 0 to 3, and a Forward leads on
 abbrev pub CanBeTallied : Action → Type 0

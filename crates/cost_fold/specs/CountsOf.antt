@@ -1,6 +1,7 @@
 -- Counts, whose list they are, and what they cost.
 use Rattle.std.specs.Prelude.{◌≡◌, ℕ, ◌+◌, ◌*◌, ◌^◌, ◌<◌, List, slice_index, sum_by}
 use Rattle.std.specs.List.{enumerate_from}
+use Rattle.plan_types.specs.declared.limits.TheConstants.{MOST_STEPS}
 use Rattle.plan_types.specs.declared.action.Action.{Action}
 use Rattle.level_book.specs.BookCosts.{BookCosts}
 use Rattle.level_book.specs.CostFold.{forward, taped, reversed, writes, reads}
@@ -28,7 +29,7 @@ price counts book =
 
 -- each count of the actions so far can take what one action adds to it
 pub record HasRoomForOne (counts : SoFar) : Type 0 where
-  pub forward : counts.forward + 1000000 < 2 ^ 64
+  pub forward : counts.forward + MOST_STEPS < 2 ^ 64
   pub taped : counts.taped + 1 < 2 ^ 64
   pub reversed : counts.reversed + 1 < 2 ^ 64
   pub writes : (k : ℕ) → k < 4 → slice_index counts.writes k + 1 < 2 ^ 64

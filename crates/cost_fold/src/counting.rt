@@ -1,6 +1,7 @@
 // Counting the actions of a list.
 ghost use Rattle.std.specs.Prelude.{◌≡◌, ℕ, ◌+◌, ◌*◌, ◌^◌, ◌<◌, ◌≤◌, length, slice_index, cond};
 ghost use Rattle.std.specs.List.{AllByRecursion};
+ghost use Rattle.plan_types.specs.declared.limits.TheConstants.{MOST_ACTIONS, MOST_COST};
 ghost use Rattle.level_book.specs.CostFold.{steps_of, is_taped, is_reversed, is_write, is_read, forward, taped, reversed, writes, reads};
 ghost use Rattle.cost_fold.specs.CanBeTallied.{CanBeTallied};
 ghost use Rattle.cost_fold.specs.CountsOf.{HasRoomForOne, all_of};
@@ -20,7 +21,7 @@ struct SoFar {
 
 /// Counts what a list does, in one pass. It takes no memory.
 pub fn tally(list: &[Action]) -> Counts
-    requires few { length list.now ≤ 16777216 }
+    requires few { length list.now ≤ MOST_ACTIONS }
     requires plain { AllByRecursion CanBeTallied list.now }
     ensures forward { result.forward ≡ forward list.now }
     ensures taped { result.taped ≡ taped list.now }
@@ -29,7 +30,7 @@ pub fn tally(list: &[Action]) -> Counts
     ensures reads { (k : ℕ) → k < 4 → slice_index result.reads k ≡ reads k list.now }
 
     // Each count paid at the greatest cost, the sum fits in 64 bits.
-    ensures bounded { all_of result * 1000000 < 2 ^ 64 }
+    ensures bounded { all_of result * MOST_COST < 2 ^ 64 }
 {
     let mut so_far = SoFar::default();
     for action in list {

@@ -1,5 +1,6 @@
 // The counts of a list, and how large they may be.
 ghost use Rattle.std.specs.Prelude.{◌*◌, ◌^◌, ◌<◌};
+ghost use Rattle.plan_types.specs.declared.limits.TheConstants.{MOST_COST};
 ghost use Rattle.cost_fold.specs.AllCounted.{all_counted};
 
 /// How often a list does what a book has a cost for. Writes and reads are counted for each level. Each count paid at the
@@ -16,5 +17,5 @@ pub struct Counts {
     pub writes: [u64; 4],
     /// Images read from each level.
     pub reads: [u64; 4],
-    pub ghost payable: { all_counted forward reversed writes reads * 1000000 < 2 ^ 64 },
+    pub ghost payable: { all_counted forward reversed writes reads * MOST_COST < 2 ^ 64 },
 }

@@ -17,7 +17,8 @@ level_line counts level =
 
 -- the lines of the steps
 abbrev pub step_lines : Counts → List (List ℕ)
-step_lines counts = count_line (codes "forward ") counts.forward ∷ count_line (codes "taped ") counts.taped ∷ count_line (codes "reversed ") counts.reversed ∷ []
+step_lines counts = count_line (codes "forward ") counts.forward ∷ count_line (codes "taped ") counts.taped ∷ count_line (codes "reversed ")
+    counts.reversed ∷ []
 
 -- the lines of the levels, the fastest first
 abbrev pub level_lines : BookCosts → Counts → List (List ℕ)

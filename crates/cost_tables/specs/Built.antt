@@ -93,7 +93,8 @@ pub record AreBuilt (steps : ℕ) (book : BookCosts) (k : ℕ) (levels : List (V
   pub cheap_write : (j : ℕ) → j < k → write_cost book j < 2 ^ 32
   pub cheap_read : (j : ℕ) → j < k → read_cost book j < 2 ^ 32
   pub are_levels : (j : ℕ) → j < k →
-      IsLevel steps (room book j steps) book.forward (write_cost book j) (read_cost book j) (base_of book.forward book.reverse (λ j. room book j steps) (fresh_at levels) j) (fresh_at levels j) (held_at levels j)
+      IsLevel steps (room book j steps) book.forward (write_cost book j) (read_cost book j)
+      (base_of book.forward book.reverse (λ j. room book j steps) (fresh_at levels) j) (fresh_at levels j) (held_at levels j)
 
 -- the first k levels of a book, of which each entry is Never
 pub record AreNever (steps : ℕ) (book : BookCosts) (k : ℕ) (levels : List (Vec Cells Global)) (rooms : List ℕ) : Type 0 where

@@ -28,7 +28,8 @@ least_split forward fresh held r (suc i) = min (least_split forward fresh held r
 -- the least that n splits cost, from split `low` on
 abbrev pub least_after : ℕ → (ℕ → ℕ) → (ℕ → ℕ) → ℕ → ℕ → ℕ → ℕ
 least_after forward fresh held r low zero = never_in_memory
-least_after forward fresh held r low (suc n) = min (least_after forward fresh held r low n) ((low + n + 1) * forward + fresh (r - (low + n + 1)) + held (low + n))
+least_after forward fresh held r low (suc n) =
+    min (least_after forward fresh held r low n) ((low + n + 1) * forward + fresh (r - (low + n + 1)) + held (low + n))
 
 -- the least that the first n of some costs are
 abbrev pub least_of : (ℕ → ℕ) → ℕ → ℕ

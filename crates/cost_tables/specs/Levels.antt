@@ -19,7 +19,8 @@ base_of forward reverse rooms fresh (suc k) r = fresh k r (rooms k)
 -- all levels of a book
 abbrev pub AreLevels : ℕ → BookCosts → (ℕ → ℕ → ℕ → ℕ) → (ℕ → ℕ → ℕ → ℕ) → Type 0
 AreLevels steps book fresh held = (k : ℕ) → k < length book.levels →
-    IsLevel steps (room book k steps) book.forward (write_cost book k) (read_cost book k) (base_of book.forward book.reverse (λ j. room book j steps) fresh k) (fresh k) (held k)
+    IsLevel steps (room book k steps) book.forward (write_cost book k) (read_cost book k)
+    (base_of book.forward book.reverse (λ j. room book j steps) fresh k) (fresh k) (held k)
 
 -- The tables that the numbers stand for. An entry is asked for where there is a step, so l - 1 is one less.
 abbrev pub tables_of : (ℕ → ℕ → ℕ → ℕ) → (ℕ → ℕ → ℕ → ℕ) → Tables

@@ -62,7 +62,8 @@ pub record IsColumn (bound count : ℕ) (number : ℕ → ℕ) (column : List �
 -- from m = low up to high, what so many rows that come next have
 pub record AreStarted (rows : List Row) (forward count low high : ℕ) (pieces : List (Vec ℕ Global)) : Type 0 where
   pub wide : length pieces ≡ high - low
-  pub each : (i : ℕ) (d : _) → i < high - low → IsColumn (2 ^ 61) count (λ q. partial_in rows forward (length rows) (length rows + q) (low + i)) (slice_index_or pieces i d).items
+  pub each : (i : ℕ) (d : _) → i < high - low →
+      IsColumn (2 ^ 61) count (λ q. partial_in rows forward (length rows) (length rows + q) (low + i)) (slice_index_or pieces i d).items
 
 -- there are so many rows more
 abbrev pub IsMore : List Row → List Row → ℕ → Type 0

@@ -166,7 +166,9 @@ fn push_rows(
     requires share { AreFew (length rows.old.items) count }
     requires rows { AreRows room costs.forward costs.write costs.read base.now rows.old.items }
     requires pieces { (1 ≤ length parts.now) × (length parts.now ≤ 64) }
-    requires parts { (i : ℕ) (d : _) → i < length parts.now → IfOk (slice_index_or parts.now i d) (λ p. AreStarted rows.old.items costs.forward count (cut_of room (length parts.now) i) (cut_of room (length parts.now) (i + 1)) p.items) }
+    requires parts { (i : ℕ) (d : _) → i < length parts.now →
+        IfOk (slice_index_or parts.now i d)
+        (λ p. AreStarted rows.old.items costs.forward count (cut_of room (length parts.now) i) (cut_of room (length parts.now) (i + 1)) p.items) }
     ensures long { OnOk result (length rows.new.items ≡ length rows.old.items + count) }
     ensures rows { OnOk result (AreRows room costs.forward costs.write costs.read base.now rows.new.items) }
 {

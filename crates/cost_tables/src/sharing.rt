@@ -90,7 +90,8 @@ pub(crate) fn start_rows<R: Threads + Sync, G: Gate + Sync>(
     requires room { room ≤ 64 }
     requires pieces { (1 ≤ pieces) × (pieces ≤ 64) }
     ensures long { IfOk result (λ parts. length parts.items ≡ pieces) }
-    ensures each { IfOk result (λ parts. (i : ℕ) (d : _) → i < pieces → IfOk (slice_index_or parts.items i d) (λ p. AreStarted rows.now forward count (cut_of room pieces i) (cut_of room pieces (i + 1)) p.items)) }
+    ensures each { IfOk result (λ parts. (i : ℕ) (d : _) → i < pieces →
+        IfOk (slice_index_or parts.items i d) (λ p. AreStarted rows.now forward count (cut_of room pieces i) (cut_of room pieces (i + 1)) p.items)) }
 {
     thread::map_indices(
         rt,

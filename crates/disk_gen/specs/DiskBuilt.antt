@@ -13,7 +13,8 @@ pub record IsHeldColumn (forward read : ℕ) (fast held : List ℕ) : Type 0 whe
 -- the same for a stretch whose first state is in work
 pub record IsFreshColumn (forward write : ℕ) (fast held fresh : List ℕ) : Type 0 where
   pub low : All (λ n. n ≤ 2 ^ 61) fresh
-  pub value : (r : ℕ) → r < length fresh → slice_index fresh r ≡ min (slice_index fast r) (write + least_split forward (slice_index fresh) (slice_index held) r r)
+  pub value : (r : ℕ) → r < length fresh →
+      slice_index fresh r ≡ min (slice_index fast r) (write + least_split forward (slice_index fresh) (slice_index held) r r)
 
 abbrev pub view_of : Inside → DiskRows
 view_of t = record {

@@ -51,7 +51,8 @@ ReadsHeld steps book t l (finally p) =
     (t.disk_held l ≡ sum_of (read_cost book 1) (number 0) (t.fresh l (room book 0 steps))) × Reads steps book (fast_tables t) false 0 l (room book 0 steps) p
 ReadsHeld steps book t l (again i p q) = (1 ≤ i) × (i < l) × (t.disk_held l ≡ held_split book (room book 0 steps) t l i)
     × Reads steps book (fast_tables t) false 0 (l - i) (room book 0 steps) p × ReadsHeld steps book t i q
-    × (t.disk_held l ≢ sum_of (read_cost book 1) (number 0) (t.fresh l (room book 0 steps))) × IsLeast i (t.disk_held l) (held_split book (room book 0 steps) t l)
+    × (t.disk_held l ≢ sum_of (read_cost book 1) (number 0) (t.fresh l (room book 0 steps)))
+    × IsLeast i (t.disk_held l) (held_split book (room book 0 steps) t l)
 
 abbrev pub ReadsDisk : ℕ → BookCosts → DiskTables → ℕ → DiskPart → Type 0
 ReadsDisk steps book t l (alone p) = (t.disk_fresh l ≡ t.fresh l (room book 0 steps)) × Reads steps book (fast_tables t) false 0 l (room book 0 steps) p

@@ -1,5 +1,6 @@
 -- No public clause cites this file. What is still to be written of a periodic list behind the stretch at hand.
 use Rattle.std.specs.Prelude.{◌≡◌, ℕ, ◌+◌, ◌*◌, ◌≤◌, true, List, [], ◌∷◌, ◌++◌}
+use Rattle.plan_types.specs.declared.limits.TheConstants.{MOST_STEPS}
 use Rattle.plan_types.specs.declared.action.Action.{Action}
 use Rattle.plan_types.specs.declared.action.Action.TheVariants.{EndReverse}
 use Rattle.level_book.specs.declared.book.Slots.{Slots}
@@ -19,8 +20,8 @@ owed_behind period last c Ended = []
 
 -- the phase stands so, with c slots of level 0
 abbrev pub IsPhase : ℕ → ℕ → ℕ → Phase → Type 0
-IsPhase period last c (Ahead held left) = (1 ≤ left) × ((held + left) * period + last ≤ 1000000) × revolve.HasPlan period c × revolve.HasPlan last c
-IsPhase period last c (Back held) = (held * period ≤ 1000000) × (1 ≤ held → revolve.HasPlan period c)
+IsPhase period last c (Ahead held left) = (1 ≤ left) × ((held + left) * period + last ≤ MOST_STEPS) × revolve.HasPlan period c × revolve.HasPlan last c
+IsPhase period last c (Back held) = (held * period ≤ MOST_STEPS) × (1 ≤ held → revolve.HasPlan period c)
 IsPhase period last c Ended = Unit {0}
 
 -- there is a period, all slots are on level 0, and the phase stands so

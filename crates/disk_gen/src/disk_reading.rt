@@ -88,10 +88,15 @@ fn held_split(tables: &DiskTables, own: Cost, read: u64, forward: u64, l: u32) -
     requires l { (1 ≤ l) × (l ≤ tables.now.fast.steps) }
     requires read { read < 2 ^ 32 }
     requires forward { forward < 2 ^ 32 }
-    requires some { (i : ℕ) × (1 ≤ i) × (i < l) × (value_of own ≡ sum_of (read + i * forward) ((disk_tables_in tables.now).fresh (l - i) (slice_index tables.now.fast.rooms 0)) ((disk_tables_in tables.now).disk_held i)) }
+    requires some { (i : ℕ) × (1 ≤ i) × (i < l)
+        × (value_of own ≡ sum_of (read + i * forward) ((disk_tables_in tables.now).fresh (l - i) (slice_index tables.now.fast.rooms 0))
+        ((disk_tables_in tables.now).disk_held i)) }
     ensures range { (1 ≤ result) × (result < l) }
-    ensures equal { value_of own ≡ sum_of (read + result * forward) ((disk_tables_in tables.now).fresh (l - result) (slice_index tables.now.fast.rooms 0)) ((disk_tables_in tables.now).disk_held result) }
-    ensures least { (i : ℕ) → 1 ≤ i → i < result → value_of own ≢ sum_of (read + i * forward) ((disk_tables_in tables.now).fresh (l - i) (slice_index tables.now.fast.rooms 0)) ((disk_tables_in tables.now).disk_held i) }
+    ensures equal { value_of own ≡ sum_of (read + result * forward)
+        ((disk_tables_in tables.now).fresh (l - result) (slice_index tables.now.fast.rooms 0)) ((disk_tables_in tables.now).disk_held result) }
+    ensures least { (i : ℕ) → 1 ≤ i → i < result →
+        value_of own ≢ sum_of (read + i * forward) ((disk_tables_in tables.now).fresh (l - i) (slice_index tables.now.fast.rooms 0))
+        ((disk_tables_in tables.now).disk_held i) }
 {
     let room = tables.room();
     for i in 1..l {
@@ -110,10 +115,13 @@ fn fresh_split(tables: &DiskTables, own: Cost, write: u64, forward: u64, l: u32)
     requires l { (1 ≤ l) × (l ≤ tables.now.fast.steps) }
     requires write { write < 2 ^ 32 }
     requires forward { forward < 2 ^ 32 }
-    requires some { (j : ℕ) × (1 ≤ j) × (j < l) × (value_of own ≡ sum_of (write + j * forward) ((disk_tables_in tables.now).disk_fresh (l - j)) ((disk_tables_in tables.now).disk_held j)) }
+    requires some { (j : ℕ) × (1 ≤ j) × (j < l)
+        × (value_of own ≡ sum_of (write + j * forward) ((disk_tables_in tables.now).disk_fresh (l - j)) ((disk_tables_in tables.now).disk_held j)) }
     ensures range { (1 ≤ result) × (result < l) }
-    ensures equal { value_of own ≡ sum_of (write + result * forward) ((disk_tables_in tables.now).disk_fresh (l - result)) ((disk_tables_in tables.now).disk_held result) }
-    ensures least { (j : ℕ) → 1 ≤ j → j < result → value_of own ≢ sum_of (write + j * forward) ((disk_tables_in tables.now).disk_fresh (l - j)) ((disk_tables_in tables.now).disk_held j) }
+    ensures equal { value_of own ≡ sum_of (write + result * forward) ((disk_tables_in tables.now).disk_fresh (l - result))
+        ((disk_tables_in tables.now).disk_held result) }
+    ensures least { (j : ℕ) → 1 ≤ j → j < result →
+        value_of own ≢ sum_of (write + j * forward) ((disk_tables_in tables.now).disk_fresh (l - j)) ((disk_tables_in tables.now).disk_held j) }
 {
     for j in 1..l {
         if is_fresh_split(tables, own, write + j as u64 * forward, l, j) {

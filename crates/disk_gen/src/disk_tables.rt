@@ -314,7 +314,8 @@ fn fast_column(alloc: Global, fast: &Tables) -> Result<Vec<u64>, AllocError>
     requires low { (l v : ℕ) → 1 ≤ l → l ≤ fast.now.steps → (tables_in fast.now).fresh 0 l (slice_index fast.now.rooms 0) ≡ number v → v < 2 ^ 61 }
     ensures count { IfOk result (λ column. length column.items ≡ fast.now.steps) }
     ensures low { IfOk result (λ column. All (λ n. n ≤ 2 ^ 61) column.items) }
-    ensures value { IfOk result (λ column. (r : ℕ) → r < fast.now.steps → entry (slice_index column.items r) ≡ (tables_in fast.now).fresh 0 (r + 1) (slice_index fast.now.rooms 0)) }
+    ensures value { IfOk result (λ column. (r : ℕ) → r < fast.now.steps →
+        entry (slice_index column.items r) ≡ (tables_in fast.now).fresh 0 (r + 1) (slice_index fast.now.rooms 0)) }
 {
     let room = fast.room(0);
     let mut column = Vec::new(alloc);

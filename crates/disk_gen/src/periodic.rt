@@ -1,5 +1,6 @@
 // The periodic list, one action at a time and as a whole.
 ghost use Rattle.std.specs.Prelude.{◌≡◌, ◌≤◌, [], ◌∷◌, MatchOption, IfOk, IfErr, OnOk};
+ghost use Rattle.plan_types.specs.declared.limits.TheConstants.{MOST_STEPS};
 ghost use Rattle.disk_gen.specs.Periodic.{periodic_list};
 ghost use Rattle.disk_gen.specs.Plans.{HasPeriodicPlan, IsFault};
 
@@ -37,9 +38,9 @@ impl Periodic {
     /// The list for so many steps with an image on level 1 every `period` steps, with a stack that has room for an entry for each
     /// slot of level 0.
     pub fn new(alloc: Global, steps: u32, period: u32, book: &Book) -> Result<Periodic, GenFault>
-        requires short { steps ≤ 1000000 }
+        requires short { steps ≤ MOST_STEPS }
         requires some { 1 ≤ period }
-        requires small { period ≤ 1000000 }
+        requires small { period ≤ MOST_STEPS }
         ensures list { IfOk result (λ p. p ≡ periodic_list steps period book.now) }
         ensures plan { OnOk result (HasPeriodicPlan steps period book.now) }
         ensures refused { IfErr result (IsFault steps period book.now) }
@@ -93,9 +94,9 @@ pub fn periodic_list(
     period: u32,
     book: &Book,
 ) -> Result<Vec<Action>, GenFault>
-    requires short { steps ≤ 1000000 }
+    requires short { steps ≤ MOST_STEPS }
     requires some { 1 ≤ period }
-    requires small { period ≤ 1000000 }
+    requires small { period ≤ MOST_STEPS }
     ensures list { IfOk result (λ list. list.items ≡ periodic_list steps period book.now) }
     ensures plan { OnOk result (HasPeriodicPlan steps period book.now) }
     ensures refused { IfErr result (IsFault steps period book.now) }

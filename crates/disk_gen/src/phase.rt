@@ -27,7 +27,8 @@ fn store_next(
 ) -> (Action, Phase)
     requires owing { IsOwing period last stretch.old.levels stretch.old.slots (Phase.Ahead held left) }
     requires done { stretch.old.actions ≡ [] }
-    ensures written { owed_behind period last stretch.old.slots (Phase.Ahead held left) ≡ result.0 ∷ (stretch.new.actions ++ owed_behind period last stretch.new.slots result.1) }
+    ensures written { owed_behind period last stretch.old.slots (Phase.Ahead held left) ≡ result.0 ∷ (stretch.new.actions
+        ++ owed_behind period last stretch.new.slots result.1) }
     ensures owing { IsOwing period last stretch.new.levels stretch.new.slots result.1 }
 {
     let start = held * period;
@@ -51,7 +52,8 @@ fn load_newest(period: u32, last: u32, stretch: &mut StretchStream, held: u32) -
     requires owing { IsOwing period last stretch.old.levels stretch.old.slots (Phase.Back held) }
     requires done { stretch.old.actions ≡ [] }
     requires some { 1 ≤ held }
-    ensures written { owed_behind period last stretch.old.slots (Phase.Back held) ≡ result.0 ∷ (stretch.new.actions ++ owed_behind period last stretch.new.slots result.1) }
+    ensures written { owed_behind period last stretch.old.slots (Phase.Back held) ≡ result.0 ∷ (stretch.new.actions
+        ++ owed_behind period last stretch.new.slots result.1) }
     ensures owing { IsOwing period last stretch.new.levels stretch.new.slots result.1 }
 {
     let held = held - 1;

@@ -1,5 +1,6 @@
 // Where there is a plan.
 ghost use Rattle.std.specs.Prelude.{◌≡◌, ◌≤◌, IfOk, IfErr, OnOk};
+ghost use Rattle.plan_types.specs.declared.limits.TheConstants.{MOST_STEPS};
 ghost use Rattle.disk_gen.specs.Periodic.{images};
 ghost use Rattle.disk_gen.specs.Plans.{HasPeriodicPlan, IsFault};
 
@@ -8,9 +9,9 @@ use revolve_gen::GenFault;
 
 // How many images the slower level has.
 fn images(steps: u32, period: u32) -> u32
-    requires short { steps ≤ 1000000 }
+    requires short { steps ≤ MOST_STEPS }
     requires some { 1 ≤ period }
-    requires small { period ≤ 1000000 }
+    requires small { period ≤ MOST_STEPS }
     ensures { result ≡ images steps period }
 {
     ((steps + (period - 1)) / period).saturating_sub(1)
@@ -18,9 +19,9 @@ fn images(steps: u32, period: u32) -> u32
 
 // How many images the slower level has, where there is a plan.
 pub(crate) fn planned_images(steps: u32, period: u32, book: &Book) -> Result<u32, GenFault>
-    requires short { steps ≤ 1000000 }
+    requires short { steps ≤ MOST_STEPS }
     requires some { 1 ≤ period }
-    requires small { period ≤ 1000000 }
+    requires small { period ≤ MOST_STEPS }
     ensures value { IfOk result (λ n. n ≡ images steps period) }
     ensures plan { OnOk result (HasPeriodicPlan steps period book.now) }
     ensures refused { IfErr result (IsFault steps period book.now) }

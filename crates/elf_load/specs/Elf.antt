@@ -41,7 +41,13 @@ pub record ProgramHeader : Type 0 where
   pub memory_size : ℕ
 
 abbrev pub header_from : List ℕ → ℕ → ProgramHeader
-header_from file at = record { kind = word file at; offset = word file (at + 4); address = word file (at + 8); file_size = word file (at + 16); memory_size = word file (at + 20) }
+header_from file at = record {
+  kind = word file at;
+  offset = word file (at + 4);
+  address = word file (at + 8);
+  file_size = word file (at + 16);
+  memory_size = word file (at + 20);
+}
 
 -- the program header with this index
 abbrev pub header_at : List ℕ → ℕ → ProgramHeader

@@ -55,6 +55,8 @@ pub record AreFirstToCross (segments : List Segment) (a b : ℕ) : Type 0 where
 -- Why no pages are listed for segments: two of them share an address, there are too many pages, or there was no memory.
 pub data IsPagesFault (segments : List Segment) (stack : ℕ) (fault : ElfFault) : Type 0 where
   memory : fault ≡ Memory → IsPagesFault segments stack fault
-  overlap : (a b : ℕ) → AreFirstToCross segments a b → fault ≡ Overlap (segment_at segments a).index (segment_at segments b).index → IsPagesFault segments stack fault
+  overlap : (a b : ℕ) → AreFirstToCross segments a b → fault ≡ Overlap (segment_at segments a).index (segment_at segments b).index →
+      IsPagesFault segments stack fault
   large :
-      (n : ℕ) (pages : List ℕ) → AreApart segments → ((file : List ℕ) → AreMapped (map (piece_in file) segments) stack pages) → AreTooMany pages n → fault ≡ TooLarge n → IsPagesFault segments stack fault
+      (n : ℕ) (pages : List ℕ) → AreApart segments → ((file : List ℕ) → AreMapped (map (piece_in file) segments) stack pages) → AreTooMany pages n →
+      fault ≡ TooLarge n → IsPagesFault segments stack fault

@@ -32,7 +32,8 @@ pub(crate) fn first_overlap(segments: &[Segment], sorted: &[Segment]) -> Option<
 
 // Whether each segment ends before the next one begins.
 fn neighbours_are_apart(sorted: &[Segment]) -> bool
-    ensures { IsTrue result → (k : ℕ) → k + 1 < length sorted.now → (segment_at sorted.now k).address + (segment_at sorted.now k).memory_size ≤ (segment_at sorted.now (k + 1)).address }
+    ensures { IsTrue result → (k : ℕ) → k + 1 < length sorted.now →
+        (segment_at sorted.now k).address + (segment_at sorted.now k).memory_size ≤ (segment_at sorted.now (k + 1)).address }
 {
     for k in 1..sorted.len() {
         if sorted[k - 1].end() > sorted[k].address as u64 {
@@ -58,7 +59,8 @@ fn first_to_cross(segments: &[Segment]) -> Option<(usize, usize)>
 fn first_crossing(segment: Segment, others: &[Segment]) -> Option<usize>
     ensures { MatchOption result
         ((k : ℕ) → k < length others.now → Cross segment (segment_at others.now k) → ⊥)
-        (λ place. (place < length others.now) × Cross segment (segment_at others.now place) × ((k : ℕ) → k < place → Cross segment (segment_at others.now k) → ⊥)) }
+        (λ place. (place < length others.now) × Cross segment (segment_at others.now place) × ((k : ℕ) → k < place →
+        Cross segment (segment_at others.now k) → ⊥)) }
 {
     for (place, other) in others.iter().enumerate() {
         if cross(&segment, other) {

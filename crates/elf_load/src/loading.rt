@@ -43,7 +43,8 @@ pub fn load(alloc: Global, file: &[u8], stack: u32) -> Result<State, ElfFault>
 
     // What is refused has that fault first, and what has a fault is refused for it, unless memory runs out.
     ensures refused { IfErr result (λ fault. fault ≢ ElfFault.Memory → FirstFault file.now stack fault) }
-    ensures first { (fault : ElfFault) → FirstFault file.now stack fault → MatchResult result (λ _. ⊥) (λ answer. (answer ≡ fault) ⊎ (answer ≡ ElfFault.Memory)) }
+    ensures first { (fault : ElfFault) → FirstFault file.now stack fault →
+        MatchResult result (λ _. ⊥) (λ answer. (answer ≡ fault) ⊎ (answer ≡ ElfFault.Memory)) }
 {
     load_file(alloc, file, stack)
 }
@@ -60,7 +61,8 @@ pub fn load_raw(alloc: Global, bytes: &[u8], stack: u32) -> Result<State, ElfFau
 
     // What is refused has that fault first, and what has a fault is refused for it, unless memory runs out.
     ensures refused { IfErr result (λ fault. fault ≢ ElfFault.Memory → FirstRawFault bytes.now stack fault) }
-    ensures first { (fault : ElfFault) → FirstRawFault bytes.now stack fault → MatchResult result (λ _. ⊥) (λ answer. (answer ≡ fault) ⊎ (answer ≡ ElfFault.Memory)) }
+    ensures first { (fault : ElfFault) → FirstRawFault bytes.now stack fault →
+        MatchResult result (λ _. ⊥) (λ answer. (answer ≡ fault) ⊎ (answer ≡ ElfFault.Memory)) }
 {
     load_words(alloc, bytes, stack)
 }
@@ -121,7 +123,8 @@ fn list_pages(alloc: Global, spans: &[Span]) -> Result<Vec<u32>, ElfFault>
     requires low { length (pages_from 0 spans.now) ≤ 4096 → All (λ (s : Span). s.last < 2 ^ 20) spans.now }
     ensures numbers { IfOk result (λ v. v.items ≡ pages_from 0 spans.now) }
     ensures few { OnOk result (length (pages_from 0 spans.now) ≤ 4096) }
-    ensures refused { IfErr result (λ fault. (fault ≡ ElfFault.Memory) ⊎ ((fault ≡ ElfFault.TooLarge (length (pages_from 0 spans.now))) × (4096 < length (pages_from 0 spans.now)))) }
+    ensures refused { IfErr result (λ fault. (fault ≡ ElfFault.Memory)
+        ⊎ ((fault ≡ ElfFault.TooLarge (length (pages_from 0 spans.now))) × (4096 < length (pages_from 0 spans.now)))) }
 {
     let count = page_count(spans);
     if count > MOST_PAGES {

@@ -35,7 +35,8 @@ impl Segment {
 
     // Whether it is right by itself, in a file of so many bytes and below the stack.
     fn is_sound(&self, length: usize, stack_start: u32) -> bool
-        ensures { IsTrue result ↔ (self.now.file_size ≤ self.now.memory_size) × (self.now.offset + self.now.file_size ≤ length) × (self.now.address + self.now.memory_size ≤ stack_start) }
+        ensures { IsTrue result ↔ (self.now.file_size ≤ self.now.memory_size) × (self.now.offset + self.now.file_size ≤ length)
+            × (self.now.address + self.now.memory_size ≤ stack_start) }
     {
         self.file_size <= self.memory_size
             && self.offset as u64 + self.file_size as u64 <= length as u64

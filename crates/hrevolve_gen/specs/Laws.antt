@@ -15,7 +15,8 @@ ListIsUnique steps book t list other = IsWritten steps book t list → IsWritten
 
 -- two lists that are read from tables whose entries are the greatest are one, whichever tables these are
 abbrev pub PlanIsUnique : ℕ → BookCosts → Tables → Tables → List Action → List Action → Type 0
-PlanIsUnique steps book s t list other = IsGreatest steps book s → IsGreatest steps book t → IsWritten steps book s list → IsWritten steps book t other → list ≡ other
+PlanIsUnique steps book s t list other = IsGreatest steps book s → IsGreatest steps book t → IsWritten steps book s list →
+    IsWritten steps book t other → list ≡ other
 
 -- from tables whose entries are attained a list can be read where there is a plan
 abbrev pub ListExists : ℕ → BookCosts → Tables → Type 0

@@ -16,7 +16,8 @@ pub data Part : Type 0 where
 
 -- the actions that reverse the stretch from state b on, on level k, where the state is in work, and where it is held there
 abbrev pub actions : ℕ → Bool → ℕ → ℕ → Part → List Action
-actions steps false k b one = cond (b + 1 == steps) (Forward b (b + 1) Tape ∷ EndForward ∷ Reverse (b + 1) b ∷ []) (Forward b (b + 1) Tape ∷ Reverse (b + 1) b ∷ [])
+actions steps false k b one = cond (b + 1 == steps) (Forward b (b + 1) Tape ∷ EndForward ∷ Reverse (b + 1) b ∷ [])
+    (Forward b (b + 1) Tape ∷ Reverse (b + 1) b ∷ [])
 actions steps true k b one = Move b k Work ∷ Forward b (b + 1) Tape ∷ Reverse (b + 1) b ∷ []
 actions steps false zero b (faster p) = []
 actions steps true zero b (faster p) = []
@@ -37,15 +38,21 @@ abbrev pub Reads : ℕ → BookCosts → Tables → Bool → ℕ → ℕ → ℕ
 Reads steps book t false k l m one = (l ≡ 1) × (t.fresh k l m ≡ number (book.forward + book.reverse))
 Reads steps book t true k l m one = (l ≡ 1) × (t.held k l m ≡ number (read_cost book k + book.forward + book.reverse))
 Reads steps book t held zero l m (faster p) = ⊥
-Reads steps book t false (suc k) l m (faster p) = (2 ≤ l) × (t.fresh (suc k) l m ≡ t.fresh k l (room book k steps)) × Reads steps book t false k l (room book k steps) p
-Reads steps book t true (suc k) l m (faster p) = (2 ≤ l) × (t.held (suc k) l m ≡ sum_of (read_cost book (suc k)) (number 0) (t.fresh k l (room book k steps))) × Reads steps book t false k l (room book k steps) p
+Reads steps book t false (suc k) l m (faster p) = (2 ≤ l) × (t.fresh (suc k) l m ≡ t.fresh k l (room book k steps))
+    × Reads steps book t false k l (room book k steps) p
+Reads steps book t true (suc k) l m (faster p) = (2 ≤ l)
+    × (t.held (suc k) l m ≡ sum_of (read_cost book (suc k)) (number 0) (t.fresh k l (room book k steps))) × Reads steps book t false k l (room book k steps) p
 Reads steps book t false k l zero (split j p q) = ⊥
-Reads steps book t false k l (suc m) (split j p q) = (1 ≤ j) × (j < l) × (t.fresh k l (suc m) ≡ sum_of (write_cost book k + j * book.forward) (t.fresh k (l - j) m) (t.held k j m))
+Reads steps book t false k l (suc m) (split j p q) = (1 ≤ j) × (j < l)
+    × (t.fresh k l (suc m) ≡ sum_of (write_cost book k + j * book.forward) (t.fresh k (l - j) m) (t.held k j m))
     × Reads steps book t false k (l - j) m p × Reads steps book t true k j m q
-    × IsFirst k j (t.fresh k l (suc m)) (λ i. t.fresh i l (room book i steps)) (λ i. sum_of (write_cost book k + i * book.forward) (t.fresh k (l - i) m) (t.held k i m))
-Reads steps book t true k l m (split j p q) = (1 ≤ j) × (j < l) × (t.held k l m ≡ sum_of (read_cost book k + j * book.forward) (t.fresh k (l - j) m) (t.held k j m))
+    × IsFirst k j (t.fresh k l (suc m)) (λ i. t.fresh i l (room book i steps))
+    (λ i. sum_of (write_cost book k + i * book.forward) (t.fresh k (l - i) m) (t.held k i m))
+Reads steps book t true k l m (split j p q) = (1 ≤ j) × (j < l)
+    × (t.held k l m ≡ sum_of (read_cost book k + j * book.forward) (t.fresh k (l - j) m) (t.held k j m))
     × Reads steps book t false k (l - j) m p × Reads steps book t true k j m q
-    × IsFirst k j (t.held k l m) (λ i. sum_of (read_cost book k) (number 0) (t.fresh i l (room book i steps))) (λ i. sum_of (read_cost book k + i * book.forward) (t.fresh k (l - i) m) (t.held k i m))
+    × IsFirst k j (t.held k l m) (λ i. sum_of (read_cost book k) (number 0) (t.fresh i l (room book i steps)))
+    (λ i. sum_of (read_cost book k + i * book.forward) (t.fresh k (l - i) m) (t.held k i m))
 
 -- the list for steps and a book whose slowest level is `last`, where there is a step
 abbrev pub whole : ℕ → ℕ → Part → List Action
@@ -56,4 +63,5 @@ whole steps last p = actions steps false last 0 p ++ EndReverse ∷ []
 abbrev pub IsWritten : ℕ → BookCosts → Tables → List Action → Type 0
 IsWritten zero book t list = list ≡ EndForward ∷ EndReverse ∷ []
 IsWritten (suc n) book t list =
-    (p : Part) × Reads (suc n) book t false (length book.levels - 1) (suc n) (room book (length book.levels - 1) (suc n)) p × (list ≡ whole (suc n) (length book.levels - 1) p)
+    (p : Part) × Reads (suc n) book t false (length book.levels - 1) (suc n) (room book (length book.levels - 1) (suc n)) p
+    × (list ≡ whole (suc n) (length book.levels - 1) p)

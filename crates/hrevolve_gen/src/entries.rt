@@ -40,8 +40,10 @@ pub(crate) fn is_faster_held(tables: &Tables, own: Cost, read: u64, k: u8, l: u3
     requires k { k < length tables.now.rooms }
     requires l { (2 ≤ l) × (l ≤ tables.now.steps) }
     requires read { read < 2 ^ 32 }
-    ensures yes { result ≡ true → (1 ≤ k) × (value_of own ≡ sum_of read (number 0) ((tables_in tables.now).fresh (k - 1) l (slice_index tables.now.rooms (k - 1)))) }
-    ensures no { result ≡ false → (j : ℕ) → suc j ≡ k → value_of own ≢ sum_of read (number 0) ((tables_in tables.now).fresh j l (slice_index tables.now.rooms j)) }
+    ensures yes { result ≡ true → (1 ≤ k)
+        × (value_of own ≡ sum_of read (number 0) ((tables_in tables.now).fresh (k - 1) l (slice_index tables.now.rooms (k - 1)))) }
+    ensures no { result ≡ false → (j : ℕ) → suc j ≡ k →
+        value_of own ≢ sum_of read (number 0) ((tables_in tables.now).fresh j l (slice_index tables.now.rooms j)) }
 {
     if k == 0 {
         return false;

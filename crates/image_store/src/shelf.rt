@@ -119,7 +119,8 @@ impl Shelf {
         requires size { length image.now < 2 ^ 32 }
         requires slots { self.old.room ≤ K.slot_count keeper.old }
         ensures ok { OnOk result (IsKept self.old self.new n image.now (K.told keeper.old) (K.told keeper.new)) }
-        ensures stands { (bytes : Images) → LevelStands self.old (K.told keeper.old) bytes → OnOk result (LevelStands self.new (K.told keeper.new) (finmap.insert bytes n image.now)) }
+        ensures stands { (bytes : Images) → LevelStands self.old (K.told keeper.old) bytes →
+            OnOk result (LevelStands self.new (K.told keeper.new) (finmap.insert bytes n image.now)) }
         ensures alone { LevelAlone self.old (K.told keeper.old) → OnOk result (LevelAlone self.new (K.told keeper.new)) }
         ensures refused { OnErr result (self.new ≡ self.old) }
         ensures still { (bytes : Images) → LevelStands self.old (K.told keeper.old) bytes → OnErr result (LevelStands self.new (K.told keeper.new) bytes) }
@@ -176,7 +177,8 @@ impl Shelf {
         ensures quiet { result ≢ Err StoreFault.Keeper → K.fault_count keeper.new ≡ K.fault_count keeper.old }
         ensures later { K.fault_count keeper.old ≤ K.fault_count keeper.new }
         ensures cause { result ≡ Err StoreFault.Keeper → Rose (K.fault_count keeper.old) (K.fault_count keeper.new) }
-        ensures roomy { (room : ℕ) (kept : Kept) → K.room_bytes keeper.old ≡ Some room → pair_at self.now.pairs n ≡ Some kept → kept.length ≤ vec_capacity into.old → result ≢ Err StoreFault.Memory }
+        ensures roomy { (room : ℕ) (kept : Kept) → K.room_bytes keeper.old ≡ Some room → pair_at self.now.pairs n ≡ Some kept →
+            kept.length ≤ vec_capacity into.old → result ≢ Err StoreFault.Memory }
     {
         let kept = self.kept(n);
         match keeper.get(kept.slot, kept.length, into) {
@@ -200,7 +202,8 @@ impl Shelf {
         requires slots { self.old.room ≤ K.slot_count keeper.old }
         ensures ok { OnOk result (self.new ≡ without_pair self.old n) }
         ensures freed { OnOk result ((kept : Kept) → pair_at self.old.pairs n ≡ Some kept → IsFreed kept (K.told keeper.old) (K.told keeper.new)) }
-        ensures stands { (bytes : Images) → LevelStands self.old (K.told keeper.old) bytes → OnOk result (LevelStands self.new (K.told keeper.new) (finmap.remove bytes n)) }
+        ensures stands { (bytes : Images) → LevelStands self.old (K.told keeper.old) bytes →
+            OnOk result (LevelStands self.new (K.told keeper.new) (finmap.remove bytes n)) }
         ensures alone { LevelAlone self.old (K.told keeper.old) → OnOk result (LevelAlone self.new (K.told keeper.new)) }
         ensures refused { OnErr result (self.new ≡ self.old) }
         ensures left { OnErr result ((kept : Kept) → pair_at self.old.pairs n ≡ Some kept → IsNotFreed kept (K.told keeper.old) (K.told keeper.new)) }

@@ -64,10 +64,12 @@ impl Store {
         requires slots { (level_of self.old level).room ≤ K.slot_count keeper.old }
         ensures ok { OnOk result (IsKept (level_of self.old level) (level_of self.new level) n image.now (K.told keeper.old) (K.told keeper.new)) }
         ensures others { self.new ≡ slice_set self.old level (level_of self.new level) }
-        ensures stands { (bytes : Images) → LevelStands (level_of self.old level) (K.told keeper.old) bytes → OnOk result (LevelStands (level_of self.new level) (K.told keeper.new) (finmap.insert bytes n image.now)) }
+        ensures stands { (bytes : Images) → LevelStands (level_of self.old level) (K.told keeper.old) bytes →
+            OnOk result (LevelStands (level_of self.new level) (K.told keeper.new) (finmap.insert bytes n image.now)) }
         ensures alone { LevelAlone (level_of self.old level) (K.told keeper.old) → OnOk result (LevelAlone (level_of self.new level) (K.told keeper.new)) }
         ensures refused { OnErr result (self.new ≡ self.old) }
-        ensures still { (bytes : Images) → LevelStands (level_of self.old level) (K.told keeper.old) bytes → OnErr result (LevelStands (level_of self.new level) (K.told keeper.new) bytes) }
+        ensures still { (bytes : Images) → LevelStands (level_of self.old level) (K.told keeper.old) bytes →
+            OnErr result (LevelStands (level_of self.new level) (K.told keeper.new) bytes) }
         ensures left { OnErr result (IsNotKept (level_of self.old level) (K.told keeper.old) (K.told keeper.new)) }
         ensures slots { K.slot_count keeper.new ≡ K.slot_count keeper.old }
         ensures room { K.room_bytes keeper.new ≡ K.room_bytes keeper.old }
@@ -99,8 +101,10 @@ impl Store {
         ensures short { OnOk result (vec_len into.new < 2 ^ 32) }
         ensures damaged { (put got : List ℕ) → result ≡ Err (StoreFault.Damaged put got) → (kept : Kept) → kept_at self.now level n ≡ Some kept →
             IsGot kept (K.told keeper.old) into.new.items × (put ≡ kept.digest) × (got ≡ sha256 into.new.items) × (got ≢ put) }
-        ensures stands { (bytes : Images) → LevelStands (level_of self.now level) (K.told keeper.old) bytes → OnOk result (finmap.get bytes n ≡ Some into.new.items) }
-        ensures sound { (bytes : Images) → LevelStands (level_of self.now level) (K.told keeper.old) bytes → (put got : List ℕ) → result ≢ Err (StoreFault.Damaged put got) }
+        ensures stands { (bytes : Images) → LevelStands (level_of self.now level) (K.told keeper.old) bytes →
+            OnOk result (finmap.get bytes n ≡ Some into.new.items) }
+        ensures sound { (bytes : Images) → LevelStands (level_of self.now level) (K.told keeper.old) bytes → (put got : List ℕ) →
+            result ≢ Err (StoreFault.Damaged put got) }
         ensures same { K.told keeper.new ≡ K.told keeper.old }
         ensures reserved { vec_capacity into.old ≤ vec_capacity into.new }
         ensures slots { K.slot_count keeper.new ≡ K.slot_count keeper.old }
@@ -111,7 +115,8 @@ impl Store {
         ensures quiet { result ≢ Err StoreFault.Keeper → K.fault_count keeper.new ≡ K.fault_count keeper.old }
         ensures later { K.fault_count keeper.old ≤ K.fault_count keeper.new }
         ensures cause { result ≡ Err StoreFault.Keeper → Rose (K.fault_count keeper.old) (K.fault_count keeper.new) }
-        ensures roomy { (room : ℕ) (kept : Kept) → K.room_bytes keeper.old ≡ Some room → kept_at self.now level n ≡ Some kept → kept.length ≤ vec_capacity into.old → result ≢ Err StoreFault.Memory }
+        ensures roomy { (room : ℕ) (kept : Kept) → K.room_bytes keeper.old ≡ Some room → kept_at self.now level n ≡ Some kept →
+            kept.length ≤ vec_capacity into.old → result ≢ Err StoreFault.Memory }
     {
         self.shelves[level as usize].fetch(keeper, n, into)
     }
@@ -129,7 +134,8 @@ impl Store {
         ensures ok { OnOk result (level_of self.new level ≡ without_pair (level_of self.old level) n) }
         ensures freed { OnOk result ((kept : Kept) → kept_at self.old level n ≡ Some kept → IsFreed kept (K.told keeper.old) (K.told keeper.new)) }
         ensures others { self.new ≡ slice_set self.old level (level_of self.new level) }
-        ensures stands { (bytes : Images) → LevelStands (level_of self.old level) (K.told keeper.old) bytes → OnOk result (LevelStands (level_of self.new level) (K.told keeper.new) (finmap.remove bytes n)) }
+        ensures stands { (bytes : Images) → LevelStands (level_of self.old level) (K.told keeper.old) bytes →
+            OnOk result (LevelStands (level_of self.new level) (K.told keeper.new) (finmap.remove bytes n)) }
         ensures alone { LevelAlone (level_of self.old level) (K.told keeper.old) → OnOk result (LevelAlone (level_of self.new level) (K.told keeper.new)) }
         ensures refused { OnErr result (self.new ≡ self.old) }
         ensures left { OnErr result ((kept : Kept) → kept_at self.old level n ≡ Some kept → IsNotFreed kept (K.told keeper.old) (K.told keeper.new)) }

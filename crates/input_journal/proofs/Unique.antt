@@ -34,9 +34,9 @@ journal_or_fault bytes all = either_read bytes (reading bytes) (bytes_fit bytes 
 
 -- ---- what was returned, where it is what is read unless memory ran out
 
-pub found : (bytes : List ℕ) (r : Result (List (List ℕ)) JournalFault) → IsBytes bytes → Gives (λ journal. journal) r (reading bytes) → IfOk r (IsJournal bytes)
-found bytes (Ok items) fits given = read_is_journal bytes items fits given
-found bytes (Err d) fits given = tt
+pub found : {X : Type 0} (bytes : List ℕ) (view : X → List (List ℕ)) (r : Result X JournalFault) → IsBytes bytes → Gives view r (reading bytes) → IfOk r (λ x. IsJournal bytes (view x))
+found bytes view (Ok x) fits given = read_is_journal bytes (view x) fits given
+found bytes view (Err d) fits given = tt
 
 fails_so : (d e : JournalFault) (read : Result (List (List ℕ)) JournalFault) → Fails d read → read ≡ Err e → (d ≡ e) ⊎ (d ≡ Memory)
 fails_so Magic e read given is = inl (err_is (List (List ℕ)) Magic e (sym given ∙ is))
@@ -54,10 +54,10 @@ only_memory (TooLong at) items read given is = absurd (not_both items (TooLong a
 only_memory (Trailing at) items read given is = absurd (not_both items (Trailing at) (sym is ∙ given))
 only_memory Memory items read given is = refl
 
-pub only : (bytes : List ℕ) (r : Result (List (List ℕ)) JournalFault) → Gives (λ journal. journal) r (reading bytes) →
-    (items : List (List ℕ)) → IsJournal bytes items → MatchResult r (λ journal. journal ≡ items) (λ fault. fault ≡ Memory)
-only bytes (Ok journal) given items is = ok_is journal items (sym given ∙ journal_read bytes items is)
-only bytes (Err d) given items is = only_memory d items (reading bytes) given (journal_read bytes items is)
+pub only : {X : Type 0} (bytes : List ℕ) (view : X → List (List ℕ)) (r : Result X JournalFault) → Gives view r (reading bytes) →
+    (items : List (List ℕ)) → IsJournal bytes items → MatchResult r (λ x. view x ≡ items) (λ fault. fault ≡ Memory)
+only bytes view (Ok x) given items is = ok_is (view x) items (sym given ∙ journal_read bytes items is)
+only bytes view (Err d) given items is = only_memory d items (reading bytes) given (journal_read bytes items is)
 
 fails_at : (d : JournalFault) (read : Result (List (List ℕ)) JournalFault) → d ≢ Memory → Fails d read → read ≡ Err d
 fails_at Magic read ne given = given
@@ -67,11 +67,12 @@ fails_at (TooLong at) read ne given = given
 fails_at (Trailing at) read ne given = given
 fails_at Memory read ne given = absurd (ne refl)
 
-pub refused : (bytes : List ℕ) (r : Result (List (List ℕ)) JournalFault) → IsBytes bytes → Gives (λ journal. journal) r (reading bytes) → IfErr r (λ fault. fault ≢ Memory → FirstFault bytes fault)
-refused bytes (Ok items) fits given = tt
-refused bytes (Err d) fits given = λ ne. read_is_fault bytes d fits (fails_at d (reading bytes) ne given)
+pub refused : {X : Type 0} (bytes : List ℕ) (view : X → List (List ℕ)) (r : Result X JournalFault) → IsBytes bytes → Gives view r (reading bytes) →
+    IfErr r (λ fault. fault ≢ Memory → FirstFault bytes fault)
+refused bytes view (Ok x) fits given = tt
+refused bytes view (Err d) fits given = λ ne. read_is_fault bytes d fits (fails_at d (reading bytes) ne given)
 
-pub first : (bytes : List ℕ) (r : Result (List (List ℕ)) JournalFault) → Gives (λ journal. journal) r (reading bytes) →
+pub first : {X : Type 0} (bytes : List ℕ) (view : X → List (List ℕ)) (r : Result X JournalFault) → Gives view r (reading bytes) →
     (fault : JournalFault) → FirstFault bytes fault → MatchResult r (λ _. ⊥) (λ answer. (answer ≡ fault) ⊎ (answer ≡ Memory))
-first bytes (Ok items) given fault f = not_both items fault (sym given ∙ fault_read bytes fault f)
-first bytes (Err d) given fault f = fails_so d fault (reading bytes) given (fault_read bytes fault f)
+first bytes view (Ok x) given fault f = not_both (view x) fault (sym given ∙ fault_read bytes fault f)
+first bytes view (Err d) given fault f = fails_so d fault (reading bytes) given (fault_read bytes fault f)

@@ -2,3 +2,4 @@ pub mod Form
 pub mod Faults
 pub mod Reading
 pub mod Laws
+pub mod Parts

@@ -6,24 +6,32 @@ ghost use Rattle.input_journal.specs.Form.{IsShort, IsRecorded};
 use std::alloc::Global;
 use std::marker::Model;
 
-/// The items of recorded input, in the order in which they are read: at most 65,536 of at most 1,048,576 bytes each.
+/// The items of recorded input, in the order in which they are read: at most 65,536 of at most 1,048,576 bytes each. It
+/// keeps the bytes that it was read from, of which each item is a part.
 #[derive(Drop)]
 pub struct Journal {
-    pub(crate) items: Vec<Vec<u8>>,
+    pub(crate) bytes: Vec<u8>,
+    pub(crate) parts: Vec<Part>,
+}
+
+// Where an item stands in the bytes.
+#[derive(Clone, Copy)]
+pub(crate) struct Part {
+    pub at: usize,
+    pub len: usize,
 }
 
 impl Model for Journal {
-    ghost use Rattle.std.specs.Prelude.{◌≤◌, ℕ, List, map};
+    ghost use Rattle.std.specs.Prelude.{◌≤◌, ℕ, List, length};
     ghost use Rattle.std.specs.Vec.{vec_len};
 
     ghost Value = { List (List ℕ) };
 
-    ghost view = { λ j. map (λ item. item.items) j.items.items };
+    ghost use Rattle.input_journal.specs.Parts.{items_in, AreParts};
 
-    ghost use Rattle.std.specs.List.{AllByRecursion};
-    ghost use Rattle.input_journal.specs.Form.{IsShort};
+    ghost view = { λ j. items_in j.bytes.items j.parts.items };
 
-    ghost invariant = { λ j. (vec_len j.items ≤ 65536) × AllByRecursion (λ item. IsShort item.items) j.items.items };
+    ghost invariant = { λ j. (vec_len j.parts ≤ 65536) × AreParts (length j.bytes.items) j.parts.items };
 }
 
 impl Journal {
@@ -32,15 +40,17 @@ impl Journal {
         ensures { result ≡ [] }
     {
         Journal {
-            items: Vec::new(alloc),
+            bytes: Vec::new(alloc),
+            parts: Vec::new(alloc),
         }
     }
 
     /// The number of items.
     pub fn count(&self) -> u32
-        ensures { result ≡ length self.now }
+        ensures value { result ≡ length self.now }
+        ensures few { result ≤ 65536 }
     {
-        self.items.len() as u32
+        self.parts.len() as u32
     }
 
     /// The bytes of the item with this index, counted from 0.
@@ -49,7 +59,8 @@ impl Journal {
         ensures value { slice_get self.now index ≡ Some result.now }
         ensures short { IsShort result.now }
     {
-        self.items[index as usize].as_slice()
+        let part = self.parts[index as usize];
+        &self.bytes[part.at..part.at + part.len]
     }
 
     /// How many bytes all items have together.
@@ -58,8 +69,8 @@ impl Journal {
         ensures few { result ≤ 2 ^ 36 }
     {
         let mut count = 0;
-        for item in &self.items {
-            count += item.len() as u64;
+        for index in 0..self.count() {
+            count += self.item(index).len() as u64;
         }
         count
     }
@@ -68,8 +79,8 @@ impl Journal {
     pub fn is_recorded(&self)
         ensures { IsRecorded self.now }
     {
-        for item in &self.items {
-            are_bytes(item);
+        for index in 0..self.count() {
+            are_bytes(self.item(index));
         }
     }
 }

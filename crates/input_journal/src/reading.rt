@@ -1,11 +1,13 @@
 // Bytes that are read as a journal.
-ghost use Rattle.std.specs.Prelude.{◌≡◌, ◌≢◌, ◌⊎◌, ◌+◌, ◌≤◌, ℕ, List, length, drop, MatchResult, IfOk, IfErr, OnOk};
+ghost use Rattle.std.specs.Prelude.{◌≡◌, ◌≢◌, ◌⊎◌, ◌+◌, ◌≤◌, ℕ, List, length, take, drop, MatchResult, IfOk, IfErr, OnOk};
 ghost use Rattle.input_journal.specs.Form.{IsJournal, IsShort};
 ghost use Rattle.input_journal.specs.Faults.{FirstFault};
+ghost use Rattle.std.specs.Vec.{vec_len};
+ghost use Rattle.input_journal.specs.Parts.{items_in, AreParts};
 ghost use Rattle.input_journal.specs.Reading.{Gives, number_at, item_at, count_of, reading};
 
 use crate::fault::JournalFault;
-use crate::journal::Journal;
+use crate::journal::{Journal, Part};
 use byteorder::{ByteOrder, LittleEndian};
 use std::alloc::Global;
 
@@ -15,40 +17,57 @@ const MOST_ITEMS: u32 = 65_536;
 /// The most bytes of an item.
 const MOST_BYTES: u32 = 1_048_576;
 
-/// Reads the journal that the bytes are, all of the bytes.
-pub fn read_journal(alloc: Global, bytes: &[u8]) -> Result<Journal, JournalFault>
+/// Reads the journal that the bytes are, all of the bytes, which it keeps.
+pub fn read_journal(alloc: Global, bytes: Vec<u8>) -> Result<Journal, JournalFault>
     // What is read is spelled so, and what is spelled so is read, unless memory runs out.
-    ensures found { IfOk result (IsJournal bytes.now) }
-    ensures only { (items : List (List ℕ)) → IsJournal bytes.now items → MatchResult result (λ journal. journal ≡ items) (λ fault. fault ≡ JournalFault.Memory) }
+    ensures found { IfOk result (IsJournal bytes.items) }
+    ensures only { (items : List (List ℕ)) → IsJournal bytes.items items →
+        MatchResult result (λ journal. journal ≡ items) (λ fault. fault ≡ JournalFault.Memory) }
 
     // What is refused has that fault first, and what has a fault is refused for it, unless memory runs out.
-    ensures refused { IfErr result (λ fault. fault ≢ JournalFault.Memory → FirstFault bytes.now fault) }
-    ensures first { (fault : JournalFault) → FirstFault bytes.now fault → MatchResult result (λ _. ⊥) (λ answer. (answer ≡ fault) ⊎ (answer ≡ JournalFault.Memory)) }
+    ensures refused { IfErr result (λ fault. fault ≢ JournalFault.Memory → FirstFault bytes.items fault) }
+    ensures first { (fault : JournalFault) → FirstFault bytes.items fault →
+        MatchResult result (λ _. ⊥) (λ answer. (answer ≡ fault) ⊎ (answer ≡ JournalFault.Memory)) }
 {
-    read_items(alloc, bytes)
+    let parts = read_parts(alloc, bytes.as_slice())?;
+    Ok(Journal { bytes, parts })
 }
 
+// Where the items stand of the journal that the bytes are, all of the bytes.
+fn read_parts(alloc: Global, bytes: &[u8]) -> Result<Vec<Part>, JournalFault>
+    ensures found { IfOk result (λ parts. IsJournal bytes.now (items_in bytes.now parts.items)) }
+    ensures only { (items : List (List ℕ)) → IsJournal bytes.now items →
+        MatchResult result (λ parts. items_in bytes.now parts.items ≡ items) (λ fault. fault ≡ JournalFault.Memory) }
+    ensures refused { IfErr result (λ fault. fault ≢ JournalFault.Memory → FirstFault bytes.now fault) }
+    ensures first { (fault : JournalFault) → FirstFault bytes.now fault →
+        MatchResult result (λ _. ⊥) (λ answer. (answer ≡ fault) ⊎ (answer ≡ JournalFault.Memory)) }
+    ensures few { IfOk result (λ parts. vec_len parts ≤ 65536) }
+    ensures parts { IfOk result (λ parts. AreParts (length bytes.now) parts.items) }
+{
+    find_parts(alloc, bytes)
+}
+
+// The same by what is read from left to right.
 #[tactic(auto, unfolding(crate::specs::Reading::reading))]
-fn read_items(alloc: Global, bytes: &[u8]) -> Result<Journal, JournalFault>
-    ensures { Gives (λ journal. journal) result (reading bytes.now) }
+fn find_parts(alloc: Global, bytes: &[u8]) -> Result<Vec<Part>, JournalFault>
+    ensures value { Gives (λ parts. items_in bytes.now parts.items) result (reading bytes.now) }
+    ensures few { IfOk result (λ parts. vec_len parts ≤ 65536) }
+    ensures parts { IfOk result (λ parts. AreParts (length bytes.now) parts.items) }
 {
     let count = read_count(bytes)?;
-    let mut items = Vec::new(alloc);
+    let mut parts = Vec::new(alloc);
     let mut at = 12;
     for _ in 0..count {
-        let item = read_item(bytes, at)?;
-        let Ok(copy) = Vec::from_slice(alloc, item) else {
-            return Err(JournalFault::Memory);
-        };
-        if items.push(copy).is_err() {
+        let len = read_item(bytes, at)?.len();
+        if parts.push(Part { at: at + 4, len }).is_err() {
             return Err(JournalFault::Memory);
         }
-        at += 4 + item.len();
+        at += 4 + len;
     }
     if at < bytes.len() {
         return Err(JournalFault::Trailing(at as u64));
     }
-    Ok(Journal { items })
+    Ok(parts)
 }
 
 // The number of items, behind the letters and the version.
@@ -78,6 +97,7 @@ fn read_item(bytes: &[u8], at: usize) -> Result<&[u8], JournalFault>
     ensures value { Gives (λ item. item.now) result (item_at at (drop at bytes.now)) }
     ensures short { IfOk result (λ item. IsShort item.now) }
     ensures within { IfOk result (λ item. at + 4 + length item.now ≤ length bytes.now) }
+    ensures place { IfOk result (λ item. item.now ≡ take (length item.now) (drop (at + 4) bytes.now)) }
 {
     let len = read_number(bytes, at)?;
     if len > MOST_BYTES {

@@ -13,8 +13,9 @@ pub fn write_journal(alloc: Global, journal: &Journal) -> Result<Vec<u8>, AllocE
     let mut bytes = Vec::new(alloc);
     bytes.extend_from_slice(b"RVJL")?;
     push_number(&mut bytes, 1)?;
-    push_number(&mut bytes, journal.items.len() as u32)?;
-    for item in &journal.items {
+    push_number(&mut bytes, journal.count())?;
+    for index in 0..journal.count() {
+        let item = journal.item(index);
         push_number(&mut bytes, item.len() as u32)?;
         bytes.extend_from_slice(item)?;
     }

@@ -37,9 +37,11 @@ module _ {R : Type 0} where
   faults_of (Flip k) = k.keeper.faults
   faults_of (File k) = k.faults
 
-  -- no part has a room
+  -- only a keeper in memory may have a room
   abbrev pub room_of : AnyKeeper R → Option ℕ
-  room_of k = None
+  room_of (Memory k) = k.room
+  room_of (Flip k) = None
+  room_of (File k) = None
 
   -- a call does to a keeper of any kind what it does to its part, which stays of its kind
   abbrev pub put_of : AnyKeeper R → ℕ → List ℕ → Answer → AnyKeeper R → Type 0

@@ -16,7 +16,8 @@ pub record InputsState : Type 0 where
 abbrev pub inputs_state_code : Coded InputsState
 inputs_state_code =
     code_by (Files × (List (List ℕ) × (List ℕ × (ℕ × ℕ))))
-    (coded× (finmap.code (coded_list coded_ℕ) (coded_list coded_ℕ)) (coded× (coded_list (coded_list coded_ℕ)) (coded× (coded_list coded_ℕ) (coded× coded_ℕ coded_ℕ))))
+    (coded× (finmap.code (coded_list coded_ℕ) (coded_list coded_ℕ))
+    (coded× (coded_list (coded_list coded_ℕ)) (coded× (coded_list coded_ℕ) (coded× coded_ℕ coded_ℕ))))
     (λ s. (s.files, (s.asked, (s.failing, (s.calls, s.faults)))))
     (λ p. record { files = p.0; asked = p.1.0; failing = p.1.1.0; calls = p.1.1.1.0; faults = p.1.1.1.1 })
     (λ _. refl)

@@ -1,16 +1,17 @@
 -- What a keeper in memory is seen as.
-use Rattle.std.specs.Prelude.{ℕ, zero, suc, List, refl, ◌≡◌}
-use Rattle.std.specs.Coded.{Coded, code_by, coded×, coded_ℕ, coded_list}
+use Rattle.std.specs.Prelude.{ℕ, zero, suc, List, Option, refl, ◌≡◌}
+use Rattle.std.specs.Coded.{Coded, code_by, coded×, coded_ℕ, coded_list, coded_option}
 use Rattle.std.specs.FinMap as finmap
 use Rattle.keepers.specs.Told.{Images}
 use Rattle.keepers.specs.declared.memory_keeper.Op.{Op}
 use Rattle.keepers.specs.declared.memory_keeper.Op.TheVariants.{Put, Get, Free}
 
--- the images by their slots, the number of slots, the calls that fail, how often each call was made, and how many faults
--- there were
+-- the images by their slots, the number of slots, for how many bytes there is memory in each slot, if it has a room, the calls
+-- that fail, how often each call was made, and how many faults there were
 pub record KeeperState : Type 0 where
   pub images : Images
   pub slots : ℕ
+  pub room : Option ℕ
   pub failing : List (Op × ℕ)
   pub puts : ℕ
   pub gets : ℕ
@@ -38,8 +39,19 @@ op_code = code_by ℕ coded_ℕ op_number numbered_op numbered
 
 abbrev pub keeper_state_code : Coded KeeperState
 keeper_state_code =
-    code_by (Images × (ℕ × (List (Op × ℕ) × (ℕ × (ℕ × (ℕ × ℕ))))))
-    (coded× (finmap.code coded_ℕ (coded_list coded_ℕ)) (coded× coded_ℕ (coded× (coded_list (coded× op_code coded_ℕ)) (coded× coded_ℕ (coded× coded_ℕ (coded× coded_ℕ coded_ℕ))))))
-    (λ s. (s.images, (s.slots, (s.failing, (s.puts, (s.gets, (s.frees, s.faults)))))))
-    (λ p. record { images = p.0; slots = p.1.0; failing = p.1.1.0; puts = p.1.1.1.0; gets = p.1.1.1.1.0; frees = p.1.1.1.1.1.0; faults = p.1.1.1.1.1.1 })
+    code_by (Images × (ℕ × (Option ℕ × (List (Op × ℕ) × (ℕ × (ℕ × (ℕ × ℕ)))))))
+    (coded× (finmap.code coded_ℕ (coded_list coded_ℕ))
+    (coded× coded_ℕ
+    (coded× (coded_option coded_ℕ) (coded× (coded_list (coded× op_code coded_ℕ)) (coded× coded_ℕ (coded× coded_ℕ (coded× coded_ℕ coded_ℕ)))))))
+    (λ s. (s.images, (s.slots, (s.room, (s.failing, (s.puts, (s.gets, (s.frees, s.faults))))))))
+    (λ p. record {
+      images = p.0;
+      slots = p.1.0;
+      room = p.1.1.0;
+      failing = p.1.1.1.0;
+      puts = p.1.1.1.1.0;
+      gets = p.1.1.1.1.1.0;
+      frees = p.1.1.1.1.1.1.0;
+      faults = p.1.1.1.1.1.1.1;
+    })
     (λ _. refl)

@@ -5,6 +5,7 @@ pub mod FlipState
 pub mod InputsState
 pub mod KeeperState
 pub mod Parts
+pub mod Places
 pub mod SinkState
 pub mod SlotFiles
 pub mod Told

@@ -38,7 +38,12 @@ pub record IsFree (slot : ℕ) (answer : Answer) (old new : KeeperState) : Type 
 
 -- a put into a keeper that gives a wrong bit: it never fails, and changes no other slot
 pub record IsFlipPut (slot : ℕ) (image : List ℕ) (answer : Answer) (old new : FlipState) : Type 0 where
-  pub ok : OnOk answer (new ≡ record old { keeper = record old.keeper { images = finmap.insert old.keeper.images slot image; puts = raised old.keeper.puts 1 } })
+  pub ok : OnOk answer (new ≡ record old {
+    keeper = record old.keeper {
+      images = finmap.insert old.keeper.images slot image;
+      puts = raised old.keeper.puts 1;
+    };
+  })
   pub refused : OnErr answer (new ≡ record old { keeper = record old.keeper { images = new.keeper.images; puts = raised old.keeper.puts 1 } })
   pub others : SameButAt slot old.keeper.images new.keeper.images
   pub quiet : answer ≢ Err Failed

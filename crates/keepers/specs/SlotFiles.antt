@@ -1,7 +1,5 @@
 -- The files in which a keeper over files keeps its images, and what a call does to the files of a disk.
-use Rattle.std.specs.Prelude.{◌≡◌, ℕ, List, [], ◌++◌, codes, decimal, unwrap_or}
-use Rattle.std.specs.FinMap as finmap
-use Rattle.keepers.specs.Told.{Files}
+use Rattle.std.specs.Prelude.{◌≡◌, ℕ, List, ◌++◌, codes, decimal}
 use Rattle.keepers.specs.declared.file_keeper.FileKeeper.{FileKeeper}
 
 -- the folder of a keeper over files, and the number of its level

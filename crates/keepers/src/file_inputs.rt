@@ -64,7 +64,8 @@ impl<D: Disk> FileInputs<D> {
     fn read_path(&mut self, name: &[u8], limit: u32, into: &mut Vec<u8>) -> io::Result<Whole>
         requires { 0 < vec_len self.old.piece }
         ensures all { result ≡ Ok Whole.All → WhereTold (D.told self.old.disk) (λ files. finmap.get files name.now ≡ Some into.new.items) }
-        ensures longer { result ≡ Ok Whole.Longer → WhereTold (D.told self.old.disk) (λ files. IsSomeAnd (finmap.get files name.now) (λ bytes. limit < length bytes)) }
+        ensures longer { result ≡ Ok Whole.Longer →
+            WhereTold (D.told self.old.disk) (λ files. IsSomeAnd (finmap.get files name.now) (λ bytes. limit < length bytes)) }
         ensures begun { WhereTold (D.told self.old.disk) (λ files. Begins into.new.items (bytes_in files name.now)) }
         ensures within { vec_len into.new ≤ limit }
         ensures reserved { vec_capacity into.old ≤ vec_capacity into.new }

@@ -82,7 +82,8 @@ impl<D: Disk> FileKeeper<D> {
 
     // Puts an image into the file of a slot, in place of what was there.
     fn put_file(&mut self, slot: u32, image: &[u8]) -> io::Result<()>
-        ensures written { OnOk result (Tells (D.told self.old.disk) (D.told self.new.disk) (λ old new. new ≡ finmap.insert old (path_of self.old slot) image.now)) }
+        ensures written { OnOk result (Tells (D.told self.old.disk) (D.told self.new.disk)
+            (λ old new. new ≡ finmap.insert old (path_of self.old slot) image.now)) }
         ensures others { OnErr result (Tells (D.told self.old.disk) (D.told self.new.disk) (SameButNamed (path_of self.old slot))) }
         ensures rest { self.new ≡ record self.old { disk = self.new.disk } }
     {
@@ -110,7 +111,8 @@ impl<D: Disk> FileKeeper<D> {
     // Removes the file of a slot, where there is one.
     fn free_file(&mut self, slot: u32) -> io::Result<()>
         ensures removed { OnOk result (Tells (D.told self.old.disk) (D.told self.new.disk) (λ old new. new ≡ finmap.remove old (path_of self.old slot))) }
-        ensures left { OnErr result (Tells (D.told self.old.disk) (D.told self.new.disk) (λ old new. (new ≡ old) ⊎ (new ≡ finmap.remove old (path_of self.old slot)))) }
+        ensures left { OnErr result (Tells (D.told self.old.disk) (D.told self.new.disk) (λ old new. (new ≡ old)
+            ⊎ (new ≡ finmap.remove old (path_of self.old slot)))) }
         ensures rest { self.new ≡ record self.old { disk = self.new.disk } }
     {
         let path = self.path(slot)?;
@@ -148,7 +150,8 @@ impl<D: Disk> Keeper for FileKeeper<D> {
     }
 
     fn put(&mut self, slot: u32, image: &[u8]) -> Result<(), KeepFault>
-        ensures written { OnOk result (Tells (D.told self.old.disk) (D.told self.new.disk) (λ old new. new ≡ finmap.insert old (path_of self.old slot) image.now)) }
+        ensures written { OnOk result (Tells (D.told self.old.disk) (D.told self.new.disk)
+            (λ old new. new ≡ finmap.insert old (path_of self.old slot) image.now)) }
         ensures others { OnErr result (Tells (D.told self.old.disk) (D.told self.new.disk) (SameButNamed (path_of self.old slot))) }
         ensures rest { self.new ≡ record self.old { disk = self.new.disk; puts = raised self.old.puts 1; faults = self.new.faults } }
         ensures quiet { result ≢ Err KeepFault.Failed → self.new.faults ≡ self.old.faults }
@@ -180,7 +183,8 @@ impl<D: Disk> Keeper for FileKeeper<D> {
 
     fn free(&mut self, slot: u32) -> Result<(), KeepFault>
         ensures removed { OnOk result (Tells (D.told self.old.disk) (D.told self.new.disk) (λ old new. new ≡ finmap.remove old (path_of self.old slot))) }
-        ensures left { OnErr result (Tells (D.told self.old.disk) (D.told self.new.disk) (λ old new. (new ≡ old) ⊎ (new ≡ finmap.remove old (path_of self.old slot)))) }
+        ensures left { OnErr result (Tells (D.told self.old.disk) (D.told self.new.disk) (λ old new. (new ≡ old)
+            ⊎ (new ≡ finmap.remove old (path_of self.old slot)))) }
         ensures rest { self.new ≡ record self.old { disk = self.new.disk; frees = raised self.old.frees 1; faults = self.new.faults } }
         ensures quiet { result ≢ Err KeepFault.Failed → self.new.faults ≡ self.old.faults }
         ensures later { self.old.faults ≤ self.new.faults }

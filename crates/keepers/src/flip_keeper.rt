@@ -38,7 +38,11 @@ impl FlipKeeper {
     /// Has empty slots, and takes no memory. The get with this number, counted from 1, gives the byte at `at` with its
     /// lowest bit changed, and all bytes as they are where there is no such byte.
     pub fn new(alloc: Global, slots: u32, get: u64, at: u32) -> Self
-        ensures { result ≡ record { keeper = record { images = finmap.empty; slots = slots; failing = []; puts = 0; gets = 0; frees = 0; faults = 0 }; get = get; at = at } }
+        ensures { result ≡ record {
+          keeper = record { images = finmap.empty; slots = slots; room = None; failing = []; puts = 0; gets = 0; frees = 0; faults = 0 };
+          get = get;
+          at = at;
+        } }
     {
         Self {
             keeper: MemoryKeeper::new(alloc, slots),
@@ -105,8 +109,19 @@ impl Keeper for FlipKeeper {
 
     fn put(&mut self, slot: u32, image: &[u8]) -> Result<(), KeepFault>
         requires { slot < self.old.keeper.slots }
-        ensures ok { OnOk result (self.new ≡ record self.old { keeper = record self.old.keeper { images = finmap.insert self.old.keeper.images slot image.now; puts = raised self.old.keeper.puts 1 } }) }
-        ensures refused { OnErr result (self.new ≡ record self.old { keeper = record self.old.keeper { images = self.new.keeper.images; puts = raised self.old.keeper.puts 1 } }) }
+        ensures ok { OnOk result (self.new
+            ≡ record self.old {
+              keeper = record self.old.keeper {
+                images = finmap.insert self.old.keeper.images slot image.now;
+                puts = raised self.old.keeper.puts 1;
+              };
+            }) }
+        ensures refused { OnErr result (self.new ≡ record self.old {
+          keeper = record self.old.keeper {
+            images = self.new.keeper.images;
+            puts = raised self.old.keeper.puts 1;
+          };
+        }) }
         ensures others { SameButAt slot self.old.keeper.images self.new.keeper.images }
         ensures quiet { result ≢ Err KeepFault.Failed }
     {
@@ -129,7 +144,12 @@ impl Keeper for FlipKeeper {
 
     fn free(&mut self, slot: u32) -> Result<(), KeepFault>
         ensures ok { result ≡ Ok tt }
-        ensures freed { self.new ≡ record self.old { keeper = record self.old.keeper { images = finmap.remove self.old.keeper.images slot; frees = raised self.old.keeper.frees 1 } } }
+        ensures freed { self.new ≡ record self.old {
+          keeper = record self.old.keeper {
+            images = finmap.remove self.old.keeper.images slot;
+            frees = raised self.old.keeper.frees 1;
+          };
+        } }
     {
         self.keeper.free(slot)
     }

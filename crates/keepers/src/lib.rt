@@ -16,6 +16,7 @@ mod memory_inputs;
 mod memory_keeper;
 mod memory_sink;
 mod names;
+mod place;
 mod sink;
 mod stdout_sink;
 mod transfer;

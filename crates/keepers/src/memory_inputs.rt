@@ -29,13 +29,25 @@ impl Model for MemoryInputs {
 
     ghost coded = { inputs_state_code };
 
-    ghost view = { λ s. record { files = finmap.from_entries (map (λ e. (e.0.items, e.1.items)) s.list.items); asked = s.asked; failing = s.failing.items; calls = s.calls; faults = s.faults } };
+    ghost view = { λ s. record {
+      files = finmap.from_entries (map (λ e. (e.0.items, e.1.items)) s.list.items);
+      asked = s.asked;
+      failing = s.failing.items;
+      calls = s.calls;
+      faults = s.faults;
+    } };
 }
 
 impl MemoryInputs {
     /// Has the inputs of a list of names and bytes. Where a name stands twice, its first bytes count.
     pub fn new(alloc: Global, list: Vec<(Vec<u8>, Vec<u8>)>) -> Self
-        ensures { result ≡ record { files = finmap.from_entries (map (λ e. (e.0.items, e.1.items)) list.items); asked = []; failing = []; calls = 0; faults = 0 } }
+        ensures { result ≡ record {
+          files = finmap.from_entries (map (λ e. (e.0.items, e.1.items)) list.items);
+          asked = [];
+          failing = [];
+          calls = 0;
+          faults = 0;
+        } }
     {
         Self {
             list,

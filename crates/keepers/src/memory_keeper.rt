@@ -1,5 +1,5 @@
 // A keeper in memory.
-ghost use Rattle.std.specs.Prelude.{◌≡◌, ◌≢◌, ◌↔◌, ◌<◌, ◌≤◌, [], take, IsTrue, Ok, Err, OnOk};
+ghost use Rattle.std.specs.Prelude.{◌≡◌, ◌≢◌, ◌↔◌, ◌<◌, ◌≤◌, ℕ, [], length, take, IsTrue, None, Some, Ok, Err, OnOk, IfOk};
 ghost use Rattle.std.specs.Vec.{vec_len, vec_capacity};
 ghost use Rattle.std.specs.FinMap as finmap;
 ghost use Rattle.keepers.specs.Counts.{raised};
@@ -7,8 +7,8 @@ ghost use Rattle.keepers.specs.Failing.{IsListed};
 ghost use Rattle.keepers.specs.Told.{image_in, SameButAt};
 
 use crate::keeper::{KeepFault, Keeper};
-use std::alloc::Global;
-use std::collections::BTreeMap;
+use crate::place::{Place, image_at, with_place, with_rooms};
+use std::alloc::{AllocError, Global};
 use std::marker::Model;
 
 /// The calls of a keeper, by their kinds.
@@ -23,8 +23,9 @@ pub enum Op {
 #[derive(Drop)]
 pub struct MemoryKeeper {
     alloc: Global,
-    images: BTreeMap<u32, Vec<u8>>,
+    places: Vec<Place>,
     slots: u32,
+    room: Option<u32>,
     failing: Vec<(Op, u64)>,
     puts: u64,
     gets: u64,
@@ -33,37 +34,72 @@ pub struct MemoryKeeper {
 }
 
 impl Model for MemoryKeeper {
-    ghost use Rattle.std.specs.Prelude.{◌≡◌, ◌<◌, ◌≤◌, ◌^◌, ℕ, None, map};
-    ghost use Rattle.std.specs.Ordering.{nat_cmp};
-    ghost use Rattle.std.specs.BTreeMap.{IsOrdered, get};
-    ghost use Rattle.std.specs.FinMap as finmap;
+    ghost use Rattle.std.specs.Prelude.{◌≡◌, ◌<◌, ◌≤◌, ◌^◌, IfSome, vec_len};
     ghost use Rattle.keepers.specs.KeeperState.{KeeperState, keeper_state_code};
+    ghost use Rattle.keepers.specs.Places.{images_of, HaveRoom};
 
     ghost Value = { KeeperState };
 
     ghost coded = { keeper_state_code };
 
-    ghost view = { λ k. record { images = finmap.from_entries (map (λ e. (e.0, e.1.items)) k.images.entries); slots = k.slots; failing = k.failing.items; puts = k.puts; gets = k.gets; frees = k.frees; faults = k.faults } };
+    ghost view = { λ k. record {
+      images = images_of k.places.items;
+      slots = k.slots;
+      room = k.room;
+      failing = k.failing.items;
+      puts = k.puts;
+      gets = k.gets;
+      frees = k.frees;
+      faults = k.faults;
+    } };
 
-    // No slot past the last one has an image.
-    ghost invariant = { λ k. IsOrdered nat_cmp k.images × (k.slots < 2 ^ 32) × ((slot : ℕ) → k.slots ≤ slot → get nat_cmp k.images slot ≡ None) };
+    // There are places for the first slots, and for all of them where there is a room, which each place has.
+    ghost invariant = { λ k. (vec_len k.places ≤ k.slots) × (k.slots < 2 ^ 32)
+        × IfSome k.room (λ room. (vec_len k.places ≡ k.slots) × HaveRoom room k.places.items) };
 }
 
 impl MemoryKeeper {
-    /// Has empty slots, and takes no memory.
+    /// Has empty slots, and takes no memory before an image is put.
     pub fn new(alloc: Global, slots: u32) -> Self
-        ensures { result ≡ record { images = finmap.empty; slots = slots; failing = []; puts = 0; gets = 0; frees = 0; faults = 0 } }
+        ensures { result ≡ record { images = finmap.empty; slots = slots; room = None; failing = []; puts = 0; gets = 0; frees = 0; faults = 0 } }
     {
         Self {
             alloc,
-            images: BTreeMap::new(alloc),
+            places: Vec::new(alloc),
             slots,
+            room: None,
             failing: Vec::new(alloc),
             puts: 0,
             gets: 0,
             frees: 0,
             faults: 0,
         }
+    }
+
+    /// Has empty slots, each with memory for an image of so many bytes. It takes all the memory that such images ever need.
+    pub fn with_room(alloc: Global, slots: u32, bytes: u32) -> Result<Self, AllocError>
+        ensures { IfOk result (λ keeper. keeper ≡ record {
+          images = finmap.empty;
+          slots = slots;
+          room = Some bytes;
+          failing = [];
+          puts = 0;
+          gets = 0;
+          frees = 0;
+          faults = 0;
+        }) }
+    {
+        Ok(Self {
+            alloc,
+            places: with_rooms(alloc, slots, bytes)?,
+            slots,
+            room: Some(bytes),
+            failing: Vec::new(alloc),
+            puts: 0,
+            gets: 0,
+            frees: 0,
+            faults: 0,
+        })
     }
 
     /// Lets the listed calls fail, where the first call of a kind is number 1. Such a call does nothing but fail.
@@ -80,7 +116,13 @@ impl MemoryKeeper {
     pub fn filled(&self) -> u32
         ensures { result ≡ finmap.len self.now.images }
     {
-        self.images.len() as u32
+        let mut count = 0;
+        for place in &self.places {
+            if place.filled {
+                count += 1;
+            }
+        }
+        count
     }
 
     /// How often `put` was called, up to `u64::MAX`.
@@ -113,7 +155,6 @@ impl MemoryKeeper {
 }
 
 impl Keeper for MemoryKeeper {
-    ghost use Rattle.std.specs.Prelude.{Some, None};
     ghost use Rattle.keepers.specs.Parts.{IsPut, IsGet, IsFree};
 
     ghost told = { λ k. Some k.images };
@@ -128,7 +169,7 @@ impl Keeper for MemoryKeeper {
 
     ghost fault_count = { λ k. k.faults };
 
-    ghost room_bytes = { λ _. None };
+    ghost room_bytes = { λ k. k.room };
 
     ghost put_does = { λ old slot image answer new. IsPut slot image answer old new };
 
@@ -147,6 +188,7 @@ impl Keeper for MemoryKeeper {
         ensures failed { result ≡ Err KeepFault.Failed → self.new ≡ record self.old { puts = raised self.old.puts 1; faults = raised self.old.faults 1 } }
         ensures memory { result ≡ Err KeepFault.Memory → self.new ≡ record self.old { images = self.new.images; puts = raised self.old.puts 1 } }
         ensures others { SameButAt slot self.old.images self.new.images }
+        ensures roomy { (room : ℕ) → self.old.room ≡ Some room → length image.now ≤ room → result ≢ Err KeepFault.Memory }
     {
         let fails = is_listed(&self.failing, Op::Put, self.puts);
         self.puts = self.puts.saturating_add(1);
@@ -154,18 +196,10 @@ impl Keeper for MemoryKeeper {
             self.faults = self.faults.saturating_add(1);
             return Err(KeepFault::Failed);
         }
-        let mut copy = match self.images.remove(&slot) {
-            Some(old) => old,
-            None => Vec::new(self.alloc),
-        };
-        copy.clear();
-        if copy.extend_from_slice(image).is_err() {
+        if with_place(self.alloc, &mut self.places, slot).is_err() {
             return Err(KeepFault::Memory);
         }
-        if self.images.insert(slot, copy).is_err() {
-            return Err(KeepFault::Memory);
-        }
-        Ok(())
+        self.places[slot as usize].fill(image)
     }
 
     fn get(&mut self, slot: u32, len: u32, into: &mut Vec<u8>) -> Result<(), KeepFault>
@@ -175,6 +209,7 @@ impl Keeper for MemoryKeeper {
         ensures reserved { vec_capacity into.old ≤ vec_capacity into.new }
         ensures failed { result ≡ Err KeepFault.Failed → self.new ≡ record self.old { gets = raised self.old.gets 1; faults = raised self.old.faults 1 } }
         ensures unfailed { result ≢ Err KeepFault.Failed → self.new ≡ record self.old { gets = raised self.old.gets 1 } }
+        ensures roomy { len ≤ vec_capacity into.old → result ≢ Err KeepFault.Memory }
     {
         let fails = is_listed(&self.failing, Op::Get, self.gets);
         self.gets = self.gets.saturating_add(1);
@@ -183,7 +218,7 @@ impl Keeper for MemoryKeeper {
             return Err(KeepFault::Failed);
         }
         into.clear();
-        let Some(image) = self.images.get(&slot) else {
+        let Some(image) = image_at(&self.places, slot) else {
             return Ok(());
         };
         let end = image.len().min(len as usize);
@@ -206,7 +241,9 @@ impl Keeper for MemoryKeeper {
             self.faults = self.faults.saturating_add(1);
             return Err(KeepFault::Failed);
         }
-        let _ = self.images.remove(&slot);
+        if (slot as usize) < self.places.len() {
+            self.places[slot as usize].filled = false;
+        }
         Ok(())
     }
 }

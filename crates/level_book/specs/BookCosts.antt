@@ -1,6 +1,7 @@
 -- What a book says: the costs of the two kinds of step, and its levels, the fastest first.
 use Rattle.std.specs.Prelude.{◌≡◌, ℕ, suc, ◌+◌, ◌≤◌, min, List, [], ◌∷◌, map, fold, slice_get, slice_index_or, Some, codes}
 use Rattle.std.specs.List.{AllByRecursion}
+use Rattle.plan_types.specs.declared.limits.TheConstants.{MOST_COST, MOST_SLOTS}
 use Rattle.level_book.specs.declared.book.Level.{Level}
 use Rattle.level_book.specs.declared.book.Slots.{Slots}
 use Rattle.level_book.specs.declared.book.Slots.TheVariants.{Count, Unlimited}
@@ -51,14 +52,14 @@ slot_count Unlimited = 0
 
 -- the costs of a level, and its slots if they are counted, are at most 1,000,000
 pub record IsLevelWithinLimits (level : Level) : Type 0 where
-  pub slots : slot_count level.slots ≤ 1000000
-  pub write : level.write ≤ 1000000
-  pub read : level.read ≤ 1000000
+  pub slots : slot_count level.slots ≤ MOST_SLOTS
+  pub write : level.write ≤ MOST_COST
+  pub read : level.read ≤ MOST_COST
 
 -- all costs of a book, and all slots that it counts, are at most 1,000,000
 pub record IsWithinLimits (book : BookCosts) : Type 0 where
-  pub forward : book.forward ≤ 1000000
-  pub reverse : book.reverse ≤ 1000000
+  pub forward : book.forward ≤ MOST_COST
+  pub reverse : book.reverse ≤ MOST_COST
   pub levels : AllByRecursion IsLevelWithinLimits book.levels
 
 -- a level costs no less to write and to read than the one before it

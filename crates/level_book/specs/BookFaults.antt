@@ -4,6 +4,7 @@ use Rattle.std.specs.Prelude.{◌≡◌, ℕ, ◌+◌, ◌-◌, ◌*◌, ◌<◌
 use Rattle.std.specs.List.{enumerate_from, list_any}
 use Rattle.std.specs.Option.{option_or}
 use Rattle.std.specs.Str.{bytes_eq}
+use Rattle.plan_types.specs.declared.limits.TheConstants.{MOST_COST, MOST_SLOTS}
 use Rattle.serde_json.specs.Data.{Data, null}
 use Rattle.serde_json.specs.Find.{as_object}
 use Rattle.level_book.specs.declared.fault.BookFault.{BookFault}
@@ -52,11 +53,11 @@ name_fault entries k d =
 
 -- a cost is no more than 1,000,000
 abbrev pub cost_fault : ℕ → Data → Option BookFault
-cost_fault k d = unless (nat_le (number_of (codes "write") d) 1000000 && nat_le (number_of (codes "read") d) 1000000) (CostRange k)
+cost_fault k d = unless (nat_le (number_of (codes "write") d) MOST_COST && nat_le (number_of (codes "read") d) MOST_COST) (CostRange k)
 
 -- slots that are counted are no more than 1,000,000; null isn't a number, and counts none
 abbrev pub slot_fault : ℕ → Data → Option BookFault
-slot_fault k d = unless (nat_le (number_of (codes "slots") d) 1000000) (SlotRange k)
+slot_fault k d = unless (nat_le (number_of (codes "slots") d) MOST_SLOTS) (SlotRange k)
 
 -- An entry costs no less to write and to read than the one before it. The first passes, and there `k - 1` stands for nothing.
 abbrev pub order_fault : List Data → ℕ → Data → Option BookFault
@@ -77,8 +78,8 @@ faults_in d =
     ∷ first_of (each shape_fault entries)
     ∷ first_of (each (name_fault entries) entries)
     ∷ first_of (each cost_fault entries)
-    ∷ unless (nat_le (number_of (codes "forward") d) 1000000) (CostRange 254)
-    ∷ unless (nat_le (number_of (codes "reverse") d) 1000000) (CostRange 255)
+    ∷ unless (nat_le (number_of (codes "forward") d) MOST_COST) (CostRange 254)
+    ∷ unless (nat_le (number_of (codes "reverse") d) MOST_COST) (CostRange 255)
     ∷ first_of (each slot_fault entries)
     ∷ first_of (each (order_fault entries) entries)
     ∷ []

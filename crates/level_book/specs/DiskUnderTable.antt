@@ -21,14 +21,16 @@ pub record IsDiskUnderTable (steps : ℕ) (book : BookCosts) (t : DiskTables) : 
   pub one_fresh : (m : ℕ) → 1 ≤ steps → m ≤ room book 0 steps → IsAtMost (t.fresh 1 m) (number (book.forward + book.reverse))
   pub split_fresh : (j l m : ℕ) → 1 ≤ j → 1 ≤ l → j + l ≤ steps → suc m ≤ room book 0 steps →
       IsAtMost (t.fresh (j + l) (suc m)) (sum_of (write_cost book 0 + j * book.forward) (t.fresh l m) (t.held j m))
-  pub stored_fresh : (l m : ℕ) → 1 ≤ l → l ≤ steps → suc m ≤ room book 0 steps → IsAtMost (t.fresh l (suc m)) (sum_of (write_cost book 0) (number 0) (t.held l m))
+  pub stored_fresh : (l m : ℕ) → 1 ≤ l → l ≤ steps → suc m ≤ room book 0 steps →
+      IsAtMost (t.fresh l (suc m)) (sum_of (write_cost book 0) (number 0) (t.held l m))
   pub one_held : (m : ℕ) → m < room book 0 steps → IsAtMost (t.held 1 m) (number (read_cost book 0 + book.forward + book.reverse))
   pub split_held : (j l m : ℕ) → 1 ≤ j → 1 ≤ l → j + l ≤ steps → m < room book 0 steps →
       IsAtMost (t.held (j + l) m) (sum_of (read_cost book 0 + j * book.forward) (t.fresh l m) (t.held j m))
   -- The clauses of level 1, numbered from 11 in this order. Level 0 alone is used;
   pub fast_disk : (l : ℕ) → 1 ≤ l → l ≤ steps → IsAtMost (t.disk_fresh l) (t.fresh l (room book 0 steps))
   -- the first state is stored, and the stretch is split after j steps;
-  pub split_disk : (j l : ℕ) → 1 ≤ j → 1 ≤ l → j + l ≤ steps → IsAtMost (t.disk_fresh (j + l)) (sum_of (write_cost book 1 + j * book.forward) (t.disk_fresh l) (t.disk_held j))
+  pub split_disk : (j l : ℕ) → 1 ≤ j → 1 ≤ l → j + l ≤ steps →
+      IsAtMost (t.disk_fresh (j + l)) (sum_of (write_cost book 1 + j * book.forward) (t.disk_fresh l) (t.disk_held j))
   -- the first state is stored, and the stretch isn't split;
   pub stored_disk : (l : ℕ) → 1 ≤ l → l ≤ steps → IsAtMost (t.disk_fresh l) (sum_of (write_cost book 1) (number 0) (t.disk_held l))
   -- the first state is read for the last time, and level 0 alone is used;

@@ -1,5 +1,6 @@
 -- The tests of a book's entries by their names in the code.
 use Rattle.std.specs.Prelude.{◌≡◌, ℕ, ◌≤◌, true, codes, List, Option, None}
+use Rattle.plan_types.specs.declared.limits.TheConstants.{MOST_COST, MOST_SLOTS}
 use Rattle.serde_json.specs.Data.{Data}
 use Rattle.level_book.specs.declared.checks.EntryTest.{EntryTest}
 use Rattle.level_book.specs.declared.checks.EntryTest.TheVariants as test
@@ -19,6 +20,6 @@ found_by test.Order entries = order_fault entries
 pub record IsFaultless (d : Data) : Type 0 where
   pub shape : missing_in d ≡ None
   pub name : is_name (name_of d) ≡ true
-  pub write : number_of (codes "write") d ≤ 1000000
-  pub read : number_of (codes "read") d ≤ 1000000
-  pub slots : number_of (codes "slots") d ≤ 1000000
+  pub write : number_of (codes "write") d ≤ MOST_COST
+  pub read : number_of (codes "read") d ≤ MOST_COST
+  pub slots : number_of (codes "slots") d ≤ MOST_SLOTS

@@ -1,5 +1,6 @@
 // The book of levels.
 ghost use Rattle.std.specs.Prelude.{◌≡◌, ◌≤◌, ◌<◌, [], ◌∷◌, take, length, slice_get, Some};
+ghost use Rattle.plan_types.specs.declared.limits.TheConstants.{MOST_SLOTS};
 ghost use Rattle.level_book.specs.BookCosts.{plain, room, total_room, names_of, BookCosts, IsWithinLimits, CostsRise};
 ghost use Rattle.level_book.specs.Names.{AreNames};
 
@@ -81,7 +82,10 @@ impl Model for Book {
 
     ghost view = { λ b. record { forward = b.forward; reverse = b.reverse; levels = take b.count b.levels } };
 
-    ghost invariant = { λ b. (1 ≤ b.count) × (b.count ≤ 4) × (b.count ≤ length b.levels) × IsWithinLimits (record { forward = b.forward; reverse = b.reverse; levels = b.levels }) × AreNames (names_of (record { forward = b.forward; reverse = b.reverse; levels = take b.count b.levels })) × CostsRise (record { forward = b.forward; reverse = b.reverse; levels = take b.count b.levels }) };
+    ghost invariant = { λ b. (1 ≤ b.count) × (b.count ≤ 4) × (b.count ≤ length b.levels)
+        × IsWithinLimits (record { forward = b.forward; reverse = b.reverse; levels = b.levels })
+        × AreNames (names_of (record { forward = b.forward; reverse = b.reverse; levels = take b.count b.levels }))
+        × CostsRise (record { forward = b.forward; reverse = b.reverse; levels = take b.count b.levels }) };
 }
 
 impl Book {
@@ -103,7 +107,7 @@ impl Book {
 
     /// The book of one level `RAM` with so many slots, free to write and to read, and steps that cost 1.
     pub fn plain(slots: u32) -> Book
-        requires { slots ≤ 1000000 }
+        requires { slots ≤ MOST_SLOTS }
         ensures { result ≡ plain slots }
     {
         Book {

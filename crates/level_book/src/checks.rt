@@ -3,6 +3,7 @@ ghost use Rattle.std.specs.Prelude.{◌≡◌, ◌<◌, ◌≤◌, nat_le, not, 
 ghost use Rattle.std.specs.List.{list_any, list_all};
 ghost use Rattle.std.specs.Char.{is_ascii_uppercase};
 ghost use Rattle.std.specs.Str.{bytes_eq};
+ghost use Rattle.plan_types.specs.declared.limits.TheConstants.{MOST_COST};
 ghost use Rattle.serde_json.specs.View.{view};
 ghost use Rattle.serde_json.specs.declared.value.Value.{Value};
 ghost use Rattle.level_book.specs.Names.{is_name, is_spelled, is_name_byte};
@@ -11,11 +12,8 @@ ghost use Rattle.level_book.specs.EntryTests.{found_by};
 
 use crate::fault::BookFault;
 use crate::fields::{missing, name_bytes, number_or_zero};
-use plan_types::MOST_SLOTS;
+use plan_types::{MOST_COST, MOST_SLOTS};
 use serde_json::Value;
-
-// The greatest cost.
-const MOST_COST: u64 = 1_000_000;
 
 // What is tested of each entry.
 #[derive(Clone, Copy)]
@@ -66,7 +64,7 @@ impl EntryTest {
 
 // Whether a cost that isn't a level's is in range; where it isn't, it goes by this number.
 pub(crate) fn check_cost(cost: u64, number: u8) -> Result<(), BookFault>
-    ensures { let fault = unless (nat_le cost 1000000) (BookFault.CostRange number) in MatchResult result (λ _. fault ≡ None) (λ e. fault ≡ Some e) }
+    ensures { let fault = unless (nat_le cost MOST_COST) (BookFault.CostRange number) in MatchResult result (λ _. fault ≡ None) (λ e. fault ≡ Some e) }
 {
     if cost <= MOST_COST {
         Ok(())

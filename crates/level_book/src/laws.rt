@@ -21,7 +21,8 @@ pub fn books_are_not_refused()
 
 /// Bytes that are no book have one fault.
 pub fn faults_are_unique()
-    ensures { (bytes : List ℕ) (fault other : BookFault) → IsRefused bytes fault → IsRefused bytes other → fault ≢ BookFault.Memory → other ≢ BookFault.Memory → fault ≡ other }
+    ensures { (bytes : List ℕ) (fault other : BookFault) → IsRefused bytes fault → IsRefused bytes other → fault ≢ BookFault.Memory →
+        other ≢ BookFault.Memory → fault ≡ other }
 {}
 
 /// Bytes are the text of a book, or are refused for another cause than want of memory.

@@ -1,5 +1,6 @@
 // Scripts answered by a console: over a program that stores a word twice, and over one that adds up its input.
 ghost use Rattle.std.specs.Prelude.{◌≡◌, ◌<◌, ◌≤◌};
+ghost use Rattle.plan_types.specs.declared.limits.TheConstants.{MOST_SLOTS};
 
 use crate::sessions::{STACK, have_room};
 use crate::states::first_state;
@@ -132,7 +133,7 @@ const ANSWERS: [&[u8]; 12] = [
 
 // Whether the orders are answered as they should be, over so many slots.
 fn is_gone_through(rt: &impl Abort, alloc: Global, slots: u32) -> Result<bool, Fail>
-    requires { slots ≤ 1000000 }
+    requires { slots ≤ MOST_SLOTS }
 {
     let mut keepers = vec![in alloc; MemoryKeeper::new(alloc, slots)]?;
     let over = Over {
@@ -190,7 +191,7 @@ fn a_program_that_adds_up_is_gone_through(rt: HostRuntime) -> Result<(), Fail> {
     let items = three_items(alloc)?;
     let over = Over {
         start: first_state(&rt, alloc, &[0x10, 0x11, 0xbffff], &ADDER, STACK)?,
-        journal: read_journal(alloc, items.as_slice())?,
+        journal: read_journal(alloc, items)?,
         count: 1000,
         book: read_book(alloc, TWO_LEVELS)?,
     };

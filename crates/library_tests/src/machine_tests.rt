@@ -159,7 +159,7 @@ const JOURNALS: &[(&[u8], &[&[u8]])] = &[
 #[test]
 fn journals_are_read_and_written_as_they_are_spelled(rt: HostRuntime) -> Result<(), Fail> {
     for (bytes, items) in JOURNALS {
-        let journal = read_journal(rt.alloc(), bytes)?;
+        let journal = read_journal(rt.alloc(), Vec::from_slice(rt.alloc(), bytes)?)?;
         assert_eq!(rt; journal.count() as usize, items.len(), "{bytes:?}");
         for (i, item) in items.iter().enumerate() {
             assert!(rt; (i as u32) < journal.count());

@@ -1,5 +1,6 @@
 // Lists performed over four words, by keepers and writers that work and by some that fail.
 ghost use Rattle.std.specs.Prelude.{◌≡◌, ◌*◌, ◌<◌, ◌≤◌, map};
+ghost use Rattle.plan_types.specs.declared.limits.TheConstants.{MOST_STEPS};
 ghost use Rattle.reverse_runner.specs.KeepersSeen.{HaveRoom};
 
 use crate::sessions::{LIST, STACK, have_room};
@@ -20,6 +21,9 @@ use std::test::Fail;
 const FOUR_WORDS: [u32; 4] = [0x00700513, 0x00100293, 0x00228313, 0x05d00893];
 
 const LINE: usize = 365;
+
+// The most bytes of an image of 17 pages.
+const ROOM: u32 = 69_864;
 
 // A page for words, and sixteen for the stack.
 const MAPPED: [u32; 17] = [
@@ -179,9 +183,9 @@ fn performed<K: Keeper, L: Ledger>(
     out: &mut MemorySink,
     blank: Blank,
 ) -> Result<Seen, AllocError>
-    requires count { count ≤ 1000000 }
+    requires count { count ≤ MOST_STEPS }
     requires unit { (1 ≤ unit) × (unit ≤ 1024) }
-    requires few { unit * count ≤ 1000000 }
+    requires few { unit * count ≤ MOST_STEPS }
     requires name { blank.name ≡ L.name }
     requires parts { blank.parts ≡ L.parts }
     requires some { 0 < blank.parts }
@@ -404,7 +408,7 @@ fn a_unit_hands_out_each_state(rt: HostRuntime) -> Result<(), Fail> {
     assert_eq!(rt; seen.done, 12);
     assert!(rt; seen.faults.is_empty(), "nothing is refused");
     assert_eq!(rt; line_ends(out.bytes()), 10);
-    let mut keepers = vec![in rt.alloc(); MemoryKeeper::new(rt.alloc(), 2)]?;
+    let mut keepers = vec![in rt.alloc(); MemoryKeeper::with_room(rt.alloc(), 2, ROOM)?]?;
     let mut few = MemorySink::new(rt.alloc(), 8192)?;
     three_units(&rt, rt.alloc(), 1, &mut keepers, &mut few)?;
     assert_eq!(rt; line_ends(few.bytes()), 4);

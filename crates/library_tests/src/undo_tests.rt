@@ -97,7 +97,7 @@ fn go_there_and_back<L: Ledger>(
 
 #[test]
 fn units_are_undone(rt: HostRuntime) -> Result<(), Fail> {
-    let journal = read_journal(rt.alloc(), JOURNAL)?;
+    let journal = read_journal(rt.alloc(), Vec::from_slice(rt.alloc(), JOURNAL)?)?;
     go_there_and_back::<Brand>(&rt, rt.alloc(), &journal, 1, 30, Blank::new(1))?;
     go_there_and_back::<Brand>(&rt, rt.alloc(), &journal, 2, 15, Blank::new(1))?;
     go_there_and_back::<Brand>(&rt, rt.alloc(), &journal, 1024, 1, Blank::new(1))

@@ -154,5 +154,5 @@ fn journal_of(alloc: Global, value: &Value) -> Result<Journal, CaseFault> {
     let Ok(bytes) = hex::decode(alloc, digits.as_bytes()) else {
         return Err(CaseFault::Form);
     };
-    read_journal(alloc, &bytes).map_err(|_| CaseFault::Form)
+    read_journal(alloc, bytes).map_err(|_| CaseFault::Form)
 }

@@ -1,5 +1,6 @@
 -- No public clause cites this file. The places of a list in the order of what they save, and their levels by it.
 use Rattle.std.specs.Prelude.{◌≡◌, ℕ, suc, ◌+◌, ◌-◌, ◌*◌, ◌<◌, ◌≤◌, ◌==◌, min, nat_lt, Bool, true, ◌&&◌, ◌||◌, List, [], ◌∷◌, length, slice_index, slice_index_or}
+use Rattle.plan_types.specs.declared.limits.TheConstants.{MOST_ACTIONS}
 use Rattle.plan_types.specs.declared.action.Action.{Action}
 use Rattle.level_book.specs.declared.book.Level.{Level}
 use Rattle.revolve_gen.specs.Places.{places_on}
@@ -39,8 +40,8 @@ ranks_from fast slow p (t ∷ traffic) = rank_of fast slow p t ∷ ranks_from fa
 
 -- the counts of a place are those of a list that isn't too long
 pub record IsCounted (t : PlaceTraffic) : Type 0 where
-  pub writes : t.writes ≤ 16777216
-  pub reads : t.reads ≤ 16777216
+  pub writes : t.writes ≤ MOST_ACTIONS
+  pub reads : t.reads ≤ MOST_ACTIONS
 
 -- the levels are those that are planned for the places of a list
 pub record ArePlanned (room : ℕ) (list : List Action) (fast slow : Level) (levels : List ℕ) : Type 0 where

@@ -1,5 +1,6 @@
 // The multistage list.
 ghost use Rattle.std.specs.Prelude.{◌≡◌, ◌≤◌, IfOk, IfErr};
+ghost use Rattle.plan_types.specs.declared.limits.TheConstants.{MOST_STEPS};
 ghost use Rattle.revolve_gen.specs.Multistage.{IsMultistage};
 ghost use Rattle.multistage_gen.specs.Planned.{IsMultistageList, IsFault};
 
@@ -12,7 +13,7 @@ use std::alloc::Global;
 
 /// The list for so many steps over the two levels of a book.
 pub fn multistage_list(alloc: Global, steps: u32, book: &Book) -> Result<Vec<Action>, GenFault>
-    requires { steps ≤ 1000000 }
+    requires { steps ≤ MOST_STEPS }
     ensures list { IfOk result (λ list. IsMultistageList steps book.now list.items) }
     ensures class { IfOk result (λ list. IsMultistage steps book.now list.items) }
     ensures refused { IfErr result (IsFault steps book.now) }

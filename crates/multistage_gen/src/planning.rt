@@ -1,5 +1,6 @@
 // The levels of the places of a list, by what they save.
 ghost use Rattle.std.specs.Prelude.{◌≡◌, ℕ, ◌+◌, ◌-◌, ◌*◌, ◌≤◌, All, List, [], ◌∷◌, length, map, IfOk};
+ghost use Rattle.plan_types.specs.declared.limits.TheConstants.{MOST_ACTIONS};
 ghost use Rattle.level_book.specs.declared.book.Level.{Level};
 ghost use Rattle.level_book.specs.BookCosts.{room};
 ghost use Rattle.multistage_gen.specs.Threshold.{AreSavings};
@@ -42,7 +43,7 @@ fn savings_of(
 /// How much less the images at each place of a list cost on the faster of two levels than on the slower one.
 pub fn place_savings(alloc: Global, list: &[Action], book: &Book) -> Result<Vec<u64>, AllocError>
     requires two { length book.now.levels ≡ 2 }
-    requires few { length list.now ≤ 16777216 }
+    requires few { length list.now ≤ MOST_ACTIONS }
     ensures { IfOk result (λ savings. (fast slow : Level) → book.now.levels ≡ fast ∷ slow ∷ [] → AreSavings list.now fast slow savings.items) }
 {
     let traffic = places(alloc, list)?;
@@ -77,8 +78,9 @@ pub(crate) fn planned_levels(
     book: &Book,
 ) -> Result<Vec<u8>, AllocError>
     requires two { length book.now.levels ≡ 2 }
-    requires few { length list.now ≤ 16777216 }
-    ensures { IfOk result (λ levels. (fast slow : Level) → book.now.levels ≡ fast ∷ slow ∷ [] → ArePlanned (room book.now 0 steps) list.now fast slow levels.items) }
+    requires few { length list.now ≤ MOST_ACTIONS }
+    ensures { IfOk result (λ levels. (fast slow : Level) → book.now.levels ≡ fast ∷ slow ∷ [] →
+        ArePlanned (room book.now 0 steps) list.now fast slow levels.items) }
 {
     let traffic = places(alloc, list)?;
     let ranks = ranks(alloc, &traffic, book.level(0), book.level(1))?;

@@ -45,7 +45,8 @@ fn reach(places: &mut Vec<PlaceTraffic>, place: usize) -> Result<(), AllocError>
     ensures there { OnOk result ((place < vec_len places.new) × (vec_len places.old ≤ vec_len places.new)) }
     ensures few { OnOk result (vec_len places.new ≤ vec_len places.old + 1) }
     ensures old { OnOk result ((p : ℕ) → p < vec_len places.old → slice_get places.new.items p ≡ slice_get places.old.items p) }
-    ensures new { OnOk result ((p : ℕ) → vec_len places.old ≤ p → p < vec_len places.new → (p ≡ place) × (slice_get places.new.items p ≡ Some (record { writes = 0; reads = 0 }))) }
+    ensures new { OnOk result ((p : ℕ) → vec_len places.old ≤ p → p < vec_len places.new →
+        (p ≡ place) × (slice_get places.new.items p ≡ Some (record { writes = 0; reads = 0 }))) }
 {
     if place == places.len() {
         places.push(PlaceTraffic {

@@ -1,5 +1,6 @@
 // The least number of forward steps.
 ghost use Rattle.std.specs.Prelude.{◌≡◌, ℕ, ◌+◌, ◌≤◌, ◌↔◌, List, Some, IsNone, IsSomeAnd};
+ghost use Rattle.plan_types.specs.declared.limits.TheConstants.{MOST_STEPS};
 ghost use Rattle.plan_types.specs.declared.action.Action.{Action};
 ghost use Rattle.level_book.specs.BookCosts.{BookCosts};
 ghost use Rattle.level_book.specs.CostFold.{forward};
@@ -11,7 +12,7 @@ use binomials::least_advances;
 /// The least number of forward steps of all valid lists for so many steps and slots, and None where no list is valid:
 /// without a slot, for two steps or more. It takes no memory.
 pub fn least_forward(steps: u32, slots: u32) -> Option<u64>
-    requires { steps ≤ 1000000 }
+    requires { steps ≤ MOST_STEPS }
     ensures none { IsNone result ↔ ((slots ≡ 0) × (2 ≤ steps)) }
     ensures at_most_one { steps ≤ 1 → result ≡ Some steps }
     ensures value { 1 ≤ steps → 1 ≤ slots → result ≡ Some (steps + least_advances steps slots) }

@@ -1,4 +1,5 @@
 // The six actions of a schedule, named as in the manual of checkpoint_schedules.
+ghost use Rattle.std.specs.Prelude.{◌≡◌};
 
 /// What a Forward keeps of the state at its `from`.
 #[derive(Clone, Copy, Debug, PartialEq, Eq)]
@@ -35,4 +36,68 @@ pub enum Action {
     EndForward,
     /// Says that every step is reversed.
     EndReverse,
+}
+
+impl Action {
+    /// Steps the work state, and keeps nothing.
+    pub fn advance(from: u32, to: u32) -> Action
+        ensures { result ≡ Action.Forward from to Keep.Nothing }
+    {
+        Action::Forward {
+            from,
+            to,
+            keep: Keep::Nothing,
+        }
+    }
+
+    /// Steps the work state, and keeps the state at `from` on a level.
+    pub fn store(from: u32, to: u32, level: u8) -> Action
+        ensures { result ≡ Action.Forward from to (Keep.Store level) }
+    {
+        Action::Forward {
+            from,
+            to,
+            keep: Keep::Store(level),
+        }
+    }
+
+    /// Steps the work state, and keeps the state at `from` on the tape.
+    pub fn tape(from: u32, to: u32) -> Action
+        ensures { result ≡ Action.Forward from to Keep.Tape }
+    {
+        Action::Forward {
+            from,
+            to,
+            keep: Keep::Tape,
+        }
+    }
+
+    /// Reverses the one step between two states.
+    pub fn reverse(from: u32, to: u32) -> Action
+        ensures { result ≡ Action.Reverse from to }
+    {
+        Action::Reverse { from, to }
+    }
+
+    /// Loads the image of a state from a level, where it stays.
+    pub fn load(n: u32, level: u8) -> Action
+        ensures { result ≡ Action.Copy n level Dest.Work }
+    {
+        Action::Copy {
+            n,
+            from: level,
+            dest: Dest::Work,
+        }
+    }
+
+    /// Loads the image of a state from a level, and frees its slot.
+    pub fn take(n: u32, level: u8) -> Action
+        ensures { result ≡ Action.Move n level Dest.Work }
+    {
+        Action::Move {
+            n,
+            from: level,
+            dest: Dest::Work,
+        }
+    }
 }

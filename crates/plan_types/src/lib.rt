@@ -10,5 +10,5 @@ mod line;
 
 pub use crate::action::{Action, Dest, Keep};
 pub use crate::gate::{Gate, NoGate};
-pub use crate::limits::{MOST_ACTIONS, MOST_SLOTS, MOST_STEPS};
+pub use crate::limits::{MOST_ACTIONS, MOST_COST, MOST_SLOTS, MOST_STEPS};
 pub use crate::line::Line;

@@ -241,9 +241,11 @@ fn read_move_about_inputs<I: Inputs>(
     about: &MoveAbout<'_>,
     inputs: &mut I,
 ) -> Result<Vec<Vec<u8>>, Ended>
-    ensures read { IfOk result (λ v. Reads (inputs_of (move_about_command (as_move_about about.now))) (I.told inputs.old) (I.asked inputs.old) (I.asked inputs.new)
+    ensures read { IfOk result (λ v. Reads (inputs_of (move_about_command (as_move_about about.now))) (I.told inputs.old) (I.asked inputs.old)
+        (I.asked inputs.new)
         (all (map (λ bytes. bytes.items) v.items))) }
-    ensures stops { IfErr result (λ e. Stops (inputs_of (move_about_command (as_move_about about.now))) (I.told inputs.old) e (I.asked inputs.old) (I.asked inputs.new)) }
+    ensures stops { IfErr result (λ e. Stops (inputs_of (move_about_command (as_move_about about.now))) (I.told inputs.old) e (I.asked inputs.old)
+        (I.asked inputs.new)) }
     ensures asked { (k : ℕ) × (I.asked inputs.new ≡ I.asked inputs.old ++ take k (names (inputs_of (move_about_command (as_move_about about.now))))) }
     ensures quiet { IfOk result (λ _. I.fault_count inputs.new ≡ I.fault_count inputs.old) }
     ensures cause { IfErr result (λ e. e.status ≡ 3 → Rose (I.fault_count inputs.old) (I.fault_count inputs.new)) }

@@ -31,3 +31,4 @@ pub mod Costing
 pub mod RunLists
 pub mod DemoStart
 pub mod Coming
+pub mod Rooms

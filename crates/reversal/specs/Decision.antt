@@ -3,6 +3,7 @@
 -- line that isn't met decides, and the last line is the job.
 use Rattle.std.specs.Prelude.{◌≡◌, ◌⊎◌, ℕ, ◌+◌, ◌*◌, ◌≤◌, ◌++◌, slice_get, List, [], ◌∷◌, length, take, Option, None, Some}
 use Rattle.keepers.specs.Told.{Files, WhereTold}
+use Rattle.reverse_runner.specs.Rooms.{image_room, AreRoomy}
 use Rattle.requests.specs.declared.ended.Ended.{Ended}
 use Rattle.requests.specs.Request.{Choice, unit_count, run_revolve, plan, plan_periodic, certify, price, find, assemble, disassemble, move_about as move_about_command, demo, Command, run, check, Request, ask as ask_command}
 use Rattle.requests.specs.Ending.{unreadable, too_long}
@@ -102,6 +103,13 @@ EndsBy (accept job) e old new = EndsShowing (course_of job) e old new
 abbrev pub KeepsOthers : {K : Type 0} → Decision → List K → List K → Type 0
 KeepsOthers (refuse refusal) old new = new ≡ old
 KeepsOthers (accept job) old new = (length new ≡ length old) × ((k : ℕ) → (course_of job).levels ≤ k → slice_get new k ≡ slice_get old k)
+
+-- Keepers with these rooms have room for each image of a run that is performed or asked about. Of other jobs it says nothing: a
+-- console asks its keepers for memory as it goes, and the rest has no keepers of the call.
+abbrev pub HaveRoomsFor : Job → (ℕ → Option ℕ) → Type 0
+HaveRoomsFor (perform over) rooms = AreRoomy (image_room over.first) (length over.slots) rooms
+HaveRoomsFor (ask question over) rooms = AreRoomy (image_room over.first) (length over.slots) rooms
+HaveRoomsFor job rooms = ⊥
 
 -- the statuses of a call that may have come to its job; at any other it was refused
 abbrev pub IsOfJob : ℕ → Type 0

@@ -1,9 +1,11 @@
 -- No public clause cites this file. The job that one in memory is, and what holds of it.
 use Rattle.std.specs.Prelude.{◌≡◌, ◌⊎◌, ℕ, ◌*◌, ◌<◌, ◌≤◌, ◌^◌, ◌++◌, max, slice_get, List, [], ◌∷◌, length, Option, None, Some}
+use Rattle.std.specs.Global.{Vec}
+use Rattle.std.specs.Option.{option_map}
 use Rattle.std.specs.Vec.{vec_capacity}
 use Rattle.std.specs.List.{AllByRecursion}
+use Rattle.plan_types.specs.declared.limits.TheConstants.{MOST_ACTIONS, MOST_COST, MOST_SLOTS, MOST_STEPS}
 use Rattle.plan_types.specs.declared.action.Action.{Action}
-use Rattle.plan_types.specs.declared.limits.TheConstants.{MOST_ACTIONS, MOST_SLOTS, MOST_STEPS}
 use Rattle.level_book.specs.BookCosts.{BookCosts, slots_of, names_of, total_room, plain}
 use Rattle.level_book.specs.Valid.{Valid}
 use Rattle.action_text.specs.Canonical.{HasSpelling}
@@ -126,7 +128,7 @@ CanBeDone (Ask a) = CanBeAsked a
 CanBeDone (Find f) = IsSearchable f
 CanBeDone (Write text) = Unit {0}
 CanBeDone (Bytes bytes) = Unit {0}
-CanBeDone (Report p) = all_of p.counts * 1000000 < 2 ^ 64
+CanBeDone (Report p) = all_of p.counts * MOST_COST < 2 ^ 64
 CanBeDone (Plan p) = IsWritable p
 CanBeDone (ListWords l) = 5184 ≤ vec_capacity l.piece
 CanBeDone (MoveAbout m) = CanMoveAbout m
@@ -144,6 +146,10 @@ KeepersHaveRoom (Plan p) counts = Unit {0}
 KeepersHaveRoom (ListWords l) counts = Unit {0}
 KeepersHaveRoom (MoveAbout m) counts = HaveRoom (max m.steps 1) (slots_of m.book) counts
 KeepersHaveRoom (Demonstrate d) counts = Unit {0}
+
+-- the bytes of a text that may be given
+abbrev pub text_of : Option (Vec ℕ) → Option (List ℕ)
+text_of given = option_map (λ text. text.items) given
 
 -- why bytes aren't read: they have a fault, by which the call ends, or memory ran out
 abbrev pub IsRefusal : {F : Type 0} → (F → Type 0) → (F → Ended) → Ended → Type 0

@@ -7,6 +7,7 @@ ghost use Rattle.level_book.specs.BookCosts.{slots_of};
 ghost use Rattle.level_book.specs.Valid.{Valid};
 ghost use Rattle.rv_machine.specs.MachineState.{IsMachineState};
 ghost use Rattle.reverse_runner.specs.KeepersSeen.{HaveRoom};
+ghost use Rattle.reverse_runner.specs.Rooms.{image_room, rooms_by, AreRoomy};
 ghost use Rattle.reverse_runner.specs.Standing.{begun, StandsAt};
 ghost use Rattle.reverse_runner.specs.declared.fault.RunFault.TheVariants as fault_is;
 ghost use Rattle.reversal.specs.Output.{Adds};
@@ -66,6 +67,8 @@ impl Asking {
             (moment O.told O.call_count O.fault_count K.told K.put_count K.get_count K.free_count K.fault_count out.old keepers.old.items counter.old)
             (moment O.told O.call_count O.fault_count K.told K.put_count K.get_count K.free_count K.fault_count out.new keepers.new.items counter.new) }
         ensures others { KeepsOthers (accept (ask self.question (run_over self.over))) keepers.old.items keepers.new.items }
+        ensures roomy { AreRoomy (image_room self.over.start) (length (slots_of self.over.book)) (rooms_by K.room_bytes keepers.old.items) →
+            result.status ≡ 17 → IsUntouched result out.old out.new keepers.old keepers.new counter.old counter.new }
     {
         let question = self.question;
         let Over {
@@ -114,6 +117,8 @@ fn show_state<K: Keeper, O: Sink, L: Ledger>(
         (moment O.told O.call_count O.fault_count K.told K.put_count K.get_count K.free_count K.fault_count out.old keepers.old.items counter.old)
         (moment O.told O.call_count O.fault_count K.told K.put_count K.get_count K.free_count K.fault_count out.new keepers.new.items counter.new) }
     ensures others { KeepsOthers (accept (ask (about.State place) (run_from session.old list.now))) keepers.old.items keepers.new.items }
+    ensures roomy { AreRoomy (image_room session.old.work) (length session.old.situation.slots) (rooms_by K.room_bytes keepers.old.items) →
+        result.status ≢ 17 }
 {
     let mut writer = LineWriter::new(out);
     match state_at(session, list, keepers, place, &mut writer, counter) {
@@ -142,6 +147,8 @@ fn tell_last_write<K: Keeper, O: Sink, L: Ledger>(
         (moment O.told O.call_count O.fault_count K.told K.put_count K.get_count K.free_count K.fault_count out.old keepers.old.items counter.old)
         (moment O.told O.call_count O.fault_count K.told K.put_count K.get_count K.free_count K.fault_count out.new keepers.new.items counter.new) }
     ensures others { KeepsOthers (accept (ask (about.LastWrite address) (run_from session.old list.now))) keepers.old.items keepers.new.items }
+    ensures roomy { AreRoomy (image_room session.old.work) (length session.old.situation.slots) (rooms_by K.room_bytes keepers.old.items) →
+        result.status ≢ 17 }
 {
     match last_write(session, list, keepers, address, counter) {
         Ok(answer) => write_answer(answer, out),
@@ -169,6 +176,8 @@ fn tell_last_change<K: Keeper, O: Sink, L: Ledger>(
         (moment O.told O.call_count O.fault_count K.told K.put_count K.get_count K.free_count K.fault_count out.old keepers.old.items counter.old)
         (moment O.told O.call_count O.fault_count K.told K.put_count K.get_count K.free_count K.fault_count out.new keepers.new.items counter.new) }
     ensures others { KeepsOthers (accept (ask (about.LastChange address) (run_from session.old list.now))) keepers.old.items keepers.new.items }
+    ensures roomy { AreRoomy (image_room session.old.work) (length session.old.situation.slots) (rooms_by K.room_bytes keepers.old.items) →
+        result.status ≢ 17 }
 {
     match last_change(session, list, keepers, address, counter) {
         Ok(answer) => write_answer(answer, out),

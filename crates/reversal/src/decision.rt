@@ -1,6 +1,5 @@
 // What a request comes to by its inputs: a job, or a refusal.
 ghost use Rattle.std.specs.Prelude.{◌≡◌, ◌⊎◌, ℕ, ◌*◌, ◌≤◌, ◌++◌, List, [], ◌∷◌, length, map, codes, decimal, IfOk, IfErr, OnOk};
-ghost use Rattle.std.specs.Option.{option_copied};
 ghost use Rattle.std.specs.List.{AllByRecursion};
 ghost use Rattle.plan_types.specs.declared.limits.TheConstants.{MOST_STEPS};
 ghost use Rattle.level_book.specs.BookCosts.{slots_of, names_of};
@@ -20,7 +19,7 @@ ghost use Rattle.requests.specs.Ending.{no_memory, bad_program, bad_journal, bad
 ghost use Rattle.requests.specs.Inputs.{inputs_of};
 ghost use Rattle.requests.specs.InputReading.{AreWithinLimits};
 ghost use Rattle.reversal.specs.Job.{Run as ARun, Job as AJob, perform};
-ghost use Rattle.reversal.specs.JobReading.{run_over, job_of, IsOver, CanBeDone, KeepersHaveRoom, IsRefusal};
+ghost use Rattle.reversal.specs.JobReading.{run_over, job_of, IsOver, CanBeDone, KeepersHaveRoom, IsRefusal, text_of};
 ghost use Rattle.requests.specs.RequestReading.{request_of, as_run, as_ask, as_check};
 
 use crate::actions::{Actions, Listed};
@@ -44,13 +43,14 @@ use requests::{Ask, Check, Command, Ended, Options, Request, Run};
 use rv_machine::State;
 use schedule_rules::{Verdict, check};
 use std::alloc::Global;
+use std::mem;
 use std::thread::Threads;
 
 // The texts that a run is told by.
-#[derive(Clone, Copy)]
+#[derive(Drop)]
 struct Texts<'a> {
     program: &'a [u8],
-    journal: Option<&'a [u8]>,
+    journal: Option<Vec<u8>>,
     book: &'a [u8],
     schedule: &'a [u8],
 }
@@ -61,17 +61,17 @@ pub fn decide<R: Threads + Sync>(
     rt: &R,
     alloc: Global,
     request: &Request<'_>,
-    bytes: &[Vec<u8>],
+    bytes: &mut [Vec<u8>],
     counts: &[u32],
 ) -> Result<Job, Ended>
     requires numbers { AllByRecursion IsWithin (numbers (request_of request.now)) }
-    requires inputs { AreWithinLimits (inputs_of (request_of request.now).command) (map (λ b. b.items) bytes.now) }
+    requires inputs { AreWithinLimits (inputs_of (request_of request.now).command) (map (λ b. b.items) bytes.old) }
     ensures accepted { IfOk result (λ job. DecidesBytes (request_of request.now).options (request_of request.now).command
-        (map (λ b. b.items) bytes.now) counts.now (accept (job_of job))) }
+        (map (λ b. b.items) bytes.old) counts.now (accept (job_of job))) }
     ensures can_be_done { IfOk result CanBeDone }
     ensures room { IfOk result (λ job. KeepersHaveRoom job counts.now) }
     ensures refused { IfErr result (λ e. (e ≡ no_memory)
-        ⊎ DecidesBytes (request_of request.now).options (request_of request.now).command (map (λ b. b.items) bytes.now) counts.now (refuse e)) }
+        ⊎ DecidesBytes (request_of request.now).options (request_of request.now).command (map (λ b. b.items) bytes.old) counts.now (refuse e)) }
 {
     match &request.command {
         Command::Run(run) => decide_run(alloc, &request.options, run, bytes, counts),
@@ -100,20 +100,20 @@ fn decide_run(
     alloc: Global,
     options: &Options,
     run: &Run<'_>,
-    bytes: &[Vec<u8>],
+    bytes: &mut [Vec<u8>],
     counts: &[u32],
 ) -> Result<Job, Ended>
     requires stack { (1 ≤ stack_pages options.now) × (stack_pages options.now ≤ 1024) }
     requires unit { (1 ≤ unit_count options.now) × (unit_count options.now ≤ 1024) }
     requires steps { run.now.steps ≤ MOST_STEPS }
     requires instructions { unit_count options.now * run.now.steps ≤ MOST_STEPS }
-    requires inputs { AreWithinLimits (inputs_of (run_command (as_run run.now))) (map (λ b. b.items) bytes.now) }
-    ensures accepted { IfOk result (λ job. DecidesBytes options.now (run_command (as_run run.now)) (map (λ b. b.items) bytes.now) counts.now
+    requires inputs { AreWithinLimits (inputs_of (run_command (as_run run.now))) (map (λ b. b.items) bytes.old) }
+    ensures accepted { IfOk result (λ job. DecidesBytes options.now (run_command (as_run run.now)) (map (λ b. b.items) bytes.old) counts.now
         (accept (job_of job))) }
     ensures can_be_done { IfOk result CanBeDone }
     ensures room { IfOk result (λ job. KeepersHaveRoom job counts.now) }
     ensures refused { IfErr result (λ e. (e ≡ no_memory)
-        ⊎ DecidesBytes options.now (run_command (as_run run.now)) (map (λ b. b.items) bytes.now) counts.now (refuse e)) }
+        ⊎ DecidesBytes options.now (run_command (as_run run.now)) (map (λ b. b.items) bytes.old) counts.now (refuse e)) }
 {
     let over = decide_over(alloc, options, run.steps as u32, bytes, counts)?;
     Ok(performance(over))
@@ -148,7 +148,7 @@ fn decide_ask(
     alloc: Global,
     options: &Options,
     ask: &Ask<'_>,
-    bytes: &[Vec<u8>],
+    bytes: &mut [Vec<u8>],
     counts: &[u32],
 ) -> Result<Job, Ended>
     requires stack { (1 ≤ stack_pages options.now) × (stack_pages options.now ≤ 1024) }
@@ -156,13 +156,13 @@ fn decide_ask(
     requires steps { ask.now.run.steps ≤ MOST_STEPS }
     requires instructions { unit_count options.now * ask.now.run.steps ≤ MOST_STEPS }
     requires question { IsWithin (question_bound (unit_count options.now * ask.now.run.steps) ask.now.question) }
-    requires inputs { AreWithinLimits (inputs_of (ask_command (as_ask ask.now))) (map (λ b. b.items) bytes.now) }
-    ensures accepted { IfOk result (λ job. DecidesBytes options.now (ask_command (as_ask ask.now)) (map (λ b. b.items) bytes.now) counts.now
+    requires inputs { AreWithinLimits (inputs_of (ask_command (as_ask ask.now))) (map (λ b. b.items) bytes.old) }
+    ensures accepted { IfOk result (λ job. DecidesBytes options.now (ask_command (as_ask ask.now)) (map (λ b. b.items) bytes.old) counts.now
         (accept (job_of job))) }
     ensures can_be_done { IfOk result CanBeDone }
     ensures room { IfOk result (λ job. KeepersHaveRoom job counts.now) }
     ensures refused { IfErr result (λ e. (e ≡ no_memory)
-        ⊎ DecidesBytes options.now (ask_command (as_ask ask.now)) (map (λ b. b.items) bytes.now) counts.now (refuse e)) }
+        ⊎ DecidesBytes options.now (ask_command (as_ask ask.now)) (map (λ b. b.items) bytes.old) counts.now (refuse e)) }
 {
     let steps = ask.run.steps as u32;
     let over = decide_over(alloc, options, steps, bytes, counts)?;
@@ -175,39 +175,39 @@ fn decide_over(
     alloc: Global,
     options: &Options,
     steps: u32,
-    bytes: &[Vec<u8>],
+    bytes: &mut [Vec<u8>],
     counts: &[u32],
 ) -> Result<Over, Ended>
     requires stack { (1 ≤ stack_pages options.now) × (stack_pages options.now ≤ 1024) }
     requires unit { (1 ≤ unit_count options.now) × (unit_count options.now ≤ 1024) }
     requires steps { steps ≤ MOST_STEPS }
     requires instructions { unit_count options.now * steps ≤ MOST_STEPS }
-    requires inputs { (r : RunCommand) × AreWithinLimits (inputs_of (run_command r)) (map (λ b. b.items) bytes.now) }
+    requires inputs { (r : RunCommand) × AreWithinLimits (inputs_of (run_command r)) (map (λ b. b.items) bytes.old) }
     ensures accepted { IfOk result (λ o. (job : ARun → AJob) →
-        DecidesOverBytes job options.now steps (map (λ b. b.items) bytes.now) counts.now (accept (job (run_over o)))) }
+        DecidesOverBytes job options.now steps (map (λ b. b.items) bytes.old) counts.now (accept (job (run_over o)))) }
     ensures over { IfOk result IsOver }
     ensures steps { IfOk result (λ o. o.steps ≡ steps) }
     ensures unit { IfOk result (λ o. o.unit ≡ unit_count options.now) }
     ensures room { IfOk result (λ o. HaveRoom o.steps (slots_of o.book) counts.now) }
     ensures refused { (job : ARun → AJob) → IfErr result (λ e. (e ≡ no_memory)
-        ⊎ DecidesOverBytes job options.now steps (map (λ b. b.items) bytes.now) counts.now (refuse e)) }
+        ⊎ DecidesOverBytes job options.now steps (map (λ b. b.items) bytes.old) counts.now (refuse e)) }
 {
     match bytes {
         [program, book, schedule] => {
             let texts = Texts {
-                program,
+                program: program.as_slice(),
                 journal: None,
-                book,
-                schedule,
+                book: book.as_slice(),
+                schedule: schedule.as_slice(),
             };
             decide_texts(alloc, options, steps, texts, counts)
         }
         [program, journal, book, schedule] => {
             let texts = Texts {
-                program,
-                journal: Some(journal),
-                book,
-                schedule,
+                program: program.as_slice(),
+                journal: Some(mem::replace(journal, Vec::new(alloc))),
+                book: book.as_slice(),
+                schedule: schedule.as_slice(),
             };
             decide_texts(alloc, options, steps, texts, counts)
         }
@@ -228,13 +228,15 @@ fn decide_texts(
     requires instructions { unit_count options.now * steps ≤ MOST_STEPS }
     requires short { length texts.schedule.now ≤ 536870912 }
     ensures accepted { IfOk result (λ o. (job : ARun → AJob) →
-        DecidesOver job options.now steps texts.entry.program.now (option_copied texts.entry.journal) texts.entry.book.now texts.entry.schedule.now counts.now (accept (job (run_over o)))) }
+        DecidesOver job options.now steps texts.entry.program.now (text_of texts.entry.journal) texts.entry.book.now texts.entry.schedule.now
+        counts.now (accept (job (run_over o)))) }
     ensures over { IfOk result IsOver }
     ensures steps { IfOk result (λ o. o.steps ≡ steps) }
     ensures unit { IfOk result (λ o. o.unit ≡ unit_count options.now) }
     ensures room { IfOk result (λ o. HaveRoom o.steps (slots_of o.book) counts.now) }
     ensures refused { (job : ARun → AJob) → IfErr result (λ e. (e ≡ no_memory)
-        ⊎ DecidesOver job options.now steps texts.entry.program.now (option_copied texts.entry.journal) texts.entry.book.now texts.entry.schedule.now counts.now (refuse e)) }
+        ⊎ DecidesOver job options.now steps texts.entry.program.now (text_of texts.entry.journal) texts.entry.book.now texts.entry.schedule.now
+        counts.now (refuse e)) }
 {
     let book = book_in(alloc, texts.book)?;
     keep(steps, &book, counts)?;
@@ -343,10 +345,10 @@ pub(crate) fn unit_of(options: &Options) -> u32
     options.unit_count() as u32
 }
 
-// The recorded input; none where there is no journal.
-pub(crate) fn journal_in(alloc: Global, bytes: Option<&[u8]>) -> Result<Journal, Ended>
-    ensures found { IfOk result (AreItemsOf (option_copied bytes.entry)) }
-    ensures refused { IfErr result (IsRefusal (HasJournalFault (option_copied bytes.entry)) bad_journal) }
+// The recorded input, which keeps the bytes of its journal; none where there is no journal.
+pub(crate) fn journal_in(alloc: Global, bytes: Option<Vec<u8>>) -> Result<Journal, Ended>
+    ensures found { IfOk result (AreItemsOf (text_of bytes)) }
+    ensures refused { IfErr result (IsRefusal (HasJournalFault (text_of bytes)) bad_journal) }
 {
     match bytes {
         Some(bytes) => Ok(read_journal(alloc, bytes)?),

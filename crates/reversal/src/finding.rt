@@ -1,6 +1,5 @@
 // The search of a run for the last state that has a digest.
 ghost use Rattle.std.specs.Prelude.{◌≡◌, ◌⊎◌, ℕ, ◌≤◌, List, map, IfOk, IfErr};
-ghost use Rattle.std.specs.Option.{option_copied};
 ghost use Rattle.plan_types.specs.declared.limits.TheConstants.{MOST_STEPS};
 ghost use Rattle.requests.specs.Request.{find as find_command, stack_pages, worker_count};
 ghost use Rattle.requests.specs.Inputs.{inputs_of};
@@ -12,7 +11,7 @@ ghost use Rattle.reversal.specs.Moment.{Moment, beside};
 ghost use Rattle.reversal.specs.Table.{accept, refuse, Decided};
 ghost use Rattle.reversal.specs.CommandFind.{find_table};
 ghost use Rattle.reversal.specs.Decision.{DecidesBytes};
-ghost use Rattle.reversal.specs.JobReading.{job_of, IsSearchable, CanBeDone, KeepersHaveRoom, Works};
+ghost use Rattle.reversal.specs.JobReading.{job_of, IsSearchable, CanBeDone, KeepersHaveRoom, Works, text_of};
 
 use crate::asking::write_answer;
 use crate::decision::{journal_in, start_of};
@@ -24,6 +23,7 @@ use requests::{Ended, Find, Options};
 use rv_machine::{State, Steps};
 use segment_sweep::{Marks, find_digest};
 use std::alloc::Global;
+use std::mem;
 use std::sync::ledger::Ledger;
 use std::thread::Threads;
 
@@ -74,22 +74,25 @@ pub fn decide_find(
     alloc: Global,
     options: &Options,
     find: &Find<'_>,
-    bytes: &[Vec<u8>],
+    bytes: &mut [Vec<u8>],
 ) -> Result<Job, Ended>
     requires stack { (1 ≤ stack_pages options.now) × (stack_pages options.now ≤ 1024) }
     requires workers { (1 ≤ worker_count options.now) × (worker_count options.now ≤ 64) }
     requires steps { find.now.steps ≤ MOST_STEPS }
-    requires inputs { AreWithinLimits (inputs_of (find_command (as_find find.now))) (map (λ b. b.items) bytes.now) }
+    requires inputs { AreWithinLimits (inputs_of (find_command (as_find find.now))) (map (λ b. b.items) bytes.old) }
     ensures accepted { IfOk result (λ job. (slots : List ℕ) →
-        DecidesBytes options.now (find_command (as_find find.now)) (map (λ b. b.items) bytes.now) slots (accept (job_of job))) }
+        DecidesBytes options.now (find_command (as_find find.now)) (map (λ b. b.items) bytes.old) slots (accept (job_of job))) }
     ensures can_be_done { IfOk result CanBeDone }
     ensures room { IfOk result (λ job. (counts : List ℕ) → KeepersHaveRoom job counts) }
     ensures refused { IfErr result (λ e. (e ≡ no_memory)
-        ⊎ ((slots : List ℕ) → DecidesBytes options.now (find_command (as_find find.now)) (map (λ b. b.items) bytes.now) slots (refuse e))) }
+        ⊎ ((slots : List ℕ) → DecidesBytes options.now (find_command (as_find find.now)) (map (λ b. b.items) bytes.old) slots (refuse e))) }
 {
     match bytes {
-        [program] => find_in(alloc, options, find, program, None),
-        [program, journal] => find_in(alloc, options, find, program, Some(journal)),
+        [program] => find_in(alloc, options, find, program.as_slice(), None),
+        [program, journal] => {
+            let journal = mem::replace(journal, Vec::new(alloc));
+            find_in(alloc, options, find, program.as_slice(), Some(journal))
+        }
         _ => unreachable!(),
     }
 }
@@ -99,17 +102,17 @@ fn find_in(
     options: &Options,
     find: &Find<'_>,
     program: &[u8],
-    journal: Option<&[u8]>,
+    journal: Option<Vec<u8>>,
 ) -> Result<Job, Ended>
     requires stack { (1 ≤ stack_pages options.now) × (stack_pages options.now ≤ 1024) }
     requires workers { (1 ≤ worker_count options.now) × (worker_count options.now ≤ 64) }
     requires steps { find.now.steps ≤ MOST_STEPS }
-    ensures accepted { IfOk result (λ job. Decided (find_table options.now find.now.steps find.now.digest program.now (option_copied journal.entry))
+    ensures accepted { IfOk result (λ job. Decided (find_table options.now find.now.steps find.now.digest program.now (text_of journal))
         (accept (job_of job))) }
     ensures can_be_done { IfOk result CanBeDone }
     ensures room { IfOk result (λ job. (counts : List ℕ) → KeepersHaveRoom job counts) }
     ensures refused { IfErr result (λ e. (e ≡ no_memory)
-        ⊎ Decided (find_table options.now find.now.steps find.now.digest program.now (option_copied journal.entry)) (refuse e)) }
+        ⊎ Decided (find_table options.now find.now.steps find.now.digest program.now (text_of journal)) (refuse e)) }
 {
     let start = start_of(alloc, options, program)?;
     let journal = journal_in(alloc, journal)?;

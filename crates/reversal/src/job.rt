@@ -6,6 +6,7 @@ ghost use Rattle.level_book.specs.BookCosts.{slots_of};
 ghost use Rattle.level_book.specs.Valid.{Valid};
 ghost use Rattle.rv_machine.specs.MachineState.{IsMachineState};
 ghost use Rattle.reverse_runner.specs.KeepersSeen.{HaveRoom};
+ghost use Rattle.reverse_runner.specs.Rooms.{image_room, rooms_by, AreRoomy};
 ghost use Rattle.reverse_runner.specs.SessionState.{levels_of};
 ghost use Rattle.reverse_runner.specs.LevelsStand.{AreAlone};
 ghost use Rattle.reverse_runner.specs.Standing.{begun, StandsAt};
@@ -14,7 +15,7 @@ ghost use Rattle.reversal.specs.Job.{perform, write};
 ghost use Rattle.reversal.specs.Moment.{Moment, moment, beside, AllTell, AllEmpty};
 ghost use Rattle.reversal.specs.ActionsLeft.{left_of};
 ghost use Rattle.reversal.specs.Table.{accept};
-ghost use Rattle.reversal.specs.Decision.{EndsBy, KeepsOthers};
+ghost use Rattle.reversal.specs.Decision.{EndsBy, KeepsOthers, HaveRoomsFor};
 ghost use Rattle.reversal.specs.JobReading.{performed_run, run_from, job_of, IsPerformable, CanBeDone, KeepersHaveRoom, IsUntouched, Works, fault_ending};
 
 use crate::actions::Actions;
@@ -75,7 +76,7 @@ pub struct Performance {
 
 impl Job {
     /// Does the job, over keepers with room for its images, and tells how it ended. Where memory runs out before the first
-    /// deed, nothing was done.
+    /// deed, nothing was done, and so it is in any run over keepers with a room of `max_image` bytes.
     pub fn work<R: Threads + Sync, K: Keeper, O: Sink, L: Ledger>(
         self,
         rt: &R,
@@ -90,6 +91,8 @@ impl Job {
             (moment O.told O.call_count O.fault_count K.told K.put_count K.get_count K.free_count K.fault_count out.old keepers.old.items counter.old)
             (moment O.told O.call_count O.fault_count K.told K.put_count K.get_count K.free_count K.fault_count out.new keepers.new.items counter.new) }
         ensures others { KeepsOthers (accept (job_of self)) keepers.old.items keepers.new.items }
+        ensures roomy { HaveRoomsFor (job_of self) (rooms_by K.room_bytes keepers.old.items) → result.status ≡ 17 →
+            IsUntouched result out.old out.new keepers.old keepers.new counter.old counter.new }
     {
         match self {
             Job::Perform(performance) => performance.perform(alloc, keepers, out, counter),
@@ -121,6 +124,8 @@ impl Performance {
             (moment O.told O.call_count O.fault_count K.told K.put_count K.get_count K.free_count K.fault_count out.old keepers.old.items counter.old)
             (moment O.told O.call_count O.fault_count K.told K.put_count K.get_count K.free_count K.fault_count out.new keepers.new.items counter.new) }
         ensures others { KeepsOthers (accept (perform (performed_run self))) keepers.old.items keepers.new.items }
+        ensures roomy { AreRoomy (image_room self.start) (length (slots_of self.book)) (rooms_by K.room_bytes keepers.old.items) → result.status ≡ 17 →
+            IsUntouched result out.old out.new keepers.old keepers.new counter.old counter.new }
     {
         let Performance {
             start,
@@ -169,6 +174,8 @@ fn perform_all<K: Keeper, O: Sink, L: Ledger>(
         (moment O.told O.call_count O.fault_count K.told K.put_count K.get_count K.free_count K.fault_count out.old keepers.old.items counter.old)
         (moment O.told O.call_count O.fault_count K.told K.put_count K.get_count K.free_count K.fault_count out.new keepers.new.items counter.new) }
     ensures others { KeepsOthers (accept (perform (run_from session.old (left_of actions.old)))) keepers.old.items keepers.new.items }
+    ensures roomy { AreRoomy (image_room session.old.work) (length session.old.situation.slots) (rooms_by K.room_bytes keepers.old.items) →
+        result.status ≢ 17 }
 {
     let mut writer = LineWriter::new(out);
     let mut place = 0;

@@ -1,6 +1,5 @@
 // Moving about in a run by the orders of a script.
 ghost use Rattle.std.specs.Prelude.{◌≡◌, ◌≢◌, ◌⊎◌, ◌<◌, ◌≤◌, ◌^◌, ℕ, List, map, max, length, slice_get, Some, IfOk, IfErr, OnOk};
-ghost use Rattle.std.specs.Option.{option_copied};
 ghost use Rattle.std.specs.Vec.{vec_len};
 ghost use Rattle.plan_types.specs.declared.limits.TheConstants.{MOST_STEPS};
 ghost use Rattle.level_book.specs.BookCosts.{slots_of, total_room};
@@ -18,7 +17,7 @@ ghost use Rattle.reversal.specs.Moment.{moment};
 ghost use Rattle.reversal.specs.Table.{accept, refuse};
 ghost use Rattle.reversal.specs.CommandConsole.{DecidesConsole};
 ghost use Rattle.reversal.specs.Decision.{KeepsOthers, DecidesBytes};
-ghost use Rattle.reversal.specs.JobReading.{moves, job_of, CanMoveAbout, CanBeDone, KeepersHaveRoom, IsRefusal, Works};
+ghost use Rattle.reversal.specs.JobReading.{moves, job_of, CanMoveAbout, CanBeDone, KeepersHaveRoom, IsRefusal, Works, text_of};
 
 use crate::decision::{book_in, journal_in, keep, start_of};
 use crate::job::{Job, fault_ending};
@@ -29,6 +28,7 @@ use requests::{Ended, MoveAbout, Options};
 use reverse_console::{Console, Order, answer_all, read_orders};
 use rv_machine::{State, Steps};
 use std::alloc::Global;
+use std::mem;
 use std::sync::ledger::Ledger;
 
 /// A run of so many steps, the book on whose levels the images of its marks are kept, and orders that move about in it.
@@ -79,10 +79,10 @@ impl Moving {
 }
 
 // The texts that a run is told by that is moved about in, and that of the orders.
-#[derive(Clone, Copy)]
+#[derive(Drop)]
 struct Texts<'a> {
     program: &'a [u8],
-    journal: Option<&'a [u8]>,
+    journal: Option<Vec<u8>>,
     book: &'a [u8],
     script: &'a [u8],
 }
@@ -92,36 +92,36 @@ pub fn decide_move_about(
     alloc: Global,
     options: &Options,
     about: &MoveAbout<'_>,
-    bytes: &[Vec<u8>],
+    bytes: &mut [Vec<u8>],
     counts: &[u32],
 ) -> Result<Job, Ended>
     requires stack { (1 ≤ stack_pages options.now) × (stack_pages options.now ≤ 1024) }
     requires steps { about.now.steps ≤ MOST_STEPS }
-    requires inputs { AreWithinLimits (inputs_of (move_about_command (as_move_about about.now))) (map (λ b. b.items) bytes.now) }
+    requires inputs { AreWithinLimits (inputs_of (move_about_command (as_move_about about.now))) (map (λ b. b.items) bytes.old) }
     ensures accepted { IfOk result (λ job. DecidesBytes options.now (move_about_command (as_move_about about.now))
-        (map (λ b. b.items) bytes.now) counts.now (accept (job_of job))) }
+        (map (λ b. b.items) bytes.old) counts.now (accept (job_of job))) }
     ensures can_be_done { IfOk result CanBeDone }
     ensures room { IfOk result (λ job. KeepersHaveRoom job counts.now) }
     ensures refused { IfErr result (λ e. (e ≡ no_memory)
-        ⊎ DecidesBytes options.now (move_about_command (as_move_about about.now)) (map (λ b. b.items) bytes.now) counts.now (refuse e)) }
+        ⊎ DecidesBytes options.now (move_about_command (as_move_about about.now)) (map (λ b. b.items) bytes.old) counts.now (refuse e)) }
 {
     let steps = about.steps as u32;
     match bytes {
         [program, book, script] => {
             let texts = Texts {
-                program,
+                program: program.as_slice(),
                 journal: None,
-                book,
-                script,
+                book: book.as_slice(),
+                script: script.as_slice(),
             };
             decide_texts(alloc, options, steps, texts, counts)
         }
         [program, journal, book, script] => {
             let texts = Texts {
-                program,
-                journal: Some(journal),
-                book,
-                script,
+                program: program.as_slice(),
+                journal: Some(mem::replace(journal, Vec::new(alloc))),
+                book: book.as_slice(),
+                script: script.as_slice(),
             };
             decide_texts(alloc, options, steps, texts, counts)
         }
@@ -140,11 +140,11 @@ fn decide_texts(
     requires steps { steps ≤ MOST_STEPS }
     requires short { length texts.script.now ≤ 1048576 }
     ensures accepted { IfOk result (λ job. DecidesConsole options.now steps texts.entry.program.now
-        (option_copied texts.entry.journal) texts.entry.book.now texts.entry.script.now counts.now (accept (job_of job))) }
+        (text_of texts.entry.journal) texts.entry.book.now texts.entry.script.now counts.now (accept (job_of job))) }
     ensures can_be_done { IfOk result CanBeDone }
     ensures room { IfOk result (λ job. KeepersHaveRoom job counts.now) }
     ensures refused { IfErr result (λ e. (e ≡ no_memory) ⊎ DecidesConsole options.now steps texts.entry.program.now
-        (option_copied texts.entry.journal) texts.entry.book.now texts.entry.script.now counts.now (refuse e)) }
+        (text_of texts.entry.journal) texts.entry.book.now texts.entry.script.now counts.now (refuse e)) }
 {
     let book = book_in(alloc, texts.book)?;
     keep(steps.max(1), &book, counts)?;

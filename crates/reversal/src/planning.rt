@@ -1,7 +1,6 @@
 // The list of Revolve for a book: a run by it, or its text with its certificate.
 ghost use Rattle.std.specs.Prelude.{◌≡◌, ◌≢◌, ◌⊎◌, ◌↔◌, ℕ, ◌+◌, ◌*◌, ◌≤◌, ◌++◌, List, [], ◌∷◌, map, take, drop, true, false, Option, IsTrue, IfOk, IfErr, OnOk};
 ghost use Rattle.std.specs.List.{AllByRecursion};
-ghost use Rattle.std.specs.Option.{option_copied};
 ghost use Rattle.std.specs.Vec.{vec_len, vec_capacity};
 ghost use Rattle.plan_types.specs.declared.action.Action.{Action};
 ghost use Rattle.plan_types.specs.declared.limits.TheConstants.{MOST_STEPS};
@@ -22,7 +21,7 @@ ghost use Rattle.requests.specs.Ending.{no_memory, no_plan};
 ghost use Rattle.requests.specs.Inputs.{inputs_of};
 ghost use Rattle.requests.specs.InputReading.{AreWithinLimits};
 ghost use Rattle.reversal.specs.ActionsLeft.{left_of};
-ghost use Rattle.reversal.specs.JobReading.{job_of, pieces_of, IsWritable, CanBeDone, KeepersHaveRoom};
+ghost use Rattle.reversal.specs.JobReading.{job_of, pieces_of, IsWritable, CanBeDone, KeepersHaveRoom, text_of};
 ghost use Rattle.reversal.specs.Plans.{line_of_action, list_pieces};
 ghost use Rattle.requests.specs.RequestReading.{as_run_revolve};
 
@@ -38,6 +37,7 @@ use plan_types::Line;
 use requests::{Ended, Options, RunRevolve};
 use revolve_gen::{GenFault, Revolve};
 use std::alloc::{AllocError, Global};
+use std::mem;
 
 // How many lines of a plan are written at once, and how many bytes they have at most.
 const LINES: usize = 64;
@@ -45,10 +45,10 @@ const LINES: usize = 64;
 const PIECE: usize = 5_184;
 
 // The texts that a run by the list of Revolve is told by.
-#[derive(Clone, Copy)]
+#[derive(Drop)]
 struct Texts<'a> {
     program: &'a [u8],
-    journal: Option<&'a [u8]>,
+    journal: Option<Vec<u8>>,
     book: &'a [u8],
 }
 
@@ -57,36 +57,36 @@ pub fn decide_run_revolve(
     alloc: Global,
     options: &Options,
     run: &RunRevolve<'_>,
-    bytes: &[Vec<u8>],
+    bytes: &mut [Vec<u8>],
     counts: &[u32],
 ) -> Result<Job, Ended>
     requires stack { (1 ≤ stack_pages options.now) × (stack_pages options.now ≤ 1024) }
     requires unit { (1 ≤ unit_count options.now) × (unit_count options.now ≤ 1024) }
     requires steps { run.now.steps ≤ MOST_STEPS }
     requires instructions { unit_count options.now * run.now.steps ≤ MOST_STEPS }
-    requires inputs { AreWithinLimits (inputs_of (run_revolve_command (as_run_revolve run.now))) (map (λ b. b.items) bytes.now) }
+    requires inputs { AreWithinLimits (inputs_of (run_revolve_command (as_run_revolve run.now))) (map (λ b. b.items) bytes.old) }
     ensures accepted { IfOk result (λ job. DecidesBytes options.now (run_revolve_command (as_run_revolve run.now))
-        (map (λ b. b.items) bytes.now) counts.now (accept (job_of job))) }
+        (map (λ b. b.items) bytes.old) counts.now (accept (job_of job))) }
     ensures can_be_done { IfOk result CanBeDone }
     ensures room { IfOk result (λ job. KeepersHaveRoom job counts.now) }
     ensures refused { IfErr result (λ e. (e ≡ no_memory)
-        ⊎ DecidesBytes options.now (run_revolve_command (as_run_revolve run.now)) (map (λ b. b.items) bytes.now) counts.now (refuse e)) }
+        ⊎ DecidesBytes options.now (run_revolve_command (as_run_revolve run.now)) (map (λ b. b.items) bytes.old) counts.now (refuse e)) }
 {
     let steps = run.steps as u32;
     match bytes {
         [program, book] => {
             let texts = Texts {
-                program,
+                program: program.as_slice(),
                 journal: None,
-                book,
+                book: book.as_slice(),
             };
             decide_texts(alloc, options, steps, texts, counts)
         }
         [program, journal, book] => {
             let texts = Texts {
-                program,
-                journal: Some(journal),
-                book,
+                program: program.as_slice(),
+                journal: Some(mem::replace(journal, Vec::new(alloc))),
+                book: book.as_slice(),
             };
             decide_texts(alloc, options, steps, texts, counts)
         }
@@ -106,11 +106,11 @@ fn decide_texts(
     requires steps { steps ≤ MOST_STEPS }
     requires instructions { unit_count options.now * steps ≤ MOST_STEPS }
     ensures accepted { IfOk result (λ job. DecidesRunRevolve options.now steps texts.entry.program.now
-        (option_copied texts.entry.journal) texts.entry.book.now counts.now (accept (job_of job))) }
+        (text_of texts.entry.journal) texts.entry.book.now counts.now (accept (job_of job))) }
     ensures can_be_done { IfOk result CanBeDone }
     ensures room { IfOk result (λ job. KeepersHaveRoom job counts.now) }
     ensures refused { IfErr result (λ e. (e ≡ no_memory)
-        ⊎ DecidesRunRevolve options.now steps texts.entry.program.now (option_copied texts.entry.journal) texts.entry.book.now counts.now (refuse e)) }
+        ⊎ DecidesRunRevolve options.now steps texts.entry.program.now (text_of texts.entry.journal) texts.entry.book.now counts.now (refuse e)) }
 {
     let book = book_in(alloc, texts.book)?;
     keep(steps, &book, counts)?;

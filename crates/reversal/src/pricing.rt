@@ -1,6 +1,6 @@
 // What a schedule costs.
 ghost use Rattle.std.specs.Prelude.{◌≡◌, ◌≢◌, ◌⊎◌, ℕ, ◌*◌, ◌^◌, ◌<◌, ◌≤◌, List, length, map, Option, IfOk, IfErr};
-ghost use Rattle.plan_types.specs.declared.limits.TheConstants.{MOST_ACTIONS, MOST_STEPS};
+ghost use Rattle.plan_types.specs.declared.limits.TheConstants.{MOST_ACTIONS, MOST_COST, MOST_STEPS};
 ghost use Rattle.level_book.specs.BookCosts.{slots_of};
 ghost use Rattle.level_book.specs.Valid.{Valid};
 ghost use Rattle.cost_fold.specs.CountsOf.{all_of};
@@ -38,7 +38,7 @@ pub struct Pricing {
 impl Pricing {
     /// Writes what the counts cost, a line in each write.
     pub fn write<O: Sink>(self, out: &mut O) -> Ended
-        requires { all_of self.counts * 1000000 < 2 ^ 64 }
+        requires { all_of self.counts * MOST_COST < 2 ^ 64 }
         ensures { (other : Moment) (steps : ℕ) → EndsBy (accept (write (report_lines self.book self.counts))) result
             (beside O.told O.call_count O.fault_count other out.old steps)
             (beside O.told O.call_count O.fault_count other out.new steps) }
@@ -89,7 +89,7 @@ fn counts_of(list: &[Action], steps: u32, book: &Book) -> Counts
     requires few { length list.now ≤ MOST_ACTIONS }
     requires valid { Valid steps (slots_of book.now) list.now }
     ensures report { report_lines book.now result ≡ list_report book.now list.now }
-    ensures bounded { all_of result * 1000000 < 2 ^ 64 }
+    ensures bounded { all_of result * MOST_COST < 2 ^ 64 }
 {
     // A valid list names no level but the book's, of which there are four at most.
     let _levels = book.levels();

@@ -6,7 +6,8 @@ ghost use Rattle.requests.specs.Request.{Request as ARequest, Says, words_of};
 ghost use Rattle.requests.specs.Bounds.{numbers, IsWithin, RefusesWords, Asks};
 ghost use Rattle.requests.specs.Inputs.{inputs_of, names, FailsAtInput};
 ghost use Rattle.reversal.specs.Table.{Decision, accept, refuse};
-ghost use Rattle.reversal.specs.Decision.{course_of, Comes, KeepsOthers, EndsBy, IsOfJob};
+ghost use Rattle.reverse_runner.specs.Rooms.{rooms_by};
+ghost use Rattle.reversal.specs.Decision.{course_of, Comes, KeepsOthers, HaveRoomsFor, EndsBy, IsOfJob};
 ghost use Rattle.reversal.specs.Job.{Job as AJob};
 ghost use Rattle.reversal.specs.Moment.{moment};
 ghost use Rattle.reversal.specs.Course.{HaltsShowing};
@@ -57,14 +58,15 @@ pub fn reversal<R: Threads + Sync, I: Inputs, K: Keeper, O: Sink, L: Ledger>(
         (moment O.told O.call_count O.fault_count K.told K.put_count K.get_count K.free_count K.fault_count out.old keepers.old.items steps.old)
         (moment O.told O.call_count O.fault_count K.told K.put_count K.get_count K.free_count K.fault_count out.new keepers.new.items steps.new) }
 
-    // Where memory runs out nothing was done, or a part of a job that was decided.
+    // Where memory runs out nothing was done, or a part of a job that was decided; nothing in a run over keepers with room.
     ensures memory { result.status ≡ 17 → (result ≡ no_memory) × (((out.new ≡ out.old) × (keepers.new ≡ keepers.old) × (steps.new ≡ steps.old))
         ⊎ ((r : ARequest) × Asks (words_of words.now) r × (job : AJob)
         × Comes r (I.told inputs.old) (I.asked inputs.old) (I.asked inputs.new) (map K.slot_count keepers.old.items) (accept job)
         × KeepsOthers (accept job) keepers.old.items keepers.new.items
         × HaltsShowing (course_of job)
         (moment O.told O.call_count O.fault_count K.told K.put_count K.get_count K.free_count K.fault_count out.old keepers.old.items steps.old)
-        (moment O.told O.call_count O.fault_count K.told K.put_count K.get_count K.free_count K.fault_count out.new keepers.new.items steps.new))) }
+        (moment O.told O.call_count O.fault_count K.told K.put_count K.get_count K.free_count K.fault_count out.new keepers.new.items steps.new)
+        × (HaveRoomsFor job (rooms_by K.room_bytes keepers.old.items) → (out.new ≡ out.old) × (keepers.new ≡ keepers.old) × (steps.new ≡ steps.old)))) }
 
     // A refusal leaves the sink, the keepers and the count of steps as they were.
     ensures untouched { (IsOfJob result.status → ⊥) → (out.new ≡ out.old) × (keepers.new ≡ keepers.old) × (steps.new ≡ steps.old) }
@@ -104,9 +106,9 @@ fn prepared<R: Threads + Sync, I: Inputs, K: Keeper>(
     ensures cause { IfErr result (λ e. e.status ≡ 3 → Rose (I.fault_count inputs.old) (I.fault_count inputs.new)) }
     ensures no_cause { IfErr result (λ e. e.status ≢ 3 → I.fault_count inputs.new ≡ I.fault_count inputs.old) }
 {
-    let bytes = read_inputs(alloc, &request.command, inputs)?;
+    let mut bytes = read_inputs(alloc, &request.command, inputs)?;
     let counts = slot_counts(alloc, keepers)?;
-    decide(rt, alloc, request, &bytes, &counts)
+    decide(rt, alloc, request, &mut bytes, &counts)
 }
 
 // The number of slots of each keeper.

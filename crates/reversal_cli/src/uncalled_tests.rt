@@ -2,33 +2,9 @@
 use class_rules::in_multistage;
 use disk_gen::periodic_list;
 use level_book::{Book, read_book};
-use plan_types::{Action, Dest, Keep};
+use plan_types::Action;
 use std::alloc::Global;
 use std::test::Fail;
-
-macro_rules! store {
-    ($from:expr, $to:expr, $level:expr) => {
-        Action::Forward { from: $from, to: $to, keep: Keep::Store($level) }
-    };
-}
-
-macro_rules! tape {
-    ($from:expr, $to:expr) => {
-        Action::Forward { from: $from, to: $to, keep: Keep::Tape }
-    };
-}
-
-macro_rules! reverse {
-    ($from:expr, $to:expr) => {
-        Action::Reverse { from: $from, to: $to }
-    };
-}
-
-macro_rules! moved {
-    ($n:expr, $level:expr) => {
-        Action::Move { n: $n, from: $level, dest: Dest::Work }
-    };
-}
 
 // Two levels of one slot each, of which the second costs.
 fn two_levels(alloc: Global) -> Result<Book, Fail> {
@@ -40,17 +16,17 @@ fn two_levels(alloc: Global) -> Result<Book, Fail> {
 // The list of Revolve for three steps and two slots, whose images are stored on these levels, and the second is moved from this one.
 fn three_steps(first: u8, second: u8, moved: u8) -> [Action; 12] {
     [
-        store!(0, 1, first),
-        store!(1, 2, second),
-        tape!(2, 3),
+        Action::store(0, 1, first),
+        Action::store(1, 2, second),
+        Action::tape(2, 3),
         Action::EndForward,
-        reverse!(3, 2),
-        moved!(1, moved),
-        tape!(1, 2),
-        reverse!(2, 1),
-        moved!(0, first),
-        tape!(0, 1),
-        reverse!(1, 0),
+        Action::reverse(3, 2),
+        Action::take(1, moved),
+        Action::tape(1, 2),
+        Action::reverse(2, 1),
+        Action::take(0, first),
+        Action::tape(0, 1),
+        Action::reverse(1, 0),
         Action::EndReverse,
     ]
 }
@@ -68,17 +44,17 @@ fn lists_of_the_multistage_class_are_told_from_others(rt: HostRuntime) -> Result
 #[test]
 fn a_period_of_two_leaves_one_step_of_three_behind(rt: HostRuntime) -> Result<(), Fail> {
     let by_hand = [
-        store!(0, 2, 1),
-        tape!(2, 3),
+        Action::store(0, 2, 1),
+        Action::tape(2, 3),
         Action::EndForward,
-        reverse!(3, 2),
-        moved!(0, 1),
-        store!(0, 1, 0),
-        tape!(1, 2),
-        reverse!(2, 1),
-        moved!(0, 0),
-        tape!(0, 1),
-        reverse!(1, 0),
+        Action::reverse(3, 2),
+        Action::take(0, 1),
+        Action::store(0, 1, 0),
+        Action::tape(1, 2),
+        Action::reverse(2, 1),
+        Action::take(0, 0),
+        Action::tape(0, 1),
+        Action::reverse(1, 0),
         Action::EndReverse,
     ];
     let list = periodic_list(rt.alloc(), 3, 2, &two_levels(rt.alloc())?)?;

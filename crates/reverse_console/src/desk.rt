@@ -20,7 +20,7 @@ use input_journal::Journal;
 use keepers::Keeper;
 use level_book::Book;
 use reverse_runner::RunFault;
-use rv_machine::{State, Steps, step};
+use rv_machine::{State, Steps, advance};
 use sha2::{Digest, Sha256};
 use state_image::{decode_image, encode_image, max_image};
 use std::alloc::{AllocError, Global};
@@ -42,23 +42,6 @@ fn on(level: u8, fault: StoreFault) -> RunFault
         StoreFault::Keeper => RunFault::Keeper(level),
         StoreFault::Damaged { put, got } => RunFault::Damaged { level, put, got },
         StoreFault::Memory => RunFault::Memory,
-    }
-}
-
-// Takes so many steps of the machine. No other function of this crate steps: where `step` stands once, the compiler puts its
-// whole body in place.
-pub(crate) fn advance<L: Ledger>(
-    work: &mut State,
-    journal: &Journal,
-    count: u32,
-    steps: &mut Steps<L>,
-)
-    ensures work { work.new ≡ state_number work.old journal.now count }
-    ensures pages { SamePages work.new work.old }
-    ensures counted { steps.new ≡ steps.old + count }
-{
-    for _ in 0..count {
-        step(work, journal, steps);
     }
 }
 

@@ -12,7 +12,7 @@ ghost use Rattle.reverse_console.specs.Handling.{IsReady, source, Gets};
 ghost use Rattle.reverse_console.specs.Seeking.{Meets, IsSought, MeetsFrom};
 ghost use Rattle.reverse_console.specs.Seen.{HasPc, IsLastSeen, IsFirstSeen};
 
-use crate::desk::{Desk, advance};
+use crate::desk::Desk;
 use crate::going::recall;
 use crate::marks::Marks;
 use crate::memory_word::{bytes_of_word, some_differ};
@@ -20,7 +20,7 @@ use crate::order::Sought;
 use input_journal::Journal;
 use keepers::Keeper;
 use reverse_runner::RunFault;
-use rv_machine::{State, Steps, wrote};
+use rv_machine::{State, Steps, advance, wrote};
 use std::sync::ledger::Ledger;
 
 // Takes a step, and says whether what is sought holds of the state before it.

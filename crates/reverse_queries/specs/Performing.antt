@@ -50,12 +50,14 @@ abbrev pub IsOfRun : SessionState → (ℕ → Option Images) → ℕ → Machin
 IsOfRun session told n s = (first : MachineState) → IsMachineState first → StandsAt first session told → s ≡ state_number first session.journal n
 
 -- a visitor got state n of these
-pub record GetsState {V : Type 0} (got : V → ℕ → MachineState → List (List ℕ) → V → Type 0) (session : SessionState) (told : ℕ → Option Images) (n : ℕ) (old new : V) (states : ℕ → MachineState) : Type 0 where
+pub record GetsState {V : Type 0} (got : V → ℕ → MachineState → List (List ℕ) → V → Type 0) (session : SessionState) (told : ℕ → Option Images)
+    (n : ℕ) (old new : V) (states : ℕ → MachineState) : Type 0 where
   pub gets : got old n (states n) session.journal new
   pub of_run : IsOfRun session told n (states n)
 
 -- a visitor missed state n, which an action hands out of what is held before it
-pub record MissesState {V : Type 0} (missed : V → ℕ → MachineState → List (List ℕ) → V → Type 0) (session : SessionState) (told : ℕ → Option Images) (n : ℕ) (old new : V) (a : Action) (held : Holdings) : Type 0 where
+pub record MissesState {V : Type 0} (missed : V → ℕ → MachineState → List (List ℕ) → V → Type 0) (session : SessionState) (told : ℕ → Option Images)
+    (n : ℕ) (old new : V) (a : Action) (held : Holdings) : Type 0 where
   pub state : MachineState
   pub out : IsOut session.unit session.situation.steps n state a held
   pub misses : missed old n state session.journal new
@@ -73,7 +75,8 @@ FaultFits Misses Ended a held = ⊥
 
 -- The next action of a list was refused with a fault that fits it: those before it were performed, the count of steps of the
 -- machine rose by theirs, and the keepers were called as often as those before it call them, and at most as those up to it do.
-pub record RefusedIn (Misses : Action → Holdings → Type 0) (list : List Action) (fault : RunFault) (old new : SessionState) (told : ℕ → Option Images) (steps steps' : ℕ) (calls calls' : Calls) : Type 0 where
+pub record RefusedIn (Misses : Action → Holdings → Type 0) (list : List Action) (fault : RunFault) (old new : SessionState) (told : ℕ → Option Images)
+    (steps steps' : ℕ) (calls calls' : Calls) : Type 0 where
   -- how many actions stand before the refused one
   pub place : ℕ
   pub within : place < length list

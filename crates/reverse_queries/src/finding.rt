@@ -8,6 +8,7 @@ ghost use Rattle.rv_machine.specs.MachineState.{MachineState, IsMachineState};
 ghost use Rattle.rv_machine.specs.States.{state_number};
 ghost use Rattle.reverse_runner.specs.KeepersSeen.{by_number, told_by, calls_to, HaveRoom, Called};
 ghost use Rattle.reverse_runner.specs.LevelsStand.{AreAlone};
+ghost use Rattle.reverse_runner.specs.Rooms.{image_room, rooms_by, AreRoomy};
 ghost use Rattle.reverse_runner.specs.SessionState.{levels_of, holdings_of};
 ghost use Rattle.reverse_runner.specs.Standing.{StandsAt};
 ghost use Rattle.reverse_queries.specs.Queries.{Differ, IsLast, up_to};
@@ -124,26 +125,42 @@ pub(crate) fn find_last<K: Keeper, L: Ledger>(
     requires word { word ≤ 0xFFFFFFFC }
 
     // The answer, where the session stands at its start.
-    ensures answer { (first : MachineState) → IsMachineState first → StandsAt first session.old (told_by K.told keepers.old.items) → IfOk result (IsLast (DoesWhatIsAsked question session.old.journal word (state_number first session.old.journal)) (session.old.unit * session.old.situation.steps)) }
+    ensures answer { (first : MachineState) → IsMachineState first → StandsAt first session.old (told_by K.told keepers.old.items) →
+        IfOk result (IsLast (DoesWhatIsAsked question session.old.journal word (state_number first session.old.journal))
+        (session.old.unit * session.old.situation.steps)) }
 
     // The same by the states that were handed out on the way, also where nothing stands.
-    ensures found { IfOk result (λ answer. IsFoundOn (λ states. IsLast (DoesWhatIsAsked question session.old.journal word states) (session.old.unit * session.old.situation.steps) answer) session.old.unit session.old.situation.steps session.old.journal (up_to session.old.unit session.old.situation.steps answer list.now) (holdings_of session.old (told_by K.told keepers.old.items)) (holdings_of session.new (told_by K.told keepers.new.items))) }
+    ensures found { IfOk result (λ answer. IsFoundOn
+        (λ states. IsLast (DoesWhatIsAsked question session.old.journal word states) (session.old.unit * session.old.situation.steps) answer)
+        session.old.unit session.old.situation.steps session.old.journal (up_to session.old.unit session.old.situation.steps answer list.now)
+        (holdings_of session.old (told_by K.told keepers.old.items)) (holdings_of session.new (told_by K.told keepers.new.items))) }
 
     // What was performed for it.
     ensures performs { IfOk result (λ answer. PerformsAll session.old (up_to session.old.unit session.old.situation.steps answer list.now) session.new) }
-    ensures counted { IfOk result (λ answer. steps.new ≡ steps.old + session.old.unit * forward (up_to session.old.unit session.old.situation.steps answer list.now)) }
-    ensures called { IfOk result (λ answer. Called (calls_of_all (up_to session.old.unit session.old.situation.steps answer list.now)) (calls_to K.put_count K.get_count K.free_count keepers.old.items) (calls_to K.put_count K.get_count K.free_count keepers.new.items)) }
-    ensures stands { (first : MachineState) → IsMachineState first → StandsAt first session.old (told_by K.told keepers.old.items) → OnOk result (StandsAt first session.new (told_by K.told keepers.new.items)) }
-    ensures alone { AreAlone (levels_of session.old (told_by K.told keepers.old.items)) → OnOk result (AreAlone (levels_of session.new (told_by K.told keepers.new.items))) }
+    ensures counted { IfOk result (λ answer. steps.new ≡ steps.old + session.old.unit * forward
+        (up_to session.old.unit session.old.situation.steps answer list.now)) }
+    ensures called { IfOk result (λ answer. Called (calls_of_all (up_to session.old.unit session.old.situation.steps answer list.now))
+        (calls_to K.put_count K.get_count K.free_count keepers.old.items) (calls_to K.put_count K.get_count K.free_count keepers.new.items)) }
+    ensures stands { (first : MachineState) → IsMachineState first → StandsAt first session.old (told_by K.told keepers.old.items) →
+        OnOk result (StandsAt first session.new (told_by K.told keepers.new.items)) }
+    ensures alone { AreAlone (levels_of session.old (told_by K.told keepers.old.items)) →
+        OnOk result (AreAlone (levels_of session.new (told_by K.told keepers.new.items))) }
 
     // What stands after a refusal, and its cause.
-    ensures refused { IfErr result (λ fault. RefusedIn (λ action held. ⊥) list.now fault session.old session.new (told_by K.told keepers.old.items) steps.old steps.new (calls_to K.put_count K.get_count K.free_count keepers.old.items) (calls_to K.put_count K.get_count K.free_count keepers.new.items)) }
+    ensures refused { IfErr result (λ fault. RefusedIn (λ action held. ⊥) list.now fault session.old session.new (told_by K.told keepers.old.items)
+        steps.old steps.new (calls_to K.put_count K.get_count K.free_count keepers.old.items)
+        (calls_to K.put_count K.get_count K.free_count keepers.new.items)) }
     ensures not_ended { result ≢ Err RunFault.Ended }
+    ensures roomy { AreRoomy (image_room session.old.work) (length session.old.situation.slots) (rooms_by K.room_bytes keepers.old.items) →
+        result ≢ Err RunFault.Memory }
     ensures not_visitor { result ≢ Err RunFault.Visitor }
-    ensures keeper_cause { (k : ℕ) → result ≡ Err (RunFault.Keeper k) → Rose (by_number 0 K.fault_count keepers.old.items k) (by_number 0 K.fault_count keepers.new.items k) }
-    ensures keepers_quiet { ((k : ℕ) → result ≢ Err (RunFault.Keeper k)) → (j : ℕ) → by_number 0 K.fault_count keepers.new.items j ≡ by_number 0 K.fault_count keepers.old.items j }
+    ensures keeper_cause { (k : ℕ) → result ≡ Err (RunFault.Keeper k) →
+        Rose (by_number 0 K.fault_count keepers.old.items k) (by_number 0 K.fault_count keepers.new.items k) }
+    ensures keepers_quiet { ((k : ℕ) → result ≢ Err (RunFault.Keeper k)) → (j : ℕ) →
+        by_number 0 K.fault_count keepers.new.items j ≡ by_number 0 K.fault_count keepers.old.items j }
     ensures keepers_later { (k : ℕ) → by_number 0 K.fault_count keepers.old.items k ≤ by_number 0 K.fault_count keepers.new.items k }
-    ensures undamaged { (first : MachineState) → IsMachineState first → StandsAt first session.old (told_by K.told keepers.old.items) → (k : ℕ) (put got : List ℕ) → result ≢ Err (RunFault.Damaged k put got) }
+    ensures undamaged { (first : MachineState) → IsMachineState first → StandsAt first session.old (told_by K.told keepers.old.items) →
+        (k : ℕ) (put got : List ℕ) → result ≢ Err (RunFault.Damaged k put got) }
 
     // The keepers have the slots that they had, and those past the levels of the book are as they were.
     ensures slots { map K.slot_count keepers.new.items ≡ map K.slot_count keepers.old.items }

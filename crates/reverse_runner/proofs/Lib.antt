@@ -10,6 +10,7 @@ pub mod LevelsAfter
 pub mod LevelsFollow
 pub mod OneKeeper
 pub mod RoomLeft
+pub mod Rooms
 pub mod StandingAfter
 pub mod Taping
 pub mod Undamaged

@@ -65,7 +65,8 @@ Does unit journal (Forward from to (Store k)) old new =
     (new.work ≡ state_number old.work journal (unit * (to - from))) × (new.tape ≡ old.tape)
     × Keeps old.levels new.levels k from (image old.work) × ((j : ℕ) → j ≢ k → IsAsBefore old.levels new.levels j)
 Does unit journal (Forward from to Tape) old new =
-    (new.work ≡ state_number old.work journal (unit * (to - from))) × (new.tape ≡ record { states = states_below old.work journal (unit * (to - from)); after = new.work }) × ((k : ℕ) → IsAsBefore old.levels new.levels k)
+    (new.work ≡ state_number old.work journal (unit * (to - from)))
+    × (new.tape ≡ record { states = states_below old.work journal (unit * (to - from)); after = new.work }) × ((k : ℕ) → IsAsBefore old.levels new.levels k)
 Does unit journal (Reverse from to) old new = (new.work ≡ old.work) × (new.tape.states ≡ []) × ((k : ℕ) → IsAsBefore old.levels new.levels k)
 Does unit journal (Copy n k Work) old new =
     ((got : List ℕ) × (IsFetched old.levels k n got × IsDecoded old.work new.work got)) × (new.tape ≡ old.tape) × ((j : ℕ) → IsAsBefore old.levels new.levels j)

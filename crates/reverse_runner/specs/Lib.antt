@@ -5,6 +5,7 @@ pub mod KeepersSeen
 pub mod Left
 pub mod LevelsStand
 pub mod Performed
+pub mod Rooms
 pub mod SessionFields
 pub mod SessionState
 pub mod Standing

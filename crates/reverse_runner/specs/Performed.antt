@@ -21,11 +21,13 @@ states_out _ work tape = []
 -- the visitor got these states with these numbers, one after the other, by its relation between before and after
 abbrev pub GetsAll : {V : Type 0} → (V → ℕ → MachineState → List (List ℕ) → V → Type 0) → List (List ℕ) → List ℕ → List MachineState → V → V → Type 0
 GetsAll got journal [] [] before after = after ≡ before
-GetsAll {V} got journal (n ∷ numbers) (s ∷ states) before after = (between : V) × (got before n s journal between × GetsAll got journal numbers states between after)
+GetsAll {V} got journal (n ∷ numbers) (s ∷ states) before after = (between : V)
+    × (got before n s journal between × GetsAll got journal numbers states between after)
 GetsAll got journal _ _ before after = ⊥
 
 -- it got some of them, and missed the next one
-abbrev pub MissesOne : {V : Type 0} → (V → ℕ → MachineState → List (List ℕ) → V → Type 0) → (V → ℕ → MachineState → List (List ℕ) → V → Type 0) → List (List ℕ) → List ℕ → List MachineState → V → V → Type 0
+abbrev pub MissesOne : {V : Type 0} → (V → ℕ → MachineState → List (List ℕ) → V → Type 0) → (V → ℕ → MachineState → List (List ℕ) → V → Type 0) →
+    List (List ℕ) → List ℕ → List MachineState → V → V → Type 0
 MissesOne {V} got missed journal (n ∷ numbers) (s ∷ states) before after =
     missed before n s journal after ⊎ ((between : V) × (got before n s journal between × MissesOne got missed journal numbers states between after))
 MissesOne got missed journal _ _ before after = ⊥

@@ -3,6 +3,7 @@ use Rattle.std.specs.Prelude.{◌≡◌, false}
 use Rattle.reverse_runner.specs.declared.session.Session.TheInside.{Inside}
 use Rattle.reverse_runner.specs.SessionState.{SessionState}
 use Rattle.reverse_runner.specs.LevelsStand.{IsLaidOut}
+use Rattle.reverse_runner.specs.Rooms.{image_room, AreShort}
 use Rattle.reverse_runner.specs.Workspaces.{IsInOrder, tape_in, HasUnits}
 
 abbrev pub session_state : Inside → SessionState
@@ -18,8 +19,9 @@ session_state s = record {
 }
 
 -- The levels hold the pairs that the configuration names, up to a refusal, and a tape that isn't empty holds a unit. The
--- undo list was made for the recorded input.
+-- undo list was made for the recorded input. No image that a level keeps is longer than one of the state in work can be.
 pub record IsSession (s : Inside) : Type 0 where
   pub fits : IsInOrder s.space
   pub laid : s.ended ≡ false → IsLaidOut s.config.steps s.config.slots s.config.at s.space.store
   pub units : s.ended ≡ false → HasUnits s.unit s.journal s.config.steps s.config.at s.space
+  pub short : s.ended ≡ false → AreShort (image_room s.space.work) s.space.store

@@ -58,7 +58,17 @@ tape_code =
 abbrev pub session_code : Coded SessionState
 session_code =
     code_by (Situation × (ℕ × (MachineState × (TapeState × (List ShelfState × (List (List ℕ) × (ℕ × Bool)))))))
-    (coded× situation_code (coded× coded_ℕ (coded× state_code (coded× tape_code (coded× (coded_list shelf_code) (coded× (coded_list (coded_list coded_ℕ)) (coded× coded_ℕ coded_bool)))))))
+    (coded× situation_code (coded× coded_ℕ
+    (coded× state_code (coded× tape_code (coded× (coded_list shelf_code) (coded× (coded_list (coded_list coded_ℕ)) (coded× coded_ℕ coded_bool)))))))
     (λ s. (s.situation, (s.unit, (s.work, (s.tape, (s.store, (s.journal, (s.done, s.ended))))))))
-    (λ p. record { situation = p.0; unit = p.1.0; work = p.1.1.0; tape = p.1.1.1.0; store = p.1.1.1.1.0; journal = p.1.1.1.1.1.0; done = p.1.1.1.1.1.1.0; ended = p.1.1.1.1.1.1.1 })
+    (λ p. record {
+      situation = p.0;
+      unit = p.1.0;
+      work = p.1.1.0;
+      tape = p.1.1.1.0;
+      store = p.1.1.1.1.0;
+      journal = p.1.1.1.1.1.0;
+      done = p.1.1.1.1.1.1.0;
+      ended = p.1.1.1.1.1.1.1;
+    })
     (λ _. refl)

@@ -1,6 +1,7 @@
 -- No public clause cites this file. What a workspace holds, and what holds of it.
 use Rattle.std.specs.Prelude.{◌≡◌, ℕ, ◌+◌, ◌*◌, ◌≤◌, List, length, Option, MatchOption}
 use Rattle.std.specs.Vec.{vec_capacity}
+use Rattle.plan_types.specs.declared.limits.TheConstants.{MOST_STEPS}
 use Rattle.keepers.specs.Told.{Images}
 use Rattle.level_book.specs.declared.book.Slots.{Slots}
 use Rattle.level_book.specs.Configuration.{Configuration}
@@ -48,4 +49,4 @@ pub record HasUnits (unit : ℕ) (journal : List (List ℕ)) (steps : ℕ) (c : 
   pub taped : IsTaped unit c w
   pub made : IsMadeFor journal w.undo
   pub same : w.undo.unit ≡ unit
-  pub small : unit * steps ≤ 1000000
+  pub small : unit * steps ≤ MOST_STEPS

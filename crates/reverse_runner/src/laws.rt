@@ -30,19 +30,25 @@ pub fn valid_lists_hand_out_all()
 /// to them. Where they stand at the configuration of a run, they stand after it at the one that the action leads to, and
 /// where no keeper has another image than theirs, none has one after it.
 pub fn levels_follow_the_actions()
-    ensures laid_out { (journal : List (List ℕ)) (unit steps : ℕ) (slots : List Slots) (c : Configuration) (a : Action) (d : Configuration) (old new : Holdings) →
-        IsSound steps slots c → Goes steps slots c a d → Acts unit journal a old new → IsLaidOut steps slots c old.levels.store → IsLaidOut steps slots d new.levels.store }
-    ensures stands { (first : MachineState) (journal : List (List ℕ)) (unit steps : ℕ) (slots : List Slots) (c : Configuration) (a : Action) (d : Configuration) (old new : Holdings) →
-        IsMachineState first → IsRecorded journal → IsSound steps slots c → Goes steps slots c a d → Acts unit journal a old new → IsLaidOut steps slots c old.levels.store →
+    ensures laid_out { (journal : List (List ℕ)) (unit steps : ℕ) (slots : List Slots) (c : Configuration) (a : Action) (d : Configuration)
+        (old new : Holdings) →
+        IsSound steps slots c → Goes steps slots c a d → Acts unit journal a old new → IsLaidOut steps slots c old.levels.store →
+        IsLaidOut steps slots d new.levels.store }
+    ensures stands { (first : MachineState) (journal : List (List ℕ)) (unit steps : ℕ) (slots : List Slots) (c : Configuration) (a : Action)
+        (d : Configuration) (old new : Holdings) →
+        IsMachineState first → IsRecorded journal → IsSound steps slots c → Goes steps slots c a d → Acts unit journal a old new →
+        IsLaidOut steps slots c old.levels.store →
         HoldingsStandAt first journal unit c old → HoldingsStandAt first journal unit d new }
     ensures alone { (journal : List (List ℕ)) (unit steps : ℕ) (slots : List Slots) (c : Configuration) (a : Action) (d : Configuration) (old new : Holdings) →
-        IsSound steps slots c → Goes steps slots c a d → Acts unit journal a old new → IsLaidOut steps slots c old.levels.store → AreAlone old.levels → AreAlone new.levels }
+        IsSound steps slots c → Goes steps slots c a d → Acts unit journal a old new → IsLaidOut steps slots c old.levels.store →
+        AreAlone old.levels → AreAlone new.levels }
 {}
 
 /// Where the levels of a session stand and no keeper has another image than theirs, each keeper holds just the images of
 /// the states that its level holds.
 pub fn levels_hold_just_their_images()
-    ensures { (first : MachineState) (journal : List (List ℕ)) (unit : ℕ) (c : Configuration) (s : Holdings) → HoldingsStandAt first journal unit c s → AreAlone s.levels →
+    ensures { (first : MachineState) (journal : List (List ℕ)) (unit : ℕ) (c : Configuration) (s : Holdings) →
+        HoldingsStandAt first journal unit c s → AreAlone s.levels →
         (k : ℕ) → k < length s.levels.store → IsToldAnd (s.levels.told k) (HoldsJust (unit_states first journal unit) (held_on c k)) }
 {}
 

@@ -28,9 +28,12 @@ impl<'a, O: Sink> LineWriter<'a, O> {
 }
 
 impl<'a, O: Sink> Visitor for LineWriter<'a, O> {
-    ghost got = { λ w n s journal v. (v.out.ghost_name ≡ w.out.ghost_name) × Tells (O.told w.out.now) (O.told v.out.now) (λ old new. new ≡ old ++ (line n s ++ 10 ∷ [])) × (O.call_count v.out.now ≡ raised (O.call_count w.out.now) 1) };
+    ghost got = { λ w n s journal v. (v.out.ghost_name ≡ w.out.ghost_name)
+        × Tells (O.told w.out.now) (O.told v.out.now) (λ old new. new ≡ old ++ (line n s ++ 10 ∷ []))
+        × (O.call_count v.out.now ≡ raised (O.call_count w.out.now) 1) };
 
-    ghost missed = { λ w n s journal v. (v.out.ghost_name ≡ w.out.ghost_name) × Tells (O.told w.out.now) (O.told v.out.now) (AddsPrefix (line n s ++ 10 ∷ [])) × (O.call_count v.out.now ≡ raised (O.call_count w.out.now) 1) };
+    ghost missed = { λ w n s journal v. (v.out.ghost_name ≡ w.out.ghost_name)
+        × Tells (O.told w.out.now) (O.told v.out.now) (AddsPrefix (line n s ++ 10 ∷ [])) × (O.call_count v.out.now ≡ raised (O.call_count w.out.now) 1) };
 
     ghost fault_count = { λ w. O.fault_count w.out.now };
 

@@ -1,6 +1,7 @@
 // A session: a run that is gone through by the actions of a schedule.
 ghost use Rattle.std.specs.Prelude.{◌≡◌, ◌≢◌, ◌+◌, ◌*◌, ◌<◌, ◌≤◌, ◌↔◌, ℕ, List, true, false, length, map, slice_get, Option, Some, Err, IfOk, OnOk, OnErr, IsErrOf, IsSome, IsTrue, Contains};
 ghost use Rattle.std.specs.FinMap as finmap;
+ghost use Rattle.plan_types.specs.declared.limits.TheConstants.{MOST_STEPS};
 ghost use Rattle.level_book.specs.BookCosts.{slots_of};
 ghost use Rattle.level_book.specs.Rules.{rule, levels_named};
 ghost use Rattle.level_book.specs.CostFold.{steps_of};
@@ -13,7 +14,8 @@ ghost use Rattle.reverse_runner.specs.LevelsStand.{AreAlone};
 ghost use Rattle.reverse_runner.specs.Left.{MayLeave};
 ghost use Rattle.reverse_runner.specs.Handed.{handed_by};
 ghost use Rattle.reverse_runner.specs.Performed.{states_out, GetsAll, MissesOne, calls_keepers};
-ghost use Rattle.reverse_runner.specs.SessionState.{levels_of, holdings_of};
+ghost use Rattle.reverse_runner.specs.Rooms.{image_room, rooms_by, AreRoomy, SameRooms};
+ghost use Rattle.reverse_runner.specs.SessionState.{SamePages, levels_of, holdings_of};
 ghost use Rattle.reverse_runner.specs.Standing.{begun, Performs, SessionEnds, StandsAt, IsDamage};
 
 use crate::acting::act;
@@ -67,13 +69,15 @@ impl Session {
         unit: u32,
         book: Book,
     ) -> Result<Session, AllocError>
-        requires steps { steps ≤ 1000000 }
+        requires steps { steps ≤ MOST_STEPS }
         requires unit { (1 ≤ unit) × (unit ≤ 1024) }
-        requires few { unit * steps ≤ 1000000 }
+        requires few { unit * steps ≤ MOST_STEPS }
         ensures begun { IfOk result (λ session. session ≡ begun start journal unit steps (slots_of book)) }
         // It stands at its start over all keepers that tell, and no keeper has another image where they are empty.
-        ensures stands { IfOk result (λ session. (told : ℕ → Option Images) → ((k : ℕ) → k < length (slots_of book) → IsSome (told k)) → StandsAt start session told) }
-        ensures alone { IfOk result (λ session. (told : ℕ → Option Images) → ((k : ℕ) → k < length (slots_of book) → told k ≡ Some finmap.empty) → AreAlone (levels_of session told)) }
+        ensures stands { IfOk result (λ session. (told : ℕ → Option Images) → ((k : ℕ) → k < length (slots_of book) → IsSome (told k)) →
+            StandsAt start session told) }
+        ensures alone { IfOk result (λ session. (told : ℕ → Option Images) → ((k : ℕ) → k < length (slots_of book) → told k ≡ Some finmap.empty) →
+            AreAlone (levels_of session told)) }
     {
         let config = Config::new(alloc, steps, &book)?;
         let space = Workspace::begin(alloc, start, &journal, &book, steps, unit)?;
@@ -97,7 +101,7 @@ impl Session {
     /// How many steps of the machine a step of the schedule has. The last state of the run fits a count of steps.
     pub fn unit(&self) -> u32
         ensures value { result ≡ self.now.unit }
-        ensures few { self.now.ended ≡ false → result * self.now.situation.steps ≤ 1000000 }
+        ensures few { self.now.ended ≡ false → result * self.now.situation.steps ≤ MOST_STEPS }
     {
         self.unit
     }
@@ -110,7 +114,7 @@ impl Session {
     }
 
     /// Performs an action that may be done, over keepers with room for its images: one for each level of the book, in
-    /// their order.
+    /// their order. Over keepers with a room of `max_image` bytes it takes no memory.
     pub fn perform<K: Keeper, V: Visitor, L: Ledger>(
         &mut self,
         action: &Action,
@@ -123,41 +127,63 @@ impl Session {
 
         // A session that has ended does nothing.
         ensures ended { IsErrOf result RunFault.Ended ↔ (self.old.ended ≡ true) }
-        ensures inert { result ≡ Err RunFault.Ended → (self.new ≡ self.old) × (keepers.new ≡ keepers.old) × (visitor.new ≡ visitor.old) × (steps.new ≡ steps.old) }
+        ensures inert { result ≡ Err RunFault.Ended →
+            (self.new ≡ self.old) × (keepers.new ≡ keepers.old) × (visitor.new ≡ visitor.old) × (steps.new ≡ steps.old) }
 
         // What was done: where the session goes, and what becomes of its states and levels, by the bytes that were fetched.
         ensures performs { OnOk result (Performs self.old action.now self.new) }
-        ensures acts { OnOk result (Acts self.old.unit self.old.journal action.now (holdings_of self.old (told_by K.told keepers.old.items)) (holdings_of self.new (told_by K.told keepers.new.items))) }
+        ensures acts { OnOk result (Acts self.old.unit self.old.journal action.now (holdings_of self.old (told_by K.told keepers.old.items))
+            (holdings_of self.new (told_by K.told keepers.new.items))) }
         ensures counted { OnOk result (steps.new ≡ steps.old + self.old.unit * steps_of action.now) }
-        ensures called { OnOk result (Called (calls_of action.now) (calls_to K.put_count K.get_count K.free_count keepers.old.items) (calls_to K.put_count K.get_count K.free_count keepers.new.items)) }
-        ensures gets { OnOk result (GetsAll V.got self.old.journal (handed_by self.old.unit self.old.situation.steps action.now) (states_out action.now self.old.work self.old.tape.states) visitor.old visitor.new) }
+        ensures called { OnOk result (Called (calls_of action.now) (calls_to K.put_count K.get_count K.free_count keepers.old.items)
+            (calls_to K.put_count K.get_count K.free_count keepers.new.items)) }
+        ensures gets { OnOk result (GetsAll V.got self.old.journal (handed_by self.old.unit self.old.situation.steps action.now)
+            (states_out action.now self.old.work self.old.tape.states) visitor.old visitor.new) }
 
         // Where the session stood before, it stands where it went.
-        ensures stands { (first : MachineState) → IsMachineState first → StandsAt first self.old (told_by K.told keepers.old.items) → OnOk result (StandsAt first self.new (told_by K.told keepers.new.items)) }
-        ensures alone { AreAlone (levels_of self.old (told_by K.told keepers.old.items)) → OnOk result (AreAlone (levels_of self.new (told_by K.told keepers.new.items))) }
+        ensures stands { (first : MachineState) → IsMachineState first → StandsAt first self.old (told_by K.told keepers.old.items) →
+            OnOk result (StandsAt first self.new (told_by K.told keepers.new.items)) }
+        ensures alone { AreAlone (levels_of self.old (told_by K.told keepers.old.items)) →
+            OnOk result (AreAlone (levels_of self.new (told_by K.told keepers.new.items))) }
 
         // A refusal ends the session.
         ensures refused { OnErr result (SessionEnds self.old self.new) }
         ensures uncounted { OnErr result (steps.new ≡ steps.old) }
-        ensures left { self.old.ended ≡ false → OnErr result (MayLeave action.now (levels_of self.old (told_by K.told keepers.old.items)) (told_by K.told keepers.new.items)) }
-        ensures whole { (k : ℕ) (put got : List ℕ) → result ≡ Err (RunFault.Damaged k put got) → (j : ℕ) → told_by K.told keepers.new.items j ≡ told_by K.told keepers.old.items j }
-        ensures called_at_most { OnErr result (CalledAtMost (calls_of action.now) (calls_to K.put_count K.get_count K.free_count keepers.old.items) (calls_to K.put_count K.get_count K.free_count keepers.new.items)) }
-        ensures misses { result ≡ Err RunFault.Visitor → MissesOne V.got V.missed self.old.journal (handed_by self.old.unit self.old.situation.steps action.now) (states_out action.now self.old.work self.old.tape.states) visitor.old visitor.new }
+        ensures left { self.old.ended ≡ false →
+            OnErr result (MayLeave action.now (levels_of self.old (told_by K.told keepers.old.items)) (told_by K.told keepers.new.items)) }
+        ensures whole { (k : ℕ) (put got : List ℕ) → result ≡ Err (RunFault.Damaged k put got) → (j : ℕ) →
+            told_by K.told keepers.new.items j ≡ told_by K.told keepers.old.items j }
+        ensures called_at_most { OnErr result
+            (CalledAtMost (calls_of action.now) (calls_to K.put_count K.get_count K.free_count keepers.old.items)
+            (calls_to K.put_count K.get_count K.free_count keepers.new.items)) }
+        ensures misses { result ≡ Err RunFault.Visitor →
+            MissesOne V.got V.missed self.old.journal (handed_by self.old.unit self.old.situation.steps action.now)
+            (states_out action.now self.old.work self.old.tape.states) visitor.old visitor.new }
         ensures unseen { OnErr result (result ≢ Err RunFault.Visitor → visitor.new ≡ visitor.old) }
 
         // The cause of each refusal.
-        ensures keeper_cause { (k : ℕ) → result ≡ Err (RunFault.Keeper k) → Contains (levels_named action.now) k × Rose (by_number 0 K.fault_count keepers.old.items k) (by_number 0 K.fault_count keepers.new.items k) }
-        ensures keepers_quiet { ((k : ℕ) → result ≢ Err (RunFault.Keeper k)) → (j : ℕ) → by_number 0 K.fault_count keepers.new.items j ≡ by_number 0 K.fault_count keepers.old.items j }
+        ensures keeper_cause { (k : ℕ) → result ≡ Err (RunFault.Keeper k) →
+            Contains (levels_named action.now) k × Rose (by_number 0 K.fault_count keepers.old.items k) (by_number 0 K.fault_count keepers.new.items k) }
+        ensures keepers_quiet { ((k : ℕ) → result ≢ Err (RunFault.Keeper k)) → (j : ℕ) →
+            by_number 0 K.fault_count keepers.new.items j ≡ by_number 0 K.fault_count keepers.old.items j }
         ensures keepers_later { (k : ℕ) → by_number 0 K.fault_count keepers.old.items k ≤ by_number 0 K.fault_count keepers.new.items k }
-        ensures damaged { (k : ℕ) (put got : List ℕ) → result ≡ Err (RunFault.Damaged k put got) → IsDamage action.now (holdings_of self.old (told_by K.told keepers.old.items)) k put got }
-        ensures undamaged { (first : MachineState) → IsMachineState first → StandsAt first self.old (told_by K.told keepers.old.items) → (k : ℕ) (put got : List ℕ) → result ≢ Err (RunFault.Damaged k put got) }
+        ensures damaged { (k : ℕ) (put got : List ℕ) → result ≡ Err (RunFault.Damaged k put got) →
+            IsDamage action.now (holdings_of self.old (told_by K.told keepers.old.items)) k put got }
+        ensures undamaged { (first : MachineState) → IsMachineState first → StandsAt first self.old (told_by K.told keepers.old.items) →
+            (k : ℕ) (put got : List ℕ) → result ≢ Err (RunFault.Damaged k put got) }
         ensures cause { result ≡ Err RunFault.Visitor → Rose (V.fault_count visitor.old) (V.fault_count visitor.new) }
         ensures quiet { result ≢ Err RunFault.Visitor → V.fault_count visitor.new ≡ V.fault_count visitor.old }
         ensures later { V.fault_count visitor.old ≤ V.fault_count visitor.new }
         ensures wants { result ≡ Err RunFault.Memory → IsTrue (calls_keepers action.now) }
+        ensures roomy { AreRoomy (image_room self.old.work) (length self.old.situation.slots) (rooms_by K.room_bytes keepers.old.items) →
+            result ≢ Err RunFault.Memory }
 
-        // The keepers have the slots that they had, and those of levels that the action doesn't name are as they were.
+        // The states map the pages that they mapped.
+        ensures pages { SamePages self.old.work self.new.work }
+
+        // The keepers have the slots and rooms that they had, and those of levels that the action doesn't name are as they were.
         ensures slots { map K.slot_count keepers.new.items ≡ map K.slot_count keepers.old.items }
+        ensures rooms { SameRooms (rooms_by K.room_bytes keepers.old.items) (rooms_by K.room_bytes keepers.new.items) }
         ensures others { (k : ℕ) → (Contains (levels_named action.now) k → ⊥) → slice_get keepers.new.items k ≡ slice_get keepers.old.items k }
     {
         if self.ended {

@@ -18,6 +18,7 @@ ghost use Rattle.reverse_runner.specs.Acts.{IsAsBefore, IsFetched, IsDecoded, Ke
 ghost use Rattle.reverse_runner.specs.KeepersSeen.{by_number, told_by, calls_to, Called};
 ghost use Rattle.reverse_runner.specs.Handed.{numbers_from};
 ghost use Rattle.reverse_runner.specs.Performed.{GetsAll, MissesOne};
+ghost use Rattle.reverse_runner.specs.Rooms.{image_room, rooms_by, IsRoomy, SameRooms, AreShort};
 ghost use Rattle.reverse_runner.specs.SessionState.{SamePages};
 ghost use Rattle.reverse_runner.specs.Standing.{IsNoImage};
 ghost use Rattle.reverse_runner.specs.Touching.{one_put, one_get, one_free, Remain, OthersRemain, IsCaused, IsKeeping, IsFetching, IsOther};
@@ -29,7 +30,7 @@ use image_store::Store;
 use input_journal::Journal;
 use keepers::Keeper;
 use level_book::Book;
-use rv_machine::{State, Steps, step};
+use rv_machine::{State, Steps, advance};
 use sha2::{Digest, Sha256};
 use state_image::{decode_image, encode_image, max_image};
 use std::alloc::{AllocError, Global};
@@ -79,8 +80,7 @@ impl Workspace {
         })
     }
 
-    /// Takes so many steps of the machine. No other function of this crate steps: where `step` stands once, the compiler
-    /// puts its whole body in place.
+    /// Takes so many steps of the machine.
     pub fn advance<L: Ledger>(&mut self, journal: &Journal, count: u32, steps: &mut Steps<L>)
         ensures work { self.new.work ≡ state_number self.old.work journal.now count }
         ensures pages { SamePages self.old.work self.new.work }
@@ -90,9 +90,7 @@ impl Workspace {
         ensures buffer { self.new.buffer ≡ self.old.buffer }
         ensures counted { steps.new ≡ steps.old + count }
     {
-        for _ in 0..count {
-            step(&mut self.work, journal, steps);
-        }
+        advance(&mut self.work, journal, count, steps);
     }
 
     /// Takes the steps of a unit of the machine, and puts the states before them on the tape.
@@ -131,8 +129,10 @@ impl Workspace {
     ) -> Result<(), RunFault>
         requires few { first + length self.old.undo.entries < 2 ^ 32 }
         requires back { LeadsBack self.old.undo.entries self.old.tape (led_back self.old.undo.entries self.old.tape) }
-        ensures gets { OnOk result (GetsAll V.got journal.now (numbers_from first (length self.old.undo.entries)) (tape_in self.old).states visitor.old visitor.new) }
-        ensures misses { OnErr result (MissesOne V.got V.missed journal.now (numbers_from first (length self.old.undo.entries)) (tape_in self.old).states visitor.old visitor.new) }
+        ensures gets { OnOk result (GetsAll V.got journal.now (numbers_from first (length self.old.undo.entries)) (tape_in self.old).states
+            visitor.old visitor.new) }
+        ensures misses { OnErr result (MissesOne V.got V.missed journal.now (numbers_from first (length self.old.undo.entries))
+            (tape_in self.old).states visitor.old visitor.new) }
         ensures empty { OnOk result (self.new.undo.entries ≡ []) }
         ensures back { LeadsBack self.new.undo.entries self.new.tape (led_back self.new.undo.entries self.new.tape) }
         ensures undo { (self.new.undo.unit ≡ self.old.undo.unit) × (self.new.undo.room ≡ self.old.undo.room) }
@@ -157,6 +157,7 @@ impl Workspace {
         requires { IsInOrder self.old }
         ensures image { self.new.buffer.items ≡ image self.old.work }
         ensures short { vec_len self.new.buffer < 2 ^ 32 }
+        ensures few { vec_len self.new.buffer ≤ image_room self.old.work }
         ensures work { self.new.work ≡ self.old.work }
         ensures tape { self.new.tape ≡ self.old.tape }
         ensures undo { self.new.undo ≡ self.old.undo }
@@ -170,7 +171,8 @@ impl Workspace {
     pub fn decode(&mut self, level: u8) -> Result<(), RunFault>
         requires { IsInOrder self.old }
         ensures decoded { OnOk result (IsDecoded self.old.work self.new.work self.old.buffer.items) }
-        ensures damaged { IfErr result (λ fault. (fault ≡ RunFault.Damaged level (sha256 self.old.buffer.items) (sha256 self.old.buffer.items)) × IsNoImage self.old.work self.old.buffer.items) }
+        ensures damaged { IfErr result (λ fault. (fault ≡ RunFault.Damaged level (sha256 self.old.buffer.items) (sha256 self.old.buffer.items))
+            × IsNoImage self.old.work self.old.buffer.items) }
         ensures tape { self.new.tape ≡ self.old.tape }
         ensures undo { self.new.undo ≡ self.old.undo }
         ensures store { self.new.store ≡ self.old.store }
@@ -206,16 +208,25 @@ impl Workspace {
         requires room { held (level_of self.old.store level).pairs < (level_of self.old.store level).room }
         requires size { vec_len self.old.buffer < 2 ^ 32 }
         requires slots { (level_of self.old.store level).room ≤ by_number 0 K.slot_count keepers.old.items level }
-        ensures keeps { OnOk result (Keeps (levels_in self.old (told_by K.told keepers.old.items)) (levels_in self.new (told_by K.told keepers.new.items)) level n self.old.buffer.items) }
-        ensures left { OnErr result (IsNotKept (level_of self.old.store level) (told_by K.told keepers.old.items level) (told_by K.told keepers.new.items level)) }
-        ensures others { (j : ℕ) → j ≢ level → IsAsBefore (levels_in self.old (told_by K.told keepers.old.items)) (levels_in self.new (told_by K.told keepers.new.items)) j }
+        ensures keeps { OnOk result (Keeps (levels_in self.old (told_by K.told keepers.old.items))
+            (levels_in self.new (told_by K.told keepers.new.items)) level n self.old.buffer.items) }
+        ensures left { OnErr result (IsNotKept (level_of self.old.store level) (told_by K.told keepers.old.items level)
+            (told_by K.told keepers.new.items level)) }
+        ensures others { (j : ℕ) → j ≢ level →
+            IsAsBefore (levels_in self.old (told_by K.told keepers.old.items)) (levels_in self.new (told_by K.told keepers.new.items)) j }
         ensures count { length self.new.store ≡ length self.old.store }
-        ensures states { (self.new.work ≡ self.old.work) × (self.new.tape ≡ self.old.tape) × (self.new.buffer ≡ self.old.buffer) × (self.new.undo ≡ self.old.undo) }
-        ensures called { Called (one_put level) (calls_to K.put_count K.get_count K.free_count keepers.old.items) (calls_to K.put_count K.get_count K.free_count keepers.new.items) }
+        ensures states { (self.new.work ≡ self.old.work) × (self.new.tape ≡ self.old.tape) × (self.new.buffer ≡ self.old.buffer)
+            × (self.new.undo ≡ self.old.undo) }
+        ensures called { Called (one_put level) (calls_to K.put_count K.get_count K.free_count keepers.old.items)
+            (calls_to K.put_count K.get_count K.free_count keepers.new.items) }
         ensures remain { Remain K.slot_count K.fault_count keepers.old.items keepers.new.items }
         ensures keepers { OthersRemain level keepers.old.items keepers.new.items }
         ensures caused { IsCaused K.fault_count keepers.old.items keepers.new.items result }
         ensures fault { IfErr result (IsKeeping level) }
+        ensures short { (most : ℕ) → vec_len self.old.buffer ≤ most → AreShort most self.old.store → AreShort most self.new.store }
+        ensures roomy { (most : ℕ) → IsRoomy most (rooms_by K.room_bytes keepers.old.items level) → vec_len self.old.buffer ≤ most →
+            result ≢ Err RunFault.Memory }
+        ensures rooms { SameRooms (rooms_by K.room_bytes keepers.old.items) (rooms_by K.room_bytes keepers.new.items) }
     {
         let keeper = &mut keepers[level as usize];
         match self.store.keep(keeper, level, n, self.buffer.as_slice()) {
@@ -236,14 +247,22 @@ impl Workspace {
         requires held { IsSome (kept_at self.old.store level n) }
         requires slots { (level_of self.old.store level).room ≤ by_number 0 K.slot_count keepers.old.items level }
         ensures fetched { OnOk result (IsFetched (levels_in self.old (told_by K.told keepers.old.items)) level n self.new.buffer.items) }
-        ensures damaged { (k : ℕ) (put got : List ℕ) → result ≡ Err (RunFault.Damaged k put got) → (k ≡ level) × IsOther (levels_in self.old (told_by K.told keepers.old.items)) level n put got }
-        ensures sound { (images : Images) → LevelStands (level_of self.old.store level) (told_by K.told keepers.old.items level) images → IfErr result (IsKeeping level) }
+        ensures damaged { (k : ℕ) (put got : List ℕ) → result ≡ Err (RunFault.Damaged k put got) →
+            (k ≡ level) × IsOther (levels_in self.old (told_by K.told keepers.old.items)) level n put got }
+        ensures sound { (images : Images) → LevelStands (level_of self.old.store level) (told_by K.told keepers.old.items level) images →
+            IfErr result (IsKeeping level) }
         ensures fault { IfErr result (IsFetching level) }
+        ensures few { (most : ℕ) → AreShort most self.old.store → OnOk result (vec_len self.new.buffer ≤ most) }
+        ensures roomy { (most : ℕ) → IsRoomy most (rooms_by K.room_bytes keepers.old.items level) → AreShort most self.old.store →
+            most ≤ vec_capacity self.old.buffer → result ≢ Err RunFault.Memory }
+        ensures rooms { SameRooms (rooms_by K.room_bytes keepers.old.items) (rooms_by K.room_bytes keepers.new.items) }
         ensures same { (j : ℕ) → IsAsBefore (levels_in self.old (told_by K.told keepers.old.items)) (levels_in self.new (told_by K.told keepers.new.items)) j }
         ensures short { OnOk result (vec_len self.new.buffer < 2 ^ 32) }
         ensures reserved { vec_capacity self.old.buffer ≤ vec_capacity self.new.buffer }
-        ensures states { (self.new.work ≡ self.old.work) × (self.new.tape ≡ self.old.tape) × (self.new.store ≡ self.old.store) × (self.new.undo ≡ self.old.undo) }
-        ensures called { Called (one_get level) (calls_to K.put_count K.get_count K.free_count keepers.old.items) (calls_to K.put_count K.get_count K.free_count keepers.new.items) }
+        ensures states { (self.new.work ≡ self.old.work) × (self.new.tape ≡ self.old.tape) × (self.new.store ≡ self.old.store)
+            × (self.new.undo ≡ self.old.undo) }
+        ensures called { Called (one_get level) (calls_to K.put_count K.get_count K.free_count keepers.old.items)
+            (calls_to K.put_count K.get_count K.free_count keepers.new.items) }
         ensures remain { Remain K.slot_count K.fault_count keepers.old.items keepers.new.items }
         ensures keepers { OthersRemain level keepers.old.items keepers.new.items }
         ensures caused { IsCaused K.fault_count keepers.old.items keepers.new.items result }
@@ -266,16 +285,24 @@ impl Workspace {
         requires level { level < length self.old.store }
         requires held { IsSome (kept_at self.old.store level n) }
         requires slots { (level_of self.old.store level).room ≤ by_number 0 K.slot_count keepers.old.items level }
-        ensures releases { OnOk result (Releases (levels_in self.old (told_by K.told keepers.old.items)) (levels_in self.new (told_by K.told keepers.new.items)) level n) }
-        ensures left { OnErr result ((kept : Kept) → kept_at self.old.store level n ≡ Some kept → IsNotFreed kept (told_by K.told keepers.old.items level) (told_by K.told keepers.new.items level)) }
-        ensures others { (j : ℕ) → j ≢ level → IsAsBefore (levels_in self.old (told_by K.told keepers.old.items)) (levels_in self.new (told_by K.told keepers.new.items)) j }
+        ensures releases { OnOk result (Releases (levels_in self.old (told_by K.told keepers.old.items))
+            (levels_in self.new (told_by K.told keepers.new.items)) level n) }
+        ensures left { OnErr result ((kept : Kept) → kept_at self.old.store level n ≡ Some kept →
+            IsNotFreed kept (told_by K.told keepers.old.items level) (told_by K.told keepers.new.items level)) }
+        ensures others { (j : ℕ) → j ≢ level →
+            IsAsBefore (levels_in self.old (told_by K.told keepers.old.items)) (levels_in self.new (told_by K.told keepers.new.items)) j }
         ensures count { length self.new.store ≡ length self.old.store }
-        ensures states { (self.new.work ≡ self.old.work) × (self.new.tape ≡ self.old.tape) × (self.new.buffer ≡ self.old.buffer) × (self.new.undo ≡ self.old.undo) }
-        ensures called { Called (one_free level) (calls_to K.put_count K.get_count K.free_count keepers.old.items) (calls_to K.put_count K.get_count K.free_count keepers.new.items) }
+        ensures states { (self.new.work ≡ self.old.work) × (self.new.tape ≡ self.old.tape) × (self.new.buffer ≡ self.old.buffer)
+            × (self.new.undo ≡ self.old.undo) }
+        ensures called { Called (one_free level) (calls_to K.put_count K.get_count K.free_count keepers.old.items)
+            (calls_to K.put_count K.get_count K.free_count keepers.new.items) }
         ensures remain { Remain K.slot_count K.fault_count keepers.old.items keepers.new.items }
         ensures keepers { OthersRemain level keepers.old.items keepers.new.items }
         ensures caused { IsCaused K.fault_count keepers.old.items keepers.new.items result }
         ensures fault { IfErr result (IsKeeping level) }
+        ensures short { (most : ℕ) → AreShort most self.old.store → AreShort most self.new.store }
+        ensures roomy { (most : ℕ) → IsRoomy most (rooms_by K.room_bytes keepers.old.items level) → result ≢ Err RunFault.Memory }
+        ensures rooms { SameRooms (rooms_by K.room_bytes keepers.old.items) (rooms_by K.room_bytes keepers.new.items) }
     {
         let keeper = &mut keepers[level as usize];
         match self.store.release(keeper, level, n) {

@@ -20,9 +20,11 @@ pub record AreTheRules (level : ℕ → ℕ) (first : Bool) (b l c p : ℕ) : Ty
   pub fresh_one : l ≡ 1 → fresh l level first b l c p ≡ one_step first b
   pub held_one : l ≡ 1 → held l level b l c p ≡ Move b (level p) Work ∷ one_step false b
   pub fresh_more : 2 ≤ l →
-      fresh l level first b l c p ≡ Forward b (b + split l c) (Store (level p)) ∷ (fresh (l - split l c) level first (b + split l c) (l - split l c) (c - 1) (p + 1) ++ held (split l c) level b (split l c) c p)
+      fresh l level first b l c p ≡ Forward b (b + split l c)
+      (Store (level p)) ∷ (fresh (l - split l c) level first (b + split l c) (l - split l c) (c - 1) (p + 1) ++ held (split l c) level b (split l c) c p)
   pub held_more : 2 ≤ l →
-      held l level b l c p ≡ Copy b (level p) Work ∷ Forward b (b + split l c) Nothing ∷ (fresh (l - split l c) level false (b + split l c) (l - split l c) (c - 1) (p + 1) ++ held (split l c) level b (split l c) c p)
+      held l level b l c p ≡ Copy b (level p) Work ∷ Forward b (b + split l c)
+      Nothing ∷ (fresh (l - split l c) level false (b + split l c) (l - split l c) (c - 1) (p + 1) ++ held (split l c) level b (split l c) c p)
 
 abbrev pub WrittenByRules : ℕ → ℕ → Type 0
 WrittenByRules l c = IsStretch l c → (level : ℕ → ℕ) (first : Bool) (b p : ℕ) → AreTheRules level first b l c p

@@ -1,6 +1,7 @@
 -- No public clause cites this file. What is still to be written, by the phase of the current stretch and the stack of held
 -- stretches: the list `owed`, as which the stream of a stretch is seen.
 use Rattle.std.specs.Prelude.{ℕ, suc, ◌+◌, ◌-◌, ◌<◌, ◌≤◌, false, List, [], ◌∷◌, ◌++◌, length}
+use Rattle.plan_types.specs.declared.limits.TheConstants.{MOST_SLOTS, MOST_STEPS}
 use Rattle.plan_types.specs.declared.action.Keep.TheVariants.{Nothing}
 use Rattle.plan_types.specs.declared.action.Action.{Action}
 use Rattle.plan_types.specs.declared.action.Action.TheVariants.{Forward, Reverse, EndForward}
@@ -31,7 +32,7 @@ owed level room phase stack = owed_by level room (length stack) phase (owed_held
 -- a stretch that can be reversed with so many slots, below the greatest number of steps
 pub record IsWithin (start steps slots : ℕ) : Type 0 where
   pub stretch : IsStretch steps slots
-  pub within : start + steps ≤ 1000000
+  pub within : start + steps ≤ MOST_STEPS
 
 -- the held stretches can be reversed with the slots from their places on
 abbrev pub AreStretches : ℕ → ℕ → List Stretch → Type 0
@@ -43,13 +44,13 @@ abbrev pub IsPhase : ℕ → ℕ → Phase → Type 0
 IsPhase room p Empty = Unit {0}
 IsPhase room p (Fresh start steps first) = IsWithin start steps (room - p)
 IsPhase room p (Ahead start split end) = (start < split) × (split < end) × IsWithin split (end - split) (room - p)
-IsPhase room p (Last start) = start < 1000000
-IsPhase room p (Taped start) = start < 1000000
+IsPhase room p (Last start) = start < MOST_STEPS
+IsPhase room p (Taped start) = start < MOST_STEPS
 IsPhase room p Back = Unit {0}
 
 -- there is a place for each held stretch, and each stretch can be reversed with the slots that are left for it
 pub record IsOwing (room : ℕ) (phase : Phase) (stack : List Stretch) : Type 0 where
   pub few : length stack ≤ room
-  pub small : room ≤ 1000000
+  pub small : room ≤ MOST_SLOTS
   pub stretches : AreStretches room 0 stack
   pub next : IsPhase room (length stack) phase

@@ -22,13 +22,15 @@ unfoldable mutual
   fresh zero level first b l c p = one_step first b
   fresh (suc more) level first b l c p =
       cond (nat_le l 1) (one_step first b)
-      (Forward b (b + split l c) (Store (level p)) ∷ (fresh more level first (b + split l c) (l - split l c) (c - 1) (p + 1) ++ held more level b (split l c) c p))
+      (Forward b (b + split l c) (Store (level p)) ∷ (fresh more level first (b + split l c) (l - split l c) (c - 1) (p + 1)
+      ++ held more level b (split l c) c p))
 
   pub held : ℕ → (ℕ → ℕ) → ℕ → ℕ → ℕ → ℕ → List Action
   held zero level b l c p = Move b (level p) Work ∷ one_step false b
   held (suc more) level b l c p =
       cond (nat_le l 1) (Move b (level p) Work ∷ one_step false b)
-      (Copy b (level p) Work ∷ Forward b (b + split l c) Nothing ∷ (fresh more level false (b + split l c) (l - split l c) (c - 1) (p + 1) ++ held more level b (split l c) c p))
+      (Copy b (level p) Work ∷ Forward b (b + split l c) Nothing ∷ (fresh more level false (b + split l c) (l - split l c) (c - 1) (p + 1)
+      ++ held more level b (split l c) c p))
 
 -- the list for so many steps with c slots; `level` says on which level the image at each place of the stack stands
 abbrev pub revolve : (ℕ → ℕ) → ℕ → ℕ → List Action

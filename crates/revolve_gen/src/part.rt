@@ -1,5 +1,6 @@
 // The written actions of one stretch, one at a time.
 ghost use Rattle.std.specs.Prelude.{◌≡◌, ◌+◌, ◌≤◌, [], ◌∷◌, MatchOption, vec_capacity};
+ghost use Rattle.plan_types.specs.declared.limits.TheConstants.{MOST_SLOTS, MOST_STEPS};
 ghost use Rattle.level_book.specs.declared.book.Slots.TheVariants.{Unlimited};
 ghost use Rattle.level_book.specs.BookCosts.{slots_of};
 ghost use Rattle.revolve_gen.specs.Places.{level_at};
@@ -39,7 +40,7 @@ impl Model for StretchStream {
 impl StretchStream {
     /// A stream of no stretch, with so many slots of a book's levels, and a stack in a room that was reserved for it.
     pub fn over(book: &Book, slots: u32, mut room: Vec<Stretch>) -> StretchStream
-        requires small { slots ≤ 1000000 }
+        requires small { slots ≤ MOST_SLOTS }
         requires reserved { slots ≤ vec_capacity room }
         ensures { result ≡ record { levels = slots_of book.now; slots = slots; actions = [] } }
     {
@@ -54,7 +55,7 @@ impl StretchStream {
 
     /// The same with all slots on the fastest level.
     pub fn on_fastest(slots: u32, mut room: Vec<Stretch>) -> StretchStream
-        requires small { slots ≤ 1000000 }
+        requires small { slots ≤ MOST_SLOTS }
         requires reserved { slots ≤ vec_capacity room }
         ensures { result ≡ record { levels = Unlimited ∷ []; slots = slots; actions = [] } }
     {
@@ -70,7 +71,7 @@ impl StretchStream {
     /// Begins a stretch, and drops what was still to come of another. It takes no memory.
     pub fn begin(&mut self, start: u32, steps: u32, first: bool)
         requires plan { HasPlan steps self.old.slots }
-        requires short { start + steps ≤ 1000000 }
+        requires short { start + steps ≤ MOST_STEPS }
         ensures { self.new ≡ record self.old { actions = stretch (level_at self.old.levels) first start steps self.old.slots } }
     {
         self.stack.clear();

@@ -1,5 +1,6 @@
 // One action, and what is to be written after it.
 ghost use Rattle.std.specs.Prelude.{◌≡◌, ℕ, ◌+◌, ◌<◌, ◌≤◌, ◌-◌, [], ◌∷◌, ◌++◌, length, vec_capacity, MatchOption, IfSome};
+ghost use Rattle.plan_types.specs.declared.limits.TheConstants.{MOST_SLOTS, MOST_STEPS};
 ghost use Rattle.binomials.specs.Advances.{split};
 ghost use Rattle.binomials.specs.Laws.{IsSplit};
 ghost use Rattle.revolve_gen.specs.Places.{level_at};
@@ -14,9 +15,9 @@ use plan_types::{Action, Dest, Keep};
 
 // What is to be written of a stretch, where nothing is held.
 pub(crate) fn first_phase(start: u32, steps: u32, first: bool) -> Phase
-    requires { start + steps ≤ 1000000 }
+    requires { start + steps ≤ MOST_STEPS }
     ensures written { (level : ℕ → ℕ) (room : ℕ) → owed level room result [] ≡ stretch level first start steps room }
-    ensures owing { (room : ℕ) → room ≤ 1000000 → HasPlan steps room → IsOwing room result [] }
+    ensures owing { (room : ℕ) → room ≤ MOST_SLOTS → HasPlan steps room → IsOwing room result [] }
 {
     if steps > 0 {
         return Phase::Fresh {
@@ -34,7 +35,7 @@ pub(crate) fn first_phase(start: u32, steps: u32, first: bool) -> Phase
 // Splits a stretch of two steps or more, and holds the part up to the split. It gives how many steps that part has.
 fn hold_front(room: u32, stack: &mut Vec<Stretch>, start: u32, steps: u32) -> u32
     requires some { 2 ≤ steps }
-    requires short { steps ≤ 1000000 }
+    requires short { steps ≤ MOST_STEPS }
     requires place { length stack.old.items < room }
     requires reserved { room ≤ vec_capacity stack.old }
     ensures value { result ≡ split steps (room - length stack.old.items) }
@@ -61,7 +62,8 @@ pub(crate) fn fresh_action(
 ) -> (Action, Phase)
     requires owing { IsOwing room (Phase.Fresh start steps first) stack.old.items }
     requires reserved { room ≤ vec_capacity stack.old }
-    ensures written { owed (level_at places.now) room (Phase.Fresh start steps first) stack.old.items ≡ result.0 ∷ owed (level_at places.now) room result.1 stack.new.items }
+    ensures written { owed (level_at places.now) room (Phase.Fresh start steps first) stack.old.items ≡ result.0 ∷ owed (level_at places.now) room
+        result.1 stack.new.items }
     ensures owing { IsOwing room result.1 stack.new.items }
     ensures capacity { vec_capacity stack.new ≡ vec_capacity stack.old }
 {

@@ -1,5 +1,6 @@
 // The written list, one action at a time.
 ghost use Rattle.std.specs.Prelude.{◌≡◌, ◌≤◌, [], ◌∷◌, MatchOption, IfOk, IfErr, OnOk, vec_len, vec_capacity};
+ghost use Rattle.plan_types.specs.declared.limits.TheConstants.{MOST_STEPS};
 ghost use Rattle.level_book.specs.BookCosts.{total_room};
 ghost use Rattle.revolve_gen.specs.Written.{revolve_list};
 ghost use Rattle.revolve_gen.specs.Plans.{HasPlan, IsFault};
@@ -34,7 +35,7 @@ impl Revolve {
     /// The list for so many steps, with a stack in a room that was reserved for it. It takes no memory.
     #[tactic(auto, using(crate::proofs::Owing::whole_stretch))]
     pub fn over(steps: u32, book: &Book, room: Vec<Stretch>) -> Revolve
-        requires short { steps ≤ 1000000 }
+        requires short { steps ≤ MOST_STEPS }
         requires plan { HasPlan steps (total_room book.now steps) }
         requires empty { vec_len room ≡ 0 }
         requires reserved { total_room book.now steps ≤ vec_capacity room }
@@ -50,7 +51,7 @@ impl Revolve {
 
     /// The list for so many steps, with a stack that has room for an entry for each slot.
     pub fn new(alloc: Global, steps: u32, book: &Book) -> Result<Revolve, GenFault>
-        requires { steps ≤ 1000000 }
+        requires { steps ≤ MOST_STEPS }
         ensures list { IfOk result (λ r. r ≡ revolve_list steps book.now) }
         ensures plan { OnOk result (HasPlan steps (total_room book.now steps)) }
         ensures refused { IfErr result (IsFault steps (total_room book.now steps)) }
@@ -82,7 +83,7 @@ impl Revolve {
 
 /// The whole list.
 pub fn revolve_list(alloc: Global, steps: u32, book: &Book) -> Result<Vec<Action>, GenFault>
-    requires { steps ≤ 1000000 }
+    requires { steps ≤ MOST_STEPS }
     ensures list { IfOk result (λ list. list.items ≡ revolve_list steps book.now) }
     ensures plan { OnOk result (HasPlan steps (total_room book.now steps)) }
     ensures refused { IfErr result (IsFault steps (total_room book.now steps)) }

@@ -24,7 +24,8 @@ pub record IsDivision (dividend divisor quotient remainder : ℤ) : Type 0 where
 
 -- Quotients and remainders are those of a division, but for two cases: by zero, and 80000000 by ffffffff with signs.
 pub record AreQuotients (a b : ℕ) : Type 0 where
-  pub with_signs : b ≢ 0 → ((a ≡ 0x80000000) × (b ≡ 0xFFFFFFFF) → ⊥) → IsDivision (signed a) (signed b) (signed (quotient_signed a b)) (signed (remainder_signed a b))
+  pub with_signs : b ≢ 0 → ((a ≡ 0x80000000) × (b ≡ 0xFFFFFFFF) → ⊥) →
+      IsDivision (signed a) (signed b) (signed (quotient_signed a b)) (signed (remainder_signed a b))
   pub without_signs : b ≢ 0 → IsDivision (pos a) (pos b) (pos (quotient_unsigned a b)) (pos (remainder_unsigned a b))
   pub by_zero : b ≡ 0 → (quotient_signed a b ≡ 0xFFFFFFFF) × (remainder_signed a b ≡ a) × (quotient_unsigned a b ≡ 0xFFFFFFFF) × (remainder_unsigned a b ≡ a)
   pub too_large : a ≡ 0x80000000 → b ≡ 0xFFFFFFFF → (quotient_signed a b ≡ 0x80000000) × (remainder_signed a b ≡ 0)

@@ -10,7 +10,8 @@ use Rattle.rv_machine.specs.MachineState.{MachineState}
 abbrev pub state_code : Coded MachineState
 state_code =
     code_by (ℕ × (List ℕ × (Status × (ℕ × (ℕ × (ℕ × Memory))))))
-    (coded× coded_ℕ (coded× (coded_list coded_ℕ) (coded× status.the_row.coded (coded× coded_ℕ (coded× coded_ℕ (coded× coded_ℕ (finmap.code coded_ℕ coded_ℕ)))))))
+    (coded× coded_ℕ (coded× (coded_list coded_ℕ)
+    (coded× status.the_row.coded (coded× coded_ℕ (coded× coded_ℕ (coded× coded_ℕ (finmap.code coded_ℕ coded_ℕ)))))))
     (λ s. (s.pc, (s.registers, (s.status, (s.item, (s.offset, (s.written, s.memory)))))))
     (λ p. record { pc = p.0; registers = p.1.0; status = p.1.1.0; item = p.1.1.1.0; offset = p.1.1.1.1.0; written = p.1.1.1.1.1.0; memory = p.1.1.1.1.1.1 })
     (λ _. refl)

@@ -28,7 +28,10 @@ loaded s rd width with_sign (Some n) = put s rd (cond with_sign (sign_extended (
 
 -- a store of the lowest bytes of a value. Trap 7: one of them is not mapped
 abbrev pub stored : MachineState → ℕ → Width → ℕ → MachineState
-stored s at width value = cond (is_some (number_at s.memory at (bytes_of width))) (record s { pc = wrapped (s.pc + 4); memory = with_number s.memory at (bytes_of width) value }) (trapped s 7)
+stored s at width value = cond (is_some (number_at s.memory at (bytes_of width))) (record s {
+  pc = wrapped (s.pc + 4);
+  memory = with_number s.memory at (bytes_of width) value;
+}) (trapped s 7)
 
 -- What an effect does, with the recorded input. A branch that is taken is a jump that leaves nothing. Trap 3: EBREAK.
 abbrev pub happened : MachineState → List (List ℕ) → Effect → MachineState

@@ -41,7 +41,8 @@ read_from s (Some item) = if are_mapped s.memory (argument s 1) (length (bytes_r
 
 -- write (64): the a2 bytes at a1 are counted, modulo 2 ^ 64, and kept nowhere
 abbrev pub sent : MachineState → MachineState
-sent s = if are_mapped s.memory (argument s 1) (argument s 2) then put (record s { written = (s.written + argument s 2) % 2 ^ 64 }) 10 (argument s 2) else put s 10 not_mapped
+sent s = if are_mapped s.memory (argument s 1) (argument s 2) then put (record s { written = (s.written + argument s 2) % 2 ^ 64 }) 10
+    (argument s 2) else put s 10 not_mapped
 
 -- exit (93) and exit_group (94): the code is the lowest byte of a0, and pc stays
 abbrev pub exited : MachineState → MachineState
@@ -57,7 +58,8 @@ called s journal =
 -- the addresses that a call writes: those of the bytes of a read that stores them
 abbrev pub written_by_read : MachineState → Option (List ℕ) → List ℕ
 written_by_read s None = []
-written_by_read s (Some item) = if are_mapped s.memory (argument s 1) (length (bytes_read s item)) then addresses (argument s 1) (length (bytes_read s item)) else []
+written_by_read s (Some item) = if are_mapped s.memory (argument s 1) (length (bytes_read s item)) then addresses (argument s 1)
+    (length (bytes_read s item)) else []
 
 abbrev pub written_by_call : MachineState → List (List ℕ) → List ℕ
 written_by_call s journal = if argument s 7 == 63 then written_by_read s (slice_get journal s.item) else []

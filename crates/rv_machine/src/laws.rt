@@ -21,7 +21,8 @@ pub fn quotients_leave_remainders()
 
 /// From a state that a machine can be in, steps with recorded input lead to such states only.
 pub fn runs_stay_in_machine_states()
-    ensures { (first : MachineState) (journal : List (List ℕ)) (n : ℕ) → IsMachineState first → IsRecorded journal → IsMachineState (state_number first journal n) }
+    ensures { (first : MachineState) (journal : List (List ℕ)) (n : ℕ) → IsMachineState first → IsRecorded journal →
+        IsMachineState (state_number first journal n) }
 {}
 
 /// A step changes one register and the bytes at the addresses that it writes, all of which are mapped, and no others. It

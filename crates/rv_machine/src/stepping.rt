@@ -5,6 +5,7 @@ ghost use Rattle.rv_pages.specs.Memory.{number_at, page_numbers};
 ghost use Rattle.rv_decode.specs.Rows.{decoded};
 ghost use Rattle.rv_machine.specs.Effects.{bytes_of, NamesRegister};
 ghost use Rattle.rv_machine.specs.StateChanges.{addresses};
+ghost use Rattle.rv_machine.specs.States.{state_number};
 ghost use Rattle.rv_machine.specs.StepTable.{next, said, effect_at_pc, register_of, register_changed, written_by, written};
 
 use crate::calls::{ANSWER, part_written};
@@ -27,13 +28,42 @@ const ILLEGAL: u8 = 2;
 
 /// Takes one step, with the recorded input. It takes no memory. A stopped state stays as it is, and the step counts all
 /// the same.
-#[inline(always)]
 pub fn step<L: Ledger>(state: &mut State, journal: &Journal, steps: &mut Steps<L>)
     ensures next { state.new ≡ next state.old journal.now }
     ensures counted { steps.new ≡ steps.old + 1 }
     ensures mapped { page_numbers state.new.memory ≡ page_numbers state.old.memory }
 {
-    steps.tick();
+    advance(state, journal, 1, steps);
+}
+
+/// Takes so many steps, as `step` takes one.
+pub fn advance<L: Ledger>(state: &mut State, journal: &Journal, count: u32, steps: &mut Steps<L>)
+    ensures states { state.new ≡ state_number state.old journal.now count }
+    ensures counted { steps.new ≡ steps.old + count }
+    ensures mapped { page_numbers state.new.memory ≡ page_numbers state.old.memory }
+{
+    steps.add(count);
+    go_on(state, journal, count);
+}
+
+// Goes so many states on. All steps of a program are taken in this loop alone: a compiler puts what a step does in place
+// only where one call of it stands in the whole program, and a call at each step costs a tenth of it.
+#[inline(never)]
+fn go_on(state: &mut State, journal: &Journal, count: u32)
+    ensures states { state.new ≡ state_number state.old journal.now count }
+    ensures mapped { page_numbers state.new.memory ≡ page_numbers state.old.memory }
+{
+    for _ in 0..count {
+        go_to_next(state, journal);
+    }
+}
+
+// Makes a state the next one.
+#[inline(always)]
+fn go_to_next(state: &mut State, journal: &Journal)
+    ensures next { state.new ≡ next state.old journal.now }
+    ensures mapped { page_numbers state.new.memory ≡ page_numbers state.old.memory }
+{
     if let Status::Running = state.status {
         match state.pages.load32(state.pc) {
             Some(word) => execute(state, journal, word),
@@ -99,7 +129,8 @@ fn changes_by(state: &State, journal: &Journal, effect: Effect) -> Changes
 
 // Where a store writes, and how many bytes, if it does not trap.
 fn part_stored(state: &State, at: u32, width: Width) -> Option<(u32, u32)>
-    ensures { cond (is_some (number_at state.now.memory at (bytes_of width))) (addresses at (bytes_of width)) [] ≡ option_map_or (λ part. addresses part.0 part.1) result [] }
+    ensures { cond (is_some (number_at state.now.memory at (bytes_of width))) (addresses at (bytes_of width)) [] ≡ option_map_or
+        (λ part. addresses part.0 part.1) result [] }
 {
     let count = match width {
         Byte => 1,

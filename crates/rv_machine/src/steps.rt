@@ -4,7 +4,7 @@ ghost use Rattle.std.specs.Prelude.{◌≡◌, ◌+◌, ◌<◌};
 use std::marker::Model;
 use std::sync::ledger::{Blank, Book, Ledger, Share};
 
-/// How many steps were taken. It takes no memory, and only `step` changes it.
+/// How many steps were taken. It takes no memory, and only `step` and `advance` change it.
 #[derive(Drop)]
 pub struct Steps<L: Ledger> {
     book: Book<L>,
@@ -33,9 +33,9 @@ impl<L: Ledger> Steps<L> {
         Steps { book, share }
     }
 
-    pub(crate) fn tick(&mut self)
-        ensures { self.new ≡ self.old + 1 }
+    pub(crate) fn add(&mut self, count: u32)
+        ensures { self.new ≡ self.old + count }
     {
-        self.book.add(&mut self.share, 1);
+        self.book.add(&mut self.share, count as u64);
     }
 }

@@ -76,7 +76,8 @@ IsPlaceOf numbers number place =
 
 -- all mapped pages but the one at this index have the bytes that they had
 abbrev pub KeepsPagesBut : ℕ → Memory → Memory → Type 0
-KeepsPagesBut index old new = (k : ℕ) → k < length (page_numbers old) → k ≢ index → page_bytes new (slice_index (page_numbers old) k) ≡ page_bytes old (slice_index (page_numbers old) k)
+KeepsPagesBut index old new = (k : ℕ) → k < length (page_numbers old) → k ≢ index →
+    page_bytes new (slice_index (page_numbers old) k) ≡ page_bytes old (slice_index (page_numbers old) k)
 
 -- a page that has no byte other than 0
 abbrev pub IsZeroPage : Memory → ℕ → Type 0

@@ -18,4 +18,5 @@ pub record AreTables (tops lows : List ℕ) : Type 0 where
 -- nothing is cut.
 pub record Finds (tops lows numbers : List ℕ) : Type 0 where
   pub each : (k : ℕ) → k < length numbers → entry_of tops lows (slice_index numbers k) ≡ k + 1
-  pub only : (number : ℕ) → 0 < entry_of tops lows number → (entry_of tops lows number ≤ length numbers) × (slice_index numbers (entry_of tops lows number - 1) ≡ number)
+  pub only : (number : ℕ) → 0 < entry_of tops lows number →
+      (entry_of tops lows number ≤ length numbers) × (slice_index numbers (entry_of tops lows number - 1) ≡ number)

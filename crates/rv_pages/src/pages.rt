@@ -336,7 +336,8 @@ impl Pages {
         requires index { index < length (page_numbers self.old) }
         requires whole { length bytes.now ≡ 4096 }
         ensures pages { page_numbers self.new ≡ page_numbers self.old }
-        ensures bytes { (at : ℕ) → finmap.get self.new at ≡ (if at / 4096 == slice_index (page_numbers self.old) index then Some (slice_index bytes.now (at % 4096)) else finmap.get self.old at) }
+        ensures bytes { (at : ℕ) → finmap.get self.new at
+            ≡ (if at / 4096 == slice_index (page_numbers self.old) index then Some (slice_index bytes.now (at % 4096)) else finmap.get self.old at) }
         ensures page { page_bytes self.new (slice_index (page_numbers self.old) index) ≡ bytes.now }
         ensures others { KeepsPagesBut index self.old self.new }
     {
@@ -362,7 +363,8 @@ impl Pages {
     pub fn next_touched(&self, from: u32) -> Option<u32>
         ensures index { IfSome result (λ index. (from ≤ index) × (index < length (page_numbers self.now))) }
         ensures few { IfSome result (λ index. index < 4096) }
-        ensures zero { (k : ℕ) → from ≤ k → k < unwrap_or result (length (page_numbers self.now)) → IsZeroPage self.now (slice_index (page_numbers self.now) k) }
+        ensures zero { (k : ℕ) → from ≤ k → k < unwrap_or result (length (page_numbers self.now)) →
+            IsZeroPage self.now (slice_index (page_numbers self.now) k) }
     {
         match self.written.next(from as usize) {
             Some(index) => Some(index as u32),

@@ -47,7 +47,8 @@ impl Tables {
         ensures tables { OnOk result (AreTables self.new.tops.items self.new.lows.items) }
         ensures size { OnOk result (vec_len self.new.lows ≤ vec_len self.old.lows + 1024) }
         ensures entered { OnOk result (entry_of self.new.tops.items self.new.lows.items number ≡ entry) }
-        ensures others { OnOk result ((q : ℕ) → q ≢ number → entry_of self.new.tops.items self.new.lows.items q ≡ entry_of self.old.tops.items self.old.lows.items q) }
+        ensures others { OnOk result ((q : ℕ) → q ≢ number →
+            entry_of self.new.tops.items self.new.lows.items q ≡ entry_of self.old.tops.items self.old.lows.items q) }
     {
         let top = (number / TEN_BITS) as usize;
         if self.tops[top] == 0 {

@@ -1,6 +1,7 @@
 -- How a configuration is kept: the fields of `Config` as what they stand for, and what holds of them.
 use Rattle.std.specs.Prelude.{◌≤◌}
 use Rattle.std.specs.List.{AllByRecursion}
+use Rattle.plan_types.specs.declared.limits.TheConstants.{MOST_STEPS}
 use Rattle.schedule_rules.specs.declared.config.Config.TheInside.{Inside}
 use Rattle.schedule_rules.specs.HasBits.{HasBits}
 use Rattle.schedule_rules.specs.Levels.{slots_kept, images_kept}
@@ -24,7 +25,7 @@ situation_of c = record {
 -- There are no more steps than a schedule may have, each level has a bit for each state, and some list of actions leads
 -- to the configuration.
 pub record IsKept (c : Inside) : Type 0 where
-  pub most : c.steps ≤ 1000000
+  pub most : c.steps ≤ MOST_STEPS
   pub within : c.reverse ≤ c.steps
   pub bits : AllByRecursion (HasBits c.steps) c.levels.items
   pub reached : ∥ IsReached c.steps (situation_of c).slots (situation_of c).at ∥₁

@@ -6,6 +6,7 @@ ghost use Rattle.level_book.specs.Configuration.{start, held_on};
 ghost use Rattle.level_book.specs.Moves.{Goes};
 ghost use Rattle.level_book.specs.Rules.{rule, is_full, target};
 ghost use Rattle.std.specs.List.{AllByRecursion};
+ghost use Rattle.plan_types.specs.declared.limits.TheConstants.{MOST_STEPS};
 ghost use Rattle.schedule_rules.specs.Levels.{slots_kept, images_kept, HasBit};
 ghost use Rattle.schedule_rules.specs.Reached.{IsReached, IsSound};
 ghost use Rattle.schedule_rules.specs.Verdicts.{refusal};
@@ -60,7 +61,7 @@ impl Model for Config {
 impl Config {
     /// The start, for a number of steps and a book.
     pub fn new(alloc: Global, steps: u32, book: &Book) -> Result<Config, AllocError>
-        requires { steps ≤ 1000000 }
+        requires { steps ≤ MOST_STEPS }
         ensures { IfOk result (λ config. config ≡ record { steps = steps; slots = slots_of book.now; at = start steps (slots_of book.now) }) }
     {
         Ok(Config {
@@ -373,7 +374,8 @@ fn hold(levels: &mut Vec<LevelHeld>, n: u32, level: u8)
     requires room { AllByRecursion (HasBit n) levels.old.items }
     requires new { set.contains (slice_index_or (images_kept levels.old.items) level set.empty) n ≡ false }
     ensures slots { slots_kept levels.new.items ≡ slots_kept levels.old.items }
-    ensures held { images_kept levels.new.items ≡ slice_set (images_kept levels.old.items) level (set.insert (slice_index_or (images_kept levels.old.items) level set.empty) n) }
+    ensures held { images_kept levels.new.items ≡ slice_set (images_kept levels.old.items) level
+        (set.insert (slice_index_or (images_kept levels.old.items) level set.empty) n) }
     ensures bits { (steps : ℕ) → AllByRecursion (HasBits steps) levels.old.items → AllByRecursion (HasBits steps) levels.new.items }
 {
     levels[level as usize].images.insert(n);
@@ -385,7 +387,8 @@ fn release(levels: &mut Vec<LevelHeld>, n: u32, level: u8)
     requires level { level < vec_len levels.old }
     requires there { set.contains (slice_index_or (images_kept levels.old.items) level set.empty) n ≡ true }
     ensures slots { slots_kept levels.new.items ≡ slots_kept levels.old.items }
-    ensures held { images_kept levels.new.items ≡ slice_set (images_kept levels.old.items) level (set.remove (slice_index_or (images_kept levels.old.items) level set.empty) n) }
+    ensures held { images_kept levels.new.items ≡ slice_set (images_kept levels.old.items) level
+        (set.remove (slice_index_or (images_kept levels.old.items) level set.empty) n) }
     ensures bits { (steps : ℕ) → AllByRecursion (HasBits steps) levels.old.items → AllByRecursion (HasBits steps) levels.new.items }
 {
     levels[level as usize].images.remove(n);
@@ -393,7 +396,7 @@ fn release(levels: &mut Vec<LevelHeld>, n: u32, level: u8)
 
 // The levels of a book, each with room for the positions up to `steps`, and without images.
 fn empty_levels(alloc: Global, steps: u32, book: &Book) -> Result<Vec<LevelHeld>, AllocError>
-    requires { steps ≤ 1000000 }
+    requires { steps ≤ MOST_STEPS }
     ensures slots { IfOk result (λ levels. slots_kept levels.items ≡ slots_of book.now) }
     ensures held { IfOk result (λ levels. images_kept levels.items ≡ map (λ _. set.empty) (slots_of book.now)) }
     ensures bits { IfOk result (λ levels. AllByRecursion (HasBits steps) levels.items) }

@@ -2,6 +2,7 @@
 ghost use Rattle.std.specs.Prelude.{◌≡◌, ◌+◌, ◌*◌, ◌/◌, ◌^◌, ◌<◌, ◌≤◌, true, false, IfOk, length};
 ghost use Rattle.std.specs.Vec.{vec_len};
 ghost use Rattle.std.specs.FinSet as set;
+ghost use Rattle.plan_types.specs.declared.limits.TheConstants.{MOST_STEPS};
 ghost use Rattle.schedule_rules.specs.Bits.{set_of};
 
 use std::alloc::{AllocError, Global};
@@ -18,7 +19,7 @@ pub struct Positions {
 impl Positions {
     /// The empty set, with room for the positions from 0 to `greatest`.
     pub fn new(alloc: Global, greatest: u32) -> Result<Positions, AllocError>
-        requires { greatest ≤ 1000000 }
+        requires { greatest ≤ MOST_STEPS }
         ensures empty { IfOk result (λ p. set_of p.words.items ≡ set.empty) }
         ensures room { IfOk result (λ p. length p.words.items ≡ greatest / 64 + 1) }
     {

@@ -1,5 +1,6 @@
 // Whether a whole list is valid.
 ghost use Rattle.std.specs.Prelude.{◌≡◌, ◌≤◌, ℕ, length, IfOk};
+ghost use Rattle.plan_types.specs.declared.limits.TheConstants.{MOST_STEPS};
 ghost use Rattle.level_book.specs.BookCosts.{slots_of};
 ghost use Rattle.schedule_rules.specs.Judged.{Judges};
 
@@ -20,7 +21,7 @@ pub enum Verdict {
 
 /// Judges a list from the start, for a number of steps and a book. It takes memory for one bit a position and level.
 pub fn check(alloc: Global, list: &[Action], steps: u32, book: &Book) -> Result<Verdict, AllocError>
-    requires { steps ≤ 1000000 }
+    requires { steps ≤ MOST_STEPS }
     ensures { IfOk result (Judges steps (slots_of book.now) list.now) }
 {
     let mut config = Config::new(alloc, steps, book)?;

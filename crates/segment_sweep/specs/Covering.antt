@@ -1,5 +1,6 @@
 -- No public clause cites this file. It says what a worker gives for its segment, and what the word says that workers share.
 use Rattle.std.specs.Prelude.{◌≡◌, ℕ, ◌+◌, ◌*◌, min, ◌<◌, ◌≤◌, List, [], IfOk, Result, Option, Some, None}
+use Rattle.plan_types.specs.declared.limits.TheConstants.{MOST_STEPS}
 use Rattle.rv_pages.specs.Memory.{zeroed}
 use Rattle.rv_machine.specs.declared.status.Status.TheVariants.{Running}
 use Rattle.segment_sweep.specs.Found.{Quest, HasDigest, IsPlace}
@@ -25,7 +26,7 @@ pub record IsQuest (q : Quest) (m : MarkedRun) (journal : List (List ℕ)) (dige
   pub same_journal : q.journal ≡ journal
   pub same_digest : q.digest ≡ digest
   pub same_count : q.count ≡ m.count
-  pub few : q.count ≤ 1000000
+  pub few : q.count ≤ MOST_STEPS
 
 -- a quest for nothing, where a search has to name one before it has its own
 abbrev pub no_quest : Quest

@@ -1,11 +1,12 @@
 // The states with which segments begin.
 ghost use Rattle.std.specs.Prelude.{◌≡◌, ℕ, ◌+◌, ◌/◌, ◌<◌, ◌≤◌, IfOk, OnOk, length, slice_get, Some};
+ghost use Rattle.plan_types.specs.declared.limits.TheConstants.{MOST_STEPS};
 ghost use Rattle.rv_machine.specs.MachineState.{MachineState};
 ghost use Rattle.rv_machine.specs.States.{state_number};
 ghost use Rattle.segment_sweep.specs.MarkedRun.{StandFor, segment_width, last_start};
 
 use input_journal::Journal;
-use rv_machine::{State, Steps, step};
+use rv_machine::{State, Steps};
 use std::alloc::{AllocError, Global};
 use std::marker::Model;
 use std::sync::ledger::Ledger;
@@ -39,7 +40,7 @@ impl Marks {
         workers: u32,
         steps: &mut Steps<L>,
     ) -> Result<Marks, AllocError>
-        requires few { count ≤ 1000000 }
+        requires few { count ≤ MOST_STEPS }
         requires workers { (1 ≤ workers) × (workers ≤ 64) }
         ensures stand { IfOk result (λ m. StandFor start.now journal.now m) }
         ensures count { IfOk result (λ m. m.count ≡ count) }
@@ -96,12 +97,10 @@ impl Marks {
     }
 }
 
-// Takes so many steps.
+// Takes so many steps from a state of a run.
 fn advance<L: Ledger>(state: &mut State, journal: &Journal, count: u32, steps: &mut Steps<L>)
     ensures state { (s : MachineState) (n : ℕ) → state.old ≡ state_number s journal.now n → state.new ≡ state_number s journal.now (n + count) }
     ensures counted { steps.new ≡ steps.old + count }
 {
-    for _ in 0..count {
-        step(state, journal, steps);
-    }
+    rv_machine::advance(state, journal, count, steps);
 }

@@ -1,5 +1,6 @@
 // The search, by one worker for each segment.
 ghost use Rattle.std.specs.Prelude.{◌≡◌, ℕ, ◌*◌, ◌<◌, ◌≤◌, IfOk, length, slice_index_or};
+ghost use Rattle.plan_types.specs.declared.limits.TheConstants.{MOST_STEPS};
 ghost use Rattle.rv_machine.specs.MachineState.{MachineState};
 ghost use Rattle.segment_sweep.specs.Found.{Quest, Found};
 ghost use Rattle.segment_sweep.specs.MarkedRun.{StandFor};
@@ -78,8 +79,9 @@ pub fn find_digest<R: Threads + Sync, G: Gate + Sync>(
     gate: &G,
 ) -> Result<Option<u32>, AllocError>
     requires stand { (start : MachineState) × StandFor start journal.now marks.now }
-    requires few { marks.now.count ≤ 1000000 }
-    ensures { IfOk result (λ place. (start : MachineState) → StandFor start journal.now marks.now → Found (record { start = start; journal = journal.now; digest = digest.now; count = marks.now.count }) place) }
+    requires few { marks.now.count ≤ MOST_STEPS }
+    ensures { IfOk result (λ place. (start : MachineState) → StandFor start journal.now marks.now →
+        Found (record { start = start; journal = journal.now; digest = digest.now; count = marks.now.count }) place) }
 {
     search::<Brand, R, G>(rt, alloc, marks, journal, digest, gate)
 }

@@ -1,6 +1,7 @@
 // That two workers are at work at once, that a worker ends at a place behind its segment, and that every number of workers
 // gives the same answer.
 ghost use Rattle.std.specs.Prelude.{◌≡◌, ◌≤◌, ◌<◌, IfOk};
+ghost use Rattle.plan_types.specs.declared.limits.TheConstants.{MOST_STEPS};
 ghost use Rattle.segment_sweep.specs.MarkedRun.{StandFor};
 
 use super::*;
@@ -50,7 +51,7 @@ fn marked<L: Ledger>(
     workers: u32,
     blank: Blank,
 ) -> Result<Marks, AllocError>
-    requires few { count ≤ 1000000 }
+    requires few { count ≤ MOST_STEPS }
     requires workers { (1 ≤ workers) × (workers ≤ 64) }
     requires name { blank.name ≡ L.name }
     requires parts { blank.parts ≡ L.parts }
@@ -69,7 +70,7 @@ fn marks(
     count: u32,
     workers: u32,
 ) -> Result<Marks, AllocError>
-    requires few { count ≤ 1000000 }
+    requires few { count ≤ MOST_STEPS }
     requires workers { (1 ≤ workers) × (workers ≤ 64) }
     ensures stand { IfOk result (λ m. StandFor start.now journal.now m) }
     ensures count { IfOk result (λ m. m.count ≡ count) }

@@ -1,6 +1,7 @@
 // What one worker does, and the word that all of them share.
 ghost use Rattle.std.specs.Prelude.{◌≡◌, ◌+◌, ◌<◌, ◌≤◌, length};
 ghost use Rattle.std.specs.Bool.{Decides};
+ghost use Rattle.plan_types.specs.declared.limits.TheConstants.{MOST_STEPS};
 ghost use Rattle.sha2.specs.Sha256.{sha256};
 ghost use Rattle.rv_machine.specs.States.{state_number};
 ghost use Rattle.state_image.specs.Image.{image};
@@ -61,7 +62,7 @@ fn sweep<K: Sought, G: Gate, L: Ledger>(
     requires some { 0 < blank.parts }
     requires journal { journal.now ≡ K.quest.journal }
     requires digest { digest.now ≡ K.quest.digest }
-    requires within { (from ≤ to) × (to ≤ K.quest.count + 1) × (K.quest.count ≤ 1000000) }
+    requires within { (from ≤ to) × (to ≤ K.quest.count + 1) × (K.quest.count ≤ MOST_STEPS) }
     requires state { state ≡ state_number K.quest.start K.quest.journal from }
     ensures { Covers K.quest from to result }
 {

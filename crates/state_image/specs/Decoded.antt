@@ -43,7 +43,8 @@ AreMapped bytes pages = (k : ℕ) → k < page_count bytes → Contains pages (p
 -- the pages of the bytes are in the memory, and its other pages are zero
 pub record IsMemoryOf (bytes : List ℕ) (memory : Memory) : Type 0 where
   pub named : (k : ℕ) → k < page_count bytes → page_bytes memory (page_number bytes k) ≡ page_part bytes k
-  pub others : (i : ℕ) → i < length (page_numbers memory) → IsUnnamed bytes (slice_index (page_numbers memory) i) → IsZeroPage memory (slice_index (page_numbers memory) i)
+  pub others : (i : ℕ) → i < length (page_numbers memory) → IsUnnamed bytes (slice_index (page_numbers memory) i) →
+      IsZeroPage memory (slice_index (page_numbers memory) i)
 
 -- only pages of the bytes are marked, by their indices
 abbrev pub MarksNamed : List ℕ → List ℕ → List Bool → Type 0

@@ -19,13 +19,15 @@ use rv_pages::{PAGE, Pages};
 /// mapped already, and of these only those of the image and those that were written are touched.
 pub fn decode_image(bytes: &[u8], state: &mut State) -> Result<(), ImageFault>
     ensures not_image { (at : ℕ) → (result ≡ Err (ImageFault.NotImage at)) ↔ (first_wrong bytes.now ≡ Some at) }
-    ensures other_pages { (page : ℕ) → (result ≡ Err (ImageFault.OtherPages page)) ↔ ((first_wrong bytes.now ≡ None) × (first_unmapped bytes.now (page_numbers state.old.memory) ≡ Some page)) }
+    ensures other_pages { (page : ℕ) → (result ≡ Err (ImageFault.OtherPages page)) ↔ ((first_wrong bytes.now ≡ None)
+        × (first_unmapped bytes.now (page_numbers state.old.memory) ≡ Some page)) }
     ensures decoded { OnOk result (image state.new ≡ bytes.now) }
     ensures pages { page_numbers state.new.memory ≡ page_numbers state.old.memory }
     ensures refused { OnErr result (state.new ≡ state.old) }
 
     // Each state with these pages is decoded from its image.
-    ensures again { (s : MachineState) → IsMachineState s → page_numbers s.memory ≡ page_numbers state.old.memory → image s ≡ bytes.now → (result ≡ Ok tt) × (state.new ≡ s) }
+    ensures again { (s : MachineState) → IsMachineState s → page_numbers s.memory ≡ page_numbers state.old.memory → image s ≡ bytes.now →
+        (result ≡ Ok tt) × (state.new ≡ s) }
 {
     if let Some(at) = first_wrong(bytes) {
         return Err(ImageFault::NotImage(at as u64));
@@ -111,7 +113,8 @@ fn status_in(bytes: &[u8]) -> Status
 fn clear_unnamed(named: &[bool], pages: &mut Pages)
     requires room { length named.now ≡ 4096 }
     ensures pages { page_numbers pages.new ≡ page_numbers pages.old }
-    ensures zero { (i : ℕ) → i < length (page_numbers pages.old) → slice_index_or named.now i false ≡ false → IsZeroPage pages.new (slice_index (page_numbers pages.old) i) }
+    ensures zero { (i : ℕ) → i < length (page_numbers pages.old) → slice_index_or named.now i false ≡ false →
+        IsZeroPage pages.new (slice_index (page_numbers pages.old) i) }
 {
     let mut from = 0;
     while let Some(index) = pages.next_touched(from) {
@@ -128,7 +131,8 @@ fn copy_pages(bytes: &[u8], pages: &mut Pages)
     requires mapped { AreMapped bytes.now (page_numbers pages.old) }
     ensures pages { page_numbers pages.new ≡ page_numbers pages.old }
     ensures named { (k : ℕ) → k < page_count bytes.now → page_bytes pages.new (page_number bytes.now k) ≡ page_part bytes.now k }
-    ensures others { (i : ℕ) → i < length (page_numbers pages.old) → IsUnnamed bytes.now (slice_index (page_numbers pages.old) i) → page_bytes pages.new (slice_index (page_numbers pages.old) i) ≡ page_bytes pages.old (slice_index (page_numbers pages.old) i) }
+    ensures others { (i : ℕ) → i < length (page_numbers pages.old) → IsUnnamed bytes.now (slice_index (page_numbers pages.old) i) →
+        page_bytes pages.new (slice_index (page_numbers pages.old) i) ≡ page_bytes pages.old (slice_index (page_numbers pages.old) i) }
 {
     for k in 0..number_at(bytes, COUNT) {
         let at = page_start(k);

@@ -17,7 +17,9 @@ abbrev pub FreshFails : ℕ → BookCosts → Tables → ℕ → ℕ → ℕ →
 FreshFails steps book t k m l clause =
     ((clause ≡ 1) × (l ≡ 1) × IsAbove (t.fresh k 1 m) (number (book.forward + book.reverse)))
     ⊎ ((clause ≡ 2) × ((j : ℕ) × (suc j ≡ k) × IsAbove (t.fresh k l m) (t.fresh j l (room book j steps))))
-    ⊎ ((clause ≡ 3) × ((n : ℕ) × (suc n ≡ m) × ((j : ℕ) × (i : ℕ) × (1 ≤ j) × (1 ≤ i) × (j + i ≡ l) × IsAbove (t.fresh k l m) (sum_of (write_cost book k + j * book.forward) (t.fresh k i n) (t.held k j n)))))
+    ⊎ ((clause ≡ 3) × ((n : ℕ) × (suc n ≡ m)
+    × ((j : ℕ) × (i : ℕ) × (1 ≤ j) × (1 ≤ i) × (j + i ≡ l)
+    × IsAbove (t.fresh k l m) (sum_of (write_cost book k + j * book.forward) (t.fresh k i n) (t.held k j n)))))
     ⊎ ((clause ≡ 4) × ((n : ℕ) × (suc n ≡ m) × IsAbove (t.fresh k l m) (sum_of (write_cost book k) (number 0) (t.held k l n))))
 
 -- the same of table H
@@ -25,7 +27,8 @@ abbrev pub HeldFails : ℕ → BookCosts → Tables → ℕ → ℕ → ℕ → 
 HeldFails steps book t k m l clause =
     ((clause ≡ 5) × (l ≡ 1) × IsAbove (t.held k 1 m) (number (read_cost book k + book.forward + book.reverse)))
     ⊎ ((clause ≡ 6) × ((j : ℕ) × (suc j ≡ k) × IsAbove (t.held k l m) (sum_of (read_cost book k) (number 0) (t.fresh j l (room book j steps)))))
-    ⊎ ((clause ≡ 7) × ((j : ℕ) × (i : ℕ) × (1 ≤ j) × (1 ≤ i) × (j + i ≡ l) × IsAbove (t.held k l m) (sum_of (read_cost book k + j * book.forward) (t.fresh k i m) (t.held k j m))))
+    ⊎ ((clause ≡ 7) × ((j : ℕ) × (i : ℕ) × (1 ≤ j) × (1 ≤ i) × (j + i ≡ l)
+    × IsAbove (t.held k l m) (sum_of (read_cost book k + j * book.forward) (t.fresh k i m) (t.held k j m))))
 
 -- The place is that of an entry: table 0 is F and table 1 is H; the level is one of the book's, and the steps and the free slots
 -- are in range. The clause with its number fails there.
@@ -56,13 +59,15 @@ pub record IsFirst (Broken : Place → Type 0) (p : Place) : Type 0 where
 abbrev pub DiskFreshFails : ℕ → BookCosts → DiskTables → ℕ → ℕ → Type 0
 DiskFreshFails steps book t l clause =
     ((clause ≡ 11) × IsAbove (t.disk_fresh l) (t.fresh l (room book 0 steps)))
-    ⊎ ((clause ≡ 12) × ((j : ℕ) × (i : ℕ) × (1 ≤ j) × (1 ≤ i) × (j + i ≡ l) × IsAbove (t.disk_fresh l) (sum_of (write_cost book 1 + j * book.forward) (t.disk_fresh i) (t.disk_held j))))
+    ⊎ ((clause ≡ 12) × ((j : ℕ) × (i : ℕ) × (1 ≤ j) × (1 ≤ i) × (j + i ≡ l)
+    × IsAbove (t.disk_fresh l) (sum_of (write_cost book 1 + j * book.forward) (t.disk_fresh i) (t.disk_held j))))
     ⊎ ((clause ≡ 13) × IsAbove (t.disk_fresh l) (sum_of (write_cost book 1) (number 0) (t.disk_held l)))
 
 abbrev pub DiskHeldFails : ℕ → BookCosts → DiskTables → ℕ → ℕ → Type 0
 DiskHeldFails steps book t l clause =
     ((clause ≡ 14) × IsAbove (t.disk_held l) (sum_of (read_cost book 1) (number 0) (t.fresh l (room book 0 steps))))
-    ⊎ ((clause ≡ 15) × ((j : ℕ) × (i : ℕ) × (1 ≤ j) × (1 ≤ i) × (j + i ≡ l) × IsAbove (t.disk_held l) (sum_of (read_cost book 1 + j * book.forward) (t.fresh i (room book 0 steps)) (t.disk_held j))))
+    ⊎ ((clause ≡ 15) × ((j : ℕ) × (i : ℕ) × (1 ≤ j) × (1 ≤ i) × (j + i ≡ l)
+    × IsAbove (t.disk_held l) (sum_of (read_cost book 1 + j * book.forward) (t.fresh i (room book 0 steps)) (t.disk_held j))))
 
 -- the tables of level 0 alone
 abbrev pub fast_of : DiskTables → Tables

@@ -37,7 +37,8 @@ pub fn first_broken_disk(
 ) -> Result<Option<Entry>, AllocError>
     requires sizes { AreDiskSized tables.now.fast.steps book.now tables.now }
     requires few { tables.now.fast.steps ≤ 8192 }
-    ensures { IfOk result (λ o. MatchOption o (IsDiskUnderTable tables.now.fast.steps book.now (disk_tables_in tables.now)) (IsFirst (DiskBreaks tables.now.fast.steps book.now (disk_tables_in tables.now)))) }
+    ensures { IfOk result (λ o. MatchOption o (IsDiskUnderTable tables.now.fast.steps book.now (disk_tables_in tables.now))
+        (IsFirst (DiskBreaks tables.now.fast.steps book.now (disk_tables_in tables.now)))) }
 {
     let _levels = book.levels();
     let fast = tables.fast();

@@ -23,7 +23,8 @@ pub fn first_broken(
 ) -> Result<Option<Entry>, AllocError>
     requires sizes { AreFor tables.now.steps book.now tables.now }
     requires few { tables.now.steps ≤ 8192 }
-    ensures { IfOk result (λ o. MatchOption o (IsUnderTable tables.now.steps book.now (tables_in tables.now)) (IsFirst (Breaks tables.now.steps book.now (tables_in tables.now)))) }
+    ensures { IfOk result (λ o. MatchOption o (IsUnderTable tables.now.steps book.now (tables_in tables.now))
+        (IsFirst (Breaks tables.now.steps book.now (tables_in tables.now)))) }
 {
     let splits = all_splits(alloc, tables, book.forward() as u64)?;
     if let Some(entry) = first_fresh(alloc, tables, book, &splits)? {

@@ -1,17 +1,23 @@
-use Rattle.std.proofs.Common.{◌≡◌, ◌≤◌, ℕ, List, sym, ◌∙◌, ap, subst, arith, take, length}
-use Rattle.std.specs.Global.{Vec}
-use Rattle.std.specs.List.{AllByRecursion}
+use Rattle.std.proofs.Common.{◌<◌, length, subst, ◌∙◌, ap, arith}
+use Rattle.std.specs.List.{All}
 use Rattle.std.proofs.lemmas.List.{take_all}
-use Rattle.input_journal.specs.Form.{beginning, IsShort}
-use Rattle.input_journal.proofs.Views.{views, is_written}
+use Rattle.input_journal.specs.Form.{IsShort, beginning}
+use Rattle.input_journal.proofs.Views.{all_so_far, written_more, is_written}
 use Rattle.input_journal.proofs.writing.write_journal.Goals as goal
+
+pub loop-index-preserved : goal.loop-index-preserved
+loop-index-preserved c =
+    let inside : c.loop-index.index < length c.args.journal.now = omega (arith, c.loop-index-test.true, c.count-index-end.ensures.value) in
+    let item = c.item-item.result.now in
+    record {
+      written =
+          written_more (length c.args.journal.now) c.args.journal.now c.loop-index.index item c.loop-index.bytes.items c.push_number-in-loop-index.new.bytes.items c.extend_from_slice-in-loop-index.new.self.items inside
+          c.item-item.ensures.value c.loop-index.invariant.written c.in_ok-push_number-3.ensures c.in_ok-extend_from_slice-2.ensures.items;
+      short = all_so_far IsShort c.args.journal.now c.loop-index.index item inside c.item-item.ensures.value c.loop-index.invariant.short c.item-item.ensures.short;
+    }
 
 pub returns : goal.returns
 returns c =
-    let items : List (Vec ℕ) = c.deref-item-items.result.now in
-    let is : items ≡ c.journal.inside.items.items = c.deref-item-items.ensures.value in
-    let few : length items ≤ 65536 = omega (arith, c.deref-item-items.ensures.len, c.journal.invariant.0) in
-    let P : List (Vec ℕ) → Type 0 = AllByRecursion (λ item. IsShort item.items) in
-    let all : take c.loop-item.item-index items ≡ items = take_all c.loop-item.item-index items c.loop-item-test.false in
-    is_written items c.args.journal.now c.loop-item.bytes.items (ap views is ∙ c.journal.view_is) few (subst P (sym is) c.journal.invariant.1)
-    (c.loop-item.invariant ∙ ap (λ xs. beginning (length items) (views xs)) all)
+    let all = take_all c.loop-index.index c.args.journal.now (omega (arith, c.loop-index-test.false, c.count-index-end.ensures.value)) in
+    is_written c.args.journal.now c.loop-index.bytes.items (omega (arith, c.count-index-end.ensures.value, c.count-index-end.ensures.few)) (subst (All IsShort) all c.loop-index.invariant.short)
+    (c.loop-index.invariant.written ∙ ap (beginning (length c.args.journal.now)) all)

@@ -19,6 +19,7 @@ use Rattle.requests.specs.Ending.{done}
 use Rattle.reversal.specs.JobReading.{Works, fault_ending, run_from}
 use Rattle.reversal.specs.Output.{Adds}
 use Rattle.reversal.proofs.Asked.{front_shorter, performed_so_far, is_visitor, state_done, state_ended}
+use Rattle.reversal.proofs.Rooms.{is_memory}
 use Rattle.reversal.proofs.asking.show_state.Goals as goal
 use Rattle.reversal.proofs.Progress.{FaultCounts, same_Err}
 
@@ -103,3 +104,9 @@ returns-in-Err-clause-works g c =
     let M : g.row.O.Denot → Type 0 = λ o. Tells (g.O.Sink.told o) (g.O.Sink.told v.out.now) (AddsPrefix (line place missed.state ++ 10 ∷ [])) in
     (missed.state, (missed.out, λ tells. missed.of_run session.work c.requires.state (stands tells), subst M same missed.misses.1, subst C same missed.misses.2)))
     (λ k put got e tells. all.undamaged session.work c.requires.state (stands tells) k put got (is _ e)) counts))
+
+pub returns-in-Err-clause-roomy : goal.returns-in-Err-clause-roomy
+returns-in-Err-clause-roomy g c roomy e =
+    let is = λ (f : RunFault) (q : c.in-Err.fault ≡ f). c.in-Err.is ∙ ap (λ x. Err x) q in
+    let wants = is_memory (c.state_at.new.session.done + 1) c.in-Err.fault (λ q. c.state_at.ensures.not_ended (is _ q)) (sym (ap (λ (x : Ended). x.status) c.refused.ensures) ∙ e) in
+    c.state_at.ensures.roomy roomy (is _ wants)

@@ -1,4 +1,4 @@
-use Rattle.std.proofs.Common.{◌≡◌, ◌∙◌, refl, length, Err, sym, ap, subst}
+use Rattle.std.proofs.Common.{◌≡◌, ◌∙◌, refl, length, Err, sym, ap, subst, ◌+◌, arith, inl, inr}
 use Rattle.std.proofs.lemmas.List.{length-map}
 use Rattle.reverse_runner.specs.declared.fault.RunFault.{RunFault}
 use Rattle.reverse_runner.specs.declared.fault.RunFault.TheVariants.{Visitor}
@@ -10,6 +10,8 @@ use Rattle.reversal.specs.Moment.{moment}
 use Rattle.reversal.specs.JobReading.{run_from}
 use Rattle.reversal.proofs.Progress.{FaultCounts, same_Err}
 use Rattle.reversal.proofs.Asked.{last_told, last_refused, is_found}
+use Rattle.requests.specs.declared.ended.Ended.{Ended}
+use Rattle.reversal.proofs.Rooms.{is_memory}
 use Rattle.reversal.proofs.asking.tell_last_write.Goals as goal
 
 pub returns-in-Ok-clause-works : goal.returns-in-Ok-clause-works
@@ -52,3 +54,15 @@ returns-in-Err-clause-works g c =
 pub returns-in-Err-clause-others : goal.returns-in-Err-clause-others
 returns-in-Err-clause-others g c =
     (sym (length-map c.last_write.new.keepers.items g.K.Keeper.slot_count) ∙ ap length c.last_write.ensures.slots ∙ length-map c.args.keepers.now.items g.K.Keeper.slot_count, c.last_write.ensures.others)
+
+pub returns-in-Err-clause-roomy : goal.returns-in-Err-clause-roomy
+returns-in-Err-clause-roomy g c roomy e =
+    let is = λ (f : RunFault) (q : c.in-Err.fault ≡ f). c.in-Err.is ∙ ap (λ x. Err x) q in
+    let wants = is_memory (c.last_write.new.session.done + 1) c.in-Err.fault (λ q. c.last_write.ensures.not_ended (is _ q)) (sym (ap (λ (x : Ended). x.status) c.refused.ensures) ∙ e) in
+    c.last_write.ensures.roomy roomy (is _ wants)
+
+pub returns-in-Ok-clause-roomy : goal.returns-in-Ok-clause-roomy
+returns-in-Ok-clause-roomy g c roomy e = elim c.write_answer.ensures.ends [
+  | inl done ↦ let status = ap (λ (x : Ended). x.status) done.0 in absurd (omega (arith, status, e))
+  | inr stopped ↦ let status = ap (λ (x : Ended). x.status) stopped.0 in absurd (omega (arith, status, e))
+]

@@ -22,6 +22,9 @@ use Rattle.reversal.proofs.Performing.{same_sink, IsAt, same_sink_missed}
 use Rattle.reversal.proofs.Progress.{past_is_unnamed, run_of, SoFar, same_run, Refuses, went_whole, nothing_so_far, same_Err, more, refused, may_go}
 use Rattle.reversal.proofs.job.perform_all.Given.{Over}
 use Rattle.reversal.proofs.job.perform_all.Goals.{After-perform}
+use Rattle.reverse_runner.specs.Rooms.{rooms_by}
+use Rattle.reverse_runner.proofs.Rooms.{still_roomy}
+use Rattle.reversal.proofs.Rooms.{is_memory}
 use Rattle.reversal.proofs.job.perform_all.Goals as goal
 use Rattle.reversal.proofs.Asked.{is_visitor}
 
@@ -81,6 +84,8 @@ loop-action-init g c =
         nothing_so_far session list old mid c.requires.begun c.requires.stands c.requires.alone (ap g.O.Sink.told same) (ap g.O.Sink.call_count same) refl refl refl
             (record { sink = ap g.O.Sink.fault_count same; keepers = λ k. refl }),
       );
+      rooms = λ k. refl;
+      pages = refl;
       room = refl;
       reference = refl;
       others = λ k past. refl;
@@ -107,6 +112,8 @@ loop-action-preserved g c =
       rest = sym next.1;
       within = omega (arith, next.2);
       so_far = (_, subst R (run_now g p) one);
+      rooms = λ k. c.perform.ensures.rooms k ∙ inv.rooms k;
+      pages = sym c.perform.ensures.pages ∙ inv.pages;
       room = c.perform.ensures.slots ∙ inv.room;
       reference =
           same_sink g.O.Sink.told g.O.Sink.call_count before.journal (handed_by before.unit before.situation.steps c.in-Some.action) (states_out c.in-Some.action before.work before.tape.states) c.loop-action.writer c.perform.new.visitor ok.gets
@@ -217,3 +224,16 @@ pub returns-clause-others : goal.returns-clause-others
 returns-clause-others g c =
     let inv = c.loop-action.invariant in
     (sym (length-map c.loop-action.keepers.items g.K.Keeper.slot_count) ∙ ap length inv.room ∙ length-map c.args.keepers.now.items g.K.Keeper.slot_count, inv.others)
+
+pub returns-in-Err-clause-roomy : goal.returns-in-Err-clause-roomy
+returns-in-Err-clause-roomy g c roomy e =
+    let inv = c.loop-action.invariant in
+    let first = c.args.session.now in
+    let before = c.loop-action.session in
+    let fault = c.in-Err.fault in
+    let is = λ (f : RunFault) (q : fault ≡ f). c.in-Err.is ∙ ap (λ x. Err x) q in
+    let wants = is_memory (c.loop-action.place + 1) fault (λ q. absurd (false≢true (sym inv.so_far.1.lasts ∙ c.perform.ensures.ended.0 (is _ q))))
+    (sym (ap (λ (x : Ending). x.status) c.fault_ending.ensures) ∙ e) in
+    let rooms = rooms_by g.K.Keeper.room_bytes in
+    c.perform.ensures.roomy
+    (still_roomy first.work before.work first.situation.slots before.situation.slots (rooms c.args.keepers.now.items) (rooms c.loop-action.keepers.items) inv.pages inv.so_far.1.slots inv.rooms roomy) (is _ wants)

@@ -1,4 +1,6 @@
 use Rattle.std.proofs.Common.{◌≡◌, ℕ, ◌≤◌, map, drop, length, slice_get}
+use Rattle.reverse_runner.specs.Rooms.{rooms_by, SameRooms}
+use Rattle.reverse_runner.specs.SessionState.{SamePages}
 use Rattle.reversal.specs.ActionsLeft.{left_of}
 use Rattle.reversal.specs.JobReading.{run_from}
 use Rattle.reversal.specs.Deeds.{States}
@@ -16,6 +18,8 @@ invariant-loop-action g l = record {
       × SoFar (run_from l.fn.session (left_of l.fn.actions)) l.place shown l.session
       (moment g.O.Sink.told g.O.Sink.call_count g.O.Sink.fault_count g.K.Keeper.told g.K.Keeper.put_count g.K.Keeper.get_count g.K.Keeper.free_count g.K.Keeper.fault_count l.fn.out l.fn.keepers.items l.fn.counter)
       (moment g.O.Sink.told g.O.Sink.call_count g.O.Sink.fault_count g.K.Keeper.told g.K.Keeper.put_count g.K.Keeper.get_count g.K.Keeper.free_count g.K.Keeper.fault_count l.writer.out.now l.keepers.items l.counter);
+  rooms : SameRooms (rooms_by g.K.Keeper.room_bytes l.fn.keepers.items) (rooms_by g.K.Keeper.room_bytes l.keepers.items);
+  pages : SamePages l.session.work l.fn.session.work;
   room : map g.K.Keeper.slot_count l.keepers.items ≡ map g.K.Keeper.slot_count l.fn.keepers.items;
   reference : l.writer.out.ghost_name ≡ l.initial.writer.out.ghost_name;
   others : (k : ℕ) → length l.fn.session.situation.slots ≤ k → slice_get l.keepers.items k ≡ slice_get l.fn.keepers.items k;

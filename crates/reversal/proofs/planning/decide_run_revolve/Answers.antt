@@ -10,32 +10,32 @@ use Rattle.reversal.proofs.planning.decide_run_revolve.Goals as goal
 
 pub returns-in-len2-clause-accepted : goal.returns-in-len2-clause-accepted
 returns-in-len2-clause-accepted c =
-    let same = two_texts c.args.bytes.now c.program-item.result c.book-item.result (omega arith) c.program-item.is c.book-item.is in
-    let deref : c.deref.result.now ∷ c.deref-in-len2.result.now ∷ [] ≡ map (λ (t : Vec ℕ Global). t.items) c.args.bytes.now =
-    (λ i. c.deref.ensures.value i ∷ c.deref-in-len2.ensures.value i ∷ []) ∙ sym same in
+    let same = two_texts c.args.bytes.now c.result-item.result c.result-item-then-bytes-lt3.result (omega arith) c.result-item.is c.result-item-then-bytes-lt3.is in
+    let deref : c.as_slice.result.now ∷ c.as_slice-in-len2.result.now ∷ [] ≡ map (λ (t : Vec ℕ Global). t.items) c.args.bytes.now =
+    (λ i. c.as_slice.ensures.value i ∷ c.as_slice-in-len2.ensures.value i ∷ []) ∙ sym same in
     let P : List (List ℕ) → Type 0 = λ l. IfOk c.decide_texts.result (λ job. DecidesBytes c.args.options.now (run_revolve (as_run_revolve c.args.run.now)) l c.args.counts.now (accept (job_of job))) in
     subst P deref c.decide_texts.ensures.accepted
 
 pub returns-in-len3-clause-accepted : goal.returns-in-len3-clause-accepted
 returns-in-len3-clause-accepted c =
-    let same = three_texts c.args.bytes.now c.program-item-then-bytes-lt4.result c.journal-item.result c.book-item-then-bytes-lt4.result (omega arith) c.program-item-then-bytes-lt4.is c.journal-item.is c.book-item-then-bytes-lt4.is in
-    let deref : c.deref-in-len3.result.now ∷ c.deref-in-len3-2.result.now ∷ c.deref-in-len3-3.result.now ∷ [] ≡ map (λ (t : Vec ℕ Global). t.items) c.args.bytes.now =
-    (λ i. c.deref-in-len3.ensures.value i ∷ c.deref-in-len3-2.ensures.value i ∷ c.deref-in-len3-3.ensures.value i ∷ []) ∙ sym same in
+    let same = three_texts c.args.bytes.now c.result-item-then-bytes-lt4.result c.result-item-then-bytes-lt4-2.result c.result-item-then-bytes-lt4-3.result (omega arith) c.result-item-then-bytes-lt4.is c.result-item-then-bytes-lt4-2.is c.result-item-then-bytes-lt4-3.is in
+    let deref : c.as_slice-in-len3.result.now ∷ c.replace.result.items ∷ c.as_slice-in-len3-2.result.now ∷ [] ≡ map (λ (t : Vec ℕ Global). t.items) c.args.bytes.now =
+    (λ i. c.as_slice-in-len3.ensures.value i ∷ (c.replace.ensures.value i).items ∷ c.as_slice-in-len3-2.ensures.value i ∷ []) ∙ sym same in
     let P : List (List ℕ) → Type 0 = λ l. IfOk c.decide_texts-in-len3.result (λ job. DecidesBytes c.args.options.now (run_revolve (as_run_revolve c.args.run.now)) l c.args.counts.now (accept (job_of job))) in
     subst P deref c.decide_texts-in-len3.ensures.accepted
 
 pub returns-in-len2-clause-refused : goal.returns-in-len2-clause-refused
 returns-in-len2-clause-refused c =
-    let same = two_texts c.args.bytes.now c.program-item.result c.book-item.result (omega arith) c.program-item.is c.book-item.is in
-    let deref : c.deref.result.now ∷ c.deref-in-len2.result.now ∷ [] ≡ map (λ (t : Vec ℕ Global). t.items) c.args.bytes.now =
-    (λ i. c.deref.ensures.value i ∷ c.deref-in-len2.ensures.value i ∷ []) ∙ sym same in
+    let same = two_texts c.args.bytes.now c.result-item.result c.result-item-then-bytes-lt3.result (omega arith) c.result-item.is c.result-item-then-bytes-lt3.is in
+    let deref : c.as_slice.result.now ∷ c.as_slice-in-len2.result.now ∷ [] ≡ map (λ (t : Vec ℕ Global). t.items) c.args.bytes.now =
+    (λ i. c.as_slice.ensures.value i ∷ c.as_slice-in-len2.ensures.value i ∷ []) ∙ sym same in
     let P : List (List ℕ) → Type 0 = λ l. IfErr c.decide_texts.result (λ e. (e ≡ no_memory) ⊎ DecidesBytes c.args.options.now (run_revolve (as_run_revolve c.args.run.now)) l c.args.counts.now (refuse e)) in
     subst P deref c.decide_texts.ensures.refused
 
 pub returns-in-len3-clause-refused : goal.returns-in-len3-clause-refused
 returns-in-len3-clause-refused c =
-    let same = three_texts c.args.bytes.now c.program-item-then-bytes-lt4.result c.journal-item.result c.book-item-then-bytes-lt4.result (omega arith) c.program-item-then-bytes-lt4.is c.journal-item.is c.book-item-then-bytes-lt4.is in
-    let deref : c.deref-in-len3.result.now ∷ c.deref-in-len3-2.result.now ∷ c.deref-in-len3-3.result.now ∷ [] ≡ map (λ (t : Vec ℕ Global). t.items) c.args.bytes.now =
-    (λ i. c.deref-in-len3.ensures.value i ∷ c.deref-in-len3-2.ensures.value i ∷ c.deref-in-len3-3.ensures.value i ∷ []) ∙ sym same in
+    let same = three_texts c.args.bytes.now c.result-item-then-bytes-lt4.result c.result-item-then-bytes-lt4-2.result c.result-item-then-bytes-lt4-3.result (omega arith) c.result-item-then-bytes-lt4.is c.result-item-then-bytes-lt4-2.is c.result-item-then-bytes-lt4-3.is in
+    let deref : c.as_slice-in-len3.result.now ∷ c.replace.result.items ∷ c.as_slice-in-len3-2.result.now ∷ [] ≡ map (λ (t : Vec ℕ Global). t.items) c.args.bytes.now =
+    (λ i. c.as_slice-in-len3.ensures.value i ∷ (c.replace.ensures.value i).items ∷ c.as_slice-in-len3-2.ensures.value i ∷ []) ∙ sym same in
     let P : List (List ℕ) → Type 0 = λ l. IfErr c.decide_texts-in-len3.result (λ e. (e ≡ no_memory) ⊎ DecidesBytes c.args.options.now (run_revolve (as_run_revolve c.args.run.now)) l c.args.counts.now (refuse e)) in
     subst P deref c.decide_texts-in-len3.ensures.refused

@@ -17,13 +17,13 @@ returns-clause-comes g c =
     let before = g.I.Inputs.asked c.args.inputs.now in
     let after = g.I.Inputs.asked c.read_inputs.new.inputs in
     let R : List (Vec ℕ Global) → Type 0 = λ l. Reads (inputs_of r.command) told before after (all (map (λ b. b.items) l)) in
-    let reads = subst R (sym c.deref.ensures.value) c.in_ok-bytes.ensures.read in
-    let same : c.deref-2.result.now ≡ map g.K.Keeper.slot_count c.args.keepers.now = c.deref-2.ensures.value ∙ c.in_ok-counts.ensures in
-    if_okay c.decide.result _ _ (λ job decides. let P : List ℕ → Type 0 = λ slots. Comes r told before after slots (accept (job_of job)) in subst P same (comes_by r told before after (map (λ b. b.items) c.deref.result.now) c.deref-2.result.now (accept (job_of job)) reads decides)) c.decide.ensures.accepted
+    let reads = subst R (sym c.deref_mut.ensures.value) c.in_ok-bytes.ensures.read in
+    let same : c.deref.result.now ≡ map g.K.Keeper.slot_count c.args.keepers.now = c.deref.ensures.value ∙ c.in_ok-counts.ensures in
+    if_okay c.decide.result _ _ (λ job decides. let P : List ℕ → Type 0 = λ slots. Comes r told before after slots (accept (job_of job)) in subst P same (comes_by r told before after (map (λ b. b.items) c.deref_mut.result.now) c.deref.result.now (accept (job_of job)) reads decides)) c.decide.ensures.accepted
 
 pub returns-clause-room : goal.returns-clause-room
 returns-clause-room g c =
-    let same : c.deref-2.result.now ≡ map g.K.Keeper.slot_count c.args.keepers.now = c.deref-2.ensures.value ∙ c.in_ok-counts.ensures in
+    let same : c.deref.result.now ≡ map g.K.Keeper.slot_count c.args.keepers.now = c.deref.ensures.value ∙ c.in_ok-counts.ensures in
     let P : List ℕ → Type 0 = λ slots. IfOk c.decide.result (λ job. KeepersHaveRoom job slots) in
     subst P same c.decide.ensures.room
 
@@ -34,13 +34,13 @@ returns-clause-refused g c =
     let before = g.I.Inputs.asked c.args.inputs.now in
     let after = g.I.Inputs.asked c.read_inputs.new.inputs in
     let R : List (Vec ℕ Global) → Type 0 = λ l. Reads (inputs_of r.command) told before after (all (map (λ b. b.items) l)) in
-    let reads = subst R (sym c.deref.ensures.value) c.in_ok-bytes.ensures.read in
-    let same : c.deref-2.result.now ≡ map g.K.Keeper.slot_count c.args.keepers.now = c.deref-2.ensures.value ∙ c.in_ok-counts.ensures in
-    if_error c.decide.result _ _ (λ e h. let P : List ℕ → Type 0 = λ slots. Refused r told e before after slots in subst P same (decides_refused r told e before after (map (λ b. b.items) c.deref.result.now) c.deref-2.result.now reads h)) c.decide.ensures.refused
+    let reads = subst R (sym c.deref_mut.ensures.value) c.in_ok-bytes.ensures.read in
+    let same : c.deref.result.now ≡ map g.K.Keeper.slot_count c.args.keepers.now = c.deref.ensures.value ∙ c.in_ok-counts.ensures in
+    if_error c.decide.result _ _ (λ e h. let P : List ℕ → Type 0 = λ slots. Refused r told e before after slots in subst P same (decides_refused r told e before after (map (λ b. b.items) c.deref_mut.result.now) c.deref.result.now reads h)) c.decide.ensures.refused
 
 pub returns-clause-cause : goal.returns-clause-cause
 returns-clause-cause g c =
-    if_error c.decide.result _ _ (λ e h three. absurd (no_input_fault (request_of c.args.request.now) e (map (λ b. b.items) c.deref.result.now) c.deref-2.result.now h three)) c.decide.ensures.refused
+    if_error c.decide.result _ _ (λ e h three. absurd (no_input_fault (request_of c.args.request.now) e (map (λ b. b.items) c.deref_mut.result.now) c.deref.result.now h three)) c.decide.ensures.refused
 
 pub returns-in_err-bytes-clause-refused : goal.returns-in_err-bytes-clause-refused
 returns-in_err-bytes-clause-refused g c =

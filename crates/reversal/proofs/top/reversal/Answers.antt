@@ -95,6 +95,7 @@ returns-in-Ok-clause-memory g c status = elim c.work.ensures.works [
           come_to g c,
           c.work.ensures.others,
           halts.1,
+          λ rooms. (let none = c.work.ensures.roomy rooms status in (none.1, none.2, none.3)),
         ),
       )
 ]

@@ -8,7 +8,7 @@ use Rattle.reverse_console.proofs.seeking.seek_first.Goals as goal
 pub returns-then-work-address-clause-first : goal.returns-then-work-address-clause-first
 returns-then-work-address-clause-first g c =
     let so_far = c.loop-n.invariant in
-    let at = one_step c.args.work.now c.loop-n.work c.advance.new.work c.args.journal.now c.args.from c.loop-n.n c.loop-n.auto.n so_far.work c.advance.ensures.work in
+    let at = one_step c.args.work.now c.loop-n.work c.advance.new.state c.args.journal.now c.args.from c.loop-n.n c.loop-n.auto.n so_far.work c.advance.ensures.states in
     let pc : MachineState → ℕ = λ s. s.pc in
     let low = c.loop-n.auto.n in
     let below = c.loop-n-test.true in (
@@ -21,7 +21,7 @@ returns-then-work-address-clause-first g c =
 pub loop-n-preserved : goal.loop-n-preserved
 loop-n-preserved g c =
     let so_far = c.loop-n.invariant in
-    let at = one_step c.args.work.now c.loop-n.work c.advance.new.work c.args.journal.now c.args.from c.loop-n.n c.loop-n.auto.n so_far.work c.advance.ensures.work in
+    let at = one_step c.args.work.now c.loop-n.work c.advance.new.state c.args.journal.now c.args.from c.loop-n.n c.loop-n.auto.n so_far.work c.advance.ensures.states in
     let pc : MachineState → ℕ = λ s. s.pc in
     let low = c.loop-n.auto.n in
     let counted = so_far.counted in
@@ -30,6 +30,6 @@ loop-n-preserved g c =
     record {
       work = at;
       none = none_more P c.args.from c.loop-n.n so_far.none (λ h. c.if-work-address.false (ap pc c.work.view_is ∙ ap pc at ∙ h));
-      mapped = c.advance.ensures.pages ∙ so_far.mapped;
+      mapped = c.advance.ensures.mapped ∙ so_far.mapped;
       counted = omega (arith, counted, more, low);
     }

@@ -10,6 +10,6 @@ returns-in-Change-clause-meets g c =
     let before = c.bytes_of_word-before.ensures in
     let after = c.bytes_of_word.ensures in
     subst P (sym c.in-Change.is) (
-      λ t. differ_changes c.args.journal.now c.in-Change.word c.args.work.now c.advance-in-Change.new.work c.bytes_of_word-before.result c.bytes_of_word.result before after c.advance-in-Change.ensures.work (c.some_differ.ensures.0 t),
-      λ h. c.some_differ.ensures.1 (changes_differ c.args.journal.now c.in-Change.word c.args.work.now c.advance-in-Change.new.work c.bytes_of_word-before.result c.bytes_of_word.result before after c.advance-in-Change.ensures.work h),
+      λ t. differ_changes c.args.journal.now c.in-Change.word c.args.work.now c.advance-in-Change.new.state c.bytes_of_word-before.result c.bytes_of_word.result before after c.advance-in-Change.ensures.states (c.some_differ.ensures.0 t),
+      λ h. c.some_differ.ensures.1 (changes_differ c.args.journal.now c.in-Change.word c.args.work.now c.advance-in-Change.new.state c.bytes_of_word-before.result c.bytes_of_word.result before after c.advance-in-Change.ensures.states h),
     )

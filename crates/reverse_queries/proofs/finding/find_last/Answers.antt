@@ -9,7 +9,7 @@ use Rattle.level_book.specs.Configuration.{Configuration, start}
 use Rattle.level_book.specs.CostFold.{forward}
 use Rattle.keepers.specs.Counts.{Rose}
 use Rattle.schedule_rules.specs.Situation.{Situation}
-use Rattle.reverse_runner.specs.declared.fault.RunFault.TheVariants.{Keeper, Damaged, Visitor, Ended}
+use Rattle.reverse_runner.specs.declared.fault.RunFault.TheVariants.{Keeper, Damaged, Visitor, Ended, Memory}
 use Rattle.reverse_runner.specs.KeepersSeen.{calls_to, by_number, told_by, Called}
 use Rattle.reverse_queries.specs.Performing.{calls_of_all, PerformsAll}
 use Rattle.reverse_queries.specs.Queries.{IsLast, up_to}
@@ -25,6 +25,8 @@ use Rattle.reverse_queries.proofs.Running.{ran_at}
 use Rattle.reverse_queries.proofs.Turning.{hands_of, left_before, left_at_start, left_at_end}
 use Rattle.reverse_queries.proofs.Ways.{way_start, way_on, may_perform, has_room, refused_in, at_end, goes_from, past_levels, same_fault, not_both, acts_there, gets_there, run_has}
 use Rattle.reverse_queries.proofs.Fitting.{fault_fits, if_err_at}
+use Rattle.reverse_runner.specs.Rooms.{rooms_by}
+use Rattle.reverse_runner.proofs.Rooms.{still_roomy}
 use Rattle.reverse_queries.proofs.finding.find_last.Goals as goal
 
 -- the action at a place of the list
@@ -46,6 +48,7 @@ loop-action-init g c =
     let at = c.requires.start in
     let all = left_at_start old.unit old.situation.steps old.situation.slots old.situation.at at in
     record {
+      rooms = λ k. refl;
       way = way_start _ _ _ _ _ _ c.args.list.now c.args.session.now c.args.keepers.now.items c.args.steps.now at c.requires.lasts;
       asked = record {
         question_is = finder.question;
@@ -389,6 +392,7 @@ loop-action-preserved g c =
     let acts = acts_there old mid (take i list) a _ _ so_far.way.performs done.acts in
     let even = got_even Got old.journal unit steps a held c.loop-action.finder c.perform.new.visitor gets in
     record {
+      rooms = λ k. c.perform.ensures.rooms k ∙ so_far.rooms k;
       way = on;
       asked = next.0;
       going =
@@ -478,3 +482,14 @@ returns-clause-slots g c =
 pub returns-clause-others : goal.returns-clause-others
 returns-clause-others g c k past =
     c.loop-action.invariant.way.others k past
+
+pub returns-in_err-perform-clause-roomy : goal.returns-in_err-perform-clause-roomy
+returns-in_err-perform-clause-roomy g c roomy e =
+    let so_far = c.loop-action.invariant in
+    let old = c.args.session.now in
+    let mid = c.loop-action.session in
+    let rooms = rooms_by g.K.Keeper.room_bytes in
+    let p = err_from_is_err_and c.from_residual.result c.from_residual.ensures.1 in
+    let same = same_fault c.perform.result c.from_residual.result _ _ Memory c.in_err-perform.was p.1 p.2 e in
+    c.perform.ensures.roomy
+    (still_roomy old.work mid.work old.situation.slots mid.situation.slots (rooms c.args.keepers.now.items) (rooms c.loop-action.keepers.items) so_far.way.pages so_far.way.performs.slots so_far.rooms roomy) same

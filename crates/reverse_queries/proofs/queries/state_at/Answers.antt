@@ -8,7 +8,7 @@ use Rattle.level_book.specs.CostFold.{forward}
 use Rattle.keepers.specs.Counts.{Rose}
 use Rattle.rv_machine.specs.MachineState.{MachineState}
 use Rattle.rv_machine.specs.States.{state_number}
-use Rattle.reverse_runner.specs.declared.fault.RunFault.TheVariants.{Keeper, Damaged, Visitor, Ended}
+use Rattle.reverse_runner.specs.declared.fault.RunFault.TheVariants.{Keeper, Damaged, Visitor, Ended, Memory}
 use Rattle.reverse_runner.specs.KeepersSeen.{calls_to, by_number, told_by, Called}
 use Rattle.reverse_runner.specs.Performed.{states_out}
 use Rattle.reverse_runner.specs.SessionState.{holdings_of}
@@ -21,6 +21,8 @@ use Rattle.reverse_queries.proofs.Going.{gone_start, gone_on, found_on, got_even
 use Rattle.reverse_queries.proofs.Picking.{MissesPicked, MissedAt, picks_at, missed_at, shown_at, unshown_at, misses_state, of_visitor}
 use Rattle.reverse_queries.proofs.Turning.{left, left_at_start, left_at_end}
 use Rattle.reverse_queries.proofs.Ways.{way_start, way_on, may_perform, may_go, has_room, refused_in, at_end, goes_from, past_levels, on_err_always, same_fault, not_both, acts_there, gets_there, misses_there, run_has}
+use Rattle.reverse_runner.specs.Rooms.{rooms_by}
+use Rattle.reverse_runner.proofs.Rooms.{still_roomy}
 use Rattle.reverse_queries.proofs.queries.state_at.Goals as goal
 
 -- the action at a place of the list
@@ -38,6 +40,7 @@ loop-action-init g c =
     let all = left_at_start old.unit old.situation.steps old.situation.slots old.situation.at c.requires.start in
     let place = c.requires.place in
     record {
+      rooms = λ k. refl;
       way = way_start _ _ _ _ _ _ c.args.list.now old c.args.keepers.now.items c.args.steps.now c.requires.start c.requires.lasts;
       gone = gone_start old.unit old.situation.steps old.journal c.args.list.now (holdings_of old (told_by g.K.Keeper.told c.args.keepers.now.items)) old.situation.at;
       still = omega (arith, place, all);
@@ -529,6 +532,7 @@ loop-action-preserved g c =
     let even = got_even (PassesOn g.V.Visitor.got) old.journal unit steps a held c.loop-action.picked c.perform.new.visitor gets in
     let P : ℕ → Type 0 = λ n. n < left unit steps mid.situation.at → n < left unit steps new.situation.at in
     record {
+      rooms = λ k. c.perform.ensures.rooms k ∙ so_far.rooms k;
       way = on;
       gone = gone_on unit steps slots old.journal list i (holdings_of old (told c.args.keepers.now.items)) held (holdings_of new (told c.perform.new.keepers.items)) mid.situation.at a new.situation.at goes so_far.way.turns at acts even so_far.gone;
       still = subst P so_far.place none.left_still so_far.still;
@@ -547,3 +551,14 @@ unreachable-requires g c =
     let none = left_at_end old.unit old.situation.steps c.loop-action.session.situation.at so_far.way.turns over in
     let still = so_far.still in
     absurd (omega (arith, none, still))
+
+pub returns-in_err-perform-clause-roomy : goal.returns-in_err-perform-clause-roomy
+returns-in_err-perform-clause-roomy g c roomy e =
+    let so_far = c.loop-action.invariant in
+    let old = c.args.session.now in
+    let mid = c.loop-action.session in
+    let rooms = rooms_by g.K.Keeper.room_bytes in
+    let p = err_from_is_err_and c.from_residual.result c.from_residual.ensures.1 in
+    let same = same_fault c.perform.result c.from_residual.result _ _ Memory c.in_err-perform.was p.1 p.2 e in
+    c.perform.ensures.roomy
+    (still_roomy old.work mid.work old.situation.slots mid.situation.slots (rooms c.args.keepers.now.items) (rooms c.loop-action.keepers.items) so_far.way.pages so_far.way.performs.slots so_far.rooms roomy) same

@@ -1,5 +1,6 @@
 use Rattle.std.proofs.Common.{◌≡◌, ◌<◌, ◌++◌, false, take, drop}
 use Rattle.reverse_runner.specs.KeepersSeen.{told_by}
+use Rattle.reverse_runner.specs.Rooms.{rooms_by, SameRooms}
 use Rattle.reverse_runner.specs.SessionState.{holdings_of}
 use Rattle.reverse_queries.specs.Queries.{front_to}
 use Rattle.reverse_queries.proofs.Going.{Gone}
@@ -10,6 +11,7 @@ use Rattle.reverse_queries.proofs.queries.state_at.Given as goal
 -- The actions so far were gone through, and none of them handed out the state; the visitor got nothing.
 abbrev pub invariant-loop-action : goal.invariant-loop-action
 invariant-loop-action g l = record {
+  rooms : SameRooms (rooms_by g.K.Keeper.room_bytes l.fn.keepers.items) (rooms_by g.K.Keeper.room_bytes l.keepers.items);
   way : Way g.K.Keeper.told g.K.Keeper.put_count g.K.Keeper.get_count g.K.Keeper.free_count g.K.Keeper.slot_count g.K.Keeper.fault_count l.list l.action-index l.fn.session l.session l.fn.keepers.items l.keepers.items l.fn.steps l.steps;
   gone :
       Gone l.fn.session.unit l.fn.session.situation.steps l.fn.session.journal l.list l.action-index (holdings_of l.fn.session (told_by g.K.Keeper.told l.fn.keepers.items))

@@ -21,6 +21,8 @@ use Rattle.reverse_runner.proofs.AllCalls.{called_copy, at_most}
 use Rattle.reverse_runner.proofs.Taping.{same_tape}
 use Rattle.reverse_runner.proofs.Undamaged.{held_stands, fetched_image, state_of_run}
 use Rattle.reverse_runner.proofs.Leaving.{on_err, leaves_not_got, leaves_copied}
+use Rattle.reverse_runner.specs.Rooms.{image_room, IsRoomy, rooms_by}
+use Rattle.reverse_runner.proofs.Rooms.{roomy_still, short_same}
 use Rattle.reverse_runner.proofs.acting.copy.Goals as goal
 
 pub returns-in_err-fetch-clause-damaged : goal.returns-in_err-fetch-clause-damaged
@@ -135,3 +137,27 @@ returns-in-Level-clause-left g c =
     leaves_copied c.args.n c.args.from to c.args.dest old mid (told_by told c.keep.new.keepers.items) c.in-Level.is (c.fetch.ensures.same to).0 (λ k. (c.fetch.ensures.same k).1) left
     (λ k ne. (c.keep.ensures.others k ne).1))
     c.keep.ensures.left
+
+pub keep-requires-clause-number : goal.keep-requires-clause-number
+keep-requires-clause-number g c =
+    let now = c.args.config.now in
+    let is_held = copies_held now.steps now.slots now.at c.args.n c.args.from c.args.dest c.requires.allowed in
+    let free = copies_free now.steps now.slots now.at c.args.n c.args.from c.in-Level.to c.args.dest c.requires.allowed c.in-Level.is in
+    let give = may_give now.steps now.slots now.at c.args.space.now.store c.args.n c.args.from c.requires.ready.laid is_held in
+    let get = may_get now.steps now.slots now.at c.args.space.now.store c.args.n c.in-Level.to c.requires.ready.laid free.1 give.1 in
+    let P : List ShelfState → Type 0 = λ s. c.args.n < length (level_of s c.in-Level.to).pairs in
+    subst P (sym c.fetch.ensures.states.2) get.2
+
+pub returns-in-Level-clause-short : goal.returns-in-Level-clause-short
+returns-in-Level-clause-short g c short =
+    let bound = image_room c.args.space.now.work in
+    c.keep.ensures.short bound (c.in_ok-fetch.ensures.few bound short) (short_same bound c.args.space.now.store c.fetch.new.self.store c.fetch.ensures.states.2 short)
+
+pub returns-in-Level-clause-roomy : goal.returns-in-Level-clause-roomy
+returns-in-Level-clause-roomy g c short roomy e =
+    let now = c.args.config.now in
+    let bound = image_room c.args.space.now.work in
+    let free = copies_free now.steps now.slots now.at c.args.n c.args.from c.in-Level.to c.args.dest c.requires.allowed c.in-Level.is in
+    let rooms = rooms_by g.K.Keeper.room_bytes in
+    let there = roomy_still bound (rooms c.args.keepers.now.items c.in-Level.to) (rooms c.fetch.new.keepers.items c.in-Level.to) (c.fetch.ensures.rooms c.in-Level.to) (roomy c.in-Level.to free.1.level) in
+    c.keep.ensures.roomy bound there (c.in_ok-fetch.ensures.few bound short) e

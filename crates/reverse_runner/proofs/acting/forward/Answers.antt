@@ -1,4 +1,4 @@
-use Rattle.std.proofs.Common.{◌≡◌, ◌<◌, ◌∙◌, ◌-◌, ◌*◌, ℕ, List, length, refl, ap, sym, subst, arith}
+use Rattle.std.proofs.Common.{◌≡◌, ◌<◌, ◌∙◌, ◌-◌, ◌*◌, ℕ, List, Err, length, refl, ap, sym, subst, arith}
 use Rattle.plan_types.specs.declared.action.Keep.{Keep}
 use Rattle.plan_types.specs.declared.action.Action.TheVariants.{Forward}
 use Rattle.level_book.specs.Rules.{rule, levels_named}
@@ -18,6 +18,10 @@ use Rattle.rv_pages.specs.Memory.{page_numbers}
 use Rattle.unit_undo.proofs.Leading.{led, leads_there}
 use Rattle.reverse_runner.proofs.Taping.{same_tape, units_kept, units_put}
 use Rattle.reverse_runner.proofs.Leaving.{on_err, leaves_stored}
+use Rattle.std.proofs.lemmas.Result.{err_from_is_err_and}
+use Rattle.reverse_runner.specs.declared.fault.RunFault.TheVariants.{Memory}
+use Rattle.reverse_runner.specs.Rooms.{image_room}
+use Rattle.reverse_runner.proofs.Rooms.{short_same}
 use Rattle.reverse_runner.proofs.acting.forward.Goals as goal
 
 pub keep-requires-clause-room : goal.keep-requires-clause-room
@@ -127,3 +131,23 @@ returns-in_err-keep-in-Store-clause-left g c =
 pub returns-in_err-keep-in-Store-clause-others : goal.returns-in_err-keep-in-Store-clause-others
 returns-in_err-keep-in-Store-clause-others g c k free =
     c.keep.ensures.keepers k (not_named (levels_named (Forward c.args.from c.args.to c.args.keep)) k c.in-Store.level (store_names c.args.from c.args.to c.in-Store.level c.args.keep c.in-Store.is) free)
+
+pub returns-in_err-keep-in-Store-clause-short : goal.returns-in_err-keep-in-Store-clause-short
+returns-in_err-keep-in-Store-clause-short g c short =
+    let bound = image_room c.args.space.now.work in
+    c.keep.ensures.short bound c.encode.ensures.few (short_same bound c.args.space.now.store c.encode.new.self.store c.encode.ensures.store short)
+
+pub returns-in_err-keep-in-Store-clause-roomy : goal.returns-in_err-keep-in-Store-clause-roomy
+returns-in_err-keep-in-Store-clause-roomy g c short roomy e =
+    let p = err_from_is_err_and c.from_residual.result c.from_residual.ensures.1 in
+    let same : c.keep.result ≡ Err Memory = cc in
+    let now = c.args.config.now in
+    let P : Keep → Type 0 = λ k. rule now.steps now.slots now.at (Forward c.args.from c.args.to k) ≡ 0 in
+    let free = stores_free now.steps now.slots now.at c.args.from c.args.to c.in-Store.level c.requires.ready.sound (subst P c.in-Store.is c.requires.allowed) in
+    c.keep.ensures.roomy (image_room c.args.space.now.work) (roomy c.in-Store.level free.0.level) c.encode.ensures.few same
+
+pub returns-in_ok-keep-in-Store-clause-short : goal.returns-in_ok-keep-in-Store-clause-short
+returns-in_ok-keep-in-Store-clause-short g c short =
+    let bound = image_room c.args.space.now.work in
+    let kept = c.keep.ensures.short bound c.encode.ensures.few (short_same bound c.args.space.now.store c.encode.new.self.store c.encode.ensures.store short) in
+    short_same bound c.keep.new.self.store c.advance-in-Store.new.self.store c.advance-in-Store.ensures.store kept

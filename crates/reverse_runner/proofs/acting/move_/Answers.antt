@@ -12,6 +12,8 @@ use Rattle.reverse_runner.specs.Workspaces.{levels_in, holdings_in}
 use Rattle.reverse_runner.proofs.Asking.{has_keeper_same, may_give, copy_keeps_source, called_move_then, caused_then, uncaused, moves_held, moves_apart, move_may_copy, move_names_copied, copy_names_source, not_named, keeping_is_on, damage_moves, moved}
 use Rattle.reverse_runner.proofs.Taping.{same_tape}
 use Rattle.reverse_runner.proofs.Leaving.{on_err, leaves_uncopied, leaves_moved}
+use Rattle.reverse_runner.specs.Rooms.{image_room, rooms_by}
+use Rattle.reverse_runner.proofs.Rooms.{roomy_still}
 use Rattle.reverse_runner.proofs.acting.move_.Goals as goal
 
 -- a fact holds at Ok
@@ -143,3 +145,15 @@ returns-clause-left g c =
     on_err_weaker c.release.result (λ left.
     leaves_moved 0 [] c.args.n c.args.from c.args.dest old mid (told_by told c.release.new.keepers.items) apart (c.in_ok-copy.ensures.acts 0 []) left (λ k ne. (c.release.ensures.others k ne).1))
     c.release.ensures.left
+
+pub returns-clause-short : goal.returns-clause-short
+returns-clause-short g c short = c.release.ensures.short (image_room c.args.space.now.work) (c.copy.ensures.short short)
+
+pub returns-clause-roomy : goal.returns-clause-roomy
+returns-clause-roomy g c short roomy e =
+    let now = c.args.config.now in
+    let bound = image_room c.args.space.now.work in
+    let is_held = moves_held now.steps now.slots now.at c.args.n c.args.from c.args.dest c.requires.allowed in
+    let rooms = rooms_by g.K.Keeper.room_bytes in
+    let there = roomy_still bound (rooms c.args.keepers.now.items c.args.from) (rooms c.copy.new.keepers.items c.args.from) (c.copy.ensures.rooms c.args.from) (roomy c.args.from is_held.level) in
+    c.release.ensures.roomy bound there e

@@ -1,21 +1,7 @@
-use Rattle.std.proofs.Common.{◌+◌, ◌∙◌, arith}
-use Rattle.segment_sweep.proofs.Stepping.{one_more, same_number}
+use Rattle.std.proofs.Common.{sym, ◌∙◌, ap}
+use Rattle.rv_machine.specs.States.{state_number}
+use Rattle.rv_machine.proofs.Runs.{state_number-add}
 use Rattle.segment_sweep.proofs.marks.advance.Goals as goal
 
-pub loop-init : goal.loop-init
-loop-init g c = record {
-  stands = λ s n e. e ∙ same_number s c.args.journal.now n (n + 0) (omega arith);
-  counted = omega arith;
-}
-
-pub loop-preserved : goal.loop-preserved
-loop-preserved g c = record {
-  stands = λ s n e. c.step.ensures.next ∙ one_more s c.args.journal.now (n + c.loop.counter) (n + (c.loop.counter + 1)) c.loop.state (c.loop.invariant.stands s n e) (omega arith);
-  counted = omega (arith, c.step.ensures.counted, c.loop.invariant.counted);
-}
-
 pub returns-clause-state : goal.returns-clause-state
-returns-clause-state g c = λ s n e. c.loop.invariant.stands s n e ∙ same_number s c.args.journal.now (n + c.loop.counter) (n + c.args.count) (omega arith)
-
-pub returns-clause-counted : goal.returns-clause-counted
-returns-clause-counted g c = omega (arith, c.loop.invariant.counted)
+returns-clause-state g c = λ s n e. c.advance.ensures.states ∙ ap (λ t. state_number t c.args.journal.now c.args.count) e ∙ sym (state_number-add s c.args.journal.now n c.args.count)

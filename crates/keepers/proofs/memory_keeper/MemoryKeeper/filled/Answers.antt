@@ -1,13 +1,14 @@
-use Rattle.std.proofs.Common.{◌≤◌, ap, ◌∙◌, sym, subst, arith}
+use Rattle.std.proofs.Common.{List, count_by, ap, ◌∙◌, sym}
+use Rattle.std.proofs.lemmas.List.{take_all}
 use Rattle.std.specs.FinMap as finmap
-use Rattle.keepers.proofs.Images.{bytes_of, len-seen, seen_fits}
+use Rattle.keepers.specs.declared.place.Place.{Place}
+use Rattle.keepers.proofs.Images.{image_count}
 use Rattle.keepers.proofs.memory_keeper.MemoryKeeper.filled.Goals as goal
 
-pub overflow_cast-result : goal.overflow_cast-result
-overflow_cast-result c =
-    let fits : c.len.result ≤ c.self.inside.slots =
-    subst (λ n. n ≤ c.self.inside.slots) (sym c.len.ensures.len) (seen_fits bytes_of c.self.inside.images.entries c.self.inside.slots c.len.ensures.ordered c.self.invariant.2) in
-    omega (arith, fits)
-
 pub returns : goal.returns
-returns c = c.len.ensures.len ∙ sym (len-seen bytes_of _ c.len.ensures.ordered) ∙ ap (λ s. finmap.len s.images) c.self.view_is
+returns c =
+    let items : List Place = c.deref-place-items.result.now in
+    c.loop-place.invariant.count
+    ∙ ap (λ xs. count_by (λ (p : Place). p.filled) xs) (take_all c.loop-place.place-index items c.loop-place-test.false ∙ c.deref-place-items.ensures.value)
+    ∙ sym (image_count c.self.inside.places.items)
+    ∙ ap (λ k. finmap.len k.images) c.self.view_is

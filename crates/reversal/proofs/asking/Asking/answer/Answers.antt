@@ -10,6 +10,7 @@ use Rattle.requests.specs.declared.question.Question.TheVariants.{State, LastWri
 use Rattle.reversal.specs.Job.{ask}
 use Rattle.reversal.specs.Moment.{moment}
 use Rattle.reversal.specs.JobReading.{Works, run_from, run_over}
+use Rattle.reverse_runner.specs.Rooms.{image_room, rooms_by, AreRoomy}
 use Rattle.reversal.proofs.asking.Asking.answer.Goals as goal
 use Rattle.reversal.specs.Fronts.{in_units}
 use Rattle.reversal.specs.CommandAsk.{asking}
@@ -94,3 +95,18 @@ returns-clause-others g c =
     let P : SessionState → Type 0 = λ s. (k : ℕ) → length s.situation.slots ≤ k → slice_get c.tell_last_change.new.keepers.items k ≡ slice_get c.args.keepers.now.items k in
     let Q : Question → Type 0 = λ q. (k : ℕ) → (asking q (run_over c.args.self.over)).levels ≤ k → slice_get c.tell_last_change.new.keepers.items k ≡ slice_get c.args.keepers.now.items k in
     (c.tell_last_change.ensures.others.0, subst Q (sym c.in-LastChange.is) (subst P c.in-Ok.ensures.begun c.tell_last_change.ensures.others.1))
+
+pub returns-in-State-clause-roomy : goal.returns-in-State-clause-roomy
+returns-in-State-clause-roomy g c roomy e =
+    let P : SessionState → Type 0 = λ s. AreRoomy (image_room s.work) (length s.situation.slots) (rooms_by g.K.Keeper.room_bytes c.args.keepers.now.items) in
+    absurd (c.show_state.ensures.roomy (subst P (sym c.in-Ok.ensures.begun) roomy) e)
+
+pub returns-in-LastWrite-clause-roomy : goal.returns-in-LastWrite-clause-roomy
+returns-in-LastWrite-clause-roomy g c roomy e =
+    let P : SessionState → Type 0 = λ s. AreRoomy (image_room s.work) (length s.situation.slots) (rooms_by g.K.Keeper.room_bytes c.args.keepers.now.items) in
+    absurd (c.tell_last_write.ensures.roomy (subst P (sym c.in-Ok.ensures.begun) roomy) e)
+
+pub returns-clause-roomy : goal.returns-clause-roomy
+returns-clause-roomy g c roomy e =
+    let P : SessionState → Type 0 = λ s. AreRoomy (image_room s.work) (length s.situation.slots) (rooms_by g.K.Keeper.room_bytes c.args.keepers.now.items) in
+    absurd (c.tell_last_change.ensures.roomy (subst P (sym c.in-Ok.ensures.begun) roomy) e)

@@ -1,10 +1,11 @@
-use Rattle.std.proofs.Common.{◌⊎◌, ℕ, List, [], ◌∷◌, inl, inr, refl, sym, subst}
+use Rattle.std.proofs.Common.{◌≡◌, ◌⊎◌, ℕ, List, [], ◌∷◌, inl, inr, refl, sym, subst}
 use Rattle.reversal.specs.declared.job.Job.{Job}
 use Rattle.reversal.specs.Job.{write}
 use Rattle.reversal.specs.Moment.{moment}
 use Rattle.reversal.specs.Table.{accept}
-use Rattle.reversal.specs.Decision.{EndsBy}
+use Rattle.reversal.specs.Decision.{EndsBy, HaveRoomsFor}
 use Rattle.reversal.specs.JobReading.{job_of, Works, IsUntouched}
+use Rattle.reverse_runner.specs.Rooms.{rooms_by}
 use Rattle.reversal.proofs.job.Job.work.Goals as goal
 
 pub returns-in-Perform-clause-works : goal.returns-in-Perform-clause-works
@@ -83,3 +84,53 @@ returns-in-Demonstrate-clause-works g c =
     (moment g.O.Sink.told g.O.Sink.call_count g.O.Sink.fault_count g.K.Keeper.told g.K.Keeper.put_count g.K.Keeper.get_count g.K.Keeper.free_count g.K.Keeper.fault_count c.show.new.out c.args.keepers.now.items c.show.new.counter) in
     let one = c.show.ensures (moment g.O.Sink.told g.O.Sink.call_count g.O.Sink.fault_count g.K.Keeper.told g.K.Keeper.put_count g.K.Keeper.get_count g.K.Keeper.free_count g.K.Keeper.fault_count c.args.out.now c.args.keepers.now.items c.args.counter.now) in
     subst P (sym c.in-Demonstrate.is) (elim one [ inl none ↦ inl (none.0, none.1, refl, none.2) | inr works ↦ inr works ])
+
+pub returns-in-Perform-clause-roomy : goal.returns-in-Perform-clause-roomy
+returns-in-Perform-clause-roomy g c =
+    let P : Job → Type 0 = λ j. HaveRoomsFor (job_of j) (rooms_by g.K.Keeper.room_bytes c.args.keepers.now.items) → c.perform.result.status ≡ 17 → IsUntouched c.perform.result c.args.out.now c.perform.new.out c.args.keepers.now c.perform.new.keepers c.args.counter.now c.perform.new.counter in
+    subst P (sym c.in-Perform.is) c.perform.ensures.roomy
+
+pub returns-in-Ask-clause-roomy : goal.returns-in-Ask-clause-roomy
+returns-in-Ask-clause-roomy g c =
+    let P : Job → Type 0 = λ j. HaveRoomsFor (job_of j) (rooms_by g.K.Keeper.room_bytes c.args.keepers.now.items) → c.answer.result.status ≡ 17 → IsUntouched c.answer.result c.args.out.now c.answer.new.out c.args.keepers.now c.answer.new.keepers c.args.counter.now c.answer.new.counter in
+    subst P (sym c.in-Ask.is) c.answer.ensures.roomy
+
+pub returns-in-Find-clause-roomy : goal.returns-in-Find-clause-roomy
+returns-in-Find-clause-roomy g c =
+    let P : Job → Type 0 = λ j. HaveRoomsFor (job_of j) (rooms_by g.K.Keeper.room_bytes c.args.keepers.now.items) → c.find.result.status ≡ 17 → IsUntouched c.find.result c.args.out.now c.find.new.out c.args.keepers.now c.args.keepers.now c.args.counter.now c.find.new.counter in
+    subst P (sym c.in-Find.is) (λ none status. absurd none)
+
+pub returns-in-Write-clause-roomy : goal.returns-in-Write-clause-roomy
+returns-in-Write-clause-roomy g c =
+    let P : Job → Type 0 = λ j. HaveRoomsFor (job_of j) (rooms_by g.K.Keeper.room_bytes c.args.keepers.now.items) → c.write_bytes.result.status ≡ 17 → IsUntouched c.write_bytes.result c.args.out.now c.write_bytes.new.out c.args.keepers.now c.args.keepers.now c.args.counter.now c.args.counter.now in
+    subst P (sym c.in-Write.is) (λ none status. absurd none)
+
+pub returns-in-Bytes-clause-roomy : goal.returns-in-Bytes-clause-roomy
+returns-in-Bytes-clause-roomy g c =
+    let P : Job → Type 0 = λ j. HaveRoomsFor (job_of j) (rooms_by g.K.Keeper.room_bytes c.args.keepers.now.items) → c.write_bytes-in-Bytes.result.status ≡ 17 → IsUntouched c.write_bytes-in-Bytes.result c.args.out.now c.write_bytes-in-Bytes.new.out c.args.keepers.now c.args.keepers.now c.args.counter.now c.args.counter.now in
+    subst P (sym c.in-Bytes.is) (λ none status. absurd none)
+
+pub returns-in-Report-clause-roomy : goal.returns-in-Report-clause-roomy
+returns-in-Report-clause-roomy g c =
+    let P : Job → Type 0 = λ j. HaveRoomsFor (job_of j) (rooms_by g.K.Keeper.room_bytes c.args.keepers.now.items) → c.write.result.status ≡ 17 → IsUntouched c.write.result c.args.out.now c.write.new.out c.args.keepers.now c.args.keepers.now c.args.counter.now c.args.counter.now in
+    subst P (sym c.in-Report.is) (λ none status. absurd none)
+
+pub returns-in-Plan-clause-roomy : goal.returns-in-Plan-clause-roomy
+returns-in-Plan-clause-roomy g c =
+    let P : Job → Type 0 = λ j. HaveRoomsFor (job_of j) (rooms_by g.K.Keeper.room_bytes c.args.keepers.now.items) → c.write-in-Plan.result.status ≡ 17 → IsUntouched c.write-in-Plan.result c.args.out.now c.write-in-Plan.new.out c.args.keepers.now c.args.keepers.now c.args.counter.now c.args.counter.now in
+    subst P (sym c.in-Plan.is) (λ none status. absurd none)
+
+pub returns-in-List-clause-roomy : goal.returns-in-List-clause-roomy
+returns-in-List-clause-roomy g c =
+    let P : Job → Type 0 = λ j. HaveRoomsFor (job_of j) (rooms_by g.K.Keeper.room_bytes c.args.keepers.now.items) → c.write-in-List.result.status ≡ 17 → IsUntouched c.write-in-List.result c.args.out.now c.write-in-List.new.out c.args.keepers.now c.args.keepers.now c.args.counter.now c.args.counter.now in
+    subst P (sym c.in-List.is) (λ none status. absurd none)
+
+pub returns-in-MoveAbout-clause-roomy : goal.returns-in-MoveAbout-clause-roomy
+returns-in-MoveAbout-clause-roomy g c =
+    let P : Job → Type 0 = λ j. HaveRoomsFor (job_of j) (rooms_by g.K.Keeper.room_bytes c.args.keepers.now.items) → c.move_about.result.status ≡ 17 → IsUntouched c.move_about.result c.args.out.now c.move_about.new.out c.args.keepers.now c.move_about.new.keepers c.args.counter.now c.move_about.new.counter in
+    subst P (sym c.in-MoveAbout.is) (λ none status. absurd none)
+
+pub returns-in-Demonstrate-clause-roomy : goal.returns-in-Demonstrate-clause-roomy
+returns-in-Demonstrate-clause-roomy g c =
+    let P : Job → Type 0 = λ j. HaveRoomsFor (job_of j) (rooms_by g.K.Keeper.room_bytes c.args.keepers.now.items) → c.show.result.status ≡ 17 → IsUntouched c.show.result c.args.out.now c.show.new.out c.args.keepers.now c.args.keepers.now c.args.counter.now c.show.new.counter in
+    subst P (sym c.in-Demonstrate.is) (λ none status. absurd none)

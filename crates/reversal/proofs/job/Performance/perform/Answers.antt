@@ -8,6 +8,7 @@ use Rattle.reverse_runner.specs.Standing.{StandsAt}
 use Rattle.reversal.specs.Job.{perform}
 use Rattle.reversal.specs.Moment.{moment}
 use Rattle.reversal.specs.JobReading.{Works, run_from}
+use Rattle.reverse_runner.specs.Rooms.{image_room, rooms_by, AreRoomy}
 use Rattle.reversal.proofs.job.Performance.perform.Goals as goal
 
 pub perform_all-requires-clause-stands : goal.perform_all-requires-clause-stands
@@ -38,3 +39,8 @@ pub returns-clause-others : goal.returns-clause-others
 returns-clause-others g c =
     let P : SessionState → Type 0 = λ s. (k : ℕ) → length s.situation.slots ≤ k → slice_get c.perform_all.new.keepers.items k ≡ slice_get c.args.keepers.now.items k in
     (c.perform_all.ensures.others.0, subst P c.in-Ok.ensures.begun c.perform_all.ensures.others.1)
+
+pub returns-clause-roomy : goal.returns-clause-roomy
+returns-clause-roomy g c roomy e =
+    let P : SessionState → Type 0 = λ s. AreRoomy (image_room s.work) (length s.situation.slots) (rooms_by g.K.Keeper.room_bytes c.args.keepers.now.items) in
+    absurd (c.perform_all.ensures.roomy (subst P (sym c.in-Ok.ensures.begun) roomy) e)

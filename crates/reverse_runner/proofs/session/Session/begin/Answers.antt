@@ -8,6 +8,8 @@ use Rattle.level_book.specs.Configuration.{start}
 use Rattle.image_store.specs.Shelves.{ShelfState}
 use Rattle.reverse_runner.specs.LevelsStand.{IsLaidOut, HoldingsStandAt, AreAlone}
 use Rattle.reverse_runner.proofs.RoomLeft.{begun_is_laid_out, begun_stands, begun_is_alone}
+use Rattle.reverse_runner.specs.Rooms.{image_room}
+use Rattle.reverse_runner.proofs.Rooms.{begun_short, short_same}
 use Rattle.reverse_runner.proofs.session.Session.begin.Goals as goal
 
 pub invariant_of-result : goal.invariant_of-result
@@ -25,6 +27,7 @@ invariant_of-result c =
         same = ap (λ (u : UndoState). u.unit) space.undo;
         small = c.requires.few;
       });
+      short = λ _. short_same (image_room c.in_ok-space.space.work) _ c.in_ok-space.space.store space.store (begun_short (image_room c.in_ok-space.space.work) (slots_of c.args.book) c.args.steps);
     }
 
 pub returns-clause-stands : goal.returns-clause-stands

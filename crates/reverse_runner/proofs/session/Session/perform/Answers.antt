@@ -1,4 +1,4 @@
-use Rattle.std.proofs.Common.{ℕ, List, sym, subst}
+use Rattle.std.proofs.Common.{ℕ, List, length, sym, subst}
 use Rattle.std.proofs.lemmas.Result.{on_ok_weaker}
 use Rattle.level_book.specs.declared.book.Slots.{Slots}
 use Rattle.reverse_runner.specs.LevelsStand.{IsLaidOut, AreAlone}
@@ -7,6 +7,8 @@ use Rattle.reverse_runner.specs.Standing.{StandsAt}
 use Rattle.reverse_runner.specs.KeepersSeen.{told_by}
 use Rattle.reverse_runner.specs.Workspaces.{HasUnits, holdings_in}
 use Rattle.reverse_runner.proofs.HoldingsAfter.{laid_out_after, alone_after, stand_after}
+use Rattle.reverse_runner.specs.Rooms.{image_room, rooms_by, AreRoomy, AreShort}
+use Rattle.reverse_runner.proofs.Rooms.{same_room}
 use Rattle.reverse_runner.proofs.session.Session.perform.Goals as goal
 
 pub invariant_of-self : goal.invariant_of-self
@@ -25,6 +27,8 @@ invariant_of-self g c =
       fits = c.act-outcome.ensures.fits;
       laid = λ _. subst S (sym c.take.ensures.slots) (subst N (sym c.take.ensures.steps) laid);
       units = λ _. subst U (sym c.take.ensures.steps) (c.in-Ok.ensures.units after.at c.take.ensures.goes);
+      short = λ _. subst (λ most. AreShort most c.act-outcome.new.space.store) (same_room c.self.inside.space.work c.act-outcome.new.space.work c.act-outcome.ensures.pages)
+          (c.act-outcome.ensures.short (c.self.invariant.short c.if-self.false));
     }
 
 pub returns-in-Ok-clause-stands : goal.returns-in-Ok-clause-stands
@@ -50,3 +54,8 @@ returns-in-Ok-clause-alone g c alone =
     alone_after c.self.inside.journal c.self.inside.unit before.steps before.slots before.at c.args.action.now c.take.new.self.at old new c.is_sound.ensures.sound c.take.ensures.goes acts
     (c.self.invariant.laid c.if-self.false) (subst Q (sym c.self.view_is) alone))
     c.act-outcome.ensures.acts
+
+pub returns-in-Err-clause-roomy : goal.returns-in-Err-clause-roomy
+returns-in-Err-clause-roomy g c roomy e =
+    let Q : SessionState → Type 0 = λ s. AreRoomy (image_room s.work) (length s.situation.slots) (rooms_by g.K.Keeper.room_bytes c.args.keepers.now.items) in
+    c.act-outcome.ensures.roomy (c.self.invariant.short c.if-self.false) (subst Q (sym c.self.view_is) roomy) e

@@ -1,10 +1,12 @@
-use Rattle.std.proofs.Common.{◌<◌, length, set, Option, None, Err, refl, sym, ◌∙◌, ap, subst, arith}
+use Rattle.std.proofs.Common.{◌≡◌, ◌<◌, length, set, Option, None, Err, refl, sym, ◌∙◌, ap, subst, arith}
 use Rattle.keepers.specs.Told.{Images}
 use Rattle.image_store.specs.Calls.{IsGot}
 use Rattle.image_store.specs.Standing.{LevelStands}
 use Rattle.image_store.specs.Shelves.{level_of, kept_at}
 use Rattle.reverse_runner.specs.declared.fault.RunFault.{RunFault}
 use Rattle.reverse_runner.specs.Touching.{IsCaused, IsKeeping}
+use Rattle.reverse_runner.proofs.Rooms.{memory_is, roomy_is, roomy_still}
+use Rattle.image_store.specs.declared.shelf.StoreFault.TheVariants as store
 use Rattle.reverse_runner.proofs.OneKeeper.{others_remain, seen_same, remain, caused, some_kept, seen_before, damage_is, never_damage, get_was_called}
 use Rattle.reverse_runner.proofs.workspace.Workspace.fetch.Goals as goal
 
@@ -93,3 +95,28 @@ returns-in-Err-clause-sound g c images stands =
     let stood = subst P (seen_before c.args.keepers.now.items c.args.level c.index_mut-keeper.result.now c.fetch.new.keeper within c.index_mut-keeper.ensures.value None g.K.Keeper.told) stands in
     let Q : RunFault → Type 0 = λ f. IsKeeping c.args.level f in
     subst Q (sym c.on.ensures) (never_damage c.args.level c.in-Err.fault (λ put got q. c.fetch.ensures.sound images stood put got (c.in-Err.is ∙ ap (λ f. Err f) q)))
+
+pub returns-in-Ok-clause-rooms : goal.returns-in-Ok-clause-rooms
+returns-in-Ok-clause-rooms g c =
+    let within : c.args.level < length c.args.keepers.now.items = omega (arith, c.requires.there, c.args.keepers.now.ok.0) in
+    seen_same c.args.keepers.now.items c.args.level c.index_mut-keeper.result.now c.fetch.new.keeper within c.index_mut-keeper.ensures.value None g.K.Keeper.room_bytes c.fetch.ensures.room
+
+pub returns-in-Err-clause-rooms : goal.returns-in-Err-clause-rooms
+returns-in-Err-clause-rooms g c =
+    let within : c.args.level < length c.args.keepers.now.items = omega (arith, c.requires.there, c.args.keepers.now.ok.0) in
+    seen_same c.args.keepers.now.items c.args.level c.index_mut-keeper.result.now c.fetch.new.keeper within c.index_mut-keeper.ensures.value None g.K.Keeper.room_bytes c.fetch.ensures.room
+
+pub returns-in-Ok-clause-few : goal.returns-in-Ok-clause-few
+returns-in-Ok-clause-few g c most short =
+    let pair = some_kept (kept_at c.args.self.now.store c.args.level c.args.n) c.requires.held in
+    let got = c.in-Ok.ensures.ok pair.0 pair.1 in
+    omega (arith, got.1, short c.args.level c.args.n pair.0 pair.1)
+
+pub returns-in-Err-clause-roomy : goal.returns-in-Err-clause-roomy
+returns-in-Err-clause-roomy g c most has short reserved e =
+    let within : c.args.level < length c.args.keepers.now.items = omega (arith, c.requires.there, c.args.keepers.now.ok.0) in
+    let at = roomy_still most _ _ (sym (seen_before c.args.keepers.now.items c.args.level c.index_mut-keeper.result.now c.fetch.new.keeper within c.index_mut-keeper.ensures.value None g.K.Keeper.room_bytes)) has in
+    let room = roomy_is most _ at in
+    let pair = some_kept (kept_at c.args.self.now.store c.args.level c.args.n) c.requires.held in
+    let is : c.in-Err.fault ≡ store.Memory = memory_is c.args.level c.in-Err.fault (sym c.on.ensures ∙ cc) in
+    c.fetch.ensures.roomy room.0 pair.0 room.1 pair.1 (omega (arith, reserved, short c.args.level c.args.n pair.0 pair.1)) (c.in-Err.is ∙ ap (λ f. Err f) is)

@@ -1,8 +1,11 @@
-use Rattle.std.proofs.Common.{◌<◌, List, length, set, None, Err, sym, ◌∙◌, ap, subst, arith}
+use Rattle.std.proofs.Common.{◌≡◌, ◌<◌, ◌≤◌, [], List, length, set, None, Err, sym, ◌∙◌, ap, subst, arith}
+use Rattle.std.proofs.lemmas.List.{get_or-set_other}
+use Rattle.image_store.specs.declared.shelf.StoreFault.TheVariants as store
 use Rattle.image_store.specs.Shelves.{ShelfState, level_of}
 use Rattle.reverse_runner.specs.declared.fault.RunFault.{RunFault}
 use Rattle.reverse_runner.specs.Touching.{IsCaused}
-use Rattle.reverse_runner.proofs.OneKeeper.{others_remain, seen_else, seen_same, remain, caused, put_was_called}
+use Rattle.reverse_runner.proofs.Rooms.{memory_is, roomy_is, roomy_still, short_kept, short_same}
+use Rattle.reverse_runner.proofs.OneKeeper.{others_remain, seen_before, seen_else, seen_same, remain, caused, put_was_called}
 use Rattle.reverse_runner.proofs.workspace.Workspace.keep.Goals as goal
 
 pub returns-in-Ok-clause-remain : goal.returns-in-Ok-clause-remain
@@ -50,3 +53,33 @@ pub returns-in-Err-clause-others : goal.returns-in-Err-clause-others
 returns-in-Err-clause-others g c =
     let within : c.args.level < length c.args.keepers.now.items = omega (arith, c.requires.there, c.args.keepers.now.ok.0) in
     λ j ne. (ap (λ (s : List ShelfState). level_of s j) c.in-Err.ensures.refused, seen_else c.args.keepers.now.items c.args.level c.index_mut-keeper.result.now c.keep.new.keeper within c.index_mut-keeper.ensures.value None g.K.Keeper.told j ne)
+
+pub returns-in-Ok-clause-rooms : goal.returns-in-Ok-clause-rooms
+returns-in-Ok-clause-rooms g c =
+    let within : c.args.level < length c.args.keepers.now.items = omega (arith, c.requires.there, c.args.keepers.now.ok.0) in
+    seen_same c.args.keepers.now.items c.args.level c.index_mut-keeper.result.now c.keep.new.keeper within c.index_mut-keeper.ensures.value None g.K.Keeper.room_bytes c.keep.ensures.room
+
+pub returns-in-Err-clause-rooms : goal.returns-in-Err-clause-rooms
+returns-in-Err-clause-rooms g c =
+    let within : c.args.level < length c.args.keepers.now.items = omega (arith, c.requires.there, c.args.keepers.now.ok.0) in
+    seen_same c.args.keepers.now.items c.args.level c.index_mut-keeper.result.now c.keep.new.keeper within c.index_mut-keeper.ensures.value None g.K.Keeper.room_bytes c.keep.ensures.room
+
+pub returns-in-Ok-clause-short : goal.returns-in-Ok-clause-short
+returns-in-Ok-clause-short g c most fits short =
+    let kept = c.in-Ok.ensures.ok in
+    let bytes : length c.args.self.now.buffer.items ≤ most = omega (arith, fits, c.args.self.now.buffer.ok.0) in
+    let read : c.as_slice.result.now ≡ c.args.self.now.buffer.items = c.as_slice.ensures.value in
+    short_kept most c.args.level c.args.n kept.slot c.as_slice.result.now c.args.self.now.store c.keep.new.self (omega (arith, bytes, ap length read)) kept.pairs
+    (λ j ne. ap (λ (s : List ShelfState). level_of s j) c.keep.ensures.others ∙ get_or-set_other c.args.self.now.store c.args.level j (level_of c.keep.new.self c.args.level) (level_of [] 0) ne) short
+
+pub returns-in-Err-clause-short : goal.returns-in-Err-clause-short
+returns-in-Err-clause-short g c most fits short = short_same most c.args.self.now.store c.keep.new.self c.in-Err.ensures.refused short
+
+pub returns-in-Err-clause-roomy : goal.returns-in-Err-clause-roomy
+returns-in-Err-clause-roomy g c most has fits e =
+    let within : c.args.level < length c.args.keepers.now.items = omega (arith, c.requires.there, c.args.keepers.now.ok.0) in
+    let at = roomy_still most _ _ (sym (seen_before c.args.keepers.now.items c.args.level c.index_mut-keeper.result.now c.keep.new.keeper within c.index_mut-keeper.ensures.value None g.K.Keeper.room_bytes)) has in
+    let room = roomy_is most _ at in
+    let bytes : length c.as_slice.result.now ≤ room.0 = omega (arith, fits, room.2, c.args.self.now.buffer.ok.0, ap length c.as_slice.ensures.value) in
+    let is : c.in-Err.fault ≡ store.Memory = memory_is c.args.level c.in-Err.fault (sym c.on.ensures ∙ cc) in
+    c.keep.ensures.roomy room.0 room.1 bytes (c.in-Err.is ∙ ap (λ f. Err f) is)

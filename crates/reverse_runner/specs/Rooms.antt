@@ -1,0 +1,32 @@
+-- Over keepers with a room no action wants memory: how much room they need, and how long the images are that levels keep.
+use Rattle.std.specs.Prelude.{◌≡◌, ℕ, ◌+◌, ◌*◌, ◌<◌, ◌≤◌, List, length, Option, None, Some}
+use Rattle.rv_pages.specs.Memory.{page_numbers}
+use Rattle.rv_machine.specs.MachineState.{MachineState}
+use Rattle.image_store.specs.declared.shelf.Kept.{Kept}
+use Rattle.image_store.specs.Shelves.{ShelfState, kept_at}
+use Rattle.reverse_runner.specs.KeepersSeen.{by_number}
+
+-- the most bytes of an image of a state that maps the pages of this one
+abbrev pub image_room : MachineState → ℕ
+image_room s = 164 + 4100 * length (page_numbers s.memory)
+
+-- a keeper, or none, has a room of at least so many bytes
+abbrev pub IsRoomy : ℕ → Option ℕ → Type 0
+IsRoomy bytes None = ⊥
+IsRoomy bytes (Some room) = bytes ≤ room
+
+-- the rooms of keepers, by the numbers of their levels
+abbrev pub rooms_by : {K : Type 0} → (K → Option ℕ) → List K → ℕ → Option ℕ
+rooms_by room keepers = by_number None room keepers
+
+-- each of the first so many levels has a keeper with a room of at least so many bytes
+abbrev pub AreRoomy : ℕ → ℕ → (ℕ → Option ℕ) → Type 0
+AreRoomy bytes levels rooms = (k : ℕ) → k < levels → IsRoomy bytes (rooms k)
+
+-- the keepers have the rooms that they had
+abbrev pub SameRooms : (ℕ → Option ℕ) → (ℕ → Option ℕ) → Type 0
+SameRooms old new = (k : ℕ) → new k ≡ old k
+
+-- each image that a level keeps has at most so many bytes
+abbrev pub AreShort : ℕ → List ShelfState → Type 0
+AreShort bytes store = (k n : ℕ) (kept : Kept) → kept_at store k n ≡ Some kept → kept.length ≤ bytes
