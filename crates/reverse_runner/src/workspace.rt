@@ -30,7 +30,7 @@ use image_store::Store;
 use input_journal::Journal;
 use keepers::Keeper;
 use level_book::Book;
-use rv_machine::{State, Steps, advance};
+use rv_machine::{State, Steps, advance, advance_watched};
 use sha2::{Digest, Sha256};
 use state_image::{decode_image, encode_image, max_image};
 use std::alloc::{AllocError, Global};
@@ -113,10 +113,7 @@ impl Workspace {
         ensures counted { steps.new ≡ steps.old + count }
     {
         self.undo.clear();
-        for _ in 0..count {
-            self.undo.push(&self.work, journal);
-            self.advance(journal, 1, steps);
-        }
+        advance_watched(&mut self.work, journal, count, steps, &mut self.undo);
         self.tape.copy_from(&self.work);
     }
 

@@ -8,5 +8,6 @@ pub mod StateChanges
 pub mod SystemCalls
 pub mod StepTable
 pub mod States
+pub mod Watching
 pub mod StateFields
 pub mod StepChanges

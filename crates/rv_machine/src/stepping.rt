@@ -1,22 +1,19 @@
 // One step of the machine.
-ghost use Rattle.std.specs.Prelude.{◌≡◌, ◌+◌, ◌≤◌, ◌<◌, ◌↔◌, cond, [], is_some, Some, IfSome, Any, IsTrue};
-ghost use Rattle.std.specs.Option.{option_map_or};
-ghost use Rattle.rv_pages.specs.Memory.{number_at, page_numbers};
+ghost use Rattle.std.specs.Prelude.{◌≡◌, ◌+◌, ◌≤◌, ◌<◌, ◌↔◌, Any, IsTrue, Some};
+ghost use Rattle.rv_pages.specs.Memory.{word_at, page_numbers};
 ghost use Rattle.rv_decode.specs.Rows.{decoded};
-ghost use Rattle.rv_machine.specs.Effects.{bytes_of, NamesRegister};
 ghost use Rattle.rv_machine.specs.StateChanges.{addresses};
 ghost use Rattle.rv_machine.specs.States.{state_number};
-ghost use Rattle.rv_machine.specs.StepTable.{next, said, effect_at_pc, register_of, register_changed, written_by, written};
+ghost use Rattle.rv_machine.specs.StepTable.{next, said, register_changed, written};
+ghost use Rattle.rv_machine.specs.Watching.{AreNoted, CanNote};
 
-use crate::calls::{ANSWER, part_written};
-use crate::effect::Effect::{self, Call, Jump, Load, Put, Store};
-use crate::effect::Width::{self, Byte, Half, Word};
 use crate::effect::effect_of;
 use crate::happening::happen;
-use crate::next::Changes;
+use crate::next::{Changes, Next};
 use crate::state::State;
 use crate::status::Status;
 use crate::steps::Steps;
+use crate::watch::{Nobody, Watch};
 use input_journal::Journal;
 use rv_decode::decode;
 use std::sync::ledger::Ledger;
@@ -42,48 +39,82 @@ pub fn advance<L: Ledger>(state: &mut State, journal: &Journal, count: u32, step
     ensures counted { steps.new ≡ steps.old + count }
     ensures mapped { page_numbers state.new.memory ≡ page_numbers state.old.memory }
 {
-    steps.add(count);
-    go_on(state, journal, count);
+    advance_watched(state, journal, count, steps, &mut Nobody);
 }
 
-// Goes so many states on. All steps of a program are taken in this loop alone: a compiler puts what a step does in place
-// only where one call of it stands in the whole program, and a call at each step costs a tenth of it.
+/// Takes so many steps, and lets a watch look at each before it is taken.
+pub fn advance_watched<L: Ledger, W: Watch>(
+    state: &mut State,
+    journal: &Journal,
+    count: u32,
+    steps: &mut Steps<L>,
+    watch: &mut W,
+)
+    requires { CanNote W.can_note W.noted state.old journal.now count watch.old }
+    ensures states { state.new ≡ state_number state.old journal.now count }
+    ensures counted { steps.new ≡ steps.old + count }
+    ensures mapped { page_numbers state.new.memory ≡ page_numbers state.old.memory }
+    ensures noted { AreNoted W.noted state.old journal.now count watch.old watch.new }
+{
+    steps.add(count);
+    go_on(state, journal, count, watch);
+}
+
+// Goes so many states on. All steps that are watched alike are taken in this loop alone: a compiler puts what a step does
+// in place only where one call of it stands in the whole program, and a call at each step costs a tenth of it.
 #[inline(never)]
-fn go_on(state: &mut State, journal: &Journal, count: u32)
+fn go_on<W: Watch>(state: &mut State, journal: &Journal, count: u32, watch: &mut W)
+    requires { CanNote W.can_note W.noted state.old journal.now count watch.old }
     ensures states { state.new ≡ state_number state.old journal.now count }
     ensures mapped { page_numbers state.new.memory ≡ page_numbers state.old.memory }
+    ensures noted { AreNoted W.noted state.old journal.now count watch.old watch.new }
 {
     for _ in 0..count {
-        go_to_next(state, journal);
+        go_to_next(state, journal, watch);
     }
 }
 
-// Makes a state the next one.
+// Makes a state the next one, after the watch has looked at the step.
 #[inline(always)]
-fn go_to_next(state: &mut State, journal: &Journal)
+fn go_to_next<W: Watch>(state: &mut State, journal: &Journal, watch: &mut W)
+    requires { W.can_note watch.old state.old journal.now }
     ensures next { state.new ≡ next state.old journal.now }
     ensures mapped { page_numbers state.new.memory ≡ page_numbers state.old.memory }
+    ensures noted { W.noted watch.old state.old journal.now watch.new }
 {
-    if let Status::Running = state.status {
-        match state.pages.load32(state.pc) {
-            Some(word) => execute(state, journal, word),
-            None => state.status = Status::Trapped(UNMAPPED),
+    let Status::Running = state.status else {
+        watch.note(state, journal, &Next::none());
+        return;
+    };
+    match state.pages.load32(state.pc) {
+        Some(word) => execute(state, journal, word, watch),
+        None => {
+            watch.note(state, journal, &Next::none());
+            state.status = Status::Trapped(UNMAPPED);
         }
     }
 }
 
-// What the word at pc does, with the recorded input.
+// What the word at pc does, with the recorded input, after the watch has looked at the step.
 #[inline(always)]
-fn execute(state: &mut State, journal: &Journal, word: u32)
+fn execute<W: Watch>(state: &mut State, journal: &Journal, word: u32, watch: &mut W)
+    requires word { word_at state.old.memory state.old.pc ≡ Some word }
+    requires runs { state.old.status ≡ Status.Running }
+    requires can { W.can_note watch.old state.old journal.now }
     ensures state { state.new ≡ said state.old journal.now (decoded word) }
     ensures mapped { page_numbers state.new.memory ≡ page_numbers state.old.memory }
+    ensures noted { W.noted watch.old state.old journal.now watch.new }
 {
     match decode(word) {
         Some(inst) => {
             let effect = effect_of(inst, state.pc, &state.x);
+            watch.note(state, journal, &Next::happens(effect));
             happen(state, journal, effect);
         }
-        None => state.status = Status::Trapped(ILLEGAL),
+        None => {
+            watch.note(state, journal, &Next::none());
+            state.status = Status::Trapped(ILLEGAL);
+        }
     }
 }
 
@@ -103,51 +134,7 @@ pub fn next_changes(state: &State, journal: &Journal) -> Changes
     ensures few { result.register < 32 }
     ensures bytes { addresses result.at result.count ≡ written state.now journal.now }
 {
-    if state.status != Status::Running {
-        return Changes::none();
-    }
-    match effect_at(state) {
-        Some(effect) => changes_by(state, journal, effect),
-        None => Changes::none(),
-    }
-}
-
-// Which register an effect may change, and which bytes it writes.
-fn changes_by(state: &State, journal: &Journal, effect: Effect) -> Changes
-    requires { NamesRegister effect }
-    ensures register { result.register ≡ register_of effect }
-    ensures few { result.register < 32 }
-    ensures bytes { addresses result.at result.count ≡ written_by state.now journal.now (Some effect) }
-{
-    match effect {
-        Put(rd, _) | Jump(rd, _) | Load(rd, _, _, _) => Changes::of(rd, None),
-        Store(at, width, _) => Changes::of(0, part_stored(state, at, width)),
-        Call => Changes::of(ANSWER, part_written(state, journal)),
-        _ => Changes::none(),
-    }
-}
-
-// Where a store writes, and how many bytes, if it does not trap.
-fn part_stored(state: &State, at: u32, width: Width) -> Option<(u32, u32)>
-    ensures { cond (is_some (number_at state.now.memory at (bytes_of width))) (addresses at (bytes_of width)) [] ≡ option_map_or
-        (λ part. addresses part.0 part.1) result [] }
-{
-    let count = match width {
-        Byte => 1,
-        Half => 2,
-        Word => 4,
-    };
-    state.pages.are_mapped(at, count).then_some((at, count))
-}
-
-// The effect of the word at pc, if it is mapped and an instruction.
-fn effect_at(state: &State) -> Option<Effect>
-    ensures effect { result ≡ effect_at_pc state.now }
-    ensures register { IfSome result NamesRegister }
-{
-    let word = state.pages.load32(state.pc)?;
-    let inst = decode(word)?;
-    Some(effect_of(inst, state.pc, &state.x))
+    Next::of(state).changes(state, journal)
 }
 
 // Whether one of so many addresses from `at` on, modulo 2 ^ 32, is one of the four from `word` on: the first of the four

@@ -1,35 +1,26 @@
-use Rattle.std.proofs.Common.{◌≡◌, ◌+◌, ◌∷◌, ap, sym, subst, ◌∙◌, arith}
+-- The undo list is cleared, and then watches the steps.
+use Rattle.std.proofs.Common.{◌≡◌, ◌∙◌, ap, sym, subst, arith}
 use Rattle.rv_machine.specs.MachineState.{MachineState}
 use Rattle.rv_machine.specs.States.{state_number}
-use Rattle.rv_machine.proofs.Runs.{state_number-add}
-use Rattle.unit_undo.specs.Entry.{Undoes}
-use Rattle.unit_undo.specs.UndoState.{UndoState, HasRoomFor}
-use Rattle.unit_undo.specs.Leading.{HasSteps, IsMadeFor}
-use Rattle.unit_undo.proofs.Leading.{fits, pushed}
+use Rattle.unit_undo.specs.UndoState.{UndoState}
+use Rattle.unit_undo.specs.Leading.{LeadsBack, states_below, IsMadeFor}
+use Rattle.unit_undo.proofs.Leading.{can_note, noted}
 use Rattle.reverse_runner.proofs.workspace.Workspace.advance_on_tape.Goals as goal
 
-pub push-requires : goal.push-requires
-push-requires g c =
-    let h = c.loop.invariant in
-    let made : IsMadeFor c.args.journal.now c.loop.self.undo = omega (arith, h.unit, h.room, c.requires.made) in
-    subst (λ (s : MachineState). HasRoomFor c.loop.self.undo s c.args.journal.now) (sym h.work)
-    (fits c.loop.self.undo c.args.self.now.work c.args.journal.now c.loop.counter made h.has (omega (arith, h.unit, c.loop-test.true, c.requires.few)))
+pub advance_watched-requires : goal.advance_watched-requires
+advance_watched-requires g c =
+    let unit = ap (λ (u : UndoState). u.unit) c.clear.ensures in
+    let room = ap (λ (u : UndoState). u.room) c.clear.ensures in
+    let made : IsMadeFor c.args.journal.now c.clear.new.self = omega (arith, unit, room, c.requires.made) in
+    can_note c.args.self.now.work c.args.journal.now c.args.count c.clear.new.self made (ap (λ (u : UndoState). u.entries) c.clear.ensures) (omega (arith, unit, c.requires.few))
 
-pub loop-preserved : goal.loop-preserved
-loop-preserved g c =
-    let h = c.loop.invariant in
-    let p = c.push.ensures in
-    let a = c.advance.ensures in
-    let undoes = subst (λ (s : MachineState). Undoes p.0 s c.args.journal.now) h.work p.1.1 in
-    let undo = a.undo ∙ p.1.0 in
-    record {
-      has = subst (λ (u : UndoState). HasSteps u c.args.self.now.work c.args.journal.now (c.loop.counter + 1)) (sym undo) (pushed c.loop.self.undo c.args.self.now.work c.args.journal.now c.loop.counter p.0 h.has undoes);
-      work = a.work ∙ ap (λ (s : MachineState). state_number s c.args.journal.now 1) h.work ∙ sym (state_number-add c.args.self.now.work c.args.journal.now c.loop.counter 1);
-      pages = h.pages ∙ a.pages;
-      unit = ap (λ (u : UndoState). u.unit) undo ∙ h.unit;
-      room = ap (λ (u : UndoState). u.room) undo ∙ h.room;
-      tape = a.tape ∙ h.tape;
-      store = a.store ∙ h.store;
-      buffer = a.buffer ∙ h.buffer;
-      counted = omega (arith, a.counted, h.counted);
-    }
+pub returns-clause-back : goal.returns-clause-back
+returns-clause-back g c =
+    let so = noted c.args.self.now.work c.args.journal.now c.args.count c.clear.new.self c.advance_watched.new.watch (ap (λ (u : UndoState). u.entries) c.clear.ensures) c.advance_watched.ensures.noted in
+    let there = sym (c.copy_from.ensures ∙ c.advance_watched.ensures.states) in
+    subst (λ (s : MachineState). LeadsBack c.advance_watched.new.watch.entries s (states_below c.args.self.now.work c.args.journal.now c.args.count)) there so.has.back
+
+pub returns-clause-undo : goal.returns-clause-undo
+returns-clause-undo g c =
+    let so = noted c.args.self.now.work c.args.journal.now c.args.count c.clear.new.self c.advance_watched.new.watch (ap (λ (u : UndoState). u.entries) c.clear.ensures) c.advance_watched.ensures.noted in
+    (so.unit ∙ ap (λ (u : UndoState). u.unit) c.clear.ensures, so.room ∙ ap (λ (u : UndoState). u.room) c.clear.ensures)
