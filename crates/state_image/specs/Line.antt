@@ -23,13 +23,16 @@ status_word (Trapped cause) = codes "trap:" ++ decimal cause
 abbrev pub digest_word : MachineState → List ℕ
 digest_word s = encode_lower (sha256 (image s))
 
--- the line of state s with the number n
-abbrev pub line : ℕ → MachineState → List ℕ
-line n s =
+-- the line of state s with the number n, but for its digest
+abbrev pub line_front : ℕ → MachineState → List ℕ
+line_front n s =
     decimal n
     ++ codes " " ++ hex_word s.pc
     ++ flat_map (λ x. codes " " ++ hex_word x) (drop 1 s.registers)
     ++ codes " " ++ status_word s.status
     ++ codes " " ++ decimal s.item ++ codes ":" ++ decimal s.offset
     ++ codes " " ++ decimal s.written
-    ++ codes " " ++ digest_word s
+
+-- the line of state s with the number n
+abbrev pub line : ℕ → MachineState → List ℕ
+line n s = line_front n s ++ codes " " ++ digest_word s

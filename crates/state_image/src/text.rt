@@ -2,7 +2,7 @@
 ghost use Rattle.std.specs.Prelude.{◌≡◌, ◌+◌, ◌≤◌, ◌++◌, length, drop, codes, decimal};
 ghost use Rattle.std.specs.List.{flat_map};
 ghost use Rattle.hex.specs.Hex.{encode_lower};
-ghost use Rattle.state_image.specs.Line.{line, hex_word, status_word};
+ghost use Rattle.state_image.specs.Line.{line, line_front, hex_word, status_word};
 
 use crate::image::image_digest;
 use plan_types::Line;
@@ -13,13 +13,21 @@ pub fn state_line(n: u32, state: &State, text: &mut Line)
     ensures text { text.new ≡ line n state.now }
     ensures short { length text.new ≤ 420 }
 {
+    line_front(n, state, text);
+    push_digest(text, &image_digest(state));
+}
+
+/// Writes the line of the state with the number `n` but for its digest, in place of what was in `text`. It takes no memory.
+pub fn line_front(n: u32, state: &State, text: &mut Line)
+    ensures text { text.new ≡ line_front n state.now }
+    ensures short { length text.new ≤ 355 }
+{
     text.clear();
     text.push_decimal(n as u64);
     push_word(text, state.pc);
     push_registers(text, &state.x);
     push_status(text, state.status);
     push_place(text, state.item, state.offset, state.written);
-    push_digest(text, &image_digest(state));
 }
 
 fn push_word(text: &mut Line, word: u32)
@@ -77,7 +85,8 @@ fn push_place(text: &mut Line, item: u32, offset: u32, written: u64)
     text.push_decimal(written);
 }
 
-fn push_digest(text: &mut Line, digest: &[u8; 32])
+/// Ends the front of a line with a digest.
+pub fn push_digest(text: &mut Line, digest: &[u8; 32])
     requires { length text.old ≤ 447 }
     ensures text { text.new ≡ text.old ++ codes " " ++ encode_lower digest.now }
     ensures room { length text.new ≡ length text.old + 65 }
