@@ -1,17 +1,16 @@
 -- There is a planned list wherever there is a plan.
-use Rattle.std.proofs.Common.{◌≡◌, ◌==◌, ◌⊎◌, ℕ, zero, suc, ◌+◌, ◌<◌, ◌≤◌, min, cond, List, length, refl, sym, ap, subst, ◌∙◌, inl, inr, arith, eq-eqb}
+use Rattle.std.proofs.Common.{◌≡◌, ◌==◌, ◌⊎◌, ℕ, zero, suc, ◌+◌, ◌<◌, ◌≤◌, min, cond, List, refl, sym, ap, subst, ◌∙◌, inl, inr, arith, eq-eqb}
 use Rattle.std.proofs.lemmas.Bool.{cases_eq, cases_lt, ne_eqb}
 use Rattle.plan_types.specs.declared.action.Action.{Action}
 use Rattle.level_book.specs.declared.book.Level.{Level}
 use Rattle.level_book.specs.BookCosts.{BookCosts, room, total_room}
 use Rattle.revolve_gen.specs.Places.{places_on}
-use Rattle.revolve_gen.specs.Plans.{HasPlan}
 use Rattle.revolve_gen.specs.Stack.{places_used, placed}
 use Rattle.revolve_gen.specs.Multistage.{saving}
 use Rattle.revolve_gen.specs.Written.{revolve}
 use Rattle.revolve_gen.proofs.Extending.{two_levels}
 use Rattle.revolve_gen.proofs.Stacked.{levels_free, used_same}
-use Rattle.multistage_gen.specs.Planned.{ComesBefore, IsMultistageList, PlanExists}
+use Rattle.multistage_gen.specs.Planned.{ComesBefore, PlanExists}
 use Rattle.multistage_gen.proofs.Classed.{saving_same}
 
 -- ---- how many places are on level 0

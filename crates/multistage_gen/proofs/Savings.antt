@@ -57,7 +57,7 @@ traffic_counted list traffic few is p d h =
     let t : IsCounted (record { writes = times p (written 0 list); reads = times p (read 0 list) }) = record { writes = omega arith; reads = omega arith } in
     subst IsCounted (sym (at_place list traffic p d is h)) t
 
-length_ranks : (fast slow : Level) (p : ℕ) (traffic : List PlaceTraffic) → length (ranks_from fast slow p traffic) ≡ length traffic
+pub length_ranks : (fast slow : Level) (p : ℕ) (traffic : List PlaceTraffic) → length (ranks_from fast slow p traffic) ≡ length traffic
 length_ranks fast slow p [] = refl
 length_ranks fast slow p (t ∷ traffic) = ap suc (length_ranks fast slow (suc p) traffic)
 

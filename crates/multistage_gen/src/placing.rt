@@ -1,6 +1,6 @@
-// A list with its images on other levels.
-ghost use Rattle.std.specs.Prelude.{◌≡◌, slice_index};
-ghost use Rattle.revolve_gen.specs.Stack.{placed};
+// An action with its image on another level.
+ghost use Rattle.std.specs.Prelude.{◌≡◌, ◌+◌, ◌<◌, ◌^◌, slice_index};
+ghost use Rattle.revolve_gen.specs.Stack.{stack_step, place, held_after, on_level};
 
 use plan_types::Action;
 use revolve_gen::{StackStep, on_level};
@@ -12,14 +12,13 @@ fn level_of(levels: &[u8], place: usize) -> u8
     levels.get(place).copied().unwrap_or(0)
 }
 
-// Puts each image of a list on the level of its place.
-pub(crate) fn put_on_levels(levels: &[u8], list: &mut [Action])
-    ensures { list.new ≡ placed (slice_index levels.now) 0 list.old }
+// The action with its image on the level of its place, where so many images are held before it, and how many are after it.
+pub(crate) fn placed_action(levels: &[u8], held: usize, action: Action) -> (Action, usize)
+    requires { held + 1 < 2 ^ 64 }
+    ensures action { result.0 ≡ on_level (slice_index levels.now (place held (stack_step action))) action }
+    ensures held { result.1 ≡ held_after held (stack_step action) }
 {
-    let mut held = 0;
-    for action in list.iter_mut() {
-        let step = StackStep::of(action);
-        *action = on_level(level_of(levels, step.place(held)), *action);
-        held = step.held_after(held);
-    }
+    let step = StackStep::of(&action);
+    let placed = on_level(level_of(levels, step.place(held)), action);
+    (placed, step.held_after(held))
 }

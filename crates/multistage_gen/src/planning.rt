@@ -3,6 +3,9 @@ ghost use Rattle.std.specs.Prelude.{◌≡◌, ℕ, ◌+◌, ◌-◌, ◌*◌, �
 ghost use Rattle.plan_types.specs.declared.limits.TheConstants.{MOST_ACTIONS};
 ghost use Rattle.level_book.specs.declared.book.Level.{Level};
 ghost use Rattle.level_book.specs.BookCosts.{room};
+ghost use Rattle.plan_types.specs.declared.action.Action.{Action};
+ghost use Rattle.revolve_gen.specs.Stack.{written, read};
+ghost use Rattle.multistage_gen.specs.Traffic.{IsTraffic};
 ghost use Rattle.multistage_gen.specs.Threshold.{AreSavings};
 ghost use Rattle.multistage_gen.specs.Ranks.{IsCounted, saving_of, ranks_from, ArePlanned};
 
@@ -40,6 +43,20 @@ fn savings_of(
     Ok(savings)
 }
 
+// The same over the two levels of a book. These are the savings of each list with this traffic.
+pub(crate) fn savings_by(
+    alloc: Global,
+    traffic: &[PlaceTraffic],
+    book: &Book,
+) -> Result<Vec<u64>, AllocError>
+    requires two { length book.now.levels ≡ 2 }
+    requires counted { All IsCounted traffic.now }
+    ensures { IfOk result (λ savings. (list : List Action) (fast slow : Level) → book.now.levels ≡ fast ∷ slow ∷ [] →
+        IsTraffic (written 0 list) (read 0 list) traffic.now → AreSavings list fast slow savings.items) }
+{
+    savings_of(alloc, traffic, book.level(0), book.level(1))
+}
+
 /// How much less the images at each place of a list cost on the faster of two levels than on the slower one.
 pub fn place_savings(alloc: Global, list: &[Action], book: &Book) -> Result<Vec<u64>, AllocError>
     requires two { length book.now.levels ≡ 2 }
@@ -47,7 +64,7 @@ pub fn place_savings(alloc: Global, list: &[Action], book: &Book) -> Result<Vec<
     ensures { IfOk result (λ savings. (fast slow : Level) → book.now.levels ≡ fast ∷ slow ∷ [] → AreSavings list.now fast slow savings.items) }
 {
     let traffic = places(alloc, list)?;
-    savings_of(alloc, &traffic, book.level(0), book.level(1))
+    savings_by(alloc, &traffic, book)
 }
 
 // The ranks of the places with this traffic.
@@ -70,19 +87,20 @@ fn ranks(
     Ok(ranks)
 }
 
-// The level of each place: as many places as have room on level 0 are there, those that save most.
+// The level of each place: as many places as have room on level 0 are there, those that save most. These are the levels of
+// each list with this traffic.
 pub(crate) fn planned_levels(
     alloc: Global,
-    list: &[Action],
+    traffic: &[PlaceTraffic],
     steps: u32,
     book: &Book,
 ) -> Result<Vec<u8>, AllocError>
     requires two { length book.now.levels ≡ 2 }
-    requires few { length list.now ≤ MOST_ACTIONS }
-    ensures { IfOk result (λ levels. (fast slow : Level) → book.now.levels ≡ fast ∷ slow ∷ [] →
-        ArePlanned (room book.now 0 steps) list.now fast slow levels.items) }
+    requires counted { All IsCounted traffic.now }
+    ensures each { IfOk result (λ levels. length levels.items ≡ length traffic.now) }
+    ensures planned { IfOk result (λ levels. (list : List Action) (fast slow : Level) → book.now.levels ≡ fast ∷ slow ∷ [] →
+        IsTraffic (written 0 list) (read 0 list) traffic.now → ArePlanned (room book.now 0 steps) list fast slow levels.items) }
 {
-    let traffic = places(alloc, list)?;
-    let ranks = ranks(alloc, &traffic, book.level(0), book.level(1))?;
+    let ranks = ranks(alloc, traffic, book.level(0), book.level(1))?;
     levels_by_rank(alloc, &ranks, book.room(0, steps) as usize)
 }

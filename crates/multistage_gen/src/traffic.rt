@@ -1,10 +1,11 @@
 // The traffic of the places of a stack.
 ghost use Rattle.std.specs.Prelude.{◌≡◌, ℕ, ◌+◌, ◌-◌, ◌^◌, ◌<◌, ◌≤◌, [], ◌∷◌, ◌++◌, List, length, slice_get, Some, IfOk, OnOk, vec_len};
+ghost use Rattle.plan_types.specs.declared.action.Action.{Action};
 ghost use Rattle.revolve_gen.specs.Stack.{written, read};
-ghost use Rattle.multistage_gen.specs.Traffic.{IsTraffic};
+ghost use Rattle.multistage_gen.specs.Traffic.{IsTraffic, HasCounted};
 
 use plan_types::Action;
-use revolve_gen::StackStep;
+use revolve_gen::{Revolve, StackStep};
 use std::alloc::{AllocError, Global};
 
 /// How often the images at a place of the stack are written and read.
@@ -14,29 +15,72 @@ pub struct PlaceTraffic {
     pub reads: u64,
 }
 
+// The traffic of the actions that were counted, and how many images are held after them.
+#[derive(Drop)]
+struct Count {
+    places: Vec<PlaceTraffic>,
+    held: usize,
+}
+
+impl Count {
+    // No action was counted.
+    fn new(alloc: Global) -> Count
+        ensures { HasCounted [] result.held result.places.items }
+    {
+        Count {
+            places: Vec::new(alloc),
+            held: 0,
+        }
+    }
+
+    // Counts one action more. A Copy or a Move counts as one of the newest image, whichever it names.
+    fn add(&mut self, action: &Action) -> Result<(), AllocError>
+        requires { (front : List Action) × HasCounted front self.old.held self.old.places.items × (length front < 2 ^ 64 - 1) }
+        ensures { OnOk result ((front : List Action) → HasCounted front self.old.held self.old.places.items →
+            HasCounted (front ++ action.now ∷ []) self.new.held self.new.places.items) }
+    {
+        match StackStep::of(action) {
+            StackStep::Push => {
+                write_at(&mut self.places, self.held)?;
+                self.held += 1;
+            }
+            StackStep::Read => read_at(&mut self.places, self.held.saturating_sub(1))?,
+            StackStep::Pop => {
+                self.held = self.held.saturating_sub(1);
+                read_at(&mut self.places, self.held)?;
+            }
+            StackStep::Stay => {}
+        }
+        Ok(())
+    }
+}
+
 /// The writes and reads of each place of a list. Each Copy and Move counts as one of the newest image, whichever it names.
 pub fn places(alloc: Global, list: &[Action]) -> Result<Vec<PlaceTraffic>, AllocError>
     ensures { IfOk result (λ places. IsTraffic (written 0 list.now) (read 0 list.now) places.items) }
 {
     // A list has fewer actions than 2^64, so the counts fit.
     let _actions = list.len();
-    let mut places = Vec::new(alloc);
-    let mut held = 0;
+    let mut count = Count::new(alloc);
     for action in list {
-        match StackStep::of(action) {
-            StackStep::Push => {
-                write_at(&mut places, held)?;
-                held += 1;
-            }
-            StackStep::Read => read_at(&mut places, held.saturating_sub(1))?,
-            StackStep::Pop => {
-                held = held.saturating_sub(1);
-                read_at(&mut places, held)?;
-            }
-            StackStep::Stay => {}
-        }
+        count.add(action)?;
     }
-    Ok(places)
+    Ok(count.places)
+}
+
+// The same of the actions that are still to come of a list of Revolve.
+pub(crate) fn places_to_come(
+    alloc: Global,
+    mut actions: Revolve,
+) -> Result<Vec<PlaceTraffic>, AllocError>
+    requires { length actions < 2 ^ 64 - 1 }
+    ensures { IfOk result (λ places. IsTraffic (written 0 actions) (read 0 actions) places.items) }
+{
+    let mut count = Count::new(alloc);
+    while let Some(action) = actions.next() {
+        count.add(&action)?;
+    }
+    Ok(count.places)
 }
 
 // Puts in the traffic of the next place, where it is the one.

@@ -1,6 +1,7 @@
-use Rattle.std.proofs.Common.{vec_len}
-use Rattle.multistage_gen.proofs.Fronts.{Stands}
+use Rattle.std.proofs.Common.{take}
+use Rattle.multistage_gen.specs.Traffic.{HasCounted}
 use Rattle.multistage_gen.proofs.traffic.places.Given as goal
 
+-- the first actions are counted
 abbrev pub invariant-loop-action : goal.invariant-loop-action
-invariant-loop-action l = Stands l.list l.action-index l.held (vec_len l.places) l.places.items
+invariant-loop-action l = HasCounted (take l.action-index l.list) l.count.held l.count.places.items
