@@ -1,5 +1,5 @@
 -- The certificate of a valid list is accepted, or it isn't for a first reason; and a planned list has a threshold.
-use Rattle.std.proofs.Common.{◌≡◌, ◌≢◌, ◌==◌, ◌⊎◌, ℕ, zero, suc, ◌+◌, ◌-◌, ◌*◌, ◌^◌, ◌<◌, ◌≤◌, List, [], ◌∷◌, map, length, get_or, refl, sym, ◌∙◌, ap, subst, inl, inr, arith}
+use Rattle.std.proofs.Common.{◌≡◌, ◌==◌, ◌⊎◌, ℕ, zero, suc, ◌+◌, ◌-◌, ◌*◌, ◌^◌, ◌<◌, ◌≤◌, List, [], ◌∷◌, map, length, get_or, refl, sym, ◌∙◌, ap, subst, inl, inr, arith}
 use Rattle.std.proofs.Math.Nat.{mul-le-mul}
 use Rattle.std.specs.List.{AllByRecursion, range_with_len}
 use Rattle.std.proofs.lemmas.Bool.{cases_eq, cases_lt}
@@ -13,7 +13,7 @@ use Rattle.level_book.specs.CostFold.{forward, cost}
 use Rattle.level_book.specs.UnderTable.{top_entry, number}
 use Rattle.level_book.specs.DiskUnderTable.{disk_top_entry}
 use Rattle.level_book.specs.Valid.{Valid}
-use Rattle.cost_tables.specs.TableRows.{TableRows, AreFor, TablesFit, FastestTablesFit, fastest, tables_in}
+use Rattle.cost_tables.specs.TableRows.{TableRows, AreFor, fastest, tables_in}
 use Rattle.hrevolve_gen.proofs.Existing.{same_or_other}
 use Rattle.disk_gen.specs.DiskRows.{DiskRows, disk_tables_in}
 use Rattle.revolve_gen.specs.Places.{places_on}
@@ -30,11 +30,11 @@ use Rattle.table_clauses.proofs.Deciding.{under_or_first, disk_under_or_first}
 use Rattle.cert_text.specs.declared.certificate.Certificate.{Certificate}
 use Rattle.cert_text.specs.declared.certificate.Certificate.TheVariants.{Revolve, Places, Nested, Disk}
 use Rattle.bound_cert.specs.declared.verdict.Reason.{Reason}
-use Rattle.bound_cert.specs.declared.verdict.Reason.TheVariants.{Invalid, WrongShape, OutsideClass, Inequality, ValueDiffers}
+use Rattle.bound_cert.specs.declared.verdict.Reason.TheVariants.{WrongShape, OutsideClass, Inequality, ValueDiffers}
 use Rattle.bound_cert.specs.Accepted.{IsAccepted, IsFirstReason}
 use Rattle.bound_cert.specs.Laws.{AcceptedOrRefused, PlanHasThreshold}
 use Rattle.bound_cert.specs.TableTests.{entry_value, AreSized, AreSizedDisk}
-use Rattle.bound_cert.specs.Thresholds.{AreOn, Misfits, StandsBefore, IsGreatestSlow, IsThresholdOf}
+use Rattle.bound_cert.specs.Thresholds.{AreOn, Misfits, StandsBefore, IsThresholdOf}
 use Rattle.bound_cert.proofs.Fitting.{two_levels, below_first, above_first, short_first, none_misfit, fitting}
 
 -- ---- what is so or isn't

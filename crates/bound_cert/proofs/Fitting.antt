@@ -1,5 +1,5 @@
 -- The threshold of a list of the multistage class, and the first place that it doesn't fit.
-use Rattle.std.proofs.Common.{◌≡◌, ◌⊎◌, ℕ, zero, suc, ◌*◌, ◌/◌, ◌<◌, ◌≤◌, List, [], ◌∷◌, length, fold, get_or, refl, sym, ap, subst, ◌∙◌, inl, inr, arith}
+use Rattle.std.proofs.Common.{◌≡◌, ◌⊎◌, ℕ, ◌<◌, ◌≤◌, List, [], ◌∷◌, length, fold, get_or, refl, sym, ap, subst, ◌∙◌, inl, inr, arith}
 use Rattle.std.proofs.lemmas.Bool.{cases_eq, cases_lt}
 use Rattle.std.proofs.lemmas.Grind.{same_number_lists}
 use Rattle.plan_types.specs.declared.action.Action.{Action}
@@ -13,15 +13,14 @@ use Rattle.revolve_gen.specs.Multistage.{saving, IsMultistage}
 use Rattle.multistage_gen.specs.Threshold.{MeetsThreshold, AreSavings}
 use Rattle.class_rules.specs.PlaceLevels.{HasPlaceLevels}
 use Rattle.class_rules.proofs.Classing.{levelled_in_class, places_same}
+use Rattle.class_rules.proofs.Levelling.{has_place_levels}
+use Rattle.multistage_gen.specs.Plan.{Plan, IsPlaced}
 use Rattle.multistage_gen.specs.Planned.{IsPlan, IsMultistageList}
-use Rattle.multistage_gen.proofs.Classed.{planned_levels, revolve_short}
+use Rattle.multistage_gen.proofs.Classed.{planned_levels}
 use Rattle.multistage_gen.proofs.Exchange.{first_fits}
 use Rattle.multistage_gen.proofs.Least.{not_all}
 use Rattle.table_clauses.specs.declared.entry.Entry.{Entry}
 use Rattle.revolve_gen.proofs.Stacked.{uses_its_slots}
-use Rattle.revolve_gen.proofs.Written.{revolve_counted}
-use Rattle.cert_text.specs.declared.certificate.Certificate.{Certificate}
-use Rattle.bound_cert.specs.Accepted.{IsAccepted, IsPlaces}
 use Rattle.bound_cert.specs.Verdicts.{IsFirstOn}
 use Rattle.bound_cert.specs.Thresholds.{AreOn, FitsThreshold, Misfits, StandsBefore, IsFirstMisfit, IsGreatestSlow, IsThresholdOf}
 
@@ -289,33 +288,34 @@ one_threshold steps book list threshold other x y =
     let down = at_most other threshold list y.fast y.slow y.levels y.greatest moved_x in
     omega arith
 
--- ---- a list's steps are a fourth of its actions
+-- ---- the places of a plan
 
-steps_are : (steps : ℕ) (book : BookCosts) (list : List Action) → IsMultistage steps book list → length list / 4 ≡ steps
-steps_are zero book list is = let two : length list ≡ 2 = ap length is.levels.is in omega arith
-steps_are (suc n) book list is =
-    let four = (revolve_counted is.level (suc n) (total_room book (suc n)) is.plan).actions (omega arith) in
-    let all : length list ≡ 4 * suc n = ap length is.levels.is ∙ four in
-    omega arith
+pub placed_member : (steps : ℕ) (book : BookCosts) (plan : Plan) → IsPlaced steps book plan → IsMultistage steps book plan.actions
+placed_member steps book plan is = record { two = is.two; plan = is.has; level = λ p. get_or plan.levels p 0; levels = is.levels }
 
--- for another number of steps the list isn't in the class
-pub at_length : (n steps : ℕ) (book : BookCosts) (list : List Action) → n ≡ length list / 4 → IsMultistage steps book list → n ≡ steps
-at_length n steps book list quarter is = quarter ∙ steps_are steps book list is
+pub placed_levels : (steps : ℕ) (book : BookCosts) (plan : Plan) → IsPlaced steps book plan → HasPlaceLevels steps book plan.actions plan.levels
+placed_levels steps book plan is =
+    let of = has_place_levels steps book plan.actions (placed_member steps book plan is) in
+    let count = of.1.count in
+    let also = is.count in
+    record {
+      two = is.two;
+      plan = is.has;
+      count = is.count;
+      placed = is.levels;
+      only = λ level levels p h. of.1.only level levels p (omega arith) ∙ sym (of.1.only (λ p. get_or plan.levels p 0) is.levels p (omega arith));
+    }
 
-pub few_actions : (steps : ℕ) (book : BookCosts) (list : List Action) → steps ≤ 1000000 → IsMultistage steps book list → length list ≤ 16777216
-few_actions steps book list short is = omega (arith, ap length is.levels.is, revolve_short is.level steps (total_room book steps) is.plan short)
-
--- the planned list is in the class
-pub planned_member : (steps : ℕ) (book : BookCosts) (list : List Action) → IsMultistageList steps book list → IsMultistage steps book list
-planned_member steps book list is = record { two = ap length is.two; plan = is.plan; level = is.level; levels = planned_levels steps book list is }
-
--- what holds for that number of steps holds for each for which the list is in the class
-pub threshold_at : (n steps : ℕ) (book : BookCosts) (list : List Action) (certificate : Certificate) → n ≡ length list / 4 → IsMultistage steps book list →
-    IsPlaces (λ threshold. IsThresholdOf threshold n book list) certificate → IsPlaces (λ threshold. IsThresholdOf threshold steps book list) certificate
-threshold_at n steps book list certificate quarter member is =
-    subst (λ (s : ℕ). IsPlaces (λ threshold. IsThresholdOf threshold s book list) certificate) (at_length n steps book list quarter member) is
-
-pub accepted_at : (n steps : ℕ) (book : BookCosts) (list : List Action) (certificate : Certificate) → n ≡ length list / 4 →
-    (IsMultistageList n book list → IsAccepted list n book certificate) → IsMultistageList steps book list → IsAccepted list steps book certificate
-accepted_at n steps book list certificate quarter accepted planned =
-    subst (λ (s : ℕ). IsMultistageList s book list → IsAccepted list s book certificate) (at_length n steps book list quarter (planned_member steps book list planned)) accepted planned
+-- the most that a place of the plan on the slower level would save is its threshold
+pub plan_threshold : (threshold steps : ℕ) (book : BookCosts) (plan : Plan) → IsPlaced steps book plan →
+    ((list : List Action) (fast slow : Level) → AreSavings list fast slow plan.savings → IsGreatestSlow threshold list fast slow plan.levels) →
+    IsThresholdOf threshold steps book plan.actions
+plan_threshold threshold steps book plan is most =
+    let two = two_levels book.levels is.two in
+    record {
+      fast = two.0;
+      slow = two.1;
+      levels = plan.levels;
+      are_on = record { two = two.2; has = placed_levels steps book plan is };
+      greatest = most plan.actions two.0 two.1 (is.savings two.0 two.1 two.2);
+    }

@@ -1,6 +1,6 @@
 // The certificates of lists that are planned.
-ghost use Rattle.std.specs.Prelude.{◌≡◌, ◌<◌, ◌≤◌, ◌+◌, ℕ, List, length, IfOk};
-ghost use Rattle.plan_types.specs.declared.limits.TheConstants.{MOST_ACTIONS, MOST_STEPS};
+ghost use Rattle.std.specs.Prelude.{◌≡◌, ◌≤◌, ◌+◌, ℕ, List};
+ghost use Rattle.plan_types.specs.declared.limits.TheConstants.{MOST_STEPS};
 ghost use Rattle.plan_types.specs.declared.action.Action.{Action};
 ghost use Rattle.level_book.specs.BookCosts.{BookCosts, IsWithinLimits, slots_of, total_room};
 ghost use Rattle.level_book.specs.Valid.{Valid};
@@ -10,7 +10,7 @@ ghost use Rattle.level_book.specs.DiskUnderTable.{IsGreatestDisk};
 ghost use Rattle.binomials.specs.Advances.{repeats, least_advances};
 ghost use Rattle.revolve_gen.specs.Plans.{HasPlan};
 ghost use Rattle.revolve_gen.specs.Written.{revolve_list};
-ghost use Rattle.revolve_gen.specs.Multistage.{IsMultistage};
+ghost use Rattle.multistage_gen.specs.Plan.{IsPlaced};
 ghost use Rattle.multistage_gen.specs.Planned.{IsMultistageList};
 ghost use Rattle.cost_tables.specs.TableRows.{AreFor, TablesFit, FastestTablesFit, tables_in};
 ghost use Rattle.hrevolve_gen.specs.Plans as nested;
@@ -25,13 +25,10 @@ ghost use Rattle.bound_cert.specs.Thresholds.{IsThresholdOf};
 use crate::places::greatest_slow;
 use binomials::{least_advances, repeats};
 use cert_text::Certificate;
-use class_rules::place_levels;
 use cost_tables::Tables;
 use disk_gen::DiskTables;
 use level_book::Book;
-use multistage_gen::place_savings;
-use plan_types::Action;
-use std::alloc::{AllocError, Global};
+use multistage_gen::Multistage;
 
 /// The certificate of the list that `revolve_gen::revolve_list` gives for these steps and this book. It takes no memory.
 pub fn certify_revolve(steps: u32, book: &Book) -> Certificate
@@ -61,47 +58,20 @@ pub fn certify_revolve(steps: u32, book: &Book) -> Certificate
     }
 }
 
-/// The certificate of a list of the multistage class: the most that the images of a place on the slower level would save on the
-/// faster one. For how many steps the list is, its length tells.
-pub fn certify_places(
-    alloc: Global,
-    list: &[Action],
-    book: &Book,
-) -> Result<Certificate, AllocError>
-    requires { (steps : ℕ) × (steps ≤ MOST_STEPS) × IsMultistage steps book.now list.now }
-    ensures threshold { IfOk result (λ certificate. (steps : ℕ) → IsMultistage steps book.now list.now →
-        IsPlaces (λ threshold. IsThresholdOf threshold steps book.now list.now) certificate) }
-    ensures text { IfOk result (λ certificate. (steps : ℕ) → HasText steps book.now certificate) }
+/// The certificate of a multistage plan: the most that the images of a place on the slower level would save on the faster one. The
+/// plan has counted what its places save, so this takes no memory.
+pub fn certify_places(plan: &Multistage) -> Certificate
+    ensures threshold { (steps : ℕ) (book : BookCosts) → IsPlaced steps book plan.now →
+        IsPlaces (λ threshold. IsThresholdOf threshold steps book plan.now.actions) result }
+    ensures text { (steps : ℕ) (book : BookCosts) → HasText steps book result }
 
     // It is accepted for the list that is planned.
-    ensures accepted { IfOk result (λ certificate. (steps : ℕ) → IsMultistageList steps book.now list.now → IsAccepted list.now steps book.now certificate) }
+    ensures accepted { (steps : ℕ) (book : BookCosts) → IsPlaced steps book plan.now → IsMultistageList steps book plan.now.actions →
+        IsAccepted plan.now.actions steps book result }
 {
-    // A list of Revolve has four actions for each step, and two for none.
-    let steps = (list.len() / 4) as u32;
-    certify_for(alloc, list, steps, book)
-}
-
-// The same for a list for so many steps.
-fn certify_for(
-    alloc: Global,
-    list: &[Action],
-    steps: u32,
-    book: &Book,
-) -> Result<Certificate, AllocError>
-    requires short { steps ≤ MOST_STEPS }
-    requires few { length list.now ≤ MOST_ACTIONS }
-    requires class { IsMultistage steps book.now list.now }
-    ensures threshold { IfOk result (IsPlaces (λ threshold. IsThresholdOf threshold steps book.now list.now)) }
-    ensures text { IfOk result (λ certificate. (n : ℕ) → HasText n book.now certificate) }
-    ensures accepted { IfOk result (λ certificate. IsMultistageList steps book.now list.now → IsAccepted list.now steps book.now certificate) }
-{
-    let Some(levels) = place_levels(alloc, list, steps, book)? else {
-        unreachable!()
-    };
-    let savings = place_savings(alloc, list, book)?;
-    Ok(Certificate::Places {
-        threshold: greatest_slow(&levels, &savings),
-    })
+    Certificate::Places {
+        threshold: greatest_slow(plan.levels(), plan.savings()),
+    }
 }
 
 /// The certificate of a list of the nested class, which is the tables that it is read from. It takes no memory.

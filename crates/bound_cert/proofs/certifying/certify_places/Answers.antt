@@ -1,38 +1,29 @@
-use Rattle.std.proofs.Common.{ℕ, ◌/◌, length, refl, subst, sym, arith}
-use Rattle.std.proofs.lemmas.Result.{IfOk-weaker}
-use Rattle.revolve_gen.specs.Multistage.{IsMultistage}
-use Rattle.bound_cert.proofs.Fitting.{at_length, few_actions, threshold_at, accepted_at}
+use Rattle.std.proofs.Common.{◌≡◌, ℕ, List, sym, subst}
+use Rattle.plan_types.specs.declared.action.Action.{Action}
+use Rattle.level_book.specs.declared.book.Level.{Level}
+use Rattle.revolve_gen.proofs.Extending.{multistage_valid}
+use Rattle.multistage_gen.specs.Plan.{Plan}
+use Rattle.multistage_gen.specs.Threshold.{AreSavings}
+use Rattle.bound_cert.specs.Thresholds.{IsGreatestSlow}
+use Rattle.bound_cert.proofs.Fitting.{placed_member, plan_threshold, planned_fits}
 use Rattle.bound_cert.proofs.certifying.certify_places.Goals as goal
 
-pub overflow_cast-steps : goal.overflow_cast-steps
-overflow_cast-steps c =
-    let r = c.requires in
-    let same = at_length (length c.args.list.now / 4) r.0 c.args.book.now c.args.list.now refl r.2 in
-    let short = r.1 in
-    record { fits = omega arith }
-
-pub certify_for-requires-clause-short : goal.certify_for-requires-clause-short
-certify_for-requires-clause-short c =
-    let r = c.requires in
-    let same = at_length (length c.args.list.now / 4) r.0 c.args.book.now c.args.list.now refl r.2 in
-    let short = r.1 in
-    omega arith
-
-pub certify_for-requires-clause-few : goal.certify_for-requires-clause-few
-certify_for-requires-clause-few c = let r = c.requires in few_actions r.0 c.args.book.now c.args.list.now r.1 r.2
-
-pub certify_for-requires-clause-class : goal.certify_for-requires-clause-class
-certify_for-requires-clause-class c =
-    let r = c.requires in
-    let same = at_length (length c.args.list.now / 4) r.0 c.args.book.now c.args.list.now refl r.2 in
-    subst (λ (n : ℕ). IsMultistage n c.args.book.now c.args.list.now) (sym same) r.2
+-- what is seen of the levels and savings is what the plan has
+of_plan : (threshold : ℕ) (plan : Plan) (levels savings : List ℕ) → levels ≡ plan.levels → savings ≡ plan.savings →
+    ((list : List Action) (fast slow : Level) → AreSavings list fast slow savings → IsGreatestSlow threshold list fast slow levels) →
+    (list : List Action) (fast slow : Level) → AreSavings list fast slow plan.savings → IsGreatestSlow threshold list fast slow plan.levels
+of_plan threshold plan levels savings l s most list fast slow are =
+    subst (λ (ls : List ℕ). IsGreatestSlow threshold list fast slow ls) l (most list fast slow (subst (AreSavings list fast slow) (sym s) are))
 
 pub returns-clause-threshold : goal.returns-clause-threshold
-returns-clause-threshold c =
-    IfOk-weaker c.certify_for.result _ _
-    (λ k is steps member. threshold_at (length c.args.list.now / 4) steps c.args.book.now c.args.list.now k refl member is) c.certify_for.ensures.threshold
+returns-clause-threshold c steps book is =
+    plan_threshold c.greatest_slow.result steps book c.args.plan.now is
+    (of_plan c.greatest_slow.result c.args.plan.now c.levels.result.now c.savings.result.now c.levels.ensures c.savings.ensures.savings c.greatest_slow.ensures)
 
 pub returns-clause-accepted : goal.returns-clause-accepted
-returns-clause-accepted c =
-    IfOk-weaker c.certify_for.result _ _
-    (λ k is steps planned. accepted_at (length c.args.list.now / 4) steps c.args.book.now c.args.list.now k refl is planned) c.certify_for.ensures.accepted
+returns-clause-accepted c steps book is planned =
+    let plan = c.args.plan.now in (
+      multistage_valid steps book plan.actions (placed_member steps book plan is),
+      planned_fits c.greatest_slow.result steps book plan.actions (plan_threshold c.greatest_slow.result steps book plan is
+          (of_plan c.greatest_slow.result plan c.levels.result.now c.savings.result.now c.levels.ensures c.savings.ensures.savings c.greatest_slow.ensures)) planned,
+    )
