@@ -3,6 +3,7 @@ ghost use Rattle.std.specs.Prelude.{◌≡◌, [], ◌∷◌, MatchOption};
 ghost use Rattle.reversal.specs.ActionsLeft.{left_of};
 
 use disk_gen::Periodic;
+use multistage_gen::Multistage;
 use plan_types::Action;
 use revolve_gen::Revolve;
 use std::marker::Model;
@@ -16,6 +17,8 @@ pub enum Actions {
     Streamed(Revolve),
     /// From the stream of a periodic list, likewise.
     Periodic(Periodic),
+    /// From a multistage plan, likewise.
+    Multistage(Multistage),
 }
 
 impl Actions {
@@ -27,6 +30,7 @@ impl Actions {
             Actions::Listed(listed) => listed.next(),
             Actions::Streamed(revolve) => revolve.next(),
             Actions::Periodic(periodic) => periodic.next(),
+            Actions::Multistage(plan) => plan.next(),
         }
     }
 }

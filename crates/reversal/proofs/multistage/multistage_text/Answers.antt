@@ -37,31 +37,24 @@ returns-in_err-book-clause-refused c =
     let P : Ended → Type 0 = λ x. IsRefusal (HasBookFault c.args.book.now) bad_book x in
     multistage_by_book c.args.steps c.args.book.now e (subst P same c.in_err-book.ensures.refused))
 
-pub returns-in_err-list-clause-refused : goal.returns-in_err-list-clause-refused
-returns-in_err-list-clause-refused c =
-    on_error c.from_residual-in_err-list.result _ _ c.from_residual-in_err-list.ensures.1 (λ e gives.
-    let same : c.in_err-list.field-0.0 ≡ e = cc in
+pub returns-in_err-plan-clause-refused : goal.returns-in_err-plan-clause-refused
+returns-in_err-plan-clause-refused c =
+    on_error c.from_residual-in_err-plan.result _ _ c.from_residual-in_err-plan.ensures.1 (λ e gives.
+    let same : c.in_err-plan.field-0.0 ≡ e = cc in
     let P : Ended → Type 0 = λ x. IsUnstaged c.args.steps c.in_ok-book.book x in
-    multistage_by_plan c.args.steps c.args.book.now e c.in_ok-book.book c.in_ok-book.ensures.found (subst P same c.in_err-list.ensures.refused))
-
-pub certify_places-requires : goal.certify_places-requires
-certify_places-requires c =
-    let b = c.in_ok-book.book in
-    let M : List Action → Type 0 = λ l. IsMultistage c.args.steps b l in
-    (c.args.steps, c.requires.steps, subst M (sym c.deref.ensures.value) c.in_ok-list.ensures.class)
+    multistage_by_plan c.args.steps c.args.book.now e c.in_ok-book.book c.in_ok-book.ensures.found (subst P same c.in_err-plan.ensures.refused))
 
 pub certified_text-requires : goal.certified_text-requires
 certified_text-requires c =
     let b = c.in_ok-book.book in
-    let S : List Action → Type 0 = λ l. AllByRecursion (HasSpelling (names_of b)) l in
-    subst S (sym c.new.ensures) (valid_spelled c.args.steps (slots_of b) (names_of b) c.in_ok-list.list.items c.requires.steps (as_many b) (multistage_valid c.args.steps b c.in_ok-list.list.items c.in_ok-list.ensures.class))
+    let list = c.in_ok-plan.plan.actions in
+    valid_spelled c.args.steps (slots_of b) (names_of b) list c.requires.steps (as_many b) (multistage_valid c.args.steps b list c.in_ok-plan.ensures.class)
 
 pub returns-clause-accepted : goal.returns-clause-accepted
 returns-clause-accepted c =
     let b = c.in_ok-book.book in
-    let list = c.in_ok-list.list.items in
+    let list = c.in_ok-plan.plan.actions in
     let D : Job → Type 0 = λ j. DecidesPlanMultistage c.args.steps c.args.book.now (accept j) in
-    let T : List Action → Type 0 = λ l. IsMultistage c.args.steps b l → IsPlaces (λ threshold. IsThresholdOf threshold c.args.steps b l) c.in_ok-certificate.certificate in
-    let of = threshold_in _ c.in_ok-certificate.certificate (subst T c.deref.ensures.value (c.in_ok-certificate.ensures.threshold c.args.steps) c.in_ok-list.ensures.class) in
-    subst D (sym (c.in_ok-job.ensures.job ∙ (λ i. write (list_pieces (names_of b) (c.new.ensures i) ++ certificate_text.pieces (of.1 i)))))
-    (multistage_accepted c.args.steps c.args.book.now b list of.0 c.in_ok-book.ensures.found c.in_ok-list.ensures.list of.2)
+    let of = threshold_in _ c.certify_places-certificate.result (c.certify_places-certificate.ensures.threshold c.args.steps b c.in_ok-plan.ensures.places) in
+    subst D (sym (c.in_ok-job.ensures.job ∙ (λ i. write (list_pieces (names_of b) list ++ certificate_text.pieces (of.1 i)))))
+    (multistage_accepted c.args.steps c.args.book.now b list of.0 c.in_ok-book.ensures.found c.in_ok-plan.ensures.list of.2)
