@@ -1,9 +1,5 @@
-use Rattle.std.proofs.Common.{◌≡◌, ◌++◌, ℕ, List, refl, sym, ◌∙◌, subst}
-use Rattle.std.specs.List.{AllByRecursion}
-use Rattle.plan_types.specs.declared.action.Action.{Action}
+use Rattle.std.proofs.Common.{◌≡◌, ◌++◌, ℕ, refl, sym, ◌∙◌, subst}
 use Rattle.level_book.specs.BookCosts.{slots_of, names_of}
-use Rattle.action_text.specs.Canonical.{HasSpelling}
-use Rattle.revolve_gen.specs.Multistage.{IsMultistage}
 use Rattle.revolve_gen.proofs.Extending.{multistage_valid}
 use Rattle.requests.specs.declared.ended.Ended.{Ended}
 use Rattle.reversal.specs.Job.{Job, write}
@@ -19,7 +15,6 @@ use Rattle.reversal.proofs.Deciding.{on_error, IsUnstaged, multistage_by_book, m
 use Rattle.cert_text.specs.declared.certificate.Certificate.{Certificate}
 use Rattle.cert_text.specs.declared.certificate.Certificate.TheVariants.{Revolve, Places, Nested, Disk}
 use Rattle.cert_text.specs.Canonical as certificate_text
-use Rattle.bound_cert.specs.Thresholds.{IsThresholdOf}
 use Rattle.bound_cert.specs.Accepted.{IsPlaces}
 use Rattle.reversal.proofs.multistage.multistage_text.Goals as goal
 
