@@ -26,7 +26,7 @@ times_other : (p q : ℕ) (xs : List ℕ) → (q ≡ p → ⊥) → times p (xs 
 times_other p q xs ne = times_snoc p q xs ∙ ap (λ b. times p xs + cond b 1 0) (ne_eqb q p ne) ∙ omega arith
 
 -- a place past all is named nowhere
-times_past : (p : ℕ) (xs : List ℕ) → enough xs ≤ p → times p xs ≡ 0
+pub times_past : (p : ℕ) (xs : List ℕ) → enough xs ≤ p → times p xs ≡ 0
 times_past p [] h = refl
 times_past p (x ∷ xs) h =
     let e = times_past p xs (omega arith) in

@@ -6,7 +6,8 @@ use Rattle.revolve_gen.specs.declared.stack.StackStep.{StackStep}
 use Rattle.revolve_gen.specs.declared.stack.StackStep.TheVariants.{Push, Read, Pop, Stay}
 use Rattle.revolve_gen.specs.Stack.{stack_step, held_after, held_at_end, place_written, place_read, written, read}
 use Rattle.multistage_gen.specs.declared.traffic.PlaceTraffic.{PlaceTraffic}
-use Rattle.multistage_gen.specs.Traffic.{IsTraffic, HasCounted}
+use Rattle.multistage_gen.specs.Traffic.{IsTraffic}
+use Rattle.multistage_gen.specs.Counting.{HasCounted}
 
 written_end : (h : ℕ) (xs : List Action) (a : Action) → written h (xs ++ a ∷ []) ≡ written h xs ++ place_written (held_at_end h xs) (stack_step a)
 written_end h [] a = append-nil (place_written h (stack_step a))

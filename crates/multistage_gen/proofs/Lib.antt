@@ -1,4 +1,6 @@
 pub mod Counts
+pub mod Named
+pub mod Weighed
 pub mod Fronts
 pub mod Ordered
 pub mod Savings

@@ -1,4 +1,6 @@
 pub mod Traffic
+pub mod Counting
+pub mod Numbers
 pub mod Planned
 pub mod Ranks
 pub mod Threshold

@@ -6,6 +6,7 @@
 #![tactic(auto)]
 
 pub mod laws;
+mod numbers;
 mod placing;
 mod planning;
 mod ranking;

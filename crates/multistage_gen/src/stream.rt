@@ -5,9 +5,9 @@ ghost use Rattle.revolve_gen.specs.Multistage.{IsMultistage};
 ghost use Rattle.multistage_gen.specs.Plan.{IsPlaced};
 ghost use Rattle.multistage_gen.specs.Planned.{IsMultistageList, IsFault};
 
+use crate::numbers::revolve_places;
 use crate::placing::placed_action;
 use crate::planning::{planned_levels, savings_by};
-use crate::traffic::places_to_come;
 use level_book::Book;
 use plan_types::Action;
 use revolve_gen::{GenFault, Revolve};
@@ -37,8 +37,8 @@ impl Model for Multistage {
 }
 
 impl Multistage {
-    /// The plan for so many steps over the two levels of a book. It goes over the list of Revolve once, to count the traffic of each
-    /// place, and has memory for the places alone, of which there are no more than slots.
+    /// The plan for so many steps over the two levels of a book. The traffic of each place is worked out from the numbers of the
+    /// stretches, so there is no list, and it has memory for the places alone, of which there are no more than slots.
     pub fn begin(alloc: Global, steps: u32, book: &Book) -> Result<Multistage, GenFault>
         requires { steps ≤ MOST_STEPS }
         ensures list { IfOk result (λ plan. IsMultistageList steps book.now plan.actions) }
@@ -49,8 +49,8 @@ impl Multistage {
         if book.levels() != 2 {
             return Err(GenFault::NoPlan(2));
         }
-        let counted = Revolve::new(alloc, steps, book)?;
-        let Ok(traffic) = places_to_come(alloc, counted) else {
+        let revolve = Revolve::new(alloc, steps, book)?;
+        let Ok(traffic) = revolve_places(alloc, steps, book.total_room(steps)) else {
             return Err(GenFault::Memory);
         };
         let Ok(levels) = planned_levels(alloc, &traffic, steps, book) else {
@@ -59,7 +59,6 @@ impl Multistage {
         let Ok(savings) = savings_by(alloc, &traffic, book) else {
             return Err(GenFault::Memory);
         };
-        let revolve = Revolve::new(alloc, steps, book)?;
         Ok(Multistage {
             levels,
             savings,

@@ -2,10 +2,11 @@
 ghost use Rattle.std.specs.Prelude.{◌≡◌, ℕ, ◌+◌, ◌-◌, ◌^◌, ◌<◌, ◌≤◌, [], ◌∷◌, ◌++◌, List, length, slice_get, Some, IfOk, OnOk, vec_len};
 ghost use Rattle.plan_types.specs.declared.action.Action.{Action};
 ghost use Rattle.revolve_gen.specs.Stack.{written, read};
-ghost use Rattle.multistage_gen.specs.Traffic.{IsTraffic, HasCounted};
+ghost use Rattle.multistage_gen.specs.Counting.{HasCounted};
+ghost use Rattle.multistage_gen.specs.Traffic.{IsTraffic};
 
 use plan_types::Action;
-use revolve_gen::{Revolve, StackStep};
+use revolve_gen::StackStep;
 use std::alloc::{AllocError, Global};
 
 /// How often the images at a place of the stack are written and read.
@@ -64,21 +65,6 @@ pub fn places(alloc: Global, list: &[Action]) -> Result<Vec<PlaceTraffic>, Alloc
     let mut count = Count::new(alloc);
     for action in list {
         count.add(action)?;
-    }
-    Ok(count.places)
-}
-
-// The same of the actions that are still to come of a list of Revolve.
-pub(crate) fn places_to_come(
-    alloc: Global,
-    mut actions: Revolve,
-) -> Result<Vec<PlaceTraffic>, AllocError>
-    requires { length actions < 2 ^ 64 - 1 }
-    ensures { IfOk result (λ places. IsTraffic (written 0 actions) (read 0 actions) places.items) }
-{
-    let mut count = Count::new(alloc);
-    while let Some(action) = actions.next() {
-        count.add(&action)?;
     }
     Ok(count.places)
 }

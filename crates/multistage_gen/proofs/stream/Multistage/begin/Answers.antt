@@ -1,47 +1,47 @@
-use Rattle.std.proofs.Common.{◌≡◌, ◌≤◌, ℕ, All, List, length, sym, ap, subst, ◌∙◌, arith}
+use Rattle.std.proofs.Common.{◌≡◌, ◌≤◌, ℕ, List, length, sym, ap, subst, ◌∙◌, arith}
 use Rattle.plan_types.specs.declared.action.Action.{Action}
 use Rattle.level_book.specs.BookCosts.{BookCosts, slots_of, total_room}
 use Rattle.revolve_gen.specs.Places.{level_at}
 use Rattle.revolve_gen.specs.Plans.{HasPlan}
 use Rattle.revolve_gen.specs.Stack.{written, read}
-use Rattle.revolve_gen.specs.Written.{revolve_list}
+use Rattle.revolve_gen.specs.Written.{revolve, revolve_list}
 use Rattle.revolve_gen.proofs.Extending.{two_levels}
 use Rattle.multistage_gen.specs.declared.traffic.PlaceTraffic.{PlaceTraffic}
-use Rattle.multistage_gen.specs.Ranks.{IsCounted}
 use Rattle.multistage_gen.specs.Traffic.{IsTraffic}
 use Rattle.multistage_gen.proofs.Classed.{revolve_short, plan_list, plan_places, planned_in_class}
 use Rattle.multistage_gen.proofs.Savings.{traffic_counted}
 use Rattle.multistage_gen.proofs.stream.Multistage.begin.Goals as goal
 
--- a list of Revolve is not too long
-short : (steps : ℕ) (book : BookCosts) (list : List Action) → list ≡ revolve_list steps book → HasPlan steps (total_room book steps) → steps ≤ 1000000 → length list ≤ 16777216
-short steps book list is has few = omega (arith, ap length is, revolve_short (level_at (slots_of book)) steps (total_room book steps) has few)
-
-pub places_to_come-requires : goal.places_to_come-requires
-places_to_come-requires c =
-    omega (arith, short c.args.steps c.args.book.now c.in_ok-counted.counted c.in_ok-counted.ensures.list c.in_ok-counted.ensures.plan c.requires)
-
-counted : (steps : ℕ) (book : BookCosts) (list : List Action) (traffic : List PlaceTraffic) → list ≡ revolve_list steps book → HasPlan steps (total_room book steps) → steps ≤ 1000000 →
-    IsTraffic (written 0 list) (read 0 list) traffic → All IsCounted traffic
-counted steps book list traffic is has few of = traffic_counted list traffic (short steps book list is has few) of
-
-pub planned_levels-requires-clause-counted : goal.planned_levels-requires-clause-counted
-planned_levels-requires-clause-counted c =
-    subst (All IsCounted) (sym c.deref.ensures.value)
-    (counted c.args.steps c.args.book.now c.in_ok-counted.counted c.in-Ok.traffic.items c.in_ok-counted.ensures.list c.in_ok-counted.ensures.plan c.requires c.in-Ok.ensures)
-
-pub savings_by-requires-clause-counted : goal.savings_by-requires-clause-counted
-savings_by-requires-clause-counted c =
-    subst (All IsCounted) (sym c.deref-2.ensures.value)
-    (counted c.args.steps c.args.book.now c.in_ok-counted.counted c.in-Ok.traffic.items c.in_ok-counted.ensures.list c.in_ok-counted.ensures.plan c.requires c.in-Ok.ensures)
-
--- the same traffic, of the list that is to come
 abbrev Counts : List Action → List PlaceTraffic → Type 0
 Counts list traffic = IsTraffic (written 0 list) (read 0 list) traffic
 
-counts_of : (steps : ℕ) (book : BookCosts) (list other : List Action) (traffic seen : List PlaceTraffic) → list ≡ revolve_list steps book → other ≡ revolve_list steps book →
-    seen ≡ traffic → Counts list traffic → Counts other seen
-counts_of steps book list other traffic seen is also same of = subst (λ (l : List Action). Counts l seen) (is ∙ sym also) (subst (Counts list) (sym same) of)
+-- the traffic that is counted by the numbers is that of the list, which is not too long
+counts : (steps slots : ℕ) (book : BookCosts) (list : List Action) (traffic seen : List PlaceTraffic) → slots ≡ total_room book steps → list ≡ revolve_list steps book → seen ≡ traffic →
+    ((level : ℕ → ℕ) → Counts (revolve level steps slots) traffic) → Counts list seen
+counts steps slots book list traffic seen room is same of =
+    subst (λ (l : List Action). Counts l seen) (ap (λ c. revolve (level_at (slots_of book)) steps c) room ∙ sym is) (subst (Counts (revolve (level_at (slots_of book)) steps slots)) (sym same) (of (level_at (slots_of book))))
+
+short : (steps : ℕ) (book : BookCosts) (list : List Action) → list ≡ revolve_list steps book → HasPlan steps (total_room book steps) → steps ≤ 1000000 → length list ≤ 16777216
+short steps book list is has few = omega (arith, ap length is, revolve_short (level_at (slots_of book)) steps (total_room book steps) has few)
+
+pub revolve_places-requires-clause-plan : goal.revolve_places-requires-clause-plan
+revolve_places-requires-clause-plan c = subst (HasPlan c.args.steps) (sym c.total_room.ensures) c.in_ok-revolve.ensures.plan
+
+pub planned_levels-requires-clause-counted : goal.planned_levels-requires-clause-counted
+planned_levels-requires-clause-counted c =
+    let steps = c.args.steps in
+    let book = c.args.book.now in
+    let list = c.in_ok-revolve.revolve in
+    traffic_counted list c.deref.result.now (short steps book list c.in_ok-revolve.ensures.list c.in_ok-revolve.ensures.plan c.requires)
+    (counts steps c.total_room.result book list c.in-Ok.traffic.items c.deref.result.now c.total_room.ensures c.in_ok-revolve.ensures.list c.deref.ensures.value c.in-Ok.ensures)
+
+pub savings_by-requires-clause-counted : goal.savings_by-requires-clause-counted
+savings_by-requires-clause-counted c =
+    let steps = c.args.steps in
+    let book = c.args.book.now in
+    let list = c.in_ok-revolve.revolve in
+    traffic_counted list c.deref-2.result.now (short steps book list c.in_ok-revolve.ensures.list c.in_ok-revolve.ensures.plan c.requires)
+    (counts steps c.total_room.result book list c.in-Ok.traffic.items c.deref-2.result.now c.total_room.ensures c.in_ok-revolve.ensures.list c.deref-2.ensures.value c.in-Ok.ensures)
 
 pub invariant_of-result : goal.invariant_of-result
 invariant_of-result c =
@@ -49,7 +49,7 @@ invariant_of-result c =
     let book = c.args.book.now in
     let list = c.in_ok-revolve.revolve in
     let levels = two_levels book.levels (omega (arith, c.levels.ensures.value, c.if-levels-ne2.false)) in
-    let of = counts_of steps book c.in_ok-counted.counted list c.in-Ok.traffic.items c.deref-2.result.now c.in_ok-counted.ensures.list c.in_ok-revolve.ensures.list c.deref-2.ensures.value c.in-Ok.ensures in
+    let of = counts steps c.total_room.result book list c.in-Ok.traffic.items c.deref-2.result.now c.total_room.ensures c.in_ok-revolve.ensures.list c.deref-2.ensures.value c.in-Ok.ensures in
     let saves = c.in-Ok-savings_by.ensures list levels.0 levels.1 levels.2 of in
     let each = c.in-Ok-planned_levels.ensures.each ∙ ap length (c.deref.ensures.value ∙ sym c.deref-2.ensures.value) ∙ of.many in
     (saves.count ∙ sym each, omega (arith, short steps book list c.in_ok-revolve.ensures.list c.in_ok-revolve.ensures.plan c.requires))
@@ -59,7 +59,7 @@ returns-clause-list c =
     let steps = c.args.steps in
     let book = c.args.book.now in
     let list = c.in_ok-revolve.revolve in
-    let of = counts_of steps book c.in_ok-counted.counted list c.in-Ok.traffic.items c.deref.result.now c.in_ok-counted.ensures.list c.in_ok-revolve.ensures.list c.deref.ensures.value c.in-Ok.ensures in
+    let of = counts steps c.total_room.result book list c.in-Ok.traffic.items c.deref.result.now c.total_room.ensures c.in_ok-revolve.ensures.list c.deref.ensures.value c.in-Ok.ensures in
     plan_list steps book c.in-Ok-planned_levels.levels.items c.in-Ok-savings_by.savings.items list c.in_ok-revolve.ensures.list (omega (arith, c.levels.ensures.value, c.if-levels-ne2.false)) c.in_ok-revolve.ensures.plan
     (λ fast slow two. c.in-Ok-planned_levels.ensures.planned list fast slow two of)
 
@@ -71,8 +71,8 @@ returns-clause-places c =
     let steps = c.args.steps in
     let book = c.args.book.now in
     let list = c.in_ok-revolve.revolve in
-    let of = counts_of steps book c.in_ok-counted.counted list c.in-Ok.traffic.items c.deref.result.now c.in_ok-counted.ensures.list c.in_ok-revolve.ensures.list c.deref.ensures.value c.in-Ok.ensures in
-    let of_too = counts_of steps book c.in_ok-counted.counted list c.in-Ok.traffic.items c.deref-2.result.now c.in_ok-counted.ensures.list c.in_ok-revolve.ensures.list c.deref-2.ensures.value c.in-Ok.ensures in
+    let of = counts steps c.total_room.result book list c.in-Ok.traffic.items c.deref.result.now c.total_room.ensures c.in_ok-revolve.ensures.list c.deref.ensures.value c.in-Ok.ensures in
+    let of_too = counts steps c.total_room.result book list c.in-Ok.traffic.items c.deref-2.result.now c.total_room.ensures c.in_ok-revolve.ensures.list c.deref-2.ensures.value c.in-Ok.ensures in
     plan_places steps book c.in-Ok-planned_levels.levels.items c.in-Ok-savings_by.savings.items list c.in_ok-revolve.ensures.list (omega (arith, c.levels.ensures.value, c.if-levels-ne2.false)) c.in_ok-revolve.ensures.plan
     (λ fast slow two. c.in-Ok-planned_levels.ensures.planned list fast slow two of) (c.in-Ok-planned_levels.ensures.each ∙ of.many)
     (λ fast slow two. c.in-Ok-savings_by.ensures list fast slow two of_too)

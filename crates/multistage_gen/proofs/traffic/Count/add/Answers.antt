@@ -2,7 +2,8 @@ use Rattle.std.proofs.Common.{ℕ, ◌-◌, ◌^◌, ◌<◌, List, length, sym,
 use Rattle.plan_types.specs.declared.action.Action.{Action}
 use Rattle.revolve_gen.specs.Stack.{written, read}
 use Rattle.multistage_gen.specs.declared.traffic.PlaceTraffic.{PlaceTraffic}
-use Rattle.multistage_gen.specs.Traffic.{IsTraffic, HasCounted}
+use Rattle.multistage_gen.specs.Traffic.{IsTraffic}
+use Rattle.multistage_gen.specs.Counting.{HasCounted}
 use Rattle.multistage_gen.proofs.Fronts.{pushed, got, popped, stayed}
 use Rattle.multistage_gen.proofs.Savings.{written_few, read_few}
 use Rattle.multistage_gen.proofs.traffic.Count.add.Goals as goal
