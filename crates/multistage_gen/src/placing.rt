@@ -18,7 +18,12 @@ pub(crate) fn placed_action(levels: &[u8], held: usize, action: Action) -> (Acti
     ensures action { result.0 ≡ on_level (slice_index levels.now (place held (stack_step action))) action }
     ensures held { result.1 ≡ held_after held (stack_step action) }
 {
-    let step = StackStep::of(&action);
-    let placed = on_level(level_of(levels, step.place(held)), action);
-    (placed, step.held_after(held))
+    match StackStep::of(&action) {
+        // More than half of the actions leave the stack alone.
+        StackStep::Stay => (action, held),
+        step => {
+            let level = level_of(levels, step.place(held));
+            (on_level(level, action), step.held_after(held))
+        }
+    }
 }

@@ -38,7 +38,7 @@ impl Model for Multistage {
 
 impl Multistage {
     /// The plan for so many steps over the two levels of a book. The traffic of each place is worked out from the numbers of the
-    /// stretches, so there is no list, and it has memory for the places alone, of which there are no more than slots.
+    /// stretches, without a list. What it keeps are its places and the stack of the stream, each no more than the slots.
     pub fn begin(alloc: Global, steps: u32, book: &Book) -> Result<Multistage, GenFault>
         requires { steps ≤ MOST_STEPS }
         ensures list { IfOk result (λ plan. IsMultistageList steps book.now plan.actions) }
