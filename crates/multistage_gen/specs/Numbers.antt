@@ -73,4 +73,5 @@ pub record AreCounted (steps slots c : ℕ) (places : List PlaceTraffic) (stretc
   pub used : (p : ℕ) → p < length places → 1 ≤ (traffic_at places p).writes
   pub writes : (q : ℕ) → begun_writes steps q steps slots 0 ≡ (traffic_at places q).writes + weigh (λ l. begun_writes l q l c (length places)) stretches
   pub visits : (q : ℕ) →
-      begun_visits steps q steps slots 0 ≡ (traffic_at places q).writes + (traffic_at places q).reads + weigh (λ l. begun_visits l q l c (length places)) stretches
+      begun_visits steps q steps slots 0 ≡
+      (traffic_at places q).writes + (traffic_at places q).reads + weigh (λ l. begun_visits l q l c (length places)) stretches

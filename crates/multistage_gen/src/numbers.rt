@@ -55,7 +55,8 @@ fn whole(alloc: Global, steps: u32) -> Result<Vec<Stretches>, AllocError>
 }
 
 // The traffic of the place on which these stretches are begun, with so many slots free, and the stretches of two steps or more that
-// are begun on the place above it. A stretch is begun with a write. It is held until it has one step left, and read for each part.
+// are begun on the place above it. A stretch is begun with a write, its first visit; each part that stays held is a visit more, a
+// read.
 fn count_place(
     alloc: Global,
     mut stretches: Vec<Stretches>,
