@@ -6,17 +6,16 @@ use Rattle.std.specs.Option.{option_or}
 use Rattle.std.specs.Str.{bytes_eq}
 use Rattle.std.proofs.lemmas.Bool.{false≢true}
 use Rattle.std.proofs.lemmas.Option.{same_Some, some_pair_parts}
-use Rattle.std.proofs.lemmas.Slice.Eq.{bytes_eq-Decides}
 use Rattle.requests.specs.declared.kind.PlanKind.{PlanKind}
 use Rattle.requests.specs.declared.kind.PlanKind.TheVariants.{Revolve, Multistage, Disk, Hrevolve}
 use Rattle.requests.specs.declared.question.Question.{Question}
 use Rattle.requests.specs.declared.question.Question.TheVariants.{State, LastWrite, LastChange}
 use Rattle.requests.specs.Reading.{◌>>=◌}
-use Rattle.requests.specs.Request.{Run, Command, run, run_revolve, plan, plan_periodic, check, certify, price, ask, find, assemble, disassemble, move_about, demo, command_words, CanBeSpelled}
-use Rattle.requests.specs.Forms.{Place, fixed, named, named_or_none, schedule_named, numbered, addressed, digested, Value, word_at, Allows, taken, front_taken, Values, words_at, AllAllowed, all_taken, Form, form_taken, forms, first_of, command_of, run_form, run_revolve_form, plan_form, periodic_form, check_form, certify_form, price_form, ask_form, find_form, assemble_form, disassemble_form, move_about_form, demo_form}
+use Rattle.requests.specs.Request.{Ask, Command, run, plan, plan_periodic, check, certify, price, ask, find, assemble, disassemble, move_about, demo, command_words, CanBeSpelled}
+use Rattle.requests.specs.Forms.{Place, fixed, named, named_or_none, schedule_named, scheduled, numbered, addressed, digested, Value, word_at, Allows, taken, front_taken, Values, words_at, AllAllowed, all_taken, Form, form_taken, forms, first_of, command_of, run_form, plan_form, periodic_form, check_form, certify_form, price_form, ask_form, find_form, assemble_form, disassemble_form, move_about_form, demo_form}
 use Rattle.requests.proofs.Forming.{with_value}
 use Rattle.requests.proofs.Placed.{taken_again, taken_read}
-use Rattle.requests.proofs.Steps.{bind_some, and_parts, none_so, other_text}
+use Rattle.requests.proofs.Steps.{bind_some, and_parts, none_so}
 
 -- ---- forms
 
@@ -50,7 +49,7 @@ abbrev IsRight : Form → Type 0
 IsRight f = (vs : Values f.places) → (command_words (f.make vs) ≡ words_at f.places vs) × (AllAllowed f.places vs → CanBeSpelled (f.make vs))
 
 forms_right : AllByRecursion IsRight forms
-forms_right = (λ vs. (refl, λ h. h), (λ vs. (refl, λ h. h), (λ vs. (refl, λ h. h), (λ vs. (refl, λ h. h), (λ vs. (refl, λ h. h), (λ vs. (refl, λ h. h), (λ vs. (refl, λ h. h), (λ vs. (refl, λ h. h), (λ vs. (refl, λ h. h), (λ vs. (refl, λ h. h), (λ vs. (refl, λ h. h), (λ vs. (refl, λ h. h), (λ vs. (refl, λ h. h), (λ vs. (refl, λ h. h), (λ vs. (refl, λ h. h), (λ vs. (refl, λ h. h), (λ vs. (refl, λ h. h), (λ vs. (refl, λ h. h), tt))))))))))))))))))
+forms_right = (λ vs. (refl, λ h. h), (λ vs. (refl, λ h. h), (λ vs. (refl, λ h. h), (λ vs. (refl, λ h. h), (λ vs. (refl, λ h. h), (λ vs. (refl, λ h. h), (λ vs. (refl, λ h. h), (λ vs. (refl, λ h. h), (λ vs. (refl, λ h. h), (λ vs. (refl, λ h. h), (λ vs. (refl, λ h. h), (λ vs. (refl, λ h. h), (λ vs. (refl, λ h. h), (λ vs. (refl, λ h. h), (λ vs. (refl, λ h. h), (λ vs. (refl, λ h. h), (λ vs. (refl, λ h. h), tt)))))))))))))))))
 
 -- the words are those of a command
 pub record IsCommand (words : List (List ℕ)) (c : Command) : Type 0 where
@@ -85,7 +84,8 @@ abbrev differs : Place → List ℕ → Bool
 differs (fixed text) other = not (bytes_eq text other)
 differs named other = false
 differs named_or_none other = false
-differs schedule_named other = bytes_eq other (codes "@revolve")
+differs schedule_named other = false
+differs scheduled other = false
 differs numbered other = false
 differs addressed other = false
 differs digested other = false
@@ -95,6 +95,7 @@ place_apart p (fixed text) = differs p text
 place_apart p named = false
 place_apart p named_or_none = false
 place_apart p schedule_named = false
+place_apart p scheduled = false
 place_apart p numbered = false
 place_apart p addressed = false
 place_apart p digested = false
@@ -110,9 +111,8 @@ differs_none : (p : Place) (text : List ℕ) (v : Value p) → Allows p v → di
 differs_none (fixed own) text v h e = ap (λ b. cond {A = Option (Unit {0})} b (Some tt) None) (none_so (bytes_eq own text) e)
 differs_none named text v h e = absurd (false≢true e)
 differs_none named_or_none text v h e = absurd (false≢true e)
-differs_none schedule_named text v h e =
-    let is = (bytes_eq-Decides text (codes "@revolve")).0 e in
-    ap (λ b. cond {A = Option (Unit {0})} b (Some tt) None) (other_text v text (λ same. h.1 (same ∙ is)))
+differs_none schedule_named text v h e = absurd (false≢true e)
+differs_none scheduled text v h e = absurd (false≢true e)
 differs_none numbered text v h e = absurd (false≢true e)
 differs_none addressed text v h e = absurd (false≢true e)
 differs_none digested text v h e = absurd (false≢true e)
@@ -122,6 +122,7 @@ place_none p (fixed text) v h e = differs_none p text v h e
 place_none p named v h e = absurd (false≢true e)
 place_none p named_or_none v h e = absurd (false≢true e)
 place_none p schedule_named v h e = absurd (false≢true e)
+place_none p scheduled v h e = absurd (false≢true e)
 place_none p numbered v h e = absurd (false≢true e)
 place_none p addressed v h e = absurd (false≢true e)
 place_none p digested v h e = absurd (false≢true e)
@@ -170,33 +171,32 @@ again (g ∷ before) f after vs h e =
 planned : (kind : PlanKind) (book : List ℕ) (steps : ℕ) → CanBeSpelled (plan (record { kind = kind; book = book; steps = steps })) →
     command_of (command_words (plan (record { kind = kind; book = book; steps = steps }))) ≡ Some (plan (record { kind = kind; book = book; steps = steps }))
 unfolding command_of
-planned Revolve book steps h = again (take 2 forms) (plan_form Revolve) (drop 3 forms) (tt, (tt, (book, (steps, tt)))) h refl
-planned Multistage book steps h = again (take 3 forms) (plan_form Multistage) (drop 4 forms) (tt, (tt, (book, (steps, tt)))) h refl
-planned Disk book steps h = again (take 4 forms) (plan_form Disk) (drop 5 forms) (tt, (tt, (book, (steps, tt)))) h refl
-planned Hrevolve book steps h = again (take 5 forms) (plan_form Hrevolve) (drop 6 forms) (tt, (tt, (book, (steps, tt)))) h refl
+planned Revolve book steps h = again (take 1 forms) (plan_form Revolve) (drop 2 forms) (tt, (tt, (book, (steps, tt)))) h refl
+planned Multistage book steps h = again (take 2 forms) (plan_form Multistage) (drop 3 forms) (tt, (tt, (book, (steps, tt)))) h refl
+planned Disk book steps h = again (take 3 forms) (plan_form Disk) (drop 4 forms) (tt, (tt, (book, (steps, tt)))) h refl
+planned Hrevolve book steps h = again (take 4 forms) (plan_form Hrevolve) (drop 5 forms) (tt, (tt, (book, (steps, tt)))) h refl
 
-asked : (question : Question) (r : Run) → CanBeSpelled (ask (record { question = question; run = r })) →
-    command_of (command_words (ask (record { question = question; run = r }))) ≡ Some (ask (record { question = question; run = r }))
+asked : (question : Question) (c : Ask) → CanBeSpelled (ask (record c { question = question })) →
+    command_of (command_words (ask (record c { question = question }))) ≡ Some (ask (record c { question = question }))
 unfolding command_of
-asked (State place) r h =
-    again (take 10 forms) (ask_form (codes "state") numbered State) (drop 11 forms) (tt, (tt, (r.program, (r.journal, (r.book, (r.schedule, (r.steps, (place, tt)))))))) h refl
-asked (LastWrite address) r h =
-    again (take 11 forms) (ask_form (codes "last-write") addressed LastWrite) (drop 12 forms) (tt, (tt, (r.program, (r.journal, (r.book, (r.schedule, (r.steps, (address, tt)))))))) h refl
-asked (LastChange address) r h =
-    again (take 12 forms) (ask_form (codes "last-change") addressed LastChange) (drop 13 forms) (tt, (tt, (r.program, (r.journal, (r.book, (r.schedule, (r.steps, (address, tt)))))))) h refl
+asked (State place) c h =
+    again (take 9 forms) (ask_form (codes "state") numbered State) (drop 10 forms) (tt, (tt, (c.run.program, (c.run.journal, (c.run.book, (c.schedule, (c.run.steps, (place, tt)))))))) h refl
+asked (LastWrite address) c h =
+    again (take 10 forms) (ask_form (codes "last-write") addressed LastWrite) (drop 11 forms) (tt, (tt, (c.run.program, (c.run.journal, (c.run.book, (c.schedule, (c.run.steps, (address, tt)))))))) h refl
+asked (LastChange address) c h =
+    again (take 11 forms) (ask_form (codes "last-change") addressed LastChange) (drop 12 forms) (tt, (tt, (c.run.program, (c.run.journal, (c.run.book, (c.schedule, (c.run.steps, (address, tt)))))))) h refl
 
 pub command_again : (c : Command) → CanBeSpelled c → command_of (command_words c) ≡ Some c
 unfolding command_of
-command_again (run_revolve c) h = again [] run_revolve_form (drop 1 forms) (tt, (c.program, (c.journal, (c.book, (tt, (c.steps, tt)))))) h refl
-command_again (run c) h = again (take 1 forms) run_form (drop 2 forms) (tt, (c.program, (c.journal, (c.book, (c.schedule, (c.steps, tt)))))) h refl
+command_again (run c) h = again [] run_form (drop 1 forms) (tt, (c.run.program, (c.run.journal, (c.run.book, (c.schedule, (c.run.steps, tt)))))) h refl
 command_again (plan c) h = planned c.kind c.book c.steps h
-command_again (plan_periodic c) h = again (take 6 forms) periodic_form (drop 7 forms) (tt, (tt, (c.book, (c.steps, (c.period, tt))))) h refl
-command_again (check c) h = again (take 7 forms) check_form (drop 8 forms) (tt, (c.book, (c.schedule, (c.steps, tt)))) h refl
-command_again (certify c) h = again (take 8 forms) certify_form (drop 9 forms) (tt, (c.book, (c.schedule, (c.certificate, (c.steps, tt))))) h refl
-command_again (price c) h = again (take 9 forms) price_form (drop 10 forms) (tt, (c.book, (c.schedule, (c.steps, tt)))) h refl
-command_again (ask c) h = asked c.question c.run h
-command_again (find c) h = again (take 13 forms) find_form (drop 14 forms) (tt, (tt, (c.program, (c.journal, (c.steps, (c.digest, tt)))))) h refl
-command_again (assemble c) h = again (take 14 forms) assemble_form (drop 15 forms) (tt, (c.source, tt)) h refl
-command_again (disassemble c) h = again (take 15 forms) disassemble_form (drop 16 forms) (tt, (c.program, tt)) h refl
-command_again (move_about c) h = again (take 16 forms) move_about_form (drop 17 forms) (tt, (c.program, (c.journal, (c.book, (c.script, (c.steps, tt)))))) h refl
-command_again (demo c) h = again (take 17 forms) demo_form [] (tt, (c.number, (c.steps, (c.slots, tt)))) h refl
+command_again (plan_periodic c) h = again (take 5 forms) periodic_form (drop 6 forms) (tt, (tt, (c.book, (c.steps, (c.period, tt))))) h refl
+command_again (check c) h = again (take 6 forms) check_form (drop 7 forms) (tt, (c.book, (c.schedule, (c.steps, tt)))) h refl
+command_again (certify c) h = again (take 7 forms) certify_form (drop 8 forms) (tt, (c.book, (c.schedule, (c.certificate, (c.steps, tt))))) h refl
+command_again (price c) h = again (take 8 forms) price_form (drop 9 forms) (tt, (c.book, (c.schedule, (c.steps, tt)))) h refl
+command_again (ask c) h = asked c.question c h
+command_again (find c) h = again (take 12 forms) find_form (drop 13 forms) (tt, (tt, (c.program, (c.journal, (c.steps, (c.digest, tt)))))) h refl
+command_again (assemble c) h = again (take 13 forms) assemble_form (drop 14 forms) (tt, (c.source, tt)) h refl
+command_again (disassemble c) h = again (take 14 forms) disassemble_form (drop 15 forms) (tt, (c.program, tt)) h refl
+command_again (move_about c) h = again (take 15 forms) move_about_form (drop 16 forms) (tt, (c.program, (c.journal, (c.book, (c.script, (c.steps, tt)))))) h refl
+command_again (demo c) h = again (take 16 forms) demo_form [] (tt, (c.number, (c.steps, (c.slots, tt)))) h refl

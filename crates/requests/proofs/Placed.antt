@@ -7,8 +7,8 @@ use Rattle.std.proofs.lemmas.Option.{same_Some}
 use Rattle.std.proofs.lemmas.Slice.Eq.{bytes_eq-Decides}
 use Rattle.requests.specs.Reading.{◌>>=◌, number_at}
 use Rattle.requests.specs.ChoiceReading.{number_of}
-use Rattle.requests.specs.Operands.{IsName, IsScheduleName, MayBeNamed, word_or_dash}
-use Rattle.requests.specs.Forms.{Place, fixed, named, named_or_none, schedule_named, numbered, addressed, digested, Value, word_at, Allows, is_name, is_schedule_name, name_or_none, taken}
+use Rattle.requests.specs.Operands.{Schedule, by_name, made, IsName, IsScheduleName, CanBeGiven, MayBeNamed, word_or_dash, schedule_word}
+use Rattle.requests.specs.Forms.{Place, fixed, named, named_or_none, schedule_named, scheduled, numbered, addressed, digested, Value, word_at, Allows, is_name, is_schedule_name, name_or_none, schedule_of, taken}
 use Rattle.requests.proofs.Addresses.{address_again, address_read, digest_again, digest_read}
 use Rattle.requests.proofs.Decimal.{number_again, number_taken}
 use Rattle.requests.proofs.Steps.{passed_then, bind_some, is_not, and_parts, and_both, empty, other_text, same_text}
@@ -63,6 +63,22 @@ journal_read word e = by_text (bytes_eq word (codes "-")) refl
         let P : Option (List ℕ) → Type 0 = λ o. (word ≡ word_or_dash o) × MayBeNamed o in
         subst P (sym (ap (λ b. cond b None (Some word)) f)) (refl, (name_was word e, λ is. false≢true (sym f ∙ same_text word (codes "-") is)))
 
+-- a schedule that may be made, and its word
+schedule_again : (s : Schedule) → CanBeGiven s → (is_name (schedule_word s) ≡ true) × (schedule_of (schedule_word s) ≡ s)
+schedule_again made h = (refl, refl)
+schedule_again (by_name name) h = (name_is name h.0, ap (λ b. cond b made (by_name name)) (other_text name (codes "@revolve") h.1))
+
+schedule_read : (word : List ℕ) → is_name word ≡ true → (word ≡ schedule_word (schedule_of word)) × CanBeGiven (schedule_of word)
+schedule_read word e = by_text (bytes_eq word (codes "@revolve")) refl
+  where
+    by_text : (b : Bool) → bytes_eq word (codes "@revolve") ≡ b → (word ≡ schedule_word (schedule_of word)) × CanBeGiven (schedule_of word)
+    by_text true f =
+        let P : Schedule → Type 0 = λ s. (word ≡ schedule_word s) × CanBeGiven s in
+        subst P (sym (ap (λ b. cond b made (by_name word)) f)) ((bytes_eq-Decides word (codes "@revolve")).0 f, tt)
+    by_text false f =
+        let P : Schedule → Type 0 = λ s. (word ≡ schedule_word s) × CanBeGiven s in
+        subst P (sym (ap (λ b. cond b made (by_name word)) f)) (refl, (name_was word e, λ is. false≢true (sym f ∙ same_text word (codes "@revolve") is)))
+
 -- ---- places
 
 pub taken_again : (p : Place) (v : Value p) → Allows p v → taken p (word_at p v) ≡ Some v
@@ -72,6 +88,9 @@ taken_again named_or_none v h =
     let again = journal_again v h in
     ap (λ b. cond b (Some (name_or_none (word_or_dash v))) None) again.0 ∙ ap (λ o. Some o) again.1
 taken_again schedule_named v h = ap (λ b. cond b (Some v) None) (schedule_name_is v h)
+taken_again scheduled v h =
+    let again = schedule_again v h in
+    ap (λ b. cond b (Some (schedule_of (schedule_word v))) None) again.0 ∙ ap (λ s. Some s) again.1
 taken_again numbered v h = number_of_again v h
 taken_again addressed v h = address_again v h
 taken_again digested v h = digest_again v h
@@ -91,6 +110,11 @@ taken_read schedule_named word v e =
     let is = passed_then (is_schedule_name word) (Some word) v e in
     let same = same_Some word v is.1 in
     (same, subst IsScheduleName same (schedule_name_was word is.0))
+taken_read scheduled word v e =
+    let is = passed_then (is_name word) (Some (schedule_of word)) v e in
+    let read = schedule_read word is.0 in
+    let same = same_Some (schedule_of word) v is.1 in
+    (read.0 ∙ ap schedule_word same, subst CanBeGiven same read.1)
 taken_read numbered word v e = number_of_read word v e
 taken_read addressed word v e = address_read word v e
 taken_read digested word v e = digest_read word v e

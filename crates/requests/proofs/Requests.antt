@@ -9,7 +9,7 @@ use Rattle.std.proofs.lemmas.List.Sums.{sum_by-append}
 use Rattle.std.proofs.lemmas.Slice.Eq.{bytes_eq-Decides}
 use Rattle.requests.specs.declared.request.Request as in_memory
 use Rattle.requests.specs.Reading.{Gives, ◌>>=◌, with_or, after_of, number_at}
-use Rattle.requests.specs.Request.{Choice, raw, stack, workers, units, files, files_front, option_word, is_raw, is_stack, is_workers, is_units, is_files, FitsWord, AreOptions, Command, run, run_revolve, plan, plan_periodic, check, certify, price, ask, find, assemble, disassemble, move_about, demo, command_words, Request, Says}
+use Rattle.requests.specs.Request.{Choice, raw, stack, workers, units, files, files_front, option_word, is_raw, is_stack, is_workers, is_units, is_files, FitsWord, AreOptions, Command, run, plan, plan_periodic, check, certify, price, ask, find, assemble, disassemble, move_about, demo, command_words, Request, Says}
 use Rattle.requests.specs.ChoiceReading.{number_of, stack_of, workers_of, unit_of, files_of, choice_of, first_choice, options_at, behind_options, is_like, are_single}
 use Rattle.requests.specs.Forms.{command_of}
 use Rattle.requests.specs.RequestReading.{request_read, request_of}
@@ -315,7 +315,6 @@ no_option (check c) = (codes "check", _, refl, refl)
 no_option (certify c) = (codes "certify", _, refl, refl)
 no_option (price c) = (codes "cost", _, refl, refl)
 no_option (ask c) = (codes "ask", _, refl, refl)
-no_option (run_revolve c) = (codes "run", _, refl, refl)
 no_option (plan c) = (codes "plan", _, refl, refl)
 no_option (plan_periodic c) = (codes "plan", _, refl, refl)
 no_option (find c) = (codes "ask", _, refl, refl)

@@ -13,18 +13,19 @@ use Rattle.requests.specs.declared.question.Question.{Question}
 use Rattle.requests.specs.declared.question.Question.TheVariants.{State, LastWrite, LastChange}
 use Rattle.requests.specs.Reading.{◌>>=◌, after_of}
 use Rattle.requests.specs.ChoiceReading.{number_of}
-use Rattle.requests.specs.Operands.{IsName, IsScheduleName, MayBeNamed, IsNumber, IsAddress, IsDigest, word_or_dash, address_word}
-use Rattle.requests.specs.Request.{Command, run, run_revolve, plan, plan_periodic, check, certify, price, ask, find, assemble, disassemble, move_about, demo, kind_word}
+use Rattle.requests.specs.Operands.{Schedule, by_name, made, IsName, IsScheduleName, CanBeGiven, MayBeNamed, IsNumber, IsAddress, IsDigest, word_or_dash, schedule_word, address_word}
+use Rattle.requests.specs.Request.{Command, run, plan, plan_periodic, check, certify, price, ask, find, assemble, disassemble, move_about, demo, kind_word}
 
 -- ---- places
 
--- what stands at a place of a form: a word of its own, a name, a name that may be left out, the name of a schedule, a number, an
--- address or a digest
+-- what stands at a place of a form: a word of its own, a name, a name that may be left out, the name of a schedule, a schedule that
+-- may be made, a number, an address or a digest
 pub data Place : Type 0 where
   fixed : List ℕ → Place
   named : Place
   named_or_none : Place
   schedule_named : Place
+  scheduled : Place
   numbered : Place
   addressed : Place
   digested : Place
@@ -34,6 +35,7 @@ Value (fixed text) = Unit {0}
 Value named = List ℕ
 Value named_or_none = Option (List ℕ)
 Value schedule_named = List ℕ
+Value scheduled = Schedule
 Value numbered = ℕ
 Value addressed = ℕ
 Value digested = List ℕ
@@ -43,6 +45,7 @@ word_at (fixed text) v = text
 word_at named v = v
 word_at named_or_none v = word_or_dash v
 word_at schedule_named v = v
+word_at scheduled v = schedule_word v
 word_at numbered v = decimal v
 word_at addressed v = address_word v
 word_at digested v = encode_lower v
@@ -52,6 +55,7 @@ Allows (fixed text) v = Unit {0}
 Allows named v = IsName v
 Allows named_or_none v = MayBeNamed v
 Allows schedule_named v = IsScheduleName v
+Allows scheduled v = CanBeGiven v
 Allows numbered v = IsNumber v
 Allows addressed v = IsAddress v
 Allows digested v = IsDigest v
@@ -68,6 +72,10 @@ is_schedule_name word = is_name word && not (bytes_eq word (codes "@revolve"))
 abbrev pub name_or_none : List ℕ → Option (List ℕ)
 name_or_none word = if bytes_eq word (codes "-") then None else Some word
 
+-- the schedule that a word stands for
+abbrev pub schedule_of : List ℕ → Schedule
+schedule_of word = if bytes_eq word (codes "@revolve") then made else by_name word
+
 -- the address that a word is: its digits are those of four bytes, and are spelled so
 unfoldable pub address_of : List ℕ → Option ℕ
 address_of word =
@@ -83,6 +91,7 @@ taken (fixed text) word = if bytes_eq word text then Some tt else None
 taken named word = if is_name word then Some word else None
 taken named_or_none word = if is_name word then Some (name_or_none word) else None
 taken schedule_named word = if is_schedule_name word then Some word else None
+taken scheduled word = if is_name word then Some (schedule_of word) else None
 taken numbered word = number_of word
 taken addressed word = address_of word
 taken digested word = digest_of word
@@ -135,14 +144,11 @@ form_taken f words = all_taken f.places words >>= λ vs. Some (f.make vs)
 
 abbrev pub run_form : Form
 run_form = record {
-  places = fixed (codes "run") ∷ named ∷ named_or_none ∷ named ∷ schedule_named ∷ numbered ∷ [];
-  make = λ v. run (record { program = v.1.0; journal = v.1.1.0; book = v.1.1.1.0; schedule = v.1.1.1.1.0; steps = v.1.1.1.1.1.0 });
-}
-
-abbrev pub run_revolve_form : Form
-run_revolve_form = record {
-  places = fixed (codes "run") ∷ named ∷ named_or_none ∷ named ∷ fixed (codes "@revolve") ∷ numbered ∷ [];
-  make = λ v. run_revolve (record { program = v.1.0; journal = v.1.1.0; book = v.1.1.1.0; steps = v.1.1.1.1.1.0 });
+  places = fixed (codes "run") ∷ named ∷ named_or_none ∷ named ∷ scheduled ∷ numbered ∷ [];
+  make = λ v. run (record {
+    run = record { program = v.1.0; journal = v.1.1.0; book = v.1.1.1.0; steps = v.1.1.1.1.1.0 };
+    schedule = v.1.1.1.1.0;
+  });
 }
 
 abbrev pub plan_form : PlanKind → Form
@@ -181,7 +187,8 @@ ask_form word p question = record {
   places = fixed (codes "ask") ∷ fixed word ∷ named ∷ named_or_none ∷ named ∷ schedule_named ∷ numbered ∷ p ∷ [];
   make = λ v. ask (record {
     question = question v.1.1.1.1.1.1.1.0;
-    run = record { program = v.1.1.0; journal = v.1.1.1.0; book = v.1.1.1.1.0; schedule = v.1.1.1.1.1.0; steps = v.1.1.1.1.1.1.0 };
+    run = record { program = v.1.1.0; journal = v.1.1.1.0; book = v.1.1.1.1.0; steps = v.1.1.1.1.1.1.0 };
+    schedule = v.1.1.1.1.1.0;
   });
 }
 
@@ -211,7 +218,7 @@ demo_form = record {
 
 abbrev pub forms : List Form
 forms =
-    run_revolve_form ∷ run_form ∷ plan_form Revolve ∷ plan_form Multistage ∷ plan_form Disk ∷ plan_form Hrevolve ∷ periodic_form
+    run_form ∷ plan_form Revolve ∷ plan_form Multistage ∷ plan_form Disk ∷ plan_form Hrevolve ∷ periodic_form
     ∷ check_form ∷ certify_form ∷ price_form ∷ ask_form (codes "state") numbered State ∷ ask_form (codes "last-write") addressed LastWrite
     ∷ ask_form (codes "last-change") addressed LastChange ∷ find_form ∷ assemble_form ∷ disassemble_form ∷ move_about_form ∷ demo_form ∷ []
 

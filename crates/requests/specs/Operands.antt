@@ -14,6 +14,11 @@ pub record Input : Type 0 where
   pub name : List ℕ
   pub limit : ℕ
 
+-- the schedule of a run: the one under a name, or the list of Revolve for the book, which is made on the way
+pub data Schedule : Type 0 where
+  by_name : List ℕ → Schedule
+  made : Schedule
+
 -- what a number may be, and the rule that says so
 pub record Limit : Type 0 where
   pub least : ℕ
@@ -24,11 +29,11 @@ pub record Limit : Type 0 where
 pub data Operand : Type 0 where
   -- a word of the command itself
   the_word : List ℕ → Operand
-  -- the name of a program, of recorded input, which may be left out, of a book, of a schedule and of a certificate
+  -- the name of a program, of recorded input, which may be left out, and of a book; a schedule; the name of a certificate
   a_program : List ℕ → Operand
   a_journal : Option (List ℕ) → Operand
   a_book : List ℕ → Operand
-  a_schedule : List ℕ → Operand
+  a_schedule : Schedule → Operand
   a_certificate : List ℕ → Operand
   -- a number of steps of a run that a list goes over, each of them a unit of instructions
   run_steps : ℕ → Operand
@@ -51,6 +56,11 @@ abbrev pub word_or_dash : Option (List ℕ) → List ℕ
 word_or_dash (Some name) = name
 word_or_dash None = codes "-"
 
+-- the word of a schedule
+abbrev pub schedule_word : Schedule → List ℕ
+schedule_word (by_name name) = name
+schedule_word made = codes "@revolve"
+
 -- an address is `0x` and eight lower-case hexadecimal digits
 abbrev pub address_word : ℕ → List ℕ
 address_word address = codes "0x" ++ hex_word address
@@ -67,7 +77,7 @@ word_of (the_word text) = text
 word_of (a_program name) = name
 word_of (a_journal name) = word_or_dash name
 word_of (a_book name) = name
-word_of (a_schedule name) = name
+word_of (a_schedule schedule) = schedule_word schedule
 word_of (a_certificate name) = name
 word_of (run_steps n) = decimal n
 word_of (a_number limit n) = decimal n
@@ -85,6 +95,10 @@ IsName word = word ≢ []
 
 abbrev pub IsScheduleName : List ℕ → Type 0
 IsScheduleName word = IsName word × (word ≢ codes "@revolve")
+
+abbrev pub CanBeGiven : Schedule → Type 0
+CanBeGiven (by_name name) = IsScheduleName name
+CanBeGiven made = Unit {0}
 
 -- a name that may be left out isn't the word for that
 abbrev pub MayBeNamed : Option (List ℕ) → Type 0
@@ -113,7 +127,7 @@ CanStand (the_word text) = Unit {0}
 CanStand (a_program name) = IsName name
 CanStand (a_journal name) = MayBeNamed name
 CanStand (a_book name) = IsName name
-CanStand (a_schedule name) = IsScheduleName name
+CanStand (a_schedule schedule) = CanBeGiven schedule
 CanStand (a_certificate name) = IsName name
 CanStand (run_steps n) = IsNumber n
 CanStand (a_number limit n) = IsNumber n
@@ -156,7 +170,7 @@ bounds_of unit (the_word text) = []
 bounds_of unit (a_program name) = []
 bounds_of unit (a_journal name) = []
 bounds_of unit (a_book name) = []
-bounds_of unit (a_schedule name) = []
+bounds_of unit (a_schedule schedule) = []
 bounds_of unit (a_certificate name) = []
 bounds_of unit (run_steps n) = within steps_limit n ∷ []
 bounds_of unit (a_number limit n) = within limit n ∷ []
@@ -203,12 +217,17 @@ abbrev pub journal_inputs : Option (List ℕ) → List Input
 journal_inputs None = []
 journal_inputs (Some name) = journal_input name ∷ []
 
+-- a schedule that is made isn't read
+abbrev pub schedule_inputs : Schedule → List Input
+schedule_inputs (by_name name) = schedule_input name ∷ []
+schedule_inputs made = []
+
 abbrev pub inputs_named : Operand → List Input
 inputs_named (the_word text) = []
 inputs_named (a_program name) = program_input name ∷ []
 inputs_named (a_journal name) = journal_inputs name
 inputs_named (a_book name) = book_input name ∷ []
-inputs_named (a_schedule name) = schedule_input name ∷ []
+inputs_named (a_schedule schedule) = schedule_inputs schedule
 inputs_named (a_certificate name) = certificate_input name ∷ []
 inputs_named (run_steps n) = []
 inputs_named (a_number limit n) = []

@@ -1,7 +1,6 @@
 -- What the words of a command line ask for: a request, which is a value, and its one spelling. It is options, in the order
 -- of the words, and a command behind them:
---     run PROGRAM JOURNAL BOOK SCHEDULE N
---     run PROGRAM JOURNAL BOOK @revolve N
+--     run PROGRAM JOURNAL BOOK SCHEDULE|@revolve N
 --     plan revolve BOOK N
 --     plan multistage BOOK N
 --     plan disk BOOK N
@@ -27,7 +26,7 @@ use Rattle.requests.specs.declared.kind.PlanKind.TheVariants.{Revolve, Multistag
 use Rattle.requests.specs.declared.question.Question.{Question}
 use Rattle.requests.specs.declared.question.Question.TheVariants.{State, LastWrite, LastChange}
 pub use Rattle.requests.specs.Operands.{steps_limit}
-use Rattle.requests.specs.Operands.{Limit, Operand, the_word, a_program, a_journal, a_book, a_schedule, a_certificate, run_steps, a_number, a_question, a_digest, a_source, some_words, a_script, word_of, IsName, IsNumber, CanStand}
+use Rattle.requests.specs.Operands.{Schedule, by_name, Limit, Operand, the_word, a_program, a_journal, a_book, a_schedule, a_certificate, run_steps, a_number, a_question, a_digest, a_source, some_words, a_script, word_of, IsName, IsNumber, CanStand}
 
 -- ---- options
 
@@ -89,20 +88,17 @@ is_files level (files k folder) = level == k
 
 -- ---- commands
 
--- To run a program backward: the names of the inputs, and the number of steps. Without a name there is no recorded input.
+-- A run of a program that a list goes over: the names of the inputs, and the number of steps. Without a name there is no recorded input.
 pub record Run : Type 0 where
   pub program : List ℕ
   pub journal : Option (List ℕ)
   pub book : List ℕ
-  pub schedule : List ℕ
   pub steps : ℕ
 
--- to run a program backward by the list of Revolve for the book, which is worked out on the way
-pub record RunRevolve : Type 0 where
-  pub program : List ℕ
-  pub journal : Option (List ℕ)
-  pub book : List ℕ
-  pub steps : ℕ
+-- to run a program backward by a schedule
+pub record Backward : Type 0 where
+  pub run : Run
+  pub schedule : Schedule
 
 -- to write a list of this kind for a book and a number of steps, and its certificate, if it has one
 pub record PlanFor : Type 0 where
@@ -135,10 +131,11 @@ pub record Price : Type 0 where
   pub schedule : List ℕ
   pub steps : ℕ
 
--- to ask something of a run
+-- to ask something of a run, by the schedule under a name
 pub record Ask : Type 0 where
   pub question : Question
   pub run : Run
+  pub schedule : List ℕ
 
 -- to find the last state of a run that has a digest, without a schedule
 pub record Find : Type 0 where
@@ -171,8 +168,7 @@ pub record Demo : Type 0 where
 
 -- A command that is added is a case here, and a row in `operands`.
 pub data Command : Type 0 where
-  run : Run → Command
-  run_revolve : RunRevolve → Command
+  run : Backward → Command
   plan : PlanFor → Command
   plan_periodic : PlanPeriodic → Command
   check : Check → Command
@@ -220,21 +216,18 @@ seed_limit = record { least = 0; greatest = 4294967295; rule = 11 }
 -- the rows: the words and operands of each command, in their order
 abbrev pub operands : Command → List Operand
 operands (run c) =
-    the_word (codes "run") ∷ a_program c.program ∷ a_journal c.journal ∷ a_book c.book ∷ a_schedule c.schedule
-    ∷ run_steps c.steps ∷ []
-operands (run_revolve c) =
-    the_word (codes "run") ∷ a_program c.program ∷ a_journal c.journal ∷ a_book c.book ∷ the_word (codes "@revolve")
-    ∷ run_steps c.steps ∷ []
+    the_word (codes "run") ∷ a_program c.run.program ∷ a_journal c.run.journal ∷ a_book c.run.book ∷ a_schedule c.schedule
+    ∷ run_steps c.run.steps ∷ []
 operands (plan c) = the_word (codes "plan") ∷ the_word (kind_word c.kind) ∷ a_book c.book ∷ a_number (plan_limit c.kind) c.steps ∷ []
 operands (plan_periodic c) =
     the_word (codes "plan") ∷ the_word (codes "periodic") ∷ a_book c.book ∷ a_number steps_limit c.steps ∷ a_number period_limit c.period ∷ []
-operands (check c) = the_word (codes "check") ∷ a_book c.book ∷ a_schedule c.schedule ∷ a_number steps_limit c.steps ∷ []
+operands (check c) = the_word (codes "check") ∷ a_book c.book ∷ a_schedule (by_name c.schedule) ∷ a_number steps_limit c.steps ∷ []
 operands (certify c) =
-    the_word (codes "certify") ∷ a_book c.book ∷ a_schedule c.schedule ∷ a_certificate c.certificate ∷ a_number steps_limit c.steps ∷ []
-operands (price c) = the_word (codes "cost") ∷ a_book c.book ∷ a_schedule c.schedule ∷ a_number steps_limit c.steps ∷ []
+    the_word (codes "certify") ∷ a_book c.book ∷ a_schedule (by_name c.schedule) ∷ a_certificate c.certificate ∷ a_number steps_limit c.steps ∷ []
+operands (price c) = the_word (codes "cost") ∷ a_book c.book ∷ a_schedule (by_name c.schedule) ∷ a_number steps_limit c.steps ∷ []
 operands (ask c) =
     the_word (codes "ask") ∷ the_word (question_word c.question) ∷ a_program c.run.program ∷ a_journal c.run.journal ∷ a_book c.run.book
-    ∷ a_schedule c.run.schedule ∷ run_steps c.run.steps ∷ a_question c.run.steps c.question ∷ []
+    ∷ a_schedule (by_name c.schedule) ∷ run_steps c.run.steps ∷ a_question c.run.steps c.question ∷ []
 operands (find c) =
     the_word (codes "ask") ∷ the_word (codes "find") ∷ a_program c.program ∷ a_journal c.journal ∷ a_number steps_limit c.steps
     ∷ a_digest c.digest ∷ []

@@ -2,7 +2,7 @@
 use Rattle.std.specs.Prelude.{ℕ, ◌*◌, if◌then◌else◌, List, [], ◌∷◌, Option, None, Some}
 use Rattle.std.specs.Option.{option_map}
 use Rattle.requests.specs.declared.request.Run as run_in_memory
-use Rattle.requests.specs.declared.request.RunRevolve as run_revolve_in_memory
+use Rattle.requests.specs.declared.request.Backward as backward_in_memory
 use Rattle.requests.specs.declared.request.PlanFor as plan_for_in_memory
 use Rattle.requests.specs.declared.request.PlanPeriodic as plan_periodic_in_memory
 use Rattle.requests.specs.declared.request.Check as check_in_memory
@@ -19,10 +19,12 @@ use Rattle.requests.specs.declared.request.Command.TheVariants as the_command
 use Rattle.requests.specs.declared.request.Request as in_memory
 use Rattle.requests.specs.declared.bounds.Bounded.{Bounded}
 use Rattle.requests.specs.declared.question.Question.{Question}
-use Rattle.requests.specs.Operands.{within, steps_limit, instructions_limit, question_bound}
+use Rattle.requests.specs.declared.schedule.Schedule as schedule_in_memory
+use Rattle.requests.specs.declared.schedule.Schedule.TheVariants as the_schedule
+use Rattle.requests.specs.Operands.{Schedule, by_name, made, within, steps_limit, instructions_limit, question_bound}
 use Rattle.requests.specs.Reading.{◌>>=◌}
 use Rattle.requests.specs.Forms.{command_of}
-use Rattle.requests.specs.Request.{Run, RunRevolve, PlanFor, PlanPeriodic, Check, Certify, Price, Ask, Find, Assemble, Disassemble, MoveAbout, Demo, Command, run, run_revolve, plan, plan_periodic, check, certify, price, ask, find, assemble, disassemble, move_about, demo, Request}
+use Rattle.requests.specs.Request.{Run, Backward, PlanFor, PlanPeriodic, Check, Certify, Price, Ask, Find, Assemble, Disassemble, MoveAbout, Demo, Command, run, plan, plan_periodic, check, certify, price, ask, find, assemble, disassemble, move_about, demo, Request}
 use Rattle.requests.specs.ChoiceReading.{options_at, behind_options, are_single}
 
 -- the numbers of a run of so many steps, each of them a unit, and of a question about one
@@ -41,11 +43,15 @@ request_read words =
 
 -- ---- in memory
 
-abbrev pub as_run : run_in_memory.Run → Run
-as_run c = record { program = c.program.now; journal = option_map (λ name. name.now) c.journal; book = c.book.now; schedule = c.schedule.now; steps = c.steps }
+abbrev pub as_schedule : schedule_in_memory.Schedule → Schedule
+as_schedule (the_schedule.Named name) = by_name name.now
+as_schedule the_schedule.Made = made
 
-abbrev pub as_run_revolve : run_revolve_in_memory.RunRevolve → RunRevolve
-as_run_revolve c = record { program = c.program.now; journal = option_map (λ name. name.now) c.journal; book = c.book.now; steps = c.steps }
+abbrev pub as_run : run_in_memory.Run → Run
+as_run c = record { program = c.program.now; journal = option_map (λ name. name.now) c.journal; book = c.book.now; steps = c.steps }
+
+abbrev pub as_backward : backward_in_memory.Backward → Backward
+as_backward c = record { run = as_run c.run; schedule = as_schedule c.schedule }
 
 abbrev pub as_plan : plan_for_in_memory.PlanFor → PlanFor
 as_plan c = record { kind = c.kind; book = c.book.now; steps = c.steps }
@@ -63,7 +69,7 @@ abbrev pub as_price : price_in_memory.Price → Price
 as_price c = record { book = c.book.now; schedule = c.schedule.now; steps = c.steps }
 
 abbrev pub as_ask : ask_in_memory.Ask → Ask
-as_ask c = record { question = c.question; run = as_run c.run }
+as_ask c = record { question = c.question; run = as_run c.run; schedule = c.schedule.now }
 
 abbrev pub as_find : find_in_memory.Find → Find
 as_find c = record { program = c.program.now; journal = option_map (λ name. name.now) c.journal; steps = c.steps; digest = c.digest }
@@ -87,8 +93,7 @@ abbrev pub as_demo : demo_in_memory.Demo → Demo
 as_demo c = record { number = c.number; steps = c.steps; slots = c.slots }
 
 abbrev pub as_command : command_in_memory.Command → Command
-as_command (the_command.Run c) = run (as_run c)
-as_command (the_command.RunRevolve c) = run_revolve (as_run_revolve c)
+as_command (the_command.Run c) = run (as_backward c)
 as_command (the_command.Plan c) = plan (as_plan c)
 as_command (the_command.PlanPeriodic c) = plan_periodic (as_plan_periodic c)
 as_command (the_command.Check c) = check (as_check c)

@@ -6,11 +6,12 @@ ghost use Rattle.keepers.specs.Told.{WhereTold};
 ghost use Rattle.requests.specs.Operands.{program_input, journal_input, book_input, schedule_input, certificate_input, source_input, words_input, script_input};
 ghost use Rattle.requests.specs.Inputs.{inputs_of, names};
 ghost use Rattle.requests.specs.InputReading.{input_of, all, Reads, Stops};
-ghost use Rattle.requests.specs.Request.{run as run_command, run_revolve as run_revolve_command, find as find_command, move_about as move_about_command};
-ghost use Rattle.requests.specs.RequestReading.{as_run, as_run_revolve, as_find, as_move_about, as_command};
+ghost use Rattle.requests.specs.Request.{Backward, run as run_command, find as find_command, move_about as move_about_command};
+ghost use Rattle.requests.specs.RequestReading.{as_schedule, as_run, as_find, as_move_about, as_command};
 
 use crate::ended::Ended;
-use crate::request::{Command, Find, MoveAbout, Run, RunRevolve};
+use crate::request::{Command, Find, MoveAbout, Run};
+use crate::schedule::Schedule;
 use keepers::{InputFault, Inputs, Whole};
 use std::alloc::Global;
 
@@ -134,8 +135,7 @@ pub fn read_inputs<I: Inputs>(
     ensures no_cause { IfErr result (λ e. e.status ≢ 3 → I.fault_count inputs.new ≡ I.fault_count inputs.old) }
 {
     match command {
-        Command::Run(run) => read_run_inputs(alloc, run, inputs),
-        Command::RunRevolve(run) => read_run_revolve_inputs(alloc, run, inputs),
+        Command::Run(backward) => read_run_inputs(alloc, &backward.run, backward.schedule, inputs),
         Command::Plan(plan) => read_all(alloc, &[book_input(plan.book)], inputs),
         Command::PlanPeriodic(plan) => read_all(alloc, &[book_input(plan.book)], inputs),
         Command::Check(check) => {
@@ -154,7 +154,10 @@ pub fn read_inputs<I: Inputs>(
             let wanted = [book_input(price.book), schedule_input(price.schedule)];
             read_all(alloc, &wanted, inputs)
         }
-        Command::Ask(ask) => read_run_inputs(alloc, &ask.run, inputs),
+        Command::Ask(ask) => {
+            let schedule = Schedule::Named(ask.schedule);
+            read_run_inputs(alloc, &ask.run, schedule, inputs)
+        }
         Command::Find(find) => read_find_inputs(alloc, find, inputs),
         Command::Assemble(assemble) => read_all(alloc, &[source_input(assemble.source)], inputs),
         Command::Disassemble(disassemble) => {
@@ -165,52 +168,37 @@ pub fn read_inputs<I: Inputs>(
     }
 }
 
-// The same for a run.
+// The same for a run by a schedule, which is read where it has a name.
 fn read_run_inputs<I: Inputs>(
     alloc: Global,
     run: &Run<'_>,
+    schedule: Schedule<'_>,
     inputs: &mut I,
 ) -> Result<Vec<Vec<u8>>, Ended>
-    ensures read { IfOk result (λ v. Reads (inputs_of (run_command (as_run run.now))) (I.told inputs.old) (I.asked inputs.old) (I.asked inputs.new)
-        (all (map (λ bytes. bytes.items) v.items))) }
-    ensures stops { IfErr result (λ e. Stops (inputs_of (run_command (as_run run.now))) (I.told inputs.old) e (I.asked inputs.old) (I.asked inputs.new)) }
-    ensures asked { (k : ℕ) × (I.asked inputs.new ≡ I.asked inputs.old ++ take k (names (inputs_of (run_command (as_run run.now))))) }
+    ensures read { let command = run_command (record { run = as_run run.now; schedule = as_schedule schedule.entry }) in
+        IfOk result (λ v. Reads (inputs_of command) (I.told inputs.old) (I.asked inputs.old) (I.asked inputs.new) (all (map (λ bytes. bytes.items) v.items))) }
+    ensures stops { let command = run_command (record { run = as_run run.now; schedule = as_schedule schedule.entry }) in
+        IfErr result (λ e. Stops (inputs_of command) (I.told inputs.old) e (I.asked inputs.old) (I.asked inputs.new)) }
+    ensures asked { let command = run_command (record { run = as_run run.now; schedule = as_schedule schedule.entry }) in
+        (k : ℕ) × (I.asked inputs.new ≡ I.asked inputs.old ++ take k (names (inputs_of command))) }
     ensures quiet { IfOk result (λ _. I.fault_count inputs.new ≡ I.fault_count inputs.old) }
     ensures cause { IfErr result (λ e. e.status ≡ 3 → Rose (I.fault_count inputs.old) (I.fault_count inputs.new)) }
     ensures no_cause { IfErr result (λ e. e.status ≢ 3 → I.fault_count inputs.new ≡ I.fault_count inputs.old) }
 {
     let program = program_input(run.program);
     let book = book_input(run.book);
-    let schedule = schedule_input(run.schedule);
-    match run.journal {
-        Some(name) => {
-            let wanted = [program, journal_input(name), book, schedule];
+    match (run.journal, schedule) {
+        (Some(name), Schedule::Named(schedule)) => {
+            let wanted = [program, journal_input(name), book, schedule_input(schedule)];
             read_all(alloc, &wanted, inputs)
         }
-        None => read_all(alloc, &[program, book, schedule], inputs),
-    }
-}
-
-// The same for a run by the list of Revolve.
-fn read_run_revolve_inputs<I: Inputs>(
-    alloc: Global,
-    run: &RunRevolve<'_>,
-    inputs: &mut I,
-) -> Result<Vec<Vec<u8>>, Ended>
-    ensures read { IfOk result (λ v. Reads (inputs_of (run_revolve_command (as_run_revolve run.now))) (I.told inputs.old) (I.asked inputs.old)
-        (I.asked inputs.new) (all (map (λ bytes. bytes.items) v.items))) }
-    ensures stops { IfErr result (λ e. Stops (inputs_of (run_revolve_command (as_run_revolve run.now))) (I.told inputs.old) e (I.asked inputs.old)
-        (I.asked inputs.new)) }
-    ensures asked { (k : ℕ) × (I.asked inputs.new ≡ I.asked inputs.old ++ take k (names (inputs_of (run_revolve_command (as_run_revolve run.now))))) }
-    ensures quiet { IfOk result (λ _. I.fault_count inputs.new ≡ I.fault_count inputs.old) }
-    ensures cause { IfErr result (λ e. e.status ≡ 3 → Rose (I.fault_count inputs.old) (I.fault_count inputs.new)) }
-    ensures no_cause { IfErr result (λ e. e.status ≢ 3 → I.fault_count inputs.new ≡ I.fault_count inputs.old) }
-{
-    let program = program_input(run.program);
-    let book = book_input(run.book);
-    match run.journal {
-        Some(name) => read_all(alloc, &[program, journal_input(name), book], inputs),
-        None => read_all(alloc, &[program, book], inputs),
+        (Some(name), Schedule::Made) => {
+            read_all(alloc, &[program, journal_input(name), book], inputs)
+        }
+        (None, Schedule::Named(schedule)) => {
+            read_all(alloc, &[program, book, schedule_input(schedule)], inputs)
+        }
+        (None, Schedule::Made) => read_all(alloc, &[program, book], inputs),
     }
 }
 

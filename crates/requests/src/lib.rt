@@ -15,6 +15,7 @@ mod places;
 mod question;
 mod reading;
 mod request;
+mod schedule;
 mod text;
 mod words;
 
@@ -26,7 +27,8 @@ pub use crate::options::Options;
 pub use crate::places::{KeepAt, keeper_places};
 pub use crate::question::Question;
 pub use crate::request::{
-    Ask, Assemble, Certify, Check, Command, Demo, Disassemble, Find, MoveAbout, PlanFor,
-    PlanPeriodic, Price, Request, Run, RunRevolve, read_request,
+    Ask, Assemble, Backward, Certify, Check, Command, Demo, Disassemble, Find, MoveAbout, PlanFor,
+    PlanPeriodic, Price, Request, Run, read_request,
 };
+pub use crate::schedule::Schedule;
 pub use crate::words::Words;

@@ -1,10 +1,12 @@
 // The words of a command, taken one after the other.
 ghost use Rattle.std.specs.Prelude.{◌≡◌, ◌⊎◌, ℕ, List, ◌∷◌, [], map, None, Some, MatchOption, option_map};
 ghost use Rattle.requests.specs.Reading.{Gives};
-ghost use Rattle.requests.specs.Forms.{fixed, named, named_or_none, schedule_named, numbered, addressed, digested, address_of, digest_of, finished, Takes};
+ghost use Rattle.requests.specs.RequestReading.{as_schedule};
+ghost use Rattle.requests.specs.Forms.{fixed, named, named_or_none, schedule_named, scheduled, numbered, addressed, digested, address_of, digest_of, finished, Takes};
 
 use crate::options::number_in;
 use crate::request::Command;
+use crate::schedule::Schedule;
 use crate::text::after;
 use std::marker::Model;
 
@@ -97,6 +99,21 @@ impl<'a> Operands<'a> {
             _ => {
                 self.rest = None;
                 b""
+            }
+        }
+    }
+
+    /// Takes the schedule of a run: its name, or the word for the list of Revolve.
+    #[tactic(auto, unfolding(crate::specs::Forms::front_taken))]
+    pub fn schedule(&mut self) -> Schedule<'a>
+        ensures { Takes scheduled self.old (as_schedule result) self.new }
+    {
+        match self.next() {
+            Some(word) if word == b"@revolve".as_slice() => Schedule::Made,
+            Some(word) if !word.is_empty() => Schedule::Named(word),
+            _ => {
+                self.rest = None;
+                Schedule::Made
             }
         }
     }

@@ -3,23 +3,22 @@ ghost use Rattle.std.specs.Prelude.{◌≡◌, map, codes};
 ghost use Rattle.requests.specs.Reading.{Gives};
 ghost use Rattle.requests.specs.Request.{kind_word};
 ghost use Rattle.requests.specs.declared.question.Question.TheVariants as about;
-ghost use Rattle.requests.specs.Forms.{numbered, addressed, run_form, run_revolve_form, plan_form, periodic_form, check_form, certify_form, price_form, ask_form, find_form, assemble_form, disassemble_form, move_about_form, demo_form, form_taken, command_of};
+ghost use Rattle.requests.specs.Forms.{numbered, addressed, run_form, plan_form, periodic_form, check_form, certify_form, price_form, ask_form, find_form, assemble_form, disassemble_form, move_about_form, demo_form, form_taken, command_of};
 ghost use Rattle.requests.specs.RequestReading.{as_command};
 
 use crate::kind::PlanKind;
 use crate::operands::Operands;
 use crate::question::Question;
 use crate::request::{
-    Ask, Assemble, Certify, Check, Command, Demo, Disassemble, Find, MoveAbout, PlanFor,
-    PlanPeriodic, Price, Run, RunRevolve,
+    Ask, Assemble, Backward, Certify, Check, Command, Demo, Disassemble, Find, MoveAbout, PlanFor,
+    PlanPeriodic, Price, Run,
 };
 
 /// The command that the words behind the options are.
 pub fn read_command(words: &[Vec<u8>]) -> Option<Command<'_>>
     ensures { Gives as_command result (command_of (map (λ w. w.items) words.now)) }
 {
-    read_run_revolve(words)
-        .or(read_run(words))
+    read_run(words)
         .or(read_plan(words, PlanKind::Revolve))
         .or(read_plan(words, PlanKind::Multistage))
         .or(read_plan(words, PlanKind::Disk))
@@ -46,33 +45,15 @@ fn read_run(words: &[Vec<u8>]) -> Option<Command<'_>>
     let program = words.name();
     let journal = words.name_or_dash();
     let book = words.name();
-    let schedule = words.schedule_name();
+    let schedule = words.schedule();
     let steps = words.number();
-    words.finish(Command::Run(Run {
-        program,
-        journal,
-        book,
-        schedule,
-        steps,
-    }))
-}
-
-fn read_run_revolve(words: &[Vec<u8>]) -> Option<Command<'_>>
-    ensures { Gives as_command result (form_taken run_revolve_form (map (λ w. w.items) words.now)) }
-{
-    let mut words = Operands::of(words);
-    words.word(b"run");
-    let program = words.name();
-    let journal = words.name_or_dash();
-    let book = words.name();
-    words.word(b"@revolve");
-    let steps = words.number();
-    words.finish(Command::RunRevolve(RunRevolve {
+    let run = Run {
         program,
         journal,
         book,
         steps,
-    }))
+    };
+    words.finish(Command::Run(Backward { run, schedule }))
 }
 
 // The word of a kind of plans.
@@ -167,15 +148,23 @@ fn read_ask_state(words: &[Vec<u8>]) -> Option<Command<'_>>
     let mut words = Operands::of(words);
     words.word(b"ask");
     words.word(b"state");
-    let run = Run {
-        program: words.name(),
-        journal: words.name_or_dash(),
-        book: words.name(),
-        schedule: words.schedule_name(),
-        steps: words.number(),
-    };
+    let program = words.name();
+    let journal = words.name_or_dash();
+    let book = words.name();
+    let schedule = words.schedule_name();
+    let steps = words.number();
     let question = Question::State(words.number());
-    words.finish(Command::Ask(Ask { question, run }))
+    let run = Run {
+        program,
+        journal,
+        book,
+        steps,
+    };
+    words.finish(Command::Ask(Ask {
+        question,
+        run,
+        schedule,
+    }))
 }
 
 fn read_ask_last_write(words: &[Vec<u8>]) -> Option<Command<'_>>
@@ -184,15 +173,23 @@ fn read_ask_last_write(words: &[Vec<u8>]) -> Option<Command<'_>>
     let mut words = Operands::of(words);
     words.word(b"ask");
     words.word(b"last-write");
-    let run = Run {
-        program: words.name(),
-        journal: words.name_or_dash(),
-        book: words.name(),
-        schedule: words.schedule_name(),
-        steps: words.number(),
-    };
+    let program = words.name();
+    let journal = words.name_or_dash();
+    let book = words.name();
+    let schedule = words.schedule_name();
+    let steps = words.number();
     let question = Question::LastWrite(words.address());
-    words.finish(Command::Ask(Ask { question, run }))
+    let run = Run {
+        program,
+        journal,
+        book,
+        steps,
+    };
+    words.finish(Command::Ask(Ask {
+        question,
+        run,
+        schedule,
+    }))
 }
 
 fn read_ask_last_change(words: &[Vec<u8>]) -> Option<Command<'_>>
@@ -201,15 +198,23 @@ fn read_ask_last_change(words: &[Vec<u8>]) -> Option<Command<'_>>
     let mut words = Operands::of(words);
     words.word(b"ask");
     words.word(b"last-change");
-    let run = Run {
-        program: words.name(),
-        journal: words.name_or_dash(),
-        book: words.name(),
-        schedule: words.schedule_name(),
-        steps: words.number(),
-    };
+    let program = words.name();
+    let journal = words.name_or_dash();
+    let book = words.name();
+    let schedule = words.schedule_name();
+    let steps = words.number();
     let question = Question::LastChange(words.address());
-    words.finish(Command::Ask(Ask { question, run }))
+    let run = Run {
+        program,
+        journal,
+        book,
+        steps,
+    };
+    words.finish(Command::Ask(Ask {
+        question,
+        run,
+        schedule,
+    }))
 }
 
 fn read_find(words: &[Vec<u8>]) -> Option<Command<'_>>

@@ -14,6 +14,7 @@ use crate::kind::PlanKind;
 use crate::options::{Choice, Options, next_option, read_options};
 use crate::question::Question;
 use crate::reading::read_command;
+use crate::schedule::Schedule;
 use plan_types::{MOST_SLOTS, MOST_STEPS};
 
 // The address of the last word in the machine's memory.
@@ -33,9 +34,7 @@ pub struct Request<'a> {
 #[derive(Clone, Copy, Debug)]
 pub enum Command<'a> {
     /// To run a program backward.
-    Run(Run<'a>),
-    /// To run a program backward by the list of Revolve.
-    RunRevolve(RunRevolve<'a>),
+    Run(Backward<'a>),
     /// To write a list that is made here.
     Plan(PlanFor<'a>),
     /// To write the periodic list.
@@ -60,24 +59,20 @@ pub enum Command<'a> {
     Demo(Demo),
 }
 
-/// To run a program backward by a schedule, over so many steps. Without a journal there is no recorded input.
+/// A run of a program that a list goes over, of so many steps. Without a journal there is no recorded input.
 #[derive(Clone, Copy, Debug)]
 pub struct Run<'a> {
     pub program: &'a [u8],
     pub journal: Option<&'a [u8]>,
     pub book: &'a [u8],
-    pub schedule: &'a [u8],
     pub steps: u64,
 }
 
-/// To run a program backward by the list of Revolve for a book, over so many steps. Without a journal there is no recorded
-/// input.
+/// To run a program backward by a schedule.
 #[derive(Clone, Copy, Debug)]
-pub struct RunRevolve<'a> {
-    pub program: &'a [u8],
-    pub journal: Option<&'a [u8]>,
-    pub book: &'a [u8],
-    pub steps: u64,
+pub struct Backward<'a> {
+    pub run: Run<'a>,
+    pub schedule: Schedule<'a>,
 }
 
 /// To write a list of this kind for a book and so many steps.
@@ -121,11 +116,12 @@ pub struct Price<'a> {
     pub steps: u64,
 }
 
-/// To ask something of a run.
+/// To ask something of a run, by the schedule with this name.
 #[derive(Clone, Copy, Debug)]
 pub struct Ask<'a> {
     pub question: Question,
     pub run: Run<'a>,
+    pub schedule: &'a [u8],
 }
 
 /// To find the last of the states of a run over so many steps whose image has this SHA-256.
@@ -367,8 +363,7 @@ impl Command<'_> {
             (RefusesFirst (command_numbers unit (as_command self.now))) }
     {
         match self {
-            Command::Run(run) => run_refusal(unit, run.steps),
-            Command::RunRevolve(run) => run_refusal(unit, run.steps),
+            Command::Run(backward) => run_refusal(unit, backward.run.steps),
             Command::Plan(plan) => first_outside(&[plan_bound(plan.kind, plan.steps)]),
             Command::PlanPeriodic(plan) => {
                 first_outside(&[steps_bound(plan.steps), period_bound(plan.period)])

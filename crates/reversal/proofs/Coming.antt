@@ -1,5 +1,5 @@
 -- A request comes to a decision: no table has a hole.
-use Rattle.std.proofs.Common.{◌*◌, ◌/◌, ◌%◌, ◌≡◌, ◌⊎◌, inl, inr, ℕ, zero, suc, ◌+◌, ◌<◌, ◌≤◌, ◌++◌, max, Bool, true, false, List, [], ◌∷◌, length, map, Option, None, Some, slice_get, slice_index_or, refl, subst, arith}
+use Rattle.std.proofs.Common.{◌/◌, ◌%◌, ◌≡◌, ◌⊎◌, inl, inr, ℕ, zero, suc, ◌+◌, ◌<◌, ◌≤◌, ◌++◌, max, Bool, true, false, List, [], ◌∷◌, length, map, Option, None, Some, slice_get, slice_index_or, refl, subst, arith}
 use Rattle.std.specs.Prelude.{codes, decimal}
 use Rattle.std.specs.List.{AllByRecursion, flat_map}
 use Rattle.std.proofs.lemmas.Bool.{cases_lt, cases_eq}
@@ -54,8 +54,8 @@ use Rattle.requests.specs.Ending.{few_keepers, small_keeper, unreadable, too_lon
 use Rattle.requests.specs.declared.bounds.Bounded.{Bounded}
 use Rattle.requests.specs.declared.kind.PlanKind.{PlanKind}
 use Rattle.requests.specs.declared.kind.PlanKind.TheVariants.{Revolve, Multistage, Disk, Hrevolve}
-use Rattle.requests.specs.Request.{Choice, Run, RunRevolve, Find, MoveAbout, Command, run, run_revolve, plan, plan_periodic, check, certify, price, ask, find, assemble, disassemble, move_about as move_about_command, demo, worker_count, plan_limit, says_raw, stack_pages, unit_count}
-use Rattle.requests.specs.Operands.{within, journal_inputs, journal_input, program_input, book_input, schedule_input, certificate_input, source_input, words_input, script_input, question_bound}
+use Rattle.requests.specs.Request.{Choice, Run, Find, MoveAbout, Command, run, plan, plan_periodic, check, certify, price, ask, find, assemble, disassemble, move_about as move_about_command, demo, worker_count, plan_limit, says_raw, stack_pages, unit_count}
+use Rattle.requests.specs.Operands.{Schedule, by_name, made, within, journal_inputs, journal_input, program_input, book_input, schedule_inputs, schedule_input, certificate_input, source_input, words_input, script_input}
 use Rattle.requests.specs.Bounds.{option_numbers, command_numbers, IsWithin}
 use Rattle.requests.specs.Inputs.{Input, inputs_of}
 use Rattle.reversal.specs.Plans.{list_pieces, plan_pieces}
@@ -72,7 +72,6 @@ use Rattle.reversal.specs.CommandConsole.{DecidesConsole}
 use Rattle.reversal.specs.CommandFind.{find_table}
 use Rattle.reversal.specs.CommandAssemble.{word_bytes, listing, DecidesAssemble, DecidesDisassemble}
 use Rattle.reversal.specs.Listing.{word_line}
-use Rattle.reversal.specs.CommandRun.{DecidesRunRevolve}
 use Rattle.reversal.specs.CommandPlan.{DecidesPlan, DecidesPlanRevolve, DecidesPlanMultistage, DecidesPlanDisk, DecidesPlanHrevolve, DecidesPlanPeriodic}
 use Rattle.reversal.specs.CommandCheck.{DecidesCheck}
 use Rattle.reversal.specs.CommandCost.{DecidesPrice}
@@ -209,47 +208,42 @@ list_comes book bytes b Below is below = read_comes (IsSchedule (names_of b) byt
 
 -- ---- the tables
 
-pub over_comes : (make : ARun → Job) (options : List Choice) (steps : ℕ) (program : List ℕ) (journal : Option (List ℕ)) (book schedule counts : List ℕ) → IsContent journal → AreBytes book →
-    SomeDecision (DecidesOver make options steps program journal book schedule counts)
-over_comes make options steps program journal book schedule counts content are =
+-- a program, and its recorded input
+program_comes : (options : List Choice) (program : List ℕ) (journal : Option (List ℕ)) (Below : MachineState → List (List ℕ) → Decision → Type 0) → IsContent journal → ((start : MachineState) (items : List (List ℕ)) → SomeDecision (Below start items)) →
+    SomeDecision (λ d. Read (IsStartOf (says_raw options) (stack_pages options) program) (HasProgramFault (says_raw options) (stack_pages options) program) bad_program d (λ start. Read (AreItemsOf journal) (HasJournalFault journal) bad_journal d (λ items. Below start items d)))
+program_comes options program journal Below content below =
     let raw = says_raw options in
     let stack = stack_pages options in
-    book_comes book _ (λ b is_book.
-    keep_comes steps (slots_of b) counts _ (
     read_comes (IsStartOf raw stack program) (HasProgramFault raw stack program) bad_program _ (start_or_its_fault raw stack program) (λ start is_start.
-    read_comes (AreItemsOf journal) (HasJournalFault journal) bad_journal _ (items_or_fault journal content) (λ items are_items.
-    list_comes book schedule b _ is_book (λ list.
-    judge_comes steps (slots_of b) list _ (λ valid. (accept (make (in_units (unit_count options) start items steps (slots_of b) list)), refl)))))))
+    read_comes (AreItemsOf journal) (HasJournalFault journal) bad_journal _ (items_or_fault journal content) (λ items are_items. below start items))
 
-pub revolve_comes : (options : List Choice) (steps : ℕ) (program : List ℕ) (journal : Option (List ℕ)) (book counts : List ℕ) → IsContent journal → AreBytes book →
-    SomeDecision (DecidesRunRevolve options steps program journal book counts)
-revolve_comes options steps program journal book counts content are =
-    let raw = says_raw options in
-    let stack = stack_pages options in
+pub over_comes : (make : ARun → Job) (options : List Choice) (steps : ℕ) (program : List ℕ) (journal : Option (List ℕ)) (book : List ℕ) (schedule : Option (List ℕ)) (counts : List ℕ) → IsContent journal → AreBytes book →
+    SomeDecision (DecidesOver make options steps program journal book schedule counts)
+over_comes make options steps program journal book None counts content are =
     book_comes book _ (λ b is_book.
     keep_comes steps (slots_of b) counts _ (
     plan_comes steps b _ (λ plan.
-    read_comes (IsStartOf raw stack program) (HasProgramFault raw stack program) bad_program _ (start_or_its_fault raw stack program) (λ start is_start.
-    read_comes (AreItemsOf journal) (HasJournalFault journal) bad_journal _ (items_or_fault journal content) (λ items are_items.
-    (accept (perform (in_units (unit_count options) start items steps (slots_of b) (revolve_list steps b))), refl))))))
+    program_comes options program journal _ content (λ start items.
+    (accept (make (in_units (unit_count options) start items steps (slots_of b) (revolve_list steps b))), refl)))))
+over_comes make options steps program journal book (Some schedule) counts content are =
+    book_comes book _ (λ b is_book.
+    keep_comes steps (slots_of b) counts _ (
+    program_comes options program journal _ content (λ start items.
+    list_comes book schedule b _ is_book (λ list.
+    judge_comes steps (slots_of b) list _ (λ valid. (accept (make (in_units (unit_count options) start items steps (slots_of b) list)), refl))))))
 
 pub find_comes : (options : List Choice) (steps : ℕ) (digest program : List ℕ) (journal : Option (List ℕ)) → IsContent journal → SomeDecision (Decided (find_table options steps digest program journal))
-find_comes options steps digest program journal content =
-    read_comes (IsStartOf (says_raw options) (stack_pages options) program) (HasProgramFault (says_raw options) (stack_pages options) program) bad_program _ (start_or_its_fault (says_raw options) (stack_pages options) program) (λ start is_start.
-    read_comes (AreItemsOf journal) (HasJournalFault journal) bad_journal _ (items_or_fault journal content) (λ items are_items. (accept (seek start items steps (worker_count options) digest), refl)))
+find_comes options steps digest program journal content = program_comes options program journal _ content (λ start items. (accept (seek start items steps (worker_count options) digest), refl))
 
 pub console_comes : (options : List Choice) (steps : ℕ) (program : List ℕ) (journal : Option (List ℕ)) (book script counts : List ℕ) → IsContent journal → AreBytes book →
     SomeDecision (DecidesConsole options steps program journal book script counts)
 console_comes options steps program journal book script counts content are =
-    let raw = says_raw options in
-    let stack = stack_pages options in
     book_comes book _ (λ b is_book.
     keep_comes (max steps 1) (slots_of b) counts _ (
     need_comes (1 ≤ total_room b (max steps 1)) (no_plan steps (total_room b steps) 1) _ (at_most 1 (total_room b (max steps 1))) (λ slots.
-    read_comes (IsStartOf raw stack program) (HasProgramFault raw stack program) bad_program _ (start_or_its_fault raw stack program) (λ start is_start.
-    read_comes (AreItemsOf journal) (HasJournalFault journal) bad_journal _ (items_or_fault journal content) (λ items are_items.
+    program_comes options program journal _ content (λ start items.
     read_comes (IsScript steps script) (ScriptFirst steps script) bad_script _ (script_or_fault steps script) (λ orders give.
-    (accept (move_about start items (record { slots = slots_of b; count = steps }) orders), refl)))))))
+    (accept (move_about start items (record { slots = slots_of b; count = steps }) orders), refl))))))
 
 pub assemble_comes : (source : List ℕ) → SomeDecision (DecidesAssemble source)
 assemble_comes source = read_comes (Means source) (HasFault source) bad_source _ (meaning_or_fault source) (λ words means. (accept (write (word_bytes words ∷ [])), refl))
@@ -376,124 +370,27 @@ demo_comes number steps slots =
 
 -- ---- by the bytes of the inputs, as many as there are
 
-three_bytes : (make : ARun → Job) (options : List Choice) (steps : ℕ) (slots : List ℕ) (bytes : List (List ℕ)) → length bytes ≡ 3 → AllByRecursion AreBytes bytes → SomeDecision (DecidesOverBytes make options steps bytes slots)
-three_bytes make options steps slots [] e are = absurd (omega (arith, e))
-three_bytes make options steps slots (p ∷ []) e are = absurd (omega (arith, e))
-three_bytes make options steps slots (p ∷ b ∷ []) e are = absurd (omega (arith, e))
-three_bytes make options steps slots (p ∷ b ∷ s ∷ []) e are = over_comes make options steps p None b s slots tt are.1.0
-three_bytes make options steps slots (p ∷ b ∷ s ∷ x ∷ rest) e are = absurd (omega (arith, e))
-
-four_bytes : (make : ARun → Job) (options : List Choice) (steps : ℕ) (slots : List ℕ) (bytes : List (List ℕ)) → length bytes ≡ 4 → AllByRecursion AreBytes bytes → SomeDecision (DecidesOverBytes make options steps bytes slots)
-four_bytes make options steps slots [] e are = absurd (omega (arith, e))
-four_bytes make options steps slots (p ∷ []) e are = absurd (omega (arith, e))
-four_bytes make options steps slots (p ∷ j ∷ []) e are = absurd (omega (arith, e))
-four_bytes make options steps slots (p ∷ j ∷ b ∷ []) e are = absurd (omega (arith, e))
-four_bytes make options steps slots (p ∷ j ∷ b ∷ s ∷ []) e are = over_comes make options steps p (Some j) b s slots are.1.0 are.1.1.0
-four_bytes make options steps slots (p ∷ j ∷ b ∷ s ∷ x ∷ rest) e are = absurd (omega (arith, e))
-
--- the inputs of a run, where recorded input may be left out
-abbrev run_inputs : Option (List ℕ) → Run → List Input
-run_inputs journal c = program_input c.program ∷ (journal_inputs journal ++ book_input c.book ∷ schedule_input c.schedule ∷ [])
-
-abbrev run_revolve_inputs : Option (List ℕ) → RunRevolve → List Input
-run_revolve_inputs journal c = program_input c.program ∷ (journal_inputs journal ++ book_input c.book ∷ [])
-
--- over a run, beside something that holds
-beside_come : (Holds : Type 0) (Below : Decision → Type 0) → Holds → SomeDecision Below → SomeDecision (λ d. Holds × Below d)
-beside_come Holds Below holds d = (d.0, (holds, d.1))
-
-run_given : (make : ARun → Job) (options : List Choice) (steps : ℕ) (slots : List ℕ) (journal : Option (List ℕ)) (c : Run) (given : List (Option (List ℕ))) → AllByRecursion IsContent given →
-    SomeDecision (λ d. Take 1 (run_inputs journal c) given d (λ bytes. DecidesOverBytes make options steps bytes slots d))
-run_given make options steps slots None c given contents = take_comes 1 (run_inputs None c) given (λ bytes d. DecidesOverBytes make options steps bytes slots d) contents (three_bytes make options steps slots)
-run_given make options steps slots (Some journal) c given contents = take_comes 1 (run_inputs (Some journal) c) given (λ bytes d. DecidesOverBytes make options steps bytes slots d) contents (four_bytes make options steps slots)
-
-ask_given : (Holds : Type 0) → Holds → (make : ARun → Job) (options : List Choice) (steps : ℕ) (slots : List ℕ) (journal : Option (List ℕ)) (c : Run) (given : List (Option (List ℕ))) → AllByRecursion IsContent given →
-    SomeDecision (λ d. Take 1 (run_inputs journal c) given d (λ bytes. Holds × DecidesOverBytes make options steps bytes slots d))
-ask_given Holds holds make options steps slots None c given contents =
-    take_comes 1 (run_inputs None c) given (λ bytes d. Holds × DecidesOverBytes make options steps bytes slots d) contents
-    (λ bytes count are. beside_come Holds (DecidesOverBytes make options steps bytes slots) holds (three_bytes make options steps slots bytes count are))
-ask_given Holds holds make options steps slots (Some journal) c given contents =
-    take_comes 1 (run_inputs (Some journal) c) given (λ bytes d. Holds × DecidesOverBytes make options steps bytes slots d) contents
-    (λ bytes count are. beside_come Holds (DecidesOverBytes make options steps bytes slots) holds (four_bytes make options steps slots bytes count are))
-
-revolve_two : (options : List Choice) (c : RunRevolve) (slots : List ℕ) (bytes : List (List ℕ)) → length bytes ≡ 2 → AllByRecursion AreBytes bytes → SomeDecision (DecidesBytes options (run_revolve c) bytes slots)
-revolve_two options c slots [] e are = absurd (omega (arith, e))
-revolve_two options c slots (p ∷ []) e are = absurd (omega (arith, e))
-revolve_two options c slots (p ∷ b ∷ []) e are = revolve_comes options c.steps p None b slots tt are.1.0
-revolve_two options c slots (p ∷ b ∷ x ∷ rest) e are = absurd (omega (arith, e))
-
-revolve_three : (options : List Choice) (c : RunRevolve) (slots : List ℕ) (bytes : List (List ℕ)) → length bytes ≡ 3 → AllByRecursion AreBytes bytes → SomeDecision (DecidesBytes options (run_revolve c) bytes slots)
-revolve_three options c slots [] e are = absurd (omega (arith, e))
-revolve_three options c slots (p ∷ []) e are = absurd (omega (arith, e))
-revolve_three options c slots (p ∷ j ∷ []) e are = absurd (omega (arith, e))
-revolve_three options c slots (p ∷ j ∷ b ∷ []) e are = revolve_comes options c.steps p (Some j) b slots are.1.0 are.1.1.0
-revolve_three options c slots (p ∷ j ∷ b ∷ x ∷ rest) e are = absurd (omega (arith, e))
-
-revolve_given : (options : List Choice) (c : RunRevolve) (slots : List ℕ) (journal : Option (List ℕ)) (given : List (Option (List ℕ))) → AllByRecursion IsContent given →
-    SomeDecision (λ d. Take 1 (run_revolve_inputs journal c) given d (λ bytes. DecidesBytes options (run_revolve c) bytes slots d))
-revolve_given options c slots None given contents = take_comes 1 (run_revolve_inputs None c) given (λ bytes d. DecidesBytes options (run_revolve c) bytes slots d) contents (revolve_two options c slots)
-revolve_given options c slots (Some journal) given contents = take_comes 1 (run_revolve_inputs (Some journal) c) given (λ bytes d. DecidesBytes options (run_revolve c) bytes slots d) contents (revolve_three options c slots)
-
-find_given : (options : List Choice) (c : Find) (slots : List ℕ) (journal : Option (List ℕ)) (given : List (Option (List ℕ))) → AllByRecursion IsContent given →
-    SomeDecision (λ d. Take 1 (program_input c.program ∷ (journal_inputs journal ++ [])) given d (λ bytes. DecidesBytes options (find c) bytes slots d))
-find_given options c slots None given contents = take_comes 1 (program_input c.program ∷ []) given (λ bytes d. DecidesBytes options (find c) bytes slots d) contents of_one
-  where
-    of_one : (bytes : List (List ℕ)) → length bytes ≡ 1 → AllByRecursion AreBytes bytes → SomeDecision (DecidesBytes options (find c) bytes slots)
-    of_one [] e are = absurd (omega (arith, e))
-    of_one (p ∷ []) e are = find_comes options c.steps c.digest p None tt
-    of_one (p ∷ x ∷ rest) e are = absurd (omega (arith, e))
-find_given options c slots (Some journal) given contents = take_comes 1 (program_input c.program ∷ journal_input journal ∷ []) given (λ bytes d. DecidesBytes options (find c) bytes slots d) contents of_two
-  where
-    of_two : (bytes : List (List ℕ)) → length bytes ≡ 2 → AllByRecursion AreBytes bytes → SomeDecision (DecidesBytes options (find c) bytes slots)
-    of_two [] e are = absurd (omega (arith, e))
-    of_two (p ∷ []) e are = absurd (omega (arith, e))
-    of_two (p ∷ j ∷ []) e are = find_comes options c.steps c.digest p (Some j) are.1.0
-    of_two (p ∷ j ∷ x ∷ rest) e are = absurd (omega (arith, e))
-
-abbrev console_inputs : Option (List ℕ) → MoveAbout → List Input
-console_inputs journal c = program_input c.program ∷ (journal_inputs journal ++ book_input c.book ∷ script_input c.script ∷ [])
-
-console_given : (options : List Choice) (c : MoveAbout) (slots : List ℕ) (journal : Option (List ℕ)) (given : List (Option (List ℕ))) → AllByRecursion IsContent given →
-    SomeDecision (λ d. Take 1 (console_inputs journal c) given d (λ bytes. DecidesBytes options (move_about_command c) bytes slots d))
-console_given options c slots None given contents = take_comes 1 (console_inputs None c) given (λ bytes d. DecidesBytes options (move_about_command c) bytes slots d) contents of_three
-  where
-    of_three : (bytes : List (List ℕ)) → length bytes ≡ 3 → AllByRecursion AreBytes bytes → SomeDecision (DecidesBytes options (move_about_command c) bytes slots)
-    of_three [] e are = absurd (omega (arith, e))
-    of_three (p ∷ []) e are = absurd (omega (arith, e))
-    of_three (p ∷ b ∷ []) e are = absurd (omega (arith, e))
-    of_three (p ∷ b ∷ s ∷ []) e are = console_comes options c.steps p None b s slots tt are.1.0
-    of_three (p ∷ b ∷ s ∷ x ∷ rest) e are = absurd (omega (arith, e))
-console_given options c slots (Some journal) given contents = take_comes 1 (console_inputs (Some journal) c) given (λ bytes d. DecidesBytes options (move_about_command c) bytes slots d) contents of_four
-  where
-    of_four : (bytes : List (List ℕ)) → length bytes ≡ 4 → AllByRecursion AreBytes bytes → SomeDecision (DecidesBytes options (move_about_command c) bytes slots)
-    of_four [] e are = absurd (omega (arith, e))
-    of_four (p ∷ []) e are = absurd (omega (arith, e))
-    of_four (p ∷ j ∷ []) e are = absurd (omega (arith, e))
-    of_four (p ∷ j ∷ b ∷ []) e are = absurd (omega (arith, e))
-    of_four (p ∷ j ∷ b ∷ s ∷ []) e are = console_comes options c.steps p (Some j) b s slots are.1.0 are.1.1.0
-    of_four (p ∷ j ∷ b ∷ s ∷ x ∷ rest) e are = absurd (omega (arith, e))
-
--- a command of one, two or three inputs
-one_given : (Table : List (List ℕ) → Decision → Type 0) (a : Input) (given : List (Option (List ℕ))) → AllByRecursion IsContent given → ((x : List ℕ) → AreBytes x → SomeDecision (Table (x ∷ []))) →
+-- a command of so many inputs
+one_given : (Table : List (List ℕ) → Decision → Type 0) (a : Input) (given : List (Option (List ℕ))) → AllByRecursion IsContent given → ((x : List ℕ) → AllByRecursion AreBytes (x ∷ []) → SomeDecision (Table (x ∷ []))) →
     SomeDecision (λ d. Take 1 (a ∷ []) given d (λ bytes. Table bytes d))
 one_given Table a given contents table = take_comes 1 (a ∷ []) given Table contents of_one
   where
     of_one : (bytes : List (List ℕ)) → length bytes ≡ 1 → AllByRecursion AreBytes bytes → SomeDecision (Table bytes)
     of_one [] e are = absurd (omega (arith, e))
-    of_one (x ∷ []) e are = table x are.0
+    of_one (x ∷ []) e are = table x are
     of_one (x ∷ y ∷ rest) e are = absurd (omega (arith, e))
 
-two_given : (Table : List (List ℕ) → Decision → Type 0) (a b : Input) (given : List (Option (List ℕ))) → AllByRecursion IsContent given → ((x y : List ℕ) → AreBytes x → SomeDecision (Table (x ∷ y ∷ []))) →
+two_given : (Table : List (List ℕ) → Decision → Type 0) (a b : Input) (given : List (Option (List ℕ))) → AllByRecursion IsContent given → ((x y : List ℕ) → AllByRecursion AreBytes (x ∷ y ∷ []) → SomeDecision (Table (x ∷ y ∷ []))) →
     SomeDecision (λ d. Take 1 (a ∷ b ∷ []) given d (λ bytes. Table bytes d))
 two_given Table a b given contents table = take_comes 1 (a ∷ b ∷ []) given Table contents of_two
   where
     of_two : (bytes : List (List ℕ)) → length bytes ≡ 2 → AllByRecursion AreBytes bytes → SomeDecision (Table bytes)
     of_two [] e are = absurd (omega (arith, e))
     of_two (x ∷ []) e are = absurd (omega (arith, e))
-    of_two (x ∷ y ∷ []) e are = table x y are.0
+    of_two (x ∷ y ∷ []) e are = table x y are
     of_two (x ∷ y ∷ z ∷ rest) e are = absurd (omega (arith, e))
 
-three_given : (Table : List (List ℕ) → Decision → Type 0) (a b c : Input) (given : List (Option (List ℕ))) → AllByRecursion IsContent given → ((x y z : List ℕ) → AreBytes x → SomeDecision (Table (x ∷ y ∷ z ∷ []))) →
+three_given : (Table : List (List ℕ) → Decision → Type 0) (a b c : Input) (given : List (Option (List ℕ))) → AllByRecursion IsContent given → ((x y z : List ℕ) → AllByRecursion AreBytes (x ∷ y ∷ z ∷ []) → SomeDecision (Table (x ∷ y ∷ z ∷ []))) →
     SomeDecision (λ d. Take 1 (a ∷ b ∷ c ∷ []) given d (λ bytes. Table bytes d))
 three_given Table a b c given contents table = take_comes 1 (a ∷ b ∷ c ∷ []) given Table contents of_three
   where
@@ -501,33 +398,76 @@ three_given Table a b c given contents table = take_comes 1 (a ∷ b ∷ c ∷ [
     of_three [] e are = absurd (omega (arith, e))
     of_three (x ∷ []) e are = absurd (omega (arith, e))
     of_three (x ∷ y ∷ []) e are = absurd (omega (arith, e))
-    of_three (x ∷ y ∷ z ∷ []) e are = table x y z are.0
+    of_three (x ∷ y ∷ z ∷ []) e are = table x y z are
     of_three (x ∷ y ∷ z ∷ w ∷ rest) e are = absurd (omega (arith, e))
+
+four_given : (Table : List (List ℕ) → Decision → Type 0) (a b c e : Input) (given : List (Option (List ℕ))) → AllByRecursion IsContent given →
+    ((x y z w : List ℕ) → AllByRecursion AreBytes (x ∷ y ∷ z ∷ w ∷ []) → SomeDecision (Table (x ∷ y ∷ z ∷ w ∷ []))) → SomeDecision (λ d. Take 1 (a ∷ b ∷ c ∷ e ∷ []) given d (λ bytes. Table bytes d))
+four_given Table a b c e given contents table = take_comes 1 (a ∷ b ∷ c ∷ e ∷ []) given Table contents of_four
+  where
+    of_four : (bytes : List (List ℕ)) → length bytes ≡ 4 → AllByRecursion AreBytes bytes → SomeDecision (Table bytes)
+    of_four [] e are = absurd (omega (arith, e))
+    of_four (x ∷ []) e are = absurd (omega (arith, e))
+    of_four (x ∷ y ∷ []) e are = absurd (omega (arith, e))
+    of_four (x ∷ y ∷ z ∷ []) e are = absurd (omega (arith, e))
+    of_four (x ∷ y ∷ z ∷ w ∷ []) e are = table x y z w are
+    of_four (x ∷ y ∷ z ∷ w ∷ v ∷ rest) e are = absurd (omega (arith, e))
+
+-- the inputs of a run, where recorded input may be left out and the schedule made
+abbrev run_inputs : Option (List ℕ) → Schedule → Run → List Input
+run_inputs journal schedule c = program_input c.program ∷ (journal_inputs journal ++ book_input c.book ∷ (schedule_inputs schedule ++ []))
+
+over_given : (Below : List (List ℕ) → Decision → Type 0) (make : ARun → Job) (options : List Choice) (schedule : Schedule) (steps : ℕ) (slots : List ℕ) (journal : Option (List ℕ)) (c : Run) (given : List (Option (List ℕ))) → AllByRecursion IsContent given →
+    ((bytes : List (List ℕ)) → SomeDecision (DecidesOverBytes make options schedule steps bytes slots) → SomeDecision (Below bytes)) → SomeDecision (λ d. Take 1 (run_inputs journal schedule c) given d (λ bytes. Below bytes d))
+over_given Below make options (by_name name) steps slots None c given contents into =
+    three_given Below (program_input c.program) (book_input c.book) (schedule_input name) given contents (λ p b s are. into (p ∷ b ∷ s ∷ []) (over_comes make options steps p None b (Some s) slots tt are.1.0))
+over_given Below make options (by_name name) steps slots (Some journal) c given contents into =
+    four_given Below (program_input c.program) (journal_input journal) (book_input c.book) (schedule_input name) given contents
+    (λ p j b s are. into (p ∷ j ∷ b ∷ s ∷ []) (over_comes make options steps p (Some j) b (Some s) slots are.1.0 are.1.1.0))
+over_given Below make options made steps slots None c given contents into =
+    two_given Below (program_input c.program) (book_input c.book) given contents (λ p b are. into (p ∷ b ∷ []) (over_comes make options steps p None b None slots tt are.1.0))
+over_given Below make options made steps slots (Some journal) c given contents into =
+    three_given Below (program_input c.program) (journal_input journal) (book_input c.book) given contents (λ p j b are. into (p ∷ j ∷ b ∷ []) (over_comes make options steps p (Some j) b None slots are.1.0 are.1.1.0))
+
+find_given : (options : List Choice) (c : Find) (slots : List ℕ) (journal : Option (List ℕ)) (given : List (Option (List ℕ))) → AllByRecursion IsContent given →
+    SomeDecision (λ d. Take 1 (program_input c.program ∷ (journal_inputs journal ++ [])) given d (λ bytes. DecidesBytes options (find c) bytes slots d))
+find_given options c slots None given contents = one_given (λ bytes d. DecidesBytes options (find c) bytes slots d) (program_input c.program) given contents (λ p are. find_comes options c.steps c.digest p None tt)
+find_given options c slots (Some journal) given contents =
+    two_given (λ bytes d. DecidesBytes options (find c) bytes slots d) (program_input c.program) (journal_input journal) given contents (λ p j are. find_comes options c.steps c.digest p (Some j) are.1.0)
+
+console_given : (options : List Choice) (c : MoveAbout) (slots : List ℕ) (journal : Option (List ℕ)) (given : List (Option (List ℕ))) → AllByRecursion IsContent given →
+    SomeDecision (λ d. Take 1 (program_input c.program ∷ (journal_inputs journal ++ book_input c.book ∷ script_input c.script ∷ [])) given d (λ bytes. DecidesBytes options (move_about_command c) bytes slots d))
+console_given options c slots None given contents =
+    three_given (λ bytes d. DecidesBytes options (move_about_command c) bytes slots d) (program_input c.program) (book_input c.book) (script_input c.script) given contents (λ p b s are. console_comes options c.steps p None b s slots tt are.1.0)
+console_given options c slots (Some journal) given contents =
+    four_given (λ bytes d. DecidesBytes options (move_about_command c) bytes slots d) (program_input c.program) (journal_input journal) (book_input c.book) (script_input c.script) given contents
+    (λ p j b s are. console_comes options c.steps p (Some j) b s slots are.1.0 are.1.1.0)
 
 -- ---- all commands
 
 command_comes : (options : List Choice) (command : Command) (given : List (Option (List ℕ))) (slots : List ℕ) → AllByRecursion IsWithin (command_numbers (unit_count options) command) → AllByRecursion IsContent given →
     SomeDecision (λ d. Take 1 (inputs_of command) given d (λ bytes. DecidesBytes options command bytes slots d))
-command_comes options (run c) given slots within contents = run_given perform options c.steps slots c.journal c given contents
-command_comes options (run_revolve c) given slots within contents = revolve_given options c slots c.journal given contents
+command_comes options (run c) given slots within contents =
+    over_given (λ bytes d. DecidesBytes options (run c) bytes slots d) perform options c.schedule c.run.steps slots c.run.journal c.run given contents (λ bytes some. some)
 command_comes options (plan c) given slots within contents =
-    one_given (λ bytes d. DecidesBytes options (plan c) bytes slots d) (book_input c.book) given contents (λ book are. kind_comes c.kind c.steps book within.0 are)
+    one_given (λ bytes d. DecidesBytes options (plan c) bytes slots d) (book_input c.book) given contents (λ book are. kind_comes c.kind c.steps book within.0 are.0)
 command_comes options (plan_periodic c) given slots within contents =
-    one_given (λ bytes d. DecidesBytes options (plan_periodic c) bytes slots d) (book_input c.book) given contents (λ book are. periodic_comes c.steps c.period book are)
+    one_given (λ bytes d. DecidesBytes options (plan_periodic c) bytes slots d) (book_input c.book) given contents (λ book are. periodic_comes c.steps c.period book are.0)
 command_comes options (check c) given slots within contents =
-    two_given (λ bytes d. DecidesBytes options (check c) bytes slots d) (book_input c.book) (schedule_input c.schedule) given contents (λ book schedule are. check_comes c.steps book schedule are)
+    two_given (λ bytes d. DecidesBytes options (check c) bytes slots d) (book_input c.book) (schedule_input c.schedule) given contents (λ book schedule are. check_comes c.steps book schedule are.0)
 command_comes options (certify c) given slots within contents =
     three_given (λ bytes d. DecidesBytes options (certify c) bytes slots d) (book_input c.book) (schedule_input c.schedule) (certificate_input c.certificate) given contents
-    (λ book schedule certificate are. certify_comes c.steps book schedule certificate are)
+    (λ book schedule certificate are. certify_comes c.steps book schedule certificate are.0)
 command_comes options (price c) given slots within contents =
-    two_given (λ bytes d. DecidesBytes options (price c) bytes slots d) (book_input c.book) (schedule_input c.schedule) given contents (λ book schedule are. price_comes c.steps book schedule are)
+    two_given (λ bytes d. DecidesBytes options (price c) bytes slots d) (book_input c.book) (schedule_input c.schedule) given contents (λ book schedule are. price_comes c.steps book schedule are.0)
 command_comes options (ask c) given slots within contents =
-    ask_given (IsWithin (question_bound (unit_count options * c.run.steps) c.question)) within.1.0 (ask_job c.question) options c.run.steps slots c.run.journal c.run given contents
+    over_given (λ bytes d. DecidesBytes options (ask c) bytes slots d) (ask_job c.question) options (by_name c.schedule) c.run.steps slots c.run.journal c.run given contents
+    (λ bytes some. (some.0, (within.1.0, some.1)))
 command_comes options (find c) given slots within contents = find_given options c slots c.journal given contents
 command_comes options (assemble c) given slots within contents =
     one_given (λ bytes d. DecidesBytes options (assemble c) bytes slots d) (source_input c.source) given contents (λ source are. assemble_comes source)
 command_comes options (disassemble c) given slots within contents =
-    one_given (λ bytes d. DecidesBytes options (disassemble c) bytes slots d) (words_input c.program) given contents (λ program are. disassemble_comes program are)
+    one_given (λ bytes d. DecidesBytes options (disassemble c) bytes slots d) (words_input c.program) given contents (λ program are. disassemble_comes program are.0)
 command_comes options (move_about_command c) given slots within contents = console_given options c slots c.journal given contents
 command_comes options (demo c) given slots within contents = demo_comes c.number c.steps c.slots
 

@@ -5,7 +5,7 @@ use Rattle.level_book.specs.BookCosts.{BookCosts, slots_of, names_of, room}
 use Rattle.level_book.specs.BookFaults.{IsBookText}
 use Rattle.level_book.specs.Valid.{Valid}
 use Rattle.action_text.specs.ScheduleText.{IsSchedule}
-use Rattle.requests.specs.Request.{Choice, says_raw, stack_pages, unit_count, Command, run, run_revolve, plan, plan_periodic, check, certify, price, ask, find, assemble, disassemble, move_about, demo, worker_count}
+use Rattle.requests.specs.Request.{Choice, says_raw, stack_pages, unit_count, Command, run, plan, plan_periodic, check, certify, price, ask, find, assemble, disassemble, move_about, demo, worker_count}
 use Rattle.requests.specs.Ending.{bad_program, bad_journal, bad_book, bad_text, bad_certificate, bad_source, bad_script, no_plan}
 use Rattle.revolve_gen.specs.Written.{revolve_list}
 use Rattle.revolve_gen.proofs.Books.{book_right}
@@ -40,7 +40,6 @@ use Rattle.reverse_console.specs.Script.{IsScript}
 use Rattle.reverse_console.specs.ScriptFaults.{HasFirstFault as ScriptFirst}
 use Rattle.reversal.specs.CommandConsole.{console_table}
 use Rattle.reversal.specs.CommandFind.{find_table}
-use Rattle.reversal.specs.CommandRun.{run_revolve_table}
 use Rattle.reversal.specs.CommandPlan.{plan_revolve_table, plan_multistage_table, plan_disk_table, plan_hrevolve_table, plan_table, plan_periodic_table}
 use Rattle.reversal.specs.CommandCheck.{check_table}
 use Rattle.reversal.specs.CommandCost.{price_table}
@@ -48,7 +47,8 @@ use Rattle.reversal.specs.CommandCertify.{certify_table}
 use Rattle.reversal.specs.CommandDemo.{demo_table}
 use Rattle.reversal.proofs.Tables.{IsMet, asks, performs, seeks, writes, moves, shows, IsRead, IsLast, IsSound}
 use Rattle.requests.specs.Bounds.{IsWithin}
-use Rattle.requests.specs.Operands.{question_bound}
+use Rattle.requests.specs.Operands.{Schedule, by_name, made, question_bound}
+use Rattle.rv_machine.specs.MachineState.{MachineState}
 
 -- ---- lines that commands share
 
@@ -113,37 +113,29 @@ done_last job met = record { one = λ c d x y. x ∙ sym y; job = λ d x. (job, 
 unplanned : (steps room rule : ℕ) → IsRefusing (no_plan steps room rule)
 unplanned steps room rule = refusing_at _ 11 refl (omega arith) (omega arith)
 
-over_run_sound : (make : Run → Job) (options : List Choice) (steps : ℕ) (program : List ℕ) (journal : Option (List ℕ)) (book schedule counts : List ℕ) →
-    ((run : Run) → run.steps ≡ steps → run.unit ≡ unit_count options → Valid run.steps run.slots run.list → IsMet (make run)) → IsSound (over_run make options steps program journal book schedule counts)
-over_run_sound make options steps program journal book schedule counts met = (
-  book_read book,
-  λ b is. (
-    program_read (says_raw options) (stack_pages options) program,
-    λ start is_start. (
-      journal_read journal,
-      λ items are_items. (
-        list_read book schedule b is,
-        λ list is_list valid.
-            done_last (make (in_units (unit_count options) start items steps (slots_of b) list)) (met (in_units (unit_count options) start items steps (slots_of b) list) refl refl valid),
-      ),
-    ),
-  ),
-)
+program_sound : (options : List Choice) (program : List ℕ) (journal : Option (List ℕ)) (Sound : MachineState → List (List ℕ) → Type 0) → ((start : MachineState) (items : List (List ℕ)) → Sound start items) →
+    IsRead (IsStartOf (says_raw options) (stack_pages options) program) (HasProgramFault (says_raw options) (stack_pages options) program) bad_program
+    × ((start : MachineState) → IsStartOf (says_raw options) (stack_pages options) program start → IsRead (AreItemsOf journal) (HasJournalFault journal) bad_journal × ((items : List (List ℕ)) → AreItemsOf journal items → Sound start items))
+program_sound options program journal Sound sound =
+    (program_read (says_raw options) (stack_pages options) program, λ start is_start. (journal_read journal, λ items are_items. sound start items))
 
-run_revolve_sound : (options : List Choice) (steps : ℕ) (program : List ℕ) (journal : Option (List ℕ)) (book counts : List ℕ) → IsSound (run_revolve_table options steps program journal book counts)
-run_revolve_sound options steps program journal book counts = (
+over_run_sound : (make : Run → Job) (options : List Choice) (steps : ℕ) (program : List ℕ) (journal : Option (List ℕ)) (book : List ℕ) (schedule : Option (List ℕ)) (counts : List ℕ) →
+    ((run : Run) → run.steps ≡ steps → run.unit ≡ unit_count options → Valid run.steps run.slots run.list → IsMet (make run)) → IsSound (over_run make options steps program journal book schedule counts)
+over_run_sound make options steps program journal book None counts met = (
   book_read book,
   λ b is. (
     unplanned _ _ _,
-    λ plan. (
-      program_read (says_raw options) (stack_pages options) program,
-      λ start is_start. (
-        journal_read journal,
-        λ items are_items.
-            done_last _ (performs (in_units (unit_count options) start items steps (slots_of b) (revolve_list steps b)) (book_right steps b plan).0 refl),
-      ),
-    ),
+    λ plan. program_sound options program journal _ (λ start items.
+        let run = in_units (unit_count options) start items steps (slots_of b) (revolve_list steps b) in
+        done_last (make run) (met run refl refl (book_right steps b plan).0)),
   ),
+)
+over_run_sound make options steps program journal book (Some schedule) counts met = (
+  book_read book,
+  λ b is. program_sound options program journal _ (λ start items. (
+    list_read book schedule b is,
+    λ list is_list valid. let run = in_units (unit_count options) start items steps (slots_of b) list in done_last (make run) (met run refl refl valid),
+  )),
 )
 
 plan_revolve_sound : (steps : ℕ) (book : List ℕ) → IsSound (plan_revolve_table steps book)
@@ -235,13 +227,7 @@ demo_sound number steps slots = (
 )
 
 find_sound : (options : List Choice) (steps : ℕ) (digest program : List ℕ) (journal : Option (List ℕ)) → IsSound (find_table options steps digest program journal)
-find_sound options steps digest program journal = (
-  program_read (says_raw options) (stack_pages options) program,
-  λ start is_start. (
-    journal_read journal,
-    λ items are_items. done_last _ (seeks start items steps (worker_count options) digest refl),
-  ),
-)
+find_sound options steps digest program journal = program_sound options program journal _ (λ start items. done_last _ (seeks start items steps (worker_count options) digest refl))
 
 assemble_sound : (source : List ℕ) → IsSound (assemble_table source)
 assemble_sound source = (source_read source, λ words means. done_last _ (writes _ refl))
@@ -263,41 +249,31 @@ console_sound options steps program journal book script counts = (
   book_read book,
   λ b is. (
     unplanned _ _ _,
-    λ slots. (
-      program_read (says_raw options) (stack_pages options) program,
-      λ start is_start. (
-        journal_read journal,
-        λ items are_items. (
-          script_read steps script,
-          λ orders are. done_last _ (moves start items (record { slots = slots_of b; count = steps }) orders refl),
-        ),
-      ),
-    ),
+    λ slots. program_sound options program journal _ (λ start items. (script_read steps script, λ orders are. done_last _ (moves start items (record { slots = slots_of b; count = steps }) orders refl))),
   ),
 )
 
 none_sound : IsSound no_table
 none_sound = record { one = λ c d x y. absurd x; job = λ d x. absurd x }
 
-over_bytes_sound : (make : Run → Job) (options : List Choice) (steps : ℕ) (bytes : List (List ℕ)) (slots : List ℕ) →
-    ((run : Run) → run.steps ≡ steps → run.unit ≡ unit_count options → Valid run.steps run.slots run.list → IsMet (make run)) → IsSound (over_bytes make options steps bytes slots)
-over_bytes_sound make options steps (program ∷ book ∷ schedule ∷ []) slots met = over_run_sound make options steps program None book schedule slots met
-over_bytes_sound make options steps (program ∷ journal ∷ book ∷ schedule ∷ []) slots met = over_run_sound make options steps program (Some journal) book schedule slots met
-over_bytes_sound make options steps other slots met = none_sound
+over_bytes_sound : (make : Run → Job) (options : List Choice) (schedule : Schedule) (steps : ℕ) (bytes : List (List ℕ)) (slots : List ℕ) →
+    ((run : Run) → run.steps ≡ steps → run.unit ≡ unit_count options → Valid run.steps run.slots run.list → IsMet (make run)) → IsSound (over_bytes make options schedule steps bytes slots)
+over_bytes_sound make options (by_name _) steps (program ∷ book ∷ schedule ∷ []) slots met = over_run_sound make options steps program None book (Some schedule) slots met
+over_bytes_sound make options (by_name _) steps (program ∷ journal ∷ book ∷ schedule ∷ []) slots met = over_run_sound make options steps program (Some journal) book (Some schedule) slots met
+over_bytes_sound make options made steps (program ∷ book ∷ []) slots met = over_run_sound make options steps program None book None slots met
+over_bytes_sound make options made steps (program ∷ journal ∷ book ∷ []) slots met = over_run_sound make options steps program (Some journal) book None slots met
+over_bytes_sound make options schedule steps other slots met = none_sound
 
 pub tables_sound : (options : List Choice) (command : Command) (bytes : List (List ℕ)) (slots : List ℕ) → IsSound (table_of options command bytes slots)
-tables_sound options (run r) bytes slots = over_bytes_sound perform options r.steps bytes slots (λ run steps unit valid. performs run valid refl)
+tables_sound options (run r) bytes slots = over_bytes_sound perform options r.schedule r.run.steps bytes slots (λ run steps unit valid. performs run valid refl)
 tables_sound options (ask r) bytes slots =
-    λ within. over_bytes_sound (ask_job r.question) options r.run.steps bytes slots (λ run steps unit valid.
+    λ within. over_bytes_sound (ask_job r.question) options (by_name r.schedule) r.run.steps bytes slots (λ run steps unit valid.
     asks r.question run (subst (λ n. IsWithin (question_bound n r.question)) (sym (λ i. unit i * steps i)) within) valid refl)
 tables_sound options (find r) (program ∷ []) slots = find_sound options r.steps r.digest program None
 tables_sound options (find r) (program ∷ journal ∷ []) slots = find_sound options r.steps r.digest program (Some journal)
 tables_sound options (find r) other slots = none_sound
 tables_sound options (price r) (book ∷ schedule ∷ []) slots = price_sound r.steps book schedule
 tables_sound options (price r) other slots = none_sound
-tables_sound options (run_revolve r) (program ∷ book ∷ []) slots = run_revolve_sound options r.steps program None book slots
-tables_sound options (run_revolve r) (program ∷ journal ∷ book ∷ []) slots = run_revolve_sound options r.steps program (Some journal) book slots
-tables_sound options (run_revolve r) other slots = none_sound
 tables_sound options (plan r) (book ∷ []) slots = plan_sound r.kind r.steps book
 tables_sound options (plan r) other slots = none_sound
 tables_sound options (plan_periodic r) (book ∷ []) slots = plan_periodic_sound r.steps r.period book

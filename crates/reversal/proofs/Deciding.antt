@@ -42,16 +42,15 @@ use Rattle.disk_gen.specs.DiskWritten.{IsDiskWritten}
 use Rattle.reversal.specs.Job.{Run, Job, perform, ask as ask_job, seek, write, move_about, demonstrate}
 use Rattle.reversal.specs.Course.{Shown}
 use Rattle.reversal.specs.Deeds.{silent_deed, writing, Deed, bytes_of, bytes_written, steps_made}
-use Rattle.reversal.specs.Table.{Decision, refuse, accept, Need, Read, Judge, Keep, Plan, IsFirstWide, Tabulate}
+use Rattle.reversal.specs.Table.{Decision, refuse, accept, Need, Read, Judge, Keep, Plan, IsFirstWide, Tabulate, Table, does, Decided}
 use Rattle.reversal.specs.Decision.{Take, DecidesBytes, Decides, table_of, course_of}
 use Rattle.reversal.specs.CommandAsk.{answer_text}
 use Rattle.reversal.specs.CommandConsole.{setting_marks, DecidesConsole}
 use Rattle.reverse_console.specs.declared.order.Order.{Order}
 use Rattle.reverse_console.specs.Script.{IsScript}
 use Rattle.reverse_console.specs.ScriptFaults.{HasFirstFault as ScriptFirst}
-use Rattle.reversal.specs.CommandRun.{DecidesRunRevolve}
 use Rattle.reversal.specs.CommandPlan.{DecidesPlanRevolve, DecidesPlanMultistage, DecidesPlanDisk, DecidesPlanHrevolve, DecidesPlanPeriodic}
-use Rattle.reversal.specs.Fronts.{HasBookFault, IsStartOf, HasProgramFault, AreItemsOf, HasJournalFault, DecidesOver, in_units}
+use Rattle.reversal.specs.Fronts.{HasBookFault, IsStartOf, HasProgramFault, AreItemsOf, HasJournalFault, plans_made, over_list, over_program, DecidesOver, in_units}
 use Rattle.reversal.specs.CommandCost.{DecidesPrice}
 use Rattle.reversal.specs.CommandCheck.{DecidesCheck}
 use Rattle.reversal.specs.CommandCertify.{DecidesCertify, least_line}
@@ -334,88 +333,76 @@ decided_refusal options command bytes slots e h = elim (comes_to (table_of optio
 
 -- ---- the lines of a run, and of a judgement
 
-pub over_by_book : (make : Run → Job) (options : List Choice) (steps : ℕ) (program : List ℕ) (journal : Option (List ℕ)) (book schedule counts : List ℕ) (e : Ended) → IsRefusal (HasBookFault book) bad_book e → (e ≡ no_memory) ⊎ DecidesOver make options steps program journal book schedule counts (refuse e)
-over_by_book make options steps program journal book schedule counts e h = read_refuses (IsBookText book) (HasBookFault book) bad_book e _ h
+-- the list of a run may be made, where it is
+abbrev pub CanBeMade : ℕ → BookCosts → Option (List ℕ) → Type 0
+CanBeMade steps b None = HasPlan steps (total_room b steps)
+CanBeMade steps b (Some schedule) = Unit {0}
 
-pub over_by_keepers : (make : Run → Job) (options : List Choice) (steps : ℕ) (program : List ℕ) (journal : Option (List ℕ)) (book schedule counts : List ℕ) (e : Ended) (b : BookCosts) → IsBookText book b → Keep steps (slots_of b) counts (refuse e) ⊥ →
-    (e ≡ no_memory) ⊎ DecidesOver make options steps program journal book schedule counts (refuse e)
-over_by_keepers make options steps program journal book schedule counts e b is_book h = inr (inr (b, is_book, keep_refuses steps (slots_of b) counts (refuse e) _ h))
+made_decides : (steps : ℕ) (b : BookCosts) (schedule : Option (List ℕ)) (below : Table) (d : Decision) → CanBeMade steps b schedule → Decided below d → Decided (plans_made steps b schedule below) d
+made_decides steps b None below d has h = inr (has, h)
+made_decides steps b (Some schedule) below d has h = h
 
-pub over_by_program : (make : Run → Job) (options : List Choice) (steps : ℕ) (program : List ℕ) (journal : Option (List ℕ)) (book schedule counts : List ℕ) (e : Ended) (b : BookCosts) → IsBookText book b → HaveRoom steps (slots_of b) counts → IsRefusal (HasProgramFault (says_raw options) (stack_pages options) program) bad_program e →
-    (e ≡ no_memory) ⊎ DecidesOver make options steps program journal book schedule counts (refuse e)
-over_by_program make options steps program journal book schedule counts e b is_book room h =
-    read_passes (IsBookText book) (HasBookFault book) bad_book e _ b is_book
-    (keep_passes steps (slots_of b) counts e _ room
-    (read_refuses (IsStartOf (says_raw options) (stack_pages options) program) (HasProgramFault (says_raw options) (stack_pages options) program) bad_program e _ h))
+-- the list of a run: it is read and valid, or made
+abbrev pub IsListFor : ℕ → BookCosts → Option (List ℕ) → List Action → Type 0
+IsListFor steps b None list = list ≡ revolve_list steps b
+IsListFor steps b (Some schedule) list = IsSchedule (names_of b) schedule list × Valid steps (slots_of b) list
 
-pub over_by_journal : (make : Run → Job) (options : List Choice) (steps : ℕ) (program : List ℕ) (journal : Option (List ℕ)) (book schedule counts : List ℕ) (e : Ended) (b : BookCosts) (start : MachineState) → IsBookText book b → HaveRoom steps (slots_of b) counts → IsStartOf (says_raw options) (stack_pages options) program start →
-    IsRefusal (HasJournalFault journal) bad_journal e → (e ≡ no_memory) ⊎ DecidesOver make options steps program journal book schedule counts (refuse e)
-over_by_journal make options steps program journal book schedule counts e b start is_book room is_start h =
-    read_passes (IsBookText book) (HasBookFault book) bad_book e _ b is_book
-    (keep_passes steps (slots_of b) counts e _ room
-    (read_passes (IsStartOf (says_raw options) (stack_pages options) program) (HasProgramFault (says_raw options) (stack_pages options) program) bad_program e _ start is_start
-    (read_refuses (AreItemsOf journal) (HasJournalFault journal) bad_journal e _ h)))
+list_decides : (steps : ℕ) (b : BookCosts) (schedule : Option (List ℕ)) (below : List Action → Table) (d : Decision) (list : List Action) → IsListFor steps b schedule list → Decided (below list) d → Decided (over_list steps b schedule below) d
+list_decides steps b None below d list is h = subst (λ (l : List Action). Decided (below l) d) is h
+list_decides steps b (Some schedule) below d list is h = inr (list, is.0, inr (is.1, h))
 
-pub over_by_text : (make : Run → Job) (options : List Choice) (steps : ℕ) (program : List ℕ) (journal : Option (List ℕ)) (book schedule counts : List ℕ) (e : Ended) (b : BookCosts) (start : MachineState) (items : List (List ℕ)) → IsBookText book b → HaveRoom steps (slots_of b) counts → IsStartOf (says_raw options) (stack_pages options) program start →
-    AreItemsOf journal items → IsRefusal (HasFirstFault (names_of b) schedule) bad_text e → (e ≡ no_memory) ⊎ DecidesOver make options steps program journal book schedule counts (refuse e)
-over_by_text make options steps program journal book schedule counts e b start items is_book room is_start are_items h =
-    read_passes (IsBookText book) (HasBookFault book) bad_book e _ b is_book
-    (keep_passes steps (slots_of b) counts e _ room
-    (read_passes (IsStartOf (says_raw options) (stack_pages options) program) (HasProgramFault (says_raw options) (stack_pages options) program) bad_program e _ start is_start
-    (read_passes (AreItemsOf journal) (HasJournalFault journal) bad_journal e _ items are_items
-    (read_refuses (IsSchedule (names_of b) schedule) (HasFirstFault (names_of b) schedule) bad_text e _ h))))
+module _ (make : Run → Job) (options : List Choice) (steps : ℕ) (program : List ℕ) (journal : Option (List ℕ)) (book : List ℕ) (schedule : Option (List ℕ)) (counts : List ℕ) where
+  abbrev RefusedOver : Ended → Type 0
+  RefusedOver e = (e ≡ no_memory) ⊎ DecidesOver make options steps program journal book schedule counts (refuse e)
 
-pub over_by_rules : (make : Run → Job) (options : List Choice) (steps : ℕ) (program : List ℕ) (journal : Option (List ℕ)) (book schedule counts : List ℕ) (e : Ended) (b : BookCosts) (start : MachineState) (items : List (List ℕ)) (list : List Action) → IsBookText book b → HaveRoom steps (slots_of b) counts →
-    IsStartOf (says_raw options) (stack_pages options) program start → AreItemsOf journal items → IsSchedule (names_of b) schedule list → IsBroken steps (slots_of b) list e → (e ≡ no_memory) ⊎ DecidesOver make options steps program journal book schedule counts (refuse e)
-over_by_rules make options steps program journal book schedule counts e b start items list is_book room is_start are_items is_list h =
-    read_passes (IsBookText book) (HasBookFault book) bad_book e _ b is_book
-    (keep_passes steps (slots_of b) counts e _ room
-    (read_passes (IsStartOf (says_raw options) (stack_pages options) program) (HasProgramFault (says_raw options) (stack_pages options) program) bad_program e _ start is_start
-    (read_passes (AreItemsOf journal) (HasJournalFault journal) bad_journal e _ items are_items
-    (read_passes (IsSchedule (names_of b) schedule) (HasFirstFault (names_of b) schedule) bad_text e _ list is_list
-    (judge_refuses steps (slots_of b) list e _ h)))))
+  -- what stands behind the items of the recorded input, and before the program
+  abbrev last_lines : BookCosts → MachineState → List (List ℕ) → List Action → Table
+  last_lines b start items list = does (make (in_units (unit_count options) start items steps (slots_of b) list))
 
-pub over_accepted : (make : Run → Job) (options : List Choice) (steps : ℕ) (program : List ℕ) (journal : Option (List ℕ)) (book schedule counts : List ℕ) (b : BookCosts) (start : MachineState) (items : List (List ℕ)) (list : List Action) → IsBookText book b → HaveRoom steps (slots_of b) counts →
-    IsStartOf (says_raw options) (stack_pages options) program start → AreItemsOf journal items → IsSchedule (names_of b) schedule list → Valid steps (slots_of b) list →
-    DecidesOver make options steps program journal book schedule counts (accept (make (in_units (unit_count options) start items steps (slots_of b) list)))
-over_accepted make options steps program journal book schedule counts b start items list is_book room is_start are_items is_list valid =
-    inr (b, is_book, keep_accepts steps (slots_of b) counts _ _ room (inr (start, is_start, inr (items, are_items, inr (list, is_list, inr (valid, refl))))))
+  abbrev program_lines : BookCosts → Table
+  program_lines b = over_program options program journal (λ start items. over_list steps b schedule (last_lines b start items))
 
-pub revolve_by_book : (options : List Choice) (steps : ℕ) (program : List ℕ) (journal : Option (List ℕ)) (book counts : List ℕ) (e : Ended) → IsRefusal (HasBookFault book) bad_book e → (e ≡ no_memory) ⊎ DecidesRunRevolve options steps program journal book counts (refuse e)
-revolve_by_book options steps program journal book counts e h = read_refuses (IsBookText book) (HasBookFault book) bad_book e _ h
+  pub over_by_book : (e : Ended) → IsRefusal (HasBookFault book) bad_book e → RefusedOver e
+  over_by_book e h = read_refuses (IsBookText book) (HasBookFault book) bad_book e _ h
 
-pub revolve_by_keepers : (options : List Choice) (steps : ℕ) (program : List ℕ) (journal : Option (List ℕ)) (book counts : List ℕ) (e : Ended) (b : BookCosts) → IsBookText book b → Keep steps (slots_of b) counts (refuse e) ⊥ →
-    (e ≡ no_memory) ⊎ DecidesRunRevolve options steps program journal book counts (refuse e)
-revolve_by_keepers options steps program journal book counts e b is_book h = inr (inr (b, is_book, keep_refuses steps (slots_of b) counts (refuse e) _ h))
+  module _ (e : Ended) (b : BookCosts) (is_book : IsBookText book b) where
+    pub over_by_keepers : Keep steps (slots_of b) counts (refuse e) ⊥ → RefusedOver e
+    over_by_keepers h = inr (inr (b, is_book, keep_refuses steps (slots_of b) counts (refuse e) _ h))
 
-pub revolve_by_plan : (options : List Choice) (steps : ℕ) (program : List ℕ) (journal : Option (List ℕ)) (book counts : List ℕ) (e : Ended) (b : BookCosts) → IsBookText book b → HaveRoom steps (slots_of b) counts → IsUnplanned steps b e →
-    (e ≡ no_memory) ⊎ DecidesRunRevolve options steps program journal book counts (refuse e)
-revolve_by_plan options steps program journal book counts e b is_book room h =
-    read_passes (IsBookText book) (HasBookFault book) bad_book e _ b is_book
-    (keep_passes steps (slots_of b) counts e _ room
-    (plan_refuses steps b e _ h))
+    module _ (room : HaveRoom steps (slots_of b) counts) where
+      pub over_behind_keepers : (e ≡ no_memory) ⊎ Decided (plans_made steps b schedule (program_lines b)) (refuse e) → RefusedOver e
+      over_behind_keepers h = read_passes (IsBookText book) (HasBookFault book) bad_book e _ b is_book (keep_passes steps (slots_of b) counts e _ room h)
 
-pub revolve_by_program : (options : List Choice) (steps : ℕ) (program : List ℕ) (journal : Option (List ℕ)) (book counts : List ℕ) (e : Ended) (b : BookCosts) → IsBookText book b → HaveRoom steps (slots_of b) counts → HasPlan steps (total_room b steps) →
-    IsRefusal (HasProgramFault (says_raw options) (stack_pages options) program) bad_program e → (e ≡ no_memory) ⊎ DecidesRunRevolve options steps program journal book counts (refuse e)
-revolve_by_program options steps program journal book counts e b is_book room has h =
-    read_passes (IsBookText book) (HasBookFault book) bad_book e _ b is_book
-    (keep_passes steps (slots_of b) counts e _ room
-    (plan_passes steps b e _ has
-    (read_refuses (IsStartOf (says_raw options) (stack_pages options) program) (HasProgramFault (says_raw options) (stack_pages options) program) bad_program e _ h)))
+      module _ (has : CanBeMade steps b schedule) where
+        behind_plans : (e ≡ no_memory) ⊎ Decided (program_lines b) (refuse e) → RefusedOver e
+        behind_plans h = over_behind_keepers (elim h [ inl memory ↦ inl memory | inr below ↦ inr (made_decides steps b schedule (program_lines b) (refuse e) has below) ])
 
-pub revolve_by_journal : (options : List Choice) (steps : ℕ) (program : List ℕ) (journal : Option (List ℕ)) (book counts : List ℕ) (e : Ended) (b : BookCosts) (start : MachineState) → IsBookText book b → HaveRoom steps (slots_of b) counts → HasPlan steps (total_room b steps) →
-    IsStartOf (says_raw options) (stack_pages options) program start → IsRefusal (HasJournalFault journal) bad_journal e → (e ≡ no_memory) ⊎ DecidesRunRevolve options steps program journal book counts (refuse e)
-revolve_by_journal options steps program journal book counts e b start is_book room has is_start h =
-    read_passes (IsBookText book) (HasBookFault book) bad_book e _ b is_book
-    (keep_passes steps (slots_of b) counts e _ room
-    (plan_passes steps b e _ has
-    (read_passes (IsStartOf (says_raw options) (stack_pages options) program) (HasProgramFault (says_raw options) (stack_pages options) program) bad_program e _ start is_start
-    (read_refuses (AreItemsOf journal) (HasJournalFault journal) bad_journal e _ h))))
+        pub over_by_program : IsRefusal (HasProgramFault (says_raw options) (stack_pages options) program) bad_program e → RefusedOver e
+        over_by_program h =
+            behind_plans (read_refuses (IsStartOf (says_raw options) (stack_pages options) program) (HasProgramFault (says_raw options) (stack_pages options) program) bad_program e _ h)
 
-pub revolve_accepted : (options : List Choice) (steps : ℕ) (program : List ℕ) (journal : Option (List ℕ)) (book counts : List ℕ) (b : BookCosts) (start : MachineState) (items : List (List ℕ)) → IsBookText book b → HaveRoom steps (slots_of b) counts → HasPlan steps (total_room b steps) →
-    IsStartOf (says_raw options) (stack_pages options) program start → AreItemsOf journal items → DecidesRunRevolve options steps program journal book counts (accept (perform (in_units (unit_count options) start items steps (slots_of b) (revolve_list steps b))))
-revolve_accepted options steps program journal book counts b start items is_book room has is_start are_items =
-    inr (b, is_book, keep_accepts steps (slots_of b) counts _ _ room (inr (has, inr (start, is_start, inr (items, are_items, refl)))))
+        module _ (start : MachineState) (is_start : IsStartOf (says_raw options) (stack_pages options) program start) where
+          behind_program : (e ≡ no_memory) ⊎ Read (AreItemsOf journal) (HasJournalFault journal) bad_journal (refuse e) (λ items. Decided (over_list steps b schedule (last_lines b start items)) (refuse e)) → RefusedOver e
+          behind_program h =
+              behind_plans (read_passes (IsStartOf (says_raw options) (stack_pages options) program) (HasProgramFault (says_raw options) (stack_pages options) program) bad_program e _ start is_start h)
+
+          pub over_by_journal : IsRefusal (HasJournalFault journal) bad_journal e → RefusedOver e
+          over_by_journal h = behind_program (read_refuses (AreItemsOf journal) (HasJournalFault journal) bad_journal e _ h)
+
+          pub over_by_list : (items : List (List ℕ)) → AreItemsOf journal items → (e ≡ no_memory) ⊎ Decided (over_list steps b schedule (last_lines b start items)) (refuse e) → RefusedOver e
+          over_by_list items are_items h = behind_program (read_passes (AreItemsOf journal) (HasJournalFault journal) bad_journal e _ items are_items h)
+
+  pub over_accepted : (b : BookCosts) (start : MachineState) (items : List (List ℕ)) (list : List Action) → IsBookText book b → HaveRoom steps (slots_of b) counts → CanBeMade steps b schedule →
+      IsStartOf (says_raw options) (stack_pages options) program start → AreItemsOf journal items → IsListFor steps b schedule list →
+      DecidesOver make options steps program journal book schedule counts (accept (make (in_units (unit_count options) start items steps (slots_of b) list)))
+  over_accepted b start items list is_book room has is_start are_items is_list =
+      let d = accept (make (in_units (unit_count options) start items steps (slots_of b) list)) in
+      inr (
+        b,
+        is_book,
+        keep_accepts steps (slots_of b) counts _ _ room (made_decides steps b schedule (program_lines b) d has
+            (inr (start, is_start, inr (items, are_items, list_decides steps b schedule (last_lines b start items) d list is_list refl)))),
+      )
 
 -- ---- the lines of a run that is moved about in
 

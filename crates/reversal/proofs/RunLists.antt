@@ -1,5 +1,5 @@
 -- The list of a run by Revolve is the least, and a periodic list is valid and is read again as it was made.
-use Rattle.std.proofs.Common.{◌≡◌, ℕ, zero, suc, ◌+◌, ◌≤◌, List, [], length, append-nil, Option, sym, ◌∙◌, ap, subst, arith}
+use Rattle.std.proofs.Common.{◌≡◌, ℕ, zero, suc, ◌+◌, ◌≤◌, List, [], length, append-nil, Option, None, sym, ◌∙◌, ap, subst, arith}
 use Rattle.plan_types.specs.declared.action.Action.{Action}
 use Rattle.level_book.specs.BookCosts.{BookCosts, slots_of, names_of, total_room}
 use Rattle.level_book.specs.BookFaults.{IsBookText}
@@ -23,8 +23,7 @@ use Rattle.reversal.specs.Job.{Job, perform, write}
 use Rattle.reversal.specs.Course.{Shown}
 use Rattle.reversal.specs.Deeds.{bytes_of}
 use Rattle.reversal.specs.Table.{accept}
-use Rattle.reversal.specs.Fronts.{IsStartOf, AreItemsOf, in_units}
-use Rattle.reversal.specs.CommandRun.{DecidesRunRevolve}
+use Rattle.reversal.specs.Fronts.{IsStartOf, AreItemsOf, DecidesOver, in_units}
 use Rattle.reversal.specs.CommandPlan.{DecidesPlanPeriodic}
 use Rattle.reversal.specs.Plans.{list_pieces}
 use Rattle.reversal.proofs.Deciding.{read_said, need_met, job_or}
@@ -35,7 +34,7 @@ use Rattle.reversal.proofs.Spelled.{valid_spelled}
 use Rattle.reversal.specs.Decision.{course_of}
 
 -- what a run by Revolve comes to
-pub run_least : (options : List Choice) (steps : ℕ) (program : List ℕ) (journal : Option (List ℕ)) (book counts : List ℕ) (job : Job) → DecidesRunRevolve options steps program journal book counts (accept job) →
+pub run_least : (options : List Choice) (steps : ℕ) (program : List ℕ) (journal : Option (List ℕ)) (book counts : List ℕ) (job : Job) → DecidesOver perform options steps program journal book None counts (accept job) →
     (b : BookCosts) × IsBookText book b × (start : MachineState) × IsStartOf (says_raw options) (stack_pages options) program start × (items : List (List ℕ)) × AreItemsOf journal items
     × (job ≡ perform (in_units (unit_count options) start items steps (slots_of b) (revolve_list steps b))) × Valid steps (slots_of b) (revolve_list steps b) × (1 ≤ steps → forward (revolve_list steps b) ≡ steps + least_advances steps (total_room b steps))
     × ((other : List Action) → Valid steps (slots_of b) other → forward (revolve_list steps b) ≤ forward other)

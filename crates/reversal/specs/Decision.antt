@@ -5,9 +5,9 @@ use Rattle.std.specs.Prelude.{◌≡◌, ◌⊎◌, ℕ, ◌+◌, ◌*◌, ◌�
 use Rattle.keepers.specs.Told.{Files, WhereTold}
 use Rattle.reverse_runner.specs.Rooms.{image_room, AreRoomy}
 use Rattle.requests.specs.declared.ended.Ended.{Ended}
-use Rattle.requests.specs.Request.{Choice, unit_count, run_revolve, plan, plan_periodic, certify, price, find, assemble, disassemble, move_about as move_about_command, demo, Command, run, check, Request, ask as ask_command}
+use Rattle.requests.specs.Request.{Choice, unit_count, plan, plan_periodic, certify, price, find, assemble, disassemble, move_about as move_about_command, demo, Command, run, check, Request, ask as ask_command}
 use Rattle.requests.specs.Ending.{unreadable, too_long}
-use Rattle.requests.specs.Operands.{question_bound}
+use Rattle.requests.specs.Operands.{by_name, question_bound}
 use Rattle.requests.specs.Bounds.{IsWithin}
 use Rattle.requests.specs.Inputs.{Input, inputs_of, names, contents, asked_count}
 use Rattle.reversal.specs.Job.{ask, Job, perform, seek, write, move_about, demonstrate}
@@ -16,7 +16,7 @@ use Rattle.reversal.specs.Course.{Course, EndsShowing}
 use Rattle.reversal.specs.Table.{Decision, Need, Table, Decided, refuse, accept, grants}
 use Rattle.reversal.specs.Fronts.{no_table, over_bytes}
 use Rattle.reversal.specs.Texts.{texts_course}
-use Rattle.reversal.specs.CommandRun.{run_revolve_table, performing}
+use Rattle.reversal.specs.CommandRun.{performing}
 use Rattle.reversal.specs.CommandAsk.{asking}
 use Rattle.reversal.specs.CommandPlan.{plan_table, plan_periodic_table}
 use Rattle.reversal.specs.CommandCheck.{check_table}
@@ -38,10 +38,7 @@ Take place (i ∷ is) given d below = d ≡ refuse (unreadable place)
 -- The table of a command, by the bytes of its inputs, in the order of the words, and by the slots of the keepers. The number of a
 -- question is within its bounds.
 abbrev pub table_of : List Choice → Command → List (List ℕ) → List ℕ → Table
-table_of options (run c) bytes slots = over_bytes perform options c.steps bytes slots
-table_of options (run_revolve c) (program ∷ book ∷ []) slots = run_revolve_table options c.steps program None book slots
-table_of options (run_revolve c) (program ∷ journal ∷ book ∷ []) slots = run_revolve_table options c.steps program (Some journal) book slots
-table_of options (run_revolve c) _ slots = no_table
+table_of options (run c) bytes slots = over_bytes perform options c.schedule c.run.steps bytes slots
 table_of options (plan c) (book ∷ []) slots = plan_table c.kind c.steps book
 table_of options (plan c) _ slots = no_table
 table_of options (plan_periodic c) (book ∷ []) slots = plan_periodic_table c.steps c.period book
@@ -53,7 +50,8 @@ table_of options (certify c) _ slots = no_table
 table_of options (price c) (book ∷ schedule ∷ []) slots = price_table c.steps book schedule
 table_of options (price c) _ slots = no_table
 table_of options (ask_command c) bytes slots =
-    grants (IsWithin (question_bound (unit_count options * c.run.steps) c.question)) (over_bytes (ask c.question) options c.run.steps bytes slots)
+    grants (IsWithin (question_bound (unit_count options * c.run.steps) c.question))
+    (over_bytes (ask c.question) options (by_name c.schedule) c.run.steps bytes slots)
 table_of options (find c) (program ∷ []) slots = find_table options c.steps c.digest program None
 table_of options (find c) (program ∷ journal ∷ []) slots = find_table options c.steps c.digest program (Some journal)
 table_of options (find c) _ slots = no_table

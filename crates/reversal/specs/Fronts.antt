@@ -7,6 +7,7 @@ use Rattle.level_book.specs.BookCosts.{BookCosts, slots_of, names_of}
 use Rattle.level_book.specs.BookFaults.{IsBookText, IsRefused}
 use Rattle.action_text.specs.ScheduleText.{IsSchedule}
 use Rattle.action_text.specs.Faults.{HasFirstFault}
+use Rattle.revolve_gen.specs.Written.{revolve_list}
 use Rattle.input_journal.specs.declared.fault.JournalFault.{JournalFault}
 use Rattle.input_journal.specs.Form.{IsJournal}
 use Rattle.input_journal.specs.Faults.{FirstFault as JournalFirst}
@@ -15,10 +16,11 @@ use Rattle.elf_load.specs.declared.fault.ElfFault.{ElfFault}
 use Rattle.elf_load.specs.Elf.{IsProgram}
 use Rattle.elf_load.specs.Raw.{IsRawProgram}
 use Rattle.elf_load.specs.Faults.{FirstFault as ProgramFirst, FirstRawFault}
+use Rattle.requests.specs.Operands.{Schedule, by_name, made}
 use Rattle.requests.specs.Request.{Choice, says_raw, stack_pages, unit_count}
 use Rattle.requests.specs.Ending.{bad_program, bad_journal, bad_book, bad_text}
 use Rattle.reversal.specs.Job.{Run, Job}
-use Rattle.reversal.specs.Table.{Decision, Table, does, Decided, reads, judges, keeps, ends}
+use Rattle.reversal.specs.Table.{Decision, Table, does, plans, Decided, reads, judges, keeps, ends}
 
 -- ---- what bytes say, and which fault they have that say nothing
 
@@ -68,17 +70,27 @@ over_program options program journal below =
 abbrev pub in_units : (unit : ℕ) → MachineState → List (List ℕ) → (steps : ℕ) → List Slots → List Action → Run
 in_units unit start items steps slots list = record { first = start; journal = items; unit = unit; steps = steps; slots = slots; list = list }
 
+-- The list of a run is that of a schedule's text. Without one it is made: it is that of Revolve for the book, if there is one, and that
+-- is asked before the program is read.
+abbrev pub plans_made : ℕ → BookCosts → Option (List ℕ) → Table → Table
+plans_made steps b None below = plans steps b below
+plans_made steps b (Some schedule) below = below
+
+abbrev pub over_list : ℕ → BookCosts → Option (List ℕ) → (List Action → Table) → Table
+over_list steps b None below = below (revolve_list steps b)
+over_list steps b (Some schedule) below = over_schedule b schedule (λ list. judges steps (slots_of b) list (below list))
+
 -- what is done over a run by a list, by the bytes of its inputs and the numbers of the keepers' slots
-abbrev pub over_run : (Run → Job) → List Choice → ℕ → List ℕ → Option (List ℕ) → List ℕ → List ℕ → List ℕ → Table
+abbrev pub over_run : (Run → Job) → List Choice → ℕ → List ℕ → Option (List ℕ) → List ℕ → Option (List ℕ) → List ℕ → Table
 over_run job options steps program journal book schedule counts =
     over_book book (λ (b : BookCosts).
     keeps steps (slots_of b) counts (
+    plans_made steps b schedule (
     over_program options program journal (λ start items.
-    over_schedule b schedule (λ list.
-    judges steps (slots_of b) list
-    (does (job (in_units (unit_count options) start items steps (slots_of b) list)))))))
+    over_list steps b schedule (λ list.
+    does (job (in_units (unit_count options) start items steps (slots_of b) list)))))))
 
-abbrev pub DecidesOver : (Run → Job) → List Choice → ℕ → List ℕ → Option (List ℕ) → List ℕ → List ℕ → List ℕ → Decision → Type 0
+abbrev pub DecidesOver : (Run → Job) → List Choice → ℕ → List ℕ → Option (List ℕ) → List ℕ → Option (List ℕ) → List ℕ → Decision → Type 0
 DecidesOver job options steps program journal book schedule counts d = Decided (over_run job options steps program journal book schedule counts) d
 
 -- no table: no request has so many inputs
@@ -86,10 +98,13 @@ abbrev pub no_table : Table
 no_table = ends (λ d. ⊥)
 
 -- what is done over a run, by the bytes of its inputs; without a name for recorded input none is read
-abbrev pub over_bytes : (Run → Job) → List Choice → ℕ → List (List ℕ) → List ℕ → Table
-over_bytes job options steps (program ∷ book ∷ schedule ∷ []) slots = over_run job options steps program None book schedule slots
-over_bytes job options steps (program ∷ journal ∷ book ∷ schedule ∷ []) slots = over_run job options steps program (Some journal) book schedule slots
-over_bytes job options steps _ slots = no_table
+abbrev pub over_bytes : (Run → Job) → List Choice → Schedule → ℕ → List (List ℕ) → List ℕ → Table
+over_bytes job options (by_name _) steps (program ∷ book ∷ schedule ∷ []) slots = over_run job options steps program None book (Some schedule) slots
+over_bytes job options (by_name _) steps (program ∷ journal ∷ book ∷ schedule ∷ []) slots =
+    over_run job options steps program (Some journal) book (Some schedule) slots
+over_bytes job options made steps (program ∷ book ∷ []) slots = over_run job options steps program None book None slots
+over_bytes job options made steps (program ∷ journal ∷ book ∷ []) slots = over_run job options steps program (Some journal) book None slots
+over_bytes job options _ steps _ slots = no_table
 
-abbrev pub DecidesOverBytes : (Run → Job) → List Choice → ℕ → List (List ℕ) → List ℕ → Decision → Type 0
-DecidesOverBytes job options steps bytes slots d = Decided (over_bytes job options steps bytes slots) d
+abbrev pub DecidesOverBytes : (Run → Job) → List Choice → Schedule → ℕ → List (List ℕ) → List ℕ → Decision → Type 0
+DecidesOverBytes job options schedule steps bytes slots d = Decided (over_bytes job options schedule steps bytes slots) d

@@ -9,7 +9,7 @@ ghost use Rattle.action_text.specs.ScheduleText.{IsSchedule};
 ghost use Rattle.action_text.specs.Faults.{HasFirstFault};
 ghost use Rattle.reverse_runner.specs.KeepersSeen.{HaveRoom};
 ghost use Rattle.requests.specs.Request.{Choice, Run as RunCommand, run as run_command, ask as ask_command, check as check_command, says_raw, stack_pages, unit_count};
-ghost use Rattle.requests.specs.Operands.{question_bound};
+ghost use Rattle.requests.specs.Operands.{by_name, question_bound};
 ghost use Rattle.requests.specs.Bounds.{numbers, IsWithin};
 ghost use Rattle.reversal.specs.Table.{accept, refuse, Keep};
 ghost use Rattle.reversal.specs.Fronts.{HasBookFault, IsStartOf, HasProgramFault, AreItemsOf, HasJournalFault, DecidesOver, DecidesOverBytes};
@@ -20,7 +20,7 @@ ghost use Rattle.requests.specs.Inputs.{inputs_of};
 ghost use Rattle.requests.specs.InputReading.{AreWithinLimits};
 ghost use Rattle.reversal.specs.Job.{Run as ARun, Job as AJob, perform};
 ghost use Rattle.reversal.specs.JobReading.{run_over, job_of, IsOver, CanBeDone, KeepersHaveRoom, IsRefusal, text_of};
-ghost use Rattle.requests.specs.RequestReading.{request_of, as_run, as_ask, as_check};
+ghost use Rattle.requests.specs.RequestReading.{request_of, as_backward, as_ask, as_check};
 
 use crate::actions::{Actions, Listed};
 use crate::asking::{Asking, Over};
@@ -32,14 +32,14 @@ use crate::job::{Job, Performance};
 use crate::listing::decide_disassemble;
 use crate::moving::decide_move_about;
 use crate::plan_kinds::{decide_plan, decide_plan_periodic};
-use crate::planning::decide_run_revolve;
+use crate::planning::decide_made;
 use crate::pricing::decide_price;
 use action_text::read_actions;
 use elf_load::{load, load_raw};
 use input_journal::{Journal, read_journal};
 use level_book::{Book, read_book};
 use plan_types::{Action, Line};
-use requests::{Ask, Check, Command, Ended, Options, Request, Run};
+use requests::{Ask, Backward, Check, Command, Ended, Options, Request, Schedule};
 use rv_machine::State;
 use schedule_rules::{Verdict, check};
 use std::alloc::Global;
@@ -74,9 +74,8 @@ pub fn decide<R: Threads + Sync>(
         ⊎ DecidesBytes (request_of request.now).options (request_of request.now).command (map (λ b. b.items) bytes.old) counts.now (refuse e)) }
 {
     match &request.command {
-        Command::Run(run) => decide_run(alloc, &request.options, run, bytes, counts),
+        Command::Run(backward) => decide_run(alloc, &request.options, backward, bytes, counts),
         Command::Ask(ask) => decide_ask(alloc, &request.options, ask, bytes, counts),
-        Command::RunRevolve(run) => decide_run_revolve(alloc, &request.options, run, bytes, counts),
         Command::Plan(plan) => {
             let workers = request.options.worker_count() as u32;
             decide_plan(rt, alloc, workers, plan, bytes)
@@ -95,28 +94,31 @@ pub fn decide<R: Threads + Sync>(
     }
 }
 
-// The same for a run.
+// The same for a run backward.
 fn decide_run(
     alloc: Global,
     options: &Options,
-    run: &Run<'_>,
+    backward: &Backward<'_>,
     bytes: &mut [Vec<u8>],
     counts: &[u32],
 ) -> Result<Job, Ended>
     requires stack { (1 ≤ stack_pages options.now) × (stack_pages options.now ≤ 1024) }
     requires unit { (1 ≤ unit_count options.now) × (unit_count options.now ≤ 1024) }
-    requires steps { run.now.steps ≤ MOST_STEPS }
-    requires instructions { unit_count options.now * run.now.steps ≤ MOST_STEPS }
-    requires inputs { AreWithinLimits (inputs_of (run_command (as_run run.now))) (map (λ b. b.items) bytes.old) }
-    ensures accepted { IfOk result (λ job. DecidesBytes options.now (run_command (as_run run.now)) (map (λ b. b.items) bytes.old) counts.now
+    requires steps { backward.now.run.steps ≤ MOST_STEPS }
+    requires instructions { unit_count options.now * backward.now.run.steps ≤ MOST_STEPS }
+    requires inputs { AreWithinLimits (inputs_of (run_command (as_backward backward.now))) (map (λ b. b.items) bytes.old) }
+    ensures accepted { IfOk result (λ job. DecidesBytes options.now (run_command (as_backward backward.now)) (map (λ b. b.items) bytes.old) counts.now
         (accept (job_of job))) }
     ensures can_be_done { IfOk result CanBeDone }
     ensures room { IfOk result (λ job. KeepersHaveRoom job counts.now) }
     ensures refused { IfErr result (λ e. (e ≡ no_memory)
-        ⊎ DecidesBytes options.now (run_command (as_run run.now)) (map (λ b. b.items) bytes.old) counts.now (refuse e)) }
+        ⊎ DecidesBytes options.now (run_command (as_backward backward.now)) (map (λ b. b.items) bytes.old) counts.now (refuse e)) }
 {
-    let over = decide_over(alloc, options, run.steps as u32, bytes, counts)?;
-    Ok(performance(over))
+    let steps = backward.run.steps as u32;
+    match backward.schedule {
+        Schedule::Named(_) => Ok(performance(decide_over(alloc, options, steps, bytes, counts)?)),
+        Schedule::Made => decide_made(alloc, options, steps, bytes, counts),
+    }
 }
 
 // The job of performing a list.
@@ -170,7 +172,7 @@ fn decide_ask(
     Ok(Job::Ask(Asking { question, over }))
 }
 
-// What a list is to be performed over, by the bytes of the inputs of a run.
+// What a list is to be performed over, by the bytes of the inputs of a run by a schedule that is read.
 fn decide_over(
     alloc: Global,
     options: &Options,
@@ -182,15 +184,16 @@ fn decide_over(
     requires unit { (1 ≤ unit_count options.now) × (unit_count options.now ≤ 1024) }
     requires steps { steps ≤ MOST_STEPS }
     requires instructions { unit_count options.now * steps ≤ MOST_STEPS }
-    requires inputs { (r : RunCommand) × AreWithinLimits (inputs_of (run_command r)) (map (λ b. b.items) bytes.old) }
-    ensures accepted { IfOk result (λ o. (job : ARun → AJob) →
-        DecidesOverBytes job options.now steps (map (λ b. b.items) bytes.old) counts.now (accept (job (run_over o)))) }
+    requires inputs { (r : RunCommand) × (name : List ℕ)
+        × AreWithinLimits (inputs_of (run_command (record { run = r; schedule = by_name name }))) (map (λ b. b.items) bytes.old) }
+    ensures accepted { IfOk result (λ o. (job : ARun → AJob) (name : List ℕ) →
+        DecidesOverBytes job options.now (by_name name) steps (map (λ b. b.items) bytes.old) counts.now (accept (job (run_over o)))) }
     ensures over { IfOk result IsOver }
     ensures steps { IfOk result (λ o. o.steps ≡ steps) }
     ensures unit { IfOk result (λ o. o.unit ≡ unit_count options.now) }
     ensures room { IfOk result (λ o. HaveRoom o.steps (slots_of o.book) counts.now) }
-    ensures refused { (job : ARun → AJob) → IfErr result (λ e. (e ≡ no_memory)
-        ⊎ DecidesOverBytes job options.now steps (map (λ b. b.items) bytes.old) counts.now (refuse e)) }
+    ensures refused { (job : ARun → AJob) (name : List ℕ) → IfErr result (λ e. (e ≡ no_memory)
+        ⊎ DecidesOverBytes job options.now (by_name name) steps (map (λ b. b.items) bytes.old) counts.now (refuse e)) }
 {
     match bytes {
         [program, book, schedule] => {
@@ -228,14 +231,14 @@ fn decide_texts(
     requires instructions { unit_count options.now * steps ≤ MOST_STEPS }
     requires short { length texts.schedule.now ≤ 536870912 }
     ensures accepted { IfOk result (λ o. (job : ARun → AJob) →
-        DecidesOver job options.now steps texts.entry.program.now (text_of texts.entry.journal) texts.entry.book.now texts.entry.schedule.now
+        DecidesOver job options.now steps texts.entry.program.now (text_of texts.entry.journal) texts.entry.book.now (Some texts.entry.schedule.now)
         counts.now (accept (job (run_over o)))) }
     ensures over { IfOk result IsOver }
     ensures steps { IfOk result (λ o. o.steps ≡ steps) }
     ensures unit { IfOk result (λ o. o.unit ≡ unit_count options.now) }
     ensures room { IfOk result (λ o. HaveRoom o.steps (slots_of o.book) counts.now) }
     ensures refused { (job : ARun → AJob) → IfErr result (λ e. (e ≡ no_memory)
-        ⊎ DecidesOver job options.now steps texts.entry.program.now (text_of texts.entry.journal) texts.entry.book.now texts.entry.schedule.now
+        ⊎ DecidesOver job options.now steps texts.entry.program.now (text_of texts.entry.journal) texts.entry.book.now (Some texts.entry.schedule.now)
         counts.now (refuse e)) }
 {
     let book = book_in(alloc, texts.book)?;

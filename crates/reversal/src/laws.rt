@@ -25,9 +25,8 @@ ghost use Rattle.revolve_gen.specs.Multistage.{IsMultistage};
 ghost use Rattle.revolve_gen.specs.Written.{revolve_list};
 ghost use Rattle.reversal.specs.Table.{Decision, accept};
 ghost use Rattle.reversal.specs.CommandCertify.{least_line, DecidesCertify};
-ghost use Rattle.reversal.specs.Fronts.{in_units, IsStartOf, AreItemsOf};
+ghost use Rattle.reversal.specs.Fronts.{in_units, IsStartOf, AreItemsOf, DecidesOver};
 ghost use Rattle.reversal.specs.Decision.{course_of, Decides};
-ghost use Rattle.reversal.specs.CommandRun.{DecidesRunRevolve};
 ghost use Rattle.reversal.specs.CommandPlan.{DecidesPlanRevolve, DecidesPlanMultistage, DecidesPlanDisk, DecidesPlanHrevolve, DecidesPlanPeriodic};
 ghost use Rattle.reversal.specs.Plans.{list_pieces, plan_pieces, certificate_of};
 ghost use Rattle.reversal.specs.WrittenPlans.{SaysAgain};
@@ -80,7 +79,7 @@ pub fn revolve_plans_are_least()
 /// takes fewer.
 pub fn revolve_runs_are_least()
     ensures { (options : List Choice) (steps : ℕ) (program : List ℕ) (journal : Option (List ℕ)) (book counts : List ℕ) (job : Job) →
-        DecidesRunRevolve options steps program journal book counts (accept job) →
+        DecidesOver perform options steps program journal book None counts (accept job) →
         (b : BookCosts) × IsBookText book b × (start : MachineState) × IsStartOf (says_raw options) (stack_pages options) program start
         × (items : List (List ℕ)) × AreItemsOf journal items
         × (job ≡ perform (in_units (unit_count options) start items steps (slots_of b) (revolve_list steps b)))

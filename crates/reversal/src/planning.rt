@@ -9,13 +9,14 @@ ghost use Rattle.action_text.specs.Canonical.{HasSpelling};
 ghost use Rattle.cert_text.specs.Canonical.{pieces};
 ghost use Rattle.revolve_gen.specs.Plans.{HasPlan};
 ghost use Rattle.revolve_gen.specs.Written.{revolve_list};
-ghost use Rattle.requests.specs.Request.{Choice, run_revolve as run_revolve_command, stack_pages, unit_count};
-ghost use Rattle.reversal.specs.Job.{write};
+ghost use Rattle.requests.specs.Request.{Choice, Run as RunCommand, run as run_command, stack_pages, unit_count};
+ghost use Rattle.requests.specs.Operands.{made};
+ghost use Rattle.reversal.specs.Job.{perform, write};
 ghost use Rattle.reversal.specs.Moment.{Moment, beside};
 ghost use Rattle.reversal.specs.Deeds.{bytes_of};
 ghost use Rattle.reversal.specs.Table.{accept, refuse};
-ghost use Rattle.reversal.specs.Decision.{EndsBy, DecidesBytes};
-ghost use Rattle.reversal.specs.CommandRun.{DecidesRunRevolve};
+ghost use Rattle.reversal.specs.Fronts.{DecidesOver, DecidesOverBytes};
+ghost use Rattle.reversal.specs.Decision.{EndsBy};
 ghost use Rattle.reversal.specs.CommandPlan.{DecidesPlanRevolve};
 ghost use Rattle.requests.specs.Ending.{no_memory, no_plan};
 ghost use Rattle.requests.specs.Inputs.{inputs_of};
@@ -23,7 +24,6 @@ ghost use Rattle.requests.specs.InputReading.{AreWithinLimits};
 ghost use Rattle.reversal.specs.ActionsLeft.{left_of};
 ghost use Rattle.reversal.specs.JobReading.{job_of, pieces_of, IsWritable, CanBeDone, KeepersHaveRoom, text_of};
 ghost use Rattle.reversal.specs.Plans.{line_of_action, list_pieces};
-ghost use Rattle.requests.specs.RequestReading.{as_run_revolve};
 
 use crate::actions::Actions;
 use crate::decision::{book_in, journal_in, keep, start_of, unit_of};
@@ -34,7 +34,7 @@ use cert_text::{Certificate, print_certificate};
 use keepers::Sink;
 use level_book::Book;
 use plan_types::Line;
-use requests::{Ended, Options, RunRevolve};
+use requests::{Ended, Options};
 use revolve_gen::{GenFault, Revolve};
 use std::alloc::{AllocError, Global};
 use std::mem;
@@ -44,7 +44,7 @@ const LINES: usize = 64;
 
 const PIECE: usize = 5_184;
 
-// The texts that a run by the list of Revolve is told by.
+// The texts that a run whose list is made is told by.
 #[derive(Drop)]
 struct Texts<'a> {
     program: &'a [u8],
@@ -52,27 +52,25 @@ struct Texts<'a> {
     book: &'a [u8],
 }
 
-/// What a request for a run by the list of Revolve comes to by the bytes of its inputs and the numbers of the keepers' slots.
-pub fn decide_run_revolve(
+/// What a request for a run whose list is made comes to by the bytes of its inputs and the numbers of the keepers' slots.
+pub fn decide_made(
     alloc: Global,
     options: &Options,
-    run: &RunRevolve<'_>,
+    steps: u32,
     bytes: &mut [Vec<u8>],
     counts: &[u32],
 ) -> Result<Job, Ended>
     requires stack { (1 ≤ stack_pages options.now) × (stack_pages options.now ≤ 1024) }
     requires unit { (1 ≤ unit_count options.now) × (unit_count options.now ≤ 1024) }
-    requires steps { run.now.steps ≤ MOST_STEPS }
-    requires instructions { unit_count options.now * run.now.steps ≤ MOST_STEPS }
-    requires inputs { AreWithinLimits (inputs_of (run_revolve_command (as_run_revolve run.now))) (map (λ b. b.items) bytes.old) }
-    ensures accepted { IfOk result (λ job. DecidesBytes options.now (run_revolve_command (as_run_revolve run.now))
-        (map (λ b. b.items) bytes.old) counts.now (accept (job_of job))) }
+    requires steps { steps ≤ MOST_STEPS }
+    requires instructions { unit_count options.now * steps ≤ MOST_STEPS }
+    requires inputs { (r : RunCommand) × AreWithinLimits (inputs_of (run_command (record { run = r; schedule = made }))) (map (λ b. b.items) bytes.old) }
+    ensures accepted { IfOk result (λ job. DecidesOverBytes perform options.now made steps (map (λ b. b.items) bytes.old) counts.now (accept (job_of job))) }
     ensures can_be_done { IfOk result CanBeDone }
     ensures room { IfOk result (λ job. KeepersHaveRoom job counts.now) }
     ensures refused { IfErr result (λ e. (e ≡ no_memory)
-        ⊎ DecidesBytes options.now (run_revolve_command (as_run_revolve run.now)) (map (λ b. b.items) bytes.old) counts.now (refuse e)) }
+        ⊎ DecidesOverBytes perform options.now made steps (map (λ b. b.items) bytes.old) counts.now (refuse e)) }
 {
-    let steps = run.steps as u32;
     match bytes {
         [program, book] => {
             let texts = Texts {
@@ -105,12 +103,13 @@ fn decide_texts(
     requires unit { (1 ≤ unit_count options.now) × (unit_count options.now ≤ 1024) }
     requires steps { steps ≤ MOST_STEPS }
     requires instructions { unit_count options.now * steps ≤ MOST_STEPS }
-    ensures accepted { IfOk result (λ job. DecidesRunRevolve options.now steps texts.entry.program.now
-        (text_of texts.entry.journal) texts.entry.book.now counts.now (accept (job_of job))) }
+    ensures accepted { IfOk result (λ job. DecidesOver perform options.now steps texts.entry.program.now
+        (text_of texts.entry.journal) texts.entry.book.now None counts.now (accept (job_of job))) }
     ensures can_be_done { IfOk result CanBeDone }
     ensures room { IfOk result (λ job. KeepersHaveRoom job counts.now) }
     ensures refused { IfErr result (λ e. (e ≡ no_memory)
-        ⊎ DecidesRunRevolve options.now steps texts.entry.program.now (text_of texts.entry.journal) texts.entry.book.now counts.now (refuse e)) }
+        ⊎ DecidesOver perform options.now steps texts.entry.program.now
+        (text_of texts.entry.journal) texts.entry.book.now None counts.now (refuse e)) }
 {
     let book = book_in(alloc, texts.book)?;
     keep(steps, &book, counts)?;

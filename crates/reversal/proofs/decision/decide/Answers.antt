@@ -27,14 +27,6 @@ decide_run-requires-clause-steps g c =
     let P : Command → Type 0 = λ x. AllByRecursion IsWithin (command_numbers (unit_count c.args.request.now.options) (as_command x)) in
     (subst P c.in-Run.is (all_after _ _ c.requires.numbers)).0.1
 
-pub decide_run_revolve-requires-clause-stack : goal.decide_run_revolve-requires-clause-stack
-decide_run_revolve-requires-clause-stack g c = stack_within c.args.request.now.options (all_front _ _ c.requires.numbers)
-
-pub decide_run_revolve-requires-clause-steps : goal.decide_run_revolve-requires-clause-steps
-decide_run_revolve-requires-clause-steps g c =
-    let P : Command → Type 0 = λ x. AllByRecursion IsWithin (command_numbers (unit_count c.args.request.now.options) (as_command x)) in
-    (subst P c.in-RunRevolve.is (all_after _ _ c.requires.numbers)).0.1
-
 pub decide_run-requires-clause-unit : goal.decide_run-requires-clause-unit
 decide_run-requires-clause-unit g c = unit_within c.args.request.now.options (all_front _ _ c.requires.numbers)
 
@@ -42,14 +34,6 @@ pub decide_run-requires-clause-instructions : goal.decide_run-requires-clause-in
 decide_run-requires-clause-instructions g c =
     let P : Command → Type 0 = λ x. AllByRecursion IsWithin (command_numbers (unit_count c.args.request.now.options) (as_command x)) in
     (subst P c.in-Run.is (all_after _ _ c.requires.numbers)).1.0.1
-
-pub decide_run_revolve-requires-clause-unit : goal.decide_run_revolve-requires-clause-unit
-decide_run_revolve-requires-clause-unit g c = unit_within c.args.request.now.options (all_front _ _ c.requires.numbers)
-
-pub decide_run_revolve-requires-clause-instructions : goal.decide_run_revolve-requires-clause-instructions
-decide_run_revolve-requires-clause-instructions g c =
-    let P : Command → Type 0 = λ x. AllByRecursion IsWithin (command_numbers (unit_count c.args.request.now.options) (as_command x)) in
-    (subst P c.in-RunRevolve.is (all_after _ _ c.requires.numbers)).1.0.1
 
 pub decide_ask-requires-clause-unit : goal.decide_ask-requires-clause-unit
 decide_ask-requires-clause-unit g c = unit_within c.args.request.now.options (all_front _ _ c.requires.numbers)
@@ -201,12 +185,6 @@ returns-in-Price-clause-refused g c =
 
 pub returns-in-Price-clause-room : goal.returns-in-Price-clause-room
 returns-in-Price-clause-room g c = if_okay c.decide_price.result _ _ (λ job h. h c.args.counts.now) c.decide_price.ensures.room
-
-pub returns-in-RunRevolve-clause-refused : goal.returns-in-RunRevolve-clause-refused
-returns-in-RunRevolve-clause-refused g c =
-    let bytes : List (List ℕ) = map (λ b. b.items) c.args.bytes.now in
-    let P : Command → Type 0 = λ x. IfErr c.decide_run_revolve.result (λ e. (e ≡ no_memory) ⊎ DecidesBytes c.args.request.now.options (as_command x) bytes c.args.counts.now (refuse e)) in
-    subst P (sym c.in-RunRevolve.is) c.decide_run_revolve.ensures.refused
 
 pub returns-in-Plan-clause-accepted : goal.returns-in-Plan-clause-accepted
 returns-in-Plan-clause-accepted g c =

@@ -1,7 +1,7 @@
 use Rattle.std.proofs.Common.{◌*◌, ◌≡◌, ◌⊎◌, inl, inr, ℕ, map, sym, subst}
 use Rattle.requests.specs.declared.ended.Ended.{Ended}
 use Rattle.requests.specs.Request.{unit_count}
-use Rattle.requests.specs.Operands.{question_bound}
+use Rattle.requests.specs.Operands.{by_name, question_bound}
 use Rattle.requests.specs.Bounds.{IsWithin}
 use Rattle.reversal.specs.Job.{ask}
 use Rattle.reversal.specs.Table.{refuse}
@@ -12,7 +12,7 @@ use Rattle.reversal.proofs.Deciding.{on_error}
 use Rattle.reversal.proofs.decision.decide_ask.Goals as goal
 
 pub decide_over-requires-clause-inputs : goal.decide_over-requires-clause-inputs
-decide_over-requires-clause-inputs c = (as_run c.args.ask.now.run, c.requires.inputs)
+decide_over-requires-clause-inputs c = (as_run c.args.ask.now.run, c.args.ask.now.schedule.now, c.requires.inputs)
 
 pub returns-in_err-over-clause-refused : goal.returns-in_err-over-clause-refused
 returns-in_err-over-clause-refused c =
@@ -20,14 +20,14 @@ returns-in_err-over-clause-refused c =
     let job = ask c.args.ask.now.question in
     on_error c.from_residual.result _ _ c.from_residual.ensures.1 (λ e gives.
     let same : c.in_err-over.field-0.0 ≡ e = cc in
-    let P : Ended → Type 0 = λ x. (x ≡ no_memory) ⊎ DecidesOverBytes job c.args.options.now steps (map (λ b. b.items) c.args.bytes.now) c.args.counts.now (refuse x) in
-    elim (subst P same (c.in_err-over.ensures.refused job)) [
+    let P : Ended → Type 0 = λ x. (x ≡ no_memory) ⊎ DecidesOverBytes job c.args.options.now (by_name c.args.ask.now.schedule.now) steps (map (λ b. b.items) c.args.bytes.now) c.args.counts.now (refuse x) in
+    elim (subst P same (c.in_err-over.ensures.refused job c.args.ask.now.schedule.now)) [
       | inl memory ↦ inl memory
       | inr decides ↦ inr (c.requires.question, decides)
     ])
 
 pub returns-clause-accepted : goal.returns-clause-accepted
-returns-clause-accepted c = (c.requires.question, c.in_ok-over.ensures.accepted (ask c.args.ask.now.question))
+returns-clause-accepted c = (c.requires.question, c.in_ok-over.ensures.accepted (ask c.args.ask.now.question) c.args.ask.now.schedule.now)
 
 pub returns-clause-can_be_done : goal.returns-clause-can_be_done
 returns-clause-can_be_done c =

@@ -1,25 +1,38 @@
 use Rattle.std.proofs.Common.{◌≡◌, ◌⊎◌, map, sym, subst}
 use Rattle.requests.specs.declared.ended.Ended.{Ended}
+use Rattle.requests.specs.declared.schedule.Schedule.{Schedule}
+use Rattle.requests.specs.declared.schedule.Schedule.TheVariants.{Named}
+use Rattle.requests.specs.Request.{run}
+use Rattle.requests.specs.Inputs.{inputs_of}
+use Rattle.requests.specs.InputReading.{AreWithinLimits}
+use Rattle.requests.specs.RequestReading.{as_run, as_schedule}
+use Rattle.requests.specs.Ending.{no_memory}
 use Rattle.reversal.specs.Job.{Job, perform}
+use Rattle.reversal.specs.JobReading.{job_of}
 use Rattle.reversal.specs.Table.{accept, refuse}
 use Rattle.reversal.specs.Fronts.{DecidesOverBytes}
-use Rattle.requests.specs.Ending.{no_memory}
-use Rattle.requests.specs.RequestReading.{as_run}
 use Rattle.reversal.proofs.Deciding.{on_error}
 use Rattle.reversal.proofs.decision.decide_run.Goals as goal
 
 pub decide_over-requires-clause-inputs : goal.decide_over-requires-clause-inputs
-decide_over-requires-clause-inputs c = (as_run c.args.run.now, c.requires.inputs)
+decide_over-requires-clause-inputs c =
+    let P : Schedule → Type 0 = λ s. AreWithinLimits (inputs_of (run (record { run = as_run c.args.backward.now.run; schedule = as_schedule s }))) (map (λ b. b.items) c.args.bytes.now) in
+    (as_run c.args.backward.now.run, _, subst P c.in-Named.is c.requires.inputs)
 
-pub returns-in_err-over-clause-refused : goal.returns-in_err-over-clause-refused
-returns-in_err-over-clause-refused c =
-    let steps = c.args.run.now.steps in
+pub decide_made-requires-clause-inputs : goal.decide_made-requires-clause-inputs
+decide_made-requires-clause-inputs c =
+    let P : Schedule → Type 0 = λ s. AreWithinLimits (inputs_of (run (record { run = as_run c.args.backward.now.run; schedule = as_schedule s }))) (map (λ b. b.items) c.args.bytes.now) in
+    (as_run c.args.backward.now.run, subst P c.in-Made.is c.requires.inputs)
+
+pub returns-in_err-decide_over-in-Named-clause-refused : goal.returns-in_err-decide_over-in-Named-clause-refused
+returns-in_err-decide_over-in-Named-clause-refused c =
     on_error c.from_residual.result _ _ c.from_residual.ensures.1 (λ e gives.
-    let same : c.in_err-over.field-0.0 ≡ e = cc in
-    let P : Ended → Type 0 = λ x. (x ≡ no_memory) ⊎ DecidesOverBytes perform c.args.options.now steps (map (λ b. b.items) c.args.bytes.now) c.args.counts.now (refuse x) in
-    subst P same (c.in_err-over.ensures.refused perform))
+    let same : c.in_err-decide_over-in-Named.field-0.0 ≡ e = cc in
+    let D : Schedule → Ended → Type 0 = λ s x. (x ≡ no_memory) ⊎ DecidesOverBytes perform c.args.options.now (as_schedule s) c.args.backward.now.run.steps (map (λ b. b.items) c.args.bytes.now) c.args.counts.now (refuse x) in
+    subst (λ s. D s e) (sym c.in-Named.is) (subst (D (Named c.in-Named.field-0)) same (c.in_err-decide_over-in-Named.ensures.refused perform c.in-Named.field-0.now)))
 
-pub returns-clause-accepted : goal.returns-clause-accepted
-returns-clause-accepted c =
-    let D : Job → Type 0 = λ j. DecidesOverBytes perform c.args.options.now c.args.run.now.steps (map (λ b. b.items) c.args.bytes.now) c.args.counts.now (accept j) in
-    subst D (sym c.performance.ensures.job) (c.in_ok-over.ensures.accepted perform)
+pub returns-in_ok-decide_over-in-Named-clause-accepted : goal.returns-in_ok-decide_over-in-Named-clause-accepted
+returns-in_ok-decide_over-in-Named-clause-accepted c =
+    let D : Schedule → Job → Type 0 = λ s j. DecidesOverBytes perform c.args.options.now (as_schedule s) c.args.backward.now.run.steps (map (λ b. b.items) c.args.bytes.now) c.args.counts.now (accept j) in
+    subst (λ s. D s (job_of c.performance.result)) (sym c.in-Named.is)
+    (subst (D (Named c.in-Named.field-0)) (sym c.performance.ensures.job) (c.in_ok-decide_over-in-Named.ensures.accepted perform c.in-Named.field-0.now))

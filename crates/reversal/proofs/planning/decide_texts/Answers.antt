@@ -1,17 +1,17 @@
-use Rattle.std.proofs.Common.{◌≡◌, ◌≤◌, ◌*◌, ℕ, sym, subst, List, length, arith}
+use Rattle.std.proofs.Common.{◌≡◌, ◌≤◌, ◌*◌, ℕ, refl, sym, subst, List, length, None, arith}
 use Rattle.plan_types.specs.declared.action.Action.{Action}
 use Rattle.level_book.specs.BookCosts.{slots_of}
+use Rattle.revolve_gen.specs.Written.{revolve_list}
 use Rattle.requests.specs.declared.ended.Ended.{Ended}
 use Rattle.reversal.specs.Job.{perform}
 use Rattle.requests.specs.Ending.{bad_book, bad_program, bad_journal}
 use Rattle.requests.specs.Request.{says_raw, stack_pages, unit_count}
 use Rattle.reversal.specs.Table.{Keep, refuse, accept}
-use Rattle.reversal.specs.Fronts.{HasBookFault, HasProgramFault, HasJournalFault, in_units}
-use Rattle.reversal.specs.CommandRun.{DecidesRunRevolve}
+use Rattle.reversal.specs.Fronts.{HasBookFault, HasProgramFault, HasJournalFault, DecidesOver, in_units}
 use Rattle.reversal.specs.JobReading.{IsRefusal, text_of}
 use Rattle.level_book.specs.Valid.{Valid}
 use Rattle.reversal.proofs.Planned.{plan_valid, plan_few}
-use Rattle.reversal.proofs.Deciding.{on_error, IsUnplanned, revolve_by_book, revolve_by_keepers, revolve_by_plan, revolve_by_program, revolve_by_journal, revolve_accepted}
+use Rattle.reversal.proofs.Deciding.{on_error, IsUnplanned, plan_refuses, over_by_book, over_by_keepers, over_behind_keepers, over_by_program, over_by_journal, over_accepted}
 use Rattle.reversal.proofs.planning.decide_texts.Goals as goal
 
 pub returns-in_err-book-clause-refused : goal.returns-in_err-book-clause-refused
@@ -19,45 +19,45 @@ returns-in_err-book-clause-refused c =
     on_error c.from_residual.result _ _ c.from_residual.ensures.1 (λ e gives.
     let same : c.in_err-book.field-0.0 ≡ e = cc in
     let P : Ended → Type 0 = λ x. IsRefusal (HasBookFault c.args.texts.book.now) bad_book x in
-    revolve_by_book c.args.options.now c.args.steps c.args.texts.program.now (text_of c.args.texts.journal) c.args.texts.book.now c.args.counts.now e (subst P same c.in_err-book.ensures.refused))
+    over_by_book perform c.args.options.now c.args.steps c.args.texts.program.now (text_of c.args.texts.journal) c.args.texts.book.now None c.args.counts.now e (subst P same c.in_err-book.ensures.refused))
 
 pub returns-in_err-keep-clause-refused : goal.returns-in_err-keep-clause-refused
 returns-in_err-keep-clause-refused c =
     on_error c.from_residual-in_err-keep.result _ _ c.from_residual-in_err-keep.ensures.1 (λ e gives.
     let same : c.in_err-keep.field-0.0 ≡ e = cc in
     let P : Ended → Type 0 = λ x. Keep c.args.steps (slots_of c.in_ok-book.book) c.args.counts.now (refuse x) ⊥ in
-    revolve_by_keepers c.args.options.now c.args.steps c.args.texts.program.now (text_of c.args.texts.journal) c.args.texts.book.now c.args.counts.now e c.in_ok-book.book c.in_ok-book.ensures.found (subst P same c.in_err-keep.ensures.refused))
+    over_by_keepers perform c.args.options.now c.args.steps c.args.texts.program.now (text_of c.args.texts.journal) c.args.texts.book.now None c.args.counts.now e c.in_ok-book.book c.in_ok-book.ensures.found (subst P same c.in_err-keep.ensures.refused))
 
 pub returns-in_err-revolve-clause-refused : goal.returns-in_err-revolve-clause-refused
 returns-in_err-revolve-clause-refused c =
     on_error c.from_residual-in_err-revolve.result _ _ c.from_residual-in_err-revolve.ensures.1 (λ e gives.
     let same : c.in_err-revolve.field-0.0 ≡ e = cc in
     let P : Ended → Type 0 = λ x. IsUnplanned c.args.steps c.in_ok-book.book x in
-    revolve_by_plan c.args.options.now c.args.steps c.args.texts.program.now (text_of c.args.texts.journal) c.args.texts.book.now c.args.counts.now e c.in_ok-book.book c.in_ok-book.ensures.found c.in_ok-keep.ensures.room (subst P same c.in_err-revolve.ensures.refused))
+    over_behind_keepers perform c.args.options.now c.args.steps c.args.texts.program.now (text_of c.args.texts.journal) c.args.texts.book.now None c.args.counts.now e c.in_ok-book.book c.in_ok-book.ensures.found c.in_ok-keep.ensures.room (plan_refuses c.args.steps c.in_ok-book.book e _ (subst P same c.in_err-revolve.ensures.refused)))
 
 pub returns-in_err-start-clause-refused : goal.returns-in_err-start-clause-refused
 returns-in_err-start-clause-refused c =
     on_error c.from_residual-in_err-start.result _ _ c.from_residual-in_err-start.ensures.1 (λ e gives.
     let same : c.in_err-start.field-0.0 ≡ e = cc in
     let P : Ended → Type 0 = λ x. IsRefusal (HasProgramFault (says_raw c.args.options.now) (stack_pages c.args.options.now) c.args.texts.program.now) bad_program x in
-    revolve_by_program c.args.options.now c.args.steps c.args.texts.program.now (text_of c.args.texts.journal) c.args.texts.book.now c.args.counts.now e c.in_ok-book.book c.in_ok-book.ensures.found c.in_ok-keep.ensures.room c.in_ok-revolve.ensures.plan (subst P same c.in_err-start.ensures.refused))
+    over_by_program perform c.args.options.now c.args.steps c.args.texts.program.now (text_of c.args.texts.journal) c.args.texts.book.now None c.args.counts.now e c.in_ok-book.book c.in_ok-book.ensures.found c.in_ok-keep.ensures.room c.in_ok-revolve.ensures.plan (subst P same c.in_err-start.ensures.refused))
 
 pub returns-in_err-journal-clause-refused : goal.returns-in_err-journal-clause-refused
 returns-in_err-journal-clause-refused c =
     on_error c.from_residual-in_err-journal.result _ _ c.from_residual-in_err-journal.ensures.1 (λ e gives.
     let same : c.in_err-journal.field-0.0 ≡ e = cc in
     let P : Ended → Type 0 = λ x. IsRefusal (HasJournalFault (text_of c.args.texts.journal)) bad_journal x in
-    revolve_by_journal c.args.options.now c.args.steps c.args.texts.program.now (text_of c.args.texts.journal) c.args.texts.book.now c.args.counts.now e c.in_ok-book.book c.in_ok-start.start c.in_ok-book.ensures.found c.in_ok-keep.ensures.room c.in_ok-revolve.ensures.plan c.in_ok-start.ensures.found (subst P same c.in_err-journal.ensures.refused))
+    over_by_journal perform c.args.options.now c.args.steps c.args.texts.program.now (text_of c.args.texts.journal) c.args.texts.book.now None c.args.counts.now e c.in_ok-book.book c.in_ok-book.ensures.found c.in_ok-keep.ensures.room c.in_ok-revolve.ensures.plan c.in_ok-start.start c.in_ok-start.ensures.found (subst P same c.in_err-journal.ensures.refused))
 
 pub returns-clause-accepted : goal.returns-clause-accepted
 returns-clause-accepted c =
     let o = c.args.options.now in
     let texts = c.args.texts in
-    let D : ℕ → List Action → Type 0 = λ unit l. DecidesRunRevolve o c.args.steps texts.program.now (text_of texts.journal) texts.book.now c.args.counts.now
+    let D : ℕ → List Action → Type 0 = λ unit l. DecidesOver perform o c.args.steps texts.program.now (text_of texts.journal) texts.book.now None c.args.counts.now
     (accept (perform (in_units unit c.in_ok-start.start c.in_ok-journal.journal c.args.steps (slots_of c.in_ok-book.book) l))) in
     subst (λ unit. D unit c.in_ok-revolve.revolve) (sym c.unit_of.ensures) (subst (D (unit_count o)) (sym c.in_ok-revolve.ensures.list)
-    (revolve_accepted o c.args.steps texts.program.now (text_of texts.journal) texts.book.now c.args.counts.now c.in_ok-book.book c.in_ok-start.start c.in_ok-journal.journal
-    c.in_ok-book.ensures.found c.in_ok-keep.ensures.room c.in_ok-revolve.ensures.plan c.in_ok-start.ensures.found c.in_ok-journal.ensures.found))
+    (over_accepted perform o c.args.steps texts.program.now (text_of texts.journal) texts.book.now None c.args.counts.now c.in_ok-book.book c.in_ok-start.start c.in_ok-journal.journal (revolve_list c.args.steps c.in_ok-book.book)
+    c.in_ok-book.ensures.found c.in_ok-keep.ensures.room c.in_ok-revolve.ensures.plan c.in_ok-start.ensures.found c.in_ok-journal.ensures.found refl))
 
 pub returns-clause-can_be_done : goal.returns-clause-can_be_done
 returns-clause-can_be_done c =
