@@ -28,6 +28,7 @@ use Rattle.reverse_runner.specs.Handed.{handed_by}
 use Rattle.reverse_runner.specs.Performed.{GetsAll, MissesOne}
 use Rattle.rv_machine.specs.States.{state_number}
 use Rattle.reverse_runner.specs.Standing.{StandsAt, Performs, SessionEnds}
+use Rattle.reverse_queries.specs.Asked.{IsSpared, KeepersAfter, VisitorAfter}
 use Rattle.reverse_queries.specs.Performing.{calls_of_all, done_after, PerformsAll, FaultFits, RefusedIn}
 use Rattle.reverse_queries.proofs.Fronts.{is_within}
 use Rattle.reverse_queries.proofs.Fitting.{same_there}
@@ -292,3 +293,21 @@ run_has first old mid told front a d start_ so_far goes stands =
     let U : ℕ → Type 0 = λ u. HoldingsStandAt first mid.journal u mid.situation.at (holdings_of mid told) in
     let J : List (List ℕ) → Type 0 = λ j. HoldingsStandAt first j old.unit mid.situation.at (holdings_of mid told) in
     out_of_run first old.unit old.situation.steps old.situation.slots old.journal mid.situation.at a d (holdings_of mid told) goes (is_sound old mid front start_ so_far) (subst J so_far.journal (subst U so_far.unit stands))
+
+-- ---- what is left where nothing was refused
+
+pub ok_spared : {A : Type 0} (x : A) (session : SessionState) (told : ℕ → Option Images) (rooms : ℕ → Option ℕ) → IsSpared (Ok x) session told rooms
+ok_spared x session told rooms = record { not_ended = λ e. cc; roomy = λ roomy e. cc; undamaged = λ first is stands k put got e. cc }
+
+pub ok_kept : {A K : Type 0} (slots faults : K → ℕ) (levels : ℕ) (x : A) (ks ls : List K) → ((k : ℕ) → by_number 0 faults ls k ≡ by_number 0 faults ks k) → map slots ls ≡ map slots ks → ((k : ℕ) → levels ≤ k → slice_get ls k ≡ slice_get ks k) →
+    KeepersAfter slots faults levels (Ok x) ks ls
+ok_kept slots faults levels x ks ls quiet room others = record {
+  keeper_cause = λ k e. absurd cc;
+  keepers_quiet = λ never. quiet;
+  keepers_later = λ k. (let same = quiet k in omega (arith, same));
+  slots = room;
+  others = others;
+}
+
+pub ok_seen : {A V : Type 0} (faults : V → ℕ) (x : A) (v w : V) → faults w ≡ faults v → VisitorAfter faults (Ok x) v w
+ok_seen faults x v w same = record { unseen = tt; cause = λ e. absurd cc; quiet = λ never. same; later = omega (arith, same) }

@@ -1,3 +1,4 @@
+pub mod Asked
 pub mod Finding
 pub mod OnTheWay
 pub mod Performing

@@ -1,18 +1,16 @@
 // The last step of a run that does something to a word.
 ghost use Rattle.std.specs.Prelude.{◌≡◌, ◌≢◌, ◌+◌, ◌*◌, ◌≤◌, ◌<◌, ◌↔◌, ℕ, List, false, length, map, slice_get, Option, Some, None, Ok, Err, IfOk, IfErr, OnOk, IsTrue};
-ghost use Rattle.level_book.specs.CostFold.{forward};
 ghost use Rattle.level_book.specs.Configuration.{start};
 ghost use Rattle.level_book.specs.Valid.{Valid};
-ghost use Rattle.keepers.specs.Counts.{Rose};
 ghost use Rattle.rv_machine.specs.MachineState.{MachineState, IsMachineState};
 ghost use Rattle.rv_machine.specs.States.{state_number};
-ghost use Rattle.reverse_runner.specs.KeepersSeen.{by_number, told_by, calls_to, HaveRoom, Called};
-ghost use Rattle.reverse_runner.specs.LevelsStand.{AreAlone};
-ghost use Rattle.reverse_runner.specs.Rooms.{image_room, rooms_by, AreRoomy};
-ghost use Rattle.reverse_runner.specs.SessionState.{levels_of, holdings_of};
+ghost use Rattle.reverse_runner.specs.KeepersSeen.{told_by, calls_to, HaveRoom};
+ghost use Rattle.reverse_runner.specs.Rooms.{rooms_by};
+ghost use Rattle.reverse_runner.specs.SessionState.{holdings_of};
 ghost use Rattle.reverse_runner.specs.Standing.{StandsAt};
 ghost use Rattle.reverse_queries.specs.Queries.{Differ, IsLast, up_to};
-ghost use Rattle.reverse_queries.specs.Performing.{calls_of_all, PerformsAll, RefusedIn};
+ghost use Rattle.reverse_queries.specs.Performing.{RefusedIn};
+ghost use Rattle.reverse_queries.specs.Asked.{Performed, Stays, IsSpared, KeepersAfter};
 ghost use Rattle.reverse_queries.specs.OnTheWay.{IsFoundOn};
 ghost use Rattle.reverse_queries.specs.Finding.{word_bytes, SomeDiffer, DoesWhatIsAsked, Finds, Got};
 
@@ -136,35 +134,18 @@ pub(crate) fn find_last<K: Keeper, L: Ledger>(
         (holdings_of session.old (told_by K.told keepers.old.items)) (holdings_of session.new (told_by K.told keepers.new.items))) }
 
     // What was performed for it.
-    ensures performs { IfOk result (λ answer. PerformsAll session.old (up_to session.old.unit session.old.situation.steps answer list.now) session.new) }
-    ensures counted { IfOk result (λ answer. steps.new ≡ steps.old + session.old.unit * forward
-        (up_to session.old.unit session.old.situation.steps answer list.now)) }
-    ensures called { IfOk result (λ answer. Called (calls_of_all (up_to session.old.unit session.old.situation.steps answer list.now))
-        (calls_to K.put_count K.get_count K.free_count keepers.old.items) (calls_to K.put_count K.get_count K.free_count keepers.new.items)) }
-    ensures stands { (first : MachineState) → IsMachineState first → StandsAt first session.old (told_by K.told keepers.old.items) →
-        OnOk result (StandsAt first session.new (told_by K.told keepers.new.items)) }
-    ensures alone { AreAlone (levels_of session.old (told_by K.told keepers.old.items)) →
-        OnOk result (AreAlone (levels_of session.new (told_by K.told keepers.new.items))) }
+    ensures performed { IfOk result (λ answer. Performed session.old (up_to session.old.unit session.old.situation.steps answer list.now) session.new steps.old
+        steps.new (calls_to K.put_count K.get_count K.free_count keepers.old.items)
+        (calls_to K.put_count K.get_count K.free_count keepers.new.items)) }
+    ensures stays { OnOk result (Stays session.old (told_by K.told keepers.old.items) session.new (told_by K.told keepers.new.items)) }
 
     // What stands after a refusal, and its cause.
     ensures refused { IfErr result (λ fault. RefusedIn (λ action held. ⊥) list.now fault session.old session.new (told_by K.told keepers.old.items)
         steps.old steps.new (calls_to K.put_count K.get_count K.free_count keepers.old.items)
         (calls_to K.put_count K.get_count K.free_count keepers.new.items)) }
-    ensures not_ended { result ≢ Err RunFault.Ended }
-    ensures roomy { AreRoomy (image_room session.old.work) (length session.old.situation.slots) (rooms_by K.room_bytes keepers.old.items) →
-        result ≢ Err RunFault.Memory }
     ensures not_visitor { result ≢ Err RunFault.Visitor }
-    ensures keeper_cause { (k : ℕ) → result ≡ Err (RunFault.Keeper k) →
-        Rose (by_number 0 K.fault_count keepers.old.items k) (by_number 0 K.fault_count keepers.new.items k) }
-    ensures keepers_quiet { ((k : ℕ) → result ≢ Err (RunFault.Keeper k)) → (j : ℕ) →
-        by_number 0 K.fault_count keepers.new.items j ≡ by_number 0 K.fault_count keepers.old.items j }
-    ensures keepers_later { (k : ℕ) → by_number 0 K.fault_count keepers.old.items k ≤ by_number 0 K.fault_count keepers.new.items k }
-    ensures undamaged { (first : MachineState) → IsMachineState first → StandsAt first session.old (told_by K.told keepers.old.items) →
-        (k : ℕ) (put got : List ℕ) → result ≢ Err (RunFault.Damaged k put got) }
-
-    // The keepers have the slots that they had, and those past the levels of the book are as they were.
-    ensures slots { map K.slot_count keepers.new.items ≡ map K.slot_count keepers.old.items }
-    ensures others { (k : ℕ) → length session.old.situation.slots ≤ k → slice_get keepers.new.items k ≡ slice_get keepers.old.items k }
+    ensures spared { IsSpared result session.old (told_by K.told keepers.old.items) (rooms_by K.room_bytes keepers.old.items) }
+    ensures kept { KeepersAfter K.slot_count K.fault_count (length session.old.situation.slots) result keepers.old.items keepers.new.items }
 {
     let last = session.unit() * session.config().reverse();
     let mut finder = Finder::new(question, word, last);

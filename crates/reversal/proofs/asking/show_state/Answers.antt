@@ -51,12 +51,12 @@ returns-in-Ok-clause-works g c =
     let H : Holdings → Type 0 = λ h. GoesThrough session.unit session.situation.steps session.journal (front_to session.unit session.situation.steps place c.args.list.now) h end found.states in
     let through = subst H (ap (λ (s : SessionState). holdings_of s told) c.requires.begun) found.through in
     let quiet : NothingFails old (new c.state_at.new.visitor.out.now) =
-    record { sink = c.state_at.ensures.quiet (λ e. cc) ∙ ap g.O.Sink.fault_count same; keepers = c.state_at.ensures.keepers_quiet (λ k e. cc) } in
+    record { sink = c.state_at.ensures.seen.quiet (λ e. cc) ∙ ap g.O.Sink.fault_count same; keepers = c.state_at.ensures.kept.keepers_quiet (λ k e. cc) } in
     let P : g.row.O.Denot → Type 0 = λ o. Works (ask (State place) run) done old (new o) in
     let E : Ended → Type 0 = λ e. Works (ask (State place) run) e old (new c.out-1.given.0) in
     subst E (sym c.done.ensures) (subst P (sym last)
     (inl (state_done run place old (new c.state_at.new.visitor.out.now) found.states end c.requires.place c.requires.valid refl through
-    (λ tells. found.holds.of_run session.work c.requires.state (c.requires.stands told tells)) (subst T same got.1) (subst C same got.2) ok.counted ok.called quiet)))
+    (λ tells. found.holds.of_run session.work c.requires.state (c.requires.stands told tells)) (subst T same got.1) (subst C same got.2) ok.performed.counted ok.performed.called quiet)))
 
 pub returns-in-Err-clause-works : goal.returns-in-Err-clause-works
 returns-in-Err-clause-works g c =
@@ -79,7 +79,7 @@ returns-in-Err-clause-works g c =
     let same = c.new-writer.ensures.same in
     let is = λ (f : RunFault) (e : fault ≡ f). c.in-Err.is ∙ ap (λ x. Err x) e in
     let isnt = λ (f : RunFault) (ne : fault ≢ f) (e : c.state_at.result ≡ Err f). ne (same_Err c.state_at.result _ _ c.in-Err.is e) in
-    let unseen : fault ≢ Visitor → v ≡ w = λ other. c.in-Err.ensures.unseen (λ e. other cc) in
+    let unseen : fault ≢ Visitor → v ≡ w = λ other. c.in-Err.ensures.seen.unseen (λ e. other cc) in
     let kept : v.out.ghost_name ≡ w.out.ghost_name = elim (is_visitor fault) [
       | inl e ↦ (let F : RunFault → Type 0 = λ f. FaultFits Missing f refused.next refused.held in let missed : Missing refused.next refused.held = subst F e refused.fits in missed.misses.0)
       | inr other ↦ ap (λ x. x.out.ghost_name) (unseen other)
@@ -90,10 +90,10 @@ returns-in-Err-clause-works g c =
     let C : g.row.O.Denot → Type 0 = λ o. g.O.Sink.call_count v.out.now ≡ raised (g.O.Sink.call_count o) 1 in
     let N : ℕ → Type 0 = λ n. Rose n (g.O.Sink.fault_count v.out.now) in
     let counts : FaultCounts fault old (new v.out.now) = record {
-      sink = λ e. subst N (ap g.O.Sink.fault_count same) (all.cause (is _ e));
-      sink_quiet = λ ne. all.quiet (isnt _ ne) ∙ ap g.O.Sink.fault_count same;
-      keeper = λ k e. all.keeper_cause k (is _ e);
-      keepers_quiet = λ ne. all.keepers_quiet (λ k. isnt _ (ne k));
+      sink = λ e. subst N (ap g.O.Sink.fault_count same) (all.seen.cause (is _ e));
+      sink_quiet = λ ne. all.seen.quiet (isnt _ ne) ∙ ap g.O.Sink.fault_count same;
+      keeper = λ k e. all.kept.keeper_cause k (is _ e);
+      keepers_quiet = λ ne. all.kept.keepers_quiet (λ k. isnt _ (ne k));
     } in
     let P : g.row.O.Denot → Type 0 = λ o. Works (ask (State place) run) (fault_ending (refused.place + 1) fault) old (new o) in
     let E : Ended → Type 0 = λ e. Works (ask (State place) run) e old (new c.out-1.given.0) in
@@ -103,10 +103,10 @@ returns-in-Err-clause-works g c =
     (λ next held missed.
     let M : g.row.O.Denot → Type 0 = λ o. Tells (g.O.Sink.told o) (g.O.Sink.told v.out.now) (AddsPrefix (line place missed.state ++ 10 ∷ [])) in
     (missed.state, (missed.out, λ tells. missed.of_run session.work c.requires.state (stands tells), subst M same missed.misses.1, subst C same missed.misses.2)))
-    (λ k put got e tells. all.undamaged session.work c.requires.state (stands tells) k put got (is _ e)) counts))
+    (λ k put got e tells. all.spared.undamaged session.work c.requires.state (stands tells) k put got (is _ e)) counts))
 
 pub returns-in-Err-clause-roomy : goal.returns-in-Err-clause-roomy
 returns-in-Err-clause-roomy g c roomy e =
     let is = λ (f : RunFault) (q : c.in-Err.fault ≡ f). c.in-Err.is ∙ ap (λ x. Err x) q in
-    let wants = is_memory (c.state_at.new.session.done + 1) c.in-Err.fault (λ q. c.state_at.ensures.not_ended (is _ q)) (sym (ap (λ (x : Ended). x.status) c.refused.ensures) ∙ e) in
-    c.state_at.ensures.roomy roomy (is _ wants)
+    let wants = is_memory (c.state_at.new.session.done + 1) c.in-Err.fault (λ q. c.state_at.ensures.spared.not_ended (is _ q)) (sym (ap (λ (x : Ended). x.status) c.refused.ensures) ∙ e) in
+    c.state_at.ensures.spared.roomy roomy (is _ wants)

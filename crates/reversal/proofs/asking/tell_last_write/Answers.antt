@@ -23,11 +23,11 @@ returns-in-Ok-clause-works g c =
     let new = moment g.O.Sink.told g.O.Sink.call_count g.O.Sink.fault_count g.K.Keeper.told g.K.Keeper.put_count g.K.Keeper.get_count g.K.Keeper.free_count g.K.Keeper.fault_count c.write_answer.new.out c.last_write.new.keepers.items c.last_write.new.steps in
     let found = is_found (λ states. WritesIn states session.journal c.args.address) session c.last_write.new.session c.args.list.now c.in-Ok.answer old new c.requires.begun ok.found in
     last_told run (λ states. WritesIn states session.journal c.args.address) c.in-Ok.answer old new (found, λ tells. ok.answer session.work c.requires.state (c.requires.stands (told_by g.K.Keeper.told c.args.keepers.now.items) tells))
-    c.write_answer.ensures.calls ok.counted ok.called c.write_answer.result c.write_answer.ensures.ends (c.last_write.ensures.keepers_quiet (λ k e. cc))
+    c.write_answer.ensures.calls ok.performed.counted ok.performed.called c.write_answer.result c.write_answer.ensures.ends (c.last_write.ensures.kept.keepers_quiet (λ k e. cc))
 
 pub returns-in-Ok-clause-others : goal.returns-in-Ok-clause-others
 returns-in-Ok-clause-others g c =
-    (sym (length-map c.last_write.new.keepers.items g.K.Keeper.slot_count) ∙ ap length c.last_write.ensures.slots ∙ length-map c.args.keepers.now.items g.K.Keeper.slot_count, c.last_write.ensures.others)
+    (sym (length-map c.last_write.new.keepers.items g.K.Keeper.slot_count) ∙ ap length c.last_write.ensures.kept.slots ∙ length-map c.args.keepers.now.items g.K.Keeper.slot_count, c.last_write.ensures.kept.others)
 
 pub returns-in-Err-clause-works : goal.returns-in-Err-clause-works
 returns-in-Err-clause-works g c =
@@ -45,21 +45,21 @@ returns-in-Err-clause-works g c =
     let counts : FaultCounts fault old new = record {
       sink = λ e. absurd (seen e);
       sink_quiet = λ ne. refl;
-      keeper = λ k e. all.keeper_cause k (is _ e);
-      keepers_quiet = λ ne. all.keepers_quiet (λ k e. ne k (same_Err c.last_write.result _ _ c.in-Err.is e));
+      keeper = λ k e. all.kept.keeper_cause k (is _ e);
+      keepers_quiet = λ ne. all.kept.keepers_quiet (λ k e. ne k (same_Err c.last_write.result _ _ c.in-Err.is e));
     } in
     last_refused run (λ states. WritesIn states session.journal c.args.address) fault c.last_write.new.session c.refused.result old new c.requires.few (subst R c.requires.begun c.in-Err.ensures.refused) c.refused.ensures refl refl seen
-    (λ k put got e tells. all.undamaged session.work c.requires.state (c.requires.stands told tells) k put got (is _ e)) counts
+    (λ k put got e tells. all.spared.undamaged session.work c.requires.state (c.requires.stands told tells) k put got (is _ e)) counts
 
 pub returns-in-Err-clause-others : goal.returns-in-Err-clause-others
 returns-in-Err-clause-others g c =
-    (sym (length-map c.last_write.new.keepers.items g.K.Keeper.slot_count) ∙ ap length c.last_write.ensures.slots ∙ length-map c.args.keepers.now.items g.K.Keeper.slot_count, c.last_write.ensures.others)
+    (sym (length-map c.last_write.new.keepers.items g.K.Keeper.slot_count) ∙ ap length c.last_write.ensures.kept.slots ∙ length-map c.args.keepers.now.items g.K.Keeper.slot_count, c.last_write.ensures.kept.others)
 
 pub returns-in-Err-clause-roomy : goal.returns-in-Err-clause-roomy
 returns-in-Err-clause-roomy g c roomy e =
     let is = λ (f : RunFault) (q : c.in-Err.fault ≡ f). c.in-Err.is ∙ ap (λ x. Err x) q in
-    let wants = is_memory (c.last_write.new.session.done + 1) c.in-Err.fault (λ q. c.last_write.ensures.not_ended (is _ q)) (sym (ap (λ (x : Ended). x.status) c.refused.ensures) ∙ e) in
-    c.last_write.ensures.roomy roomy (is _ wants)
+    let wants = is_memory (c.last_write.new.session.done + 1) c.in-Err.fault (λ q. c.last_write.ensures.spared.not_ended (is _ q)) (sym (ap (λ (x : Ended). x.status) c.refused.ensures) ∙ e) in
+    c.last_write.ensures.spared.roomy roomy (is _ wants)
 
 pub returns-in-Ok-clause-roomy : goal.returns-in-Ok-clause-roomy
 returns-in-Ok-clause-roomy g c roomy e = elim c.write_answer.ensures.ends [

@@ -1,4 +1,4 @@
-use Rattle.std.proofs.Common.{◌≡◌, ◌∙◌, ℕ, ◌+◌, ◌*◌, ◌<◌, List, length, take, slice_get, slice_index_or, Some, true≢false, refl, sym, ap, subst, arith}
+use Rattle.std.proofs.Common.{◌≡◌, ◌∙◌, ℕ, ◌*◌, ◌<◌, List, length, take, slice_get, slice_index_or, Some, Err, true≢false, refl, sym, ap, subst, arith}
 use Rattle.std.proofs.lemmas.Option.{slice_get-get_or}
 use Rattle.std.proofs.lemmas.Result.{err_from_is_err_and}
 use Rattle.plan_types.specs.declared.action.Action.{Action}
@@ -6,12 +6,12 @@ use Rattle.plan_types.specs.declared.action.Action.TheVariants.{Forward}
 use Rattle.plan_types.specs.declared.action.Keep.TheVariants.{Nothing}
 use Rattle.level_book.specs.declared.book.Slots.{Slots}
 use Rattle.level_book.specs.Configuration.{Configuration, start}
-use Rattle.level_book.specs.CostFold.{forward}
 use Rattle.keepers.specs.Counts.{Rose}
 use Rattle.schedule_rules.specs.Situation.{Situation}
+use Rattle.reverse_runner.specs.declared.fault.RunFault.{RunFault}
 use Rattle.reverse_runner.specs.declared.fault.RunFault.TheVariants.{Keeper, Damaged, Visitor, Ended, Memory}
-use Rattle.reverse_runner.specs.KeepersSeen.{calls_to, by_number, told_by, Called}
-use Rattle.reverse_queries.specs.Performing.{calls_of_all, PerformsAll}
+use Rattle.reverse_runner.specs.KeepersSeen.{calls_to, by_number, told_by}
+use Rattle.reverse_queries.specs.Asked.{Performed}
 use Rattle.reverse_queries.specs.Queries.{IsLast, up_to}
 use Rattle.reverse_queries.specs.Finding.{DoesWhatIsAsked, Got}
 use Rattle.reverse_queries.proofs.Fronts.{front_past, front_ends}
@@ -23,7 +23,7 @@ use Rattle.reverse_queries.proofs.Going.{gone_start, going_on, found_on, got_eve
 use Rattle.reverse_queries.proofs.Looking.{found_none}
 use Rattle.reverse_queries.proofs.Running.{ran_at}
 use Rattle.reverse_queries.proofs.Turning.{hands_of, left_before, left_at_start, left_at_end}
-use Rattle.reverse_queries.proofs.Ways.{way_start, way_on, may_perform, has_room, refused_in, at_end, goes_from, past_levels, same_fault, not_both, acts_there, gets_there, run_has}
+use Rattle.reverse_queries.proofs.Ways.{way_start, way_on, may_perform, has_room, refused_in, at_end, goes_from, past_levels, same_fault, not_both, acts_there, gets_there, run_has, ok_spared, ok_kept}
 use Rattle.reverse_queries.proofs.Fitting.{fault_fits, if_err_at}
 use Rattle.reverse_runner.specs.Rooms.{rooms_by}
 use Rattle.reverse_runner.proofs.Rooms.{still_roomy}
@@ -117,42 +117,24 @@ returns-in_err-perform-clause-not_visitor g c e =
     let rose = c.perform.ensures.cause same in
     absurd (omega (arith, rose))
 
-pub returns-in_err-perform-clause-not_ended : goal.returns-in_err-perform-clause-not_ended
-returns-in_err-perform-clause-not_ended g c e =
+pub returns-in_err-perform-clause-spared : goal.returns-in_err-perform-clause-spared
+returns-in_err-perform-clause-spared g c =
+    let way = c.loop-action.invariant.way in
+    let old = c.args.session.now in
+    let mid = c.loop-action.session in
+    let rooms = rooms_by g.K.Keeper.room_bytes in
     let p = err_from_is_err_and c.from_residual.result c.from_residual.ensures.1 in
-    let same = same_fault c.perform.result c.from_residual.result _ _ Ended c.in_err-perform.was p.1 p.2 e in
-    true≢false (sym (c.perform.ensures.ended.0 same) ∙ c.loop-action.invariant.way.performs.lasts)
+    let same : (f : RunFault) → c.from_residual.result ≡ Err f → c.perform.result ≡ Err f = λ f e. same_fault c.perform.result c.from_residual.result _ _ f c.in_err-perform.was p.1 p.2 e in
+    record {
+      not_ended = λ e. true≢false (sym (c.perform.ensures.ended.0 (same Ended e)) ∙ way.performs.lasts);
+      roomy = λ roomy e.
+          c.perform.ensures.roomy
+          (still_roomy old.work mid.work old.situation.slots mid.situation.slots (rooms c.args.keepers.now.items) (rooms c.loop-action.keepers.items) way.pages way.performs.slots c.loop-action.invariant.rooms roomy) (same Memory e);
+      undamaged = λ first is stands k put got e. c.perform.ensures.undamaged first is (way.stands first is stands) k put got (same (Damaged k put got) e);
+    }
 
-pub returns-in_err-perform-clause-keeper_cause : goal.returns-in_err-perform-clause-keeper_cause
-returns-in_err-perform-clause-keeper_cause g c k e =
-    let p = err_from_is_err_and c.from_residual.result c.from_residual.ensures.1 in
-    let same = same_fault c.perform.result c.from_residual.result _ _ (Keeper k) c.in_err-perform.was p.1 p.2 e in
-    let Q : ℕ → Type 0 = λ n. Rose n (by_number 0 g.K.Keeper.fault_count c.perform.new.keepers.items k) in
-    subst Q (c.loop-action.invariant.way.quiet k) (c.perform.ensures.keeper_cause k same).1
-
-pub returns-in_err-perform-clause-keepers_quiet : goal.returns-in_err-perform-clause-keepers_quiet
-returns-in_err-perform-clause-keepers_quiet g c never j =
-    let p = err_from_is_err_and c.from_residual.result c.from_residual.ensures.1 in
-    c.perform.ensures.keepers_quiet (λ k e. never k (same_fault c.from_residual.result c.perform.result _ _ (Keeper k) p.1 c.in_err-perform.was (sym p.2) e)) j ∙ c.loop-action.invariant.way.quiet j
-
-pub returns-in_err-perform-clause-keepers_later : goal.returns-in_err-perform-clause-keepers_later
-returns-in_err-perform-clause-keepers_later g c k =
-    let quiet = c.loop-action.invariant.way.quiet k in
-    let later = c.perform.ensures.keepers_later k in
-    omega (arith, quiet, later)
-
-pub returns-in_err-perform-clause-undamaged : goal.returns-in_err-perform-clause-undamaged
-returns-in_err-perform-clause-undamaged g c first is stands k put got e =
-    let p = err_from_is_err_and c.from_residual.result c.from_residual.ensures.1 in
-    let same = same_fault c.perform.result c.from_residual.result _ _ (Damaged k put got) c.in_err-perform.was p.1 p.2 e in
-    c.perform.ensures.undamaged first is (c.loop-action.invariant.way.stands first is stands) k put got same
-
-pub returns-in_err-perform-clause-slots : goal.returns-in_err-perform-clause-slots
-returns-in_err-perform-clause-slots g c =
-    c.perform.ensures.slots ∙ c.loop-action.invariant.way.room
-
-pub returns-in_err-perform-clause-others : goal.returns-in_err-perform-clause-others
-returns-in_err-perform-clause-others g c k past =
+pub returns-in_err-perform-clause-kept : goal.returns-in_err-perform-clause-kept
+returns-in_err-perform-clause-kept g c =
     let so_far = c.loop-action.invariant in
     let old = c.args.session.now in
     let mid = c.loop-action.session in
@@ -162,7 +144,18 @@ returns-in_err-perform-clause-others g c k past =
     let within : i < length list = omega arith in
     let at = at_place list i within in
     let rule_is = may_perform _ _ _ _ _ _ list i old mid _ _ _ _ a c.requires.start c.requires.valid at so_far.way in
-    c.perform.ensures.others k (past_levels old mid (take i list) a k so_far.way.performs rule_is past) ∙ so_far.way.others k past
+    let p = err_from_is_err_and c.from_residual.result c.from_residual.ensures.1 in
+    record {
+      keeper_cause = λ k e.
+          (let same = same_fault c.perform.result c.from_residual.result _ _ (Keeper k) c.in_err-perform.was p.1 p.2 e in
+          let Q : ℕ → Type 0 = λ n. Rose n (by_number 0 g.K.Keeper.fault_count c.perform.new.keepers.items k) in
+          subst Q (so_far.way.quiet k) (c.perform.ensures.keeper_cause k same).1);
+      keepers_quiet = λ never j.
+          c.perform.ensures.keepers_quiet (λ k e. never k (same_fault c.from_residual.result c.perform.result _ _ (Keeper k) p.1 c.in_err-perform.was (sym p.2) e)) j ∙ so_far.way.quiet j;
+      keepers_later = λ k. (let quiet = so_far.way.quiet k in let later = c.perform.ensures.keepers_later k in omega (arith, quiet, later));
+      slots = c.perform.ensures.slots ∙ so_far.way.room;
+      others = λ k past. c.perform.ensures.others k (past_levels old mid (take i list) a k so_far.way.performs rule_is past) ∙ so_far.way.others k past;
+    }
 
 pub returns-in-Some-clause-answer : goal.returns-in-Some-clause-answer
 returns-in-Some-clause-answer g c first is stands =
@@ -216,78 +209,8 @@ returns-in-Some-clause-found g c =
     (holdings_of old (told c.args.keepers.now.items)) held (holdings_of new (told c.perform.new.keepers.items)) mid.situation.at a new.situation.at (omega (arith, within)) front goes so_far.way.turns at acts even so_far.going.gone
     (λ states have all. ends.2 states have (so_far.going.unfound states all))
 
-pub returns-in-Some-clause-performs : goal.returns-in-Some-clause-performs
-returns-in-Some-clause-performs g c =
-    let so_far = c.loop-action.invariant in
-    let old = c.args.session.now in
-    let mid = c.loop-action.session in
-    let list = c.args.list.now in
-    let i = c.loop-action.action-index in
-    let a = slice_index_or list i (Forward 0 0 Nothing) in
-    let within : i < length list = omega arith in
-    let at = at_place list i within in
-    let new = c.perform.new.self in
-    let done = c.in_ok-perform.ensures in
-    let unit = old.unit in
-    let steps = old.situation.steps in
-    let slots = old.situation.slots in
-    let goes = goes_from old mid new (take i list) a so_far.way.performs done.performs in
-    let held = holdings_of mid (told_by g.K.Keeper.told c.loop-action.keepers.items) in
-    let gets = gets_there Got old mid (take i list) a (states_out a mid.work mid.tape.states) c.loop-action.finder c.perform.new.visitor so_far.way.performs done.gets in
-    let ran = ran_at c.args.question c.args.word unit steps slots old.journal mid.situation.at a new.situation.at held c.loop-action.finder c.perform.new.visitor goes so_far.way.turns so_far.asked gets in
-    let ends = ran.answered c.in-Some.place c.in-Some.is in
-    let front = front_ends unit steps c.in-Some.place list i a at ends.0 (so_far.front c.in-Some.place ends.1) in
-    let on = way_on _ _ _ _ _ _ list i old mid new _ _ c.perform.new.keepers.items _ _ _ a c.requires.start at so_far.way (record {
-      performs = done.performs;
-      acts = done.acts;
-      counted = done.counted;
-      called = done.called;
-      room = c.perform.ensures.slots;
-      quiet = c.perform.ensures.keepers_quiet (λ k e. not_both c.perform.result _ (Keeper k) c.in_ok-perform.was e);
-      others = c.perform.ensures.others;
-      stands = done.stands;
-      alone = done.alone;
-    }) in
-    let P : List Action → Type 0 = λ l. PerformsAll old l new in
-    subst P (sym front) on.performs
-
-pub returns-in-Some-clause-counted : goal.returns-in-Some-clause-counted
-returns-in-Some-clause-counted g c =
-    let so_far = c.loop-action.invariant in
-    let old = c.args.session.now in
-    let mid = c.loop-action.session in
-    let list = c.args.list.now in
-    let i = c.loop-action.action-index in
-    let a = slice_index_or list i (Forward 0 0 Nothing) in
-    let within : i < length list = omega arith in
-    let at = at_place list i within in
-    let new = c.perform.new.self in
-    let done = c.in_ok-perform.ensures in
-    let unit = old.unit in
-    let steps = old.situation.steps in
-    let slots = old.situation.slots in
-    let goes = goes_from old mid new (take i list) a so_far.way.performs done.performs in
-    let held = holdings_of mid (told_by g.K.Keeper.told c.loop-action.keepers.items) in
-    let gets = gets_there Got old mid (take i list) a (states_out a mid.work mid.tape.states) c.loop-action.finder c.perform.new.visitor so_far.way.performs done.gets in
-    let ran = ran_at c.args.question c.args.word unit steps slots old.journal mid.situation.at a new.situation.at held c.loop-action.finder c.perform.new.visitor goes so_far.way.turns so_far.asked gets in
-    let ends = ran.answered c.in-Some.place c.in-Some.is in
-    let front = front_ends unit steps c.in-Some.place list i a at ends.0 (so_far.front c.in-Some.place ends.1) in
-    let on = way_on _ _ _ _ _ _ list i old mid new _ _ c.perform.new.keepers.items _ _ _ a c.requires.start at so_far.way (record {
-      performs = done.performs;
-      acts = done.acts;
-      counted = done.counted;
-      called = done.called;
-      room = c.perform.ensures.slots;
-      quiet = c.perform.ensures.keepers_quiet (λ k e. not_both c.perform.result _ (Keeper k) c.in_ok-perform.was e);
-      others = c.perform.ensures.others;
-      stands = done.stands;
-      alone = done.alone;
-    }) in
-    let P : List Action → Type 0 = λ l. c.perform.new.steps ≡ c.args.steps.now + old.unit * forward l in
-    subst P (sym front) on.counted
-
-pub returns-in-Some-clause-called : goal.returns-in-Some-clause-called
-returns-in-Some-clause-called g c =
+pub returns-in-Some-clause-performed : goal.returns-in-Some-clause-performed
+returns-in-Some-clause-performed g c =
     let so_far = c.loop-action.invariant in
     let old = c.args.session.now in
     let mid = c.loop-action.session in
@@ -319,33 +242,20 @@ returns-in-Some-clause-called g c =
       alone = done.alone;
     }) in
     let calls = calls_to g.K.Keeper.put_count g.K.Keeper.get_count g.K.Keeper.free_count in
-    let P : List Action → Type 0 = λ l. Called (calls_of_all l) (calls c.args.keepers.now.items) (calls c.perform.new.keepers.items) in
-    subst P (sym front) on.called
+    let P : List Action → Type 0 = λ l. Performed old l new c.args.steps.now c.perform.new.steps (calls c.args.keepers.now.items) (calls c.perform.new.keepers.items) in
+    subst P (sym front) (record { performs = on.performs; counted = on.counted; called = on.called })
 
-pub returns-in-Some-clause-stands : goal.returns-in-Some-clause-stands
-returns-in-Some-clause-stands g c first is stands =
-    c.in_ok-perform.ensures.stands first is (c.loop-action.invariant.way.stands first is stands)
+pub returns-in-Some-clause-stays : goal.returns-in-Some-clause-stays
+returns-in-Some-clause-stays g c =
+    let way = c.loop-action.invariant.way in
+    let done = c.in_ok-perform.ensures in
+    record { stands = λ first is stands. done.stands first is (way.stands first is stands); alone = λ alone. done.alone (way.alone alone) }
 
-pub returns-in-Some-clause-alone : goal.returns-in-Some-clause-alone
-returns-in-Some-clause-alone g c alone =
-    c.in_ok-perform.ensures.alone (c.loop-action.invariant.way.alone alone)
+pub returns-in-Some-clause-spared : goal.returns-in-Some-clause-spared
+returns-in-Some-clause-spared g c = ok_spared _ _ _ _
 
-pub returns-in-Some-clause-keepers_quiet : goal.returns-in-Some-clause-keepers_quiet
-returns-in-Some-clause-keepers_quiet g c never j =
-    c.perform.ensures.keepers_quiet (λ k e. not_both c.perform.result _ (Keeper k) c.in_ok-perform.was e) j ∙ c.loop-action.invariant.way.quiet j
-
-pub returns-in-Some-clause-keepers_later : goal.returns-in-Some-clause-keepers_later
-returns-in-Some-clause-keepers_later g c k =
-    let quiet = c.loop-action.invariant.way.quiet k in
-    let later = c.perform.ensures.keepers_later k in
-    omega (arith, quiet, later)
-
-pub returns-in-Some-clause-slots : goal.returns-in-Some-clause-slots
-returns-in-Some-clause-slots g c =
-    c.perform.ensures.slots ∙ c.loop-action.invariant.way.room
-
-pub returns-in-Some-clause-others : goal.returns-in-Some-clause-others
-returns-in-Some-clause-others g c k past =
+pub returns-in-Some-clause-kept : goal.returns-in-Some-clause-kept
+returns-in-Some-clause-kept g c =
     let so_far = c.loop-action.invariant in
     let old = c.args.session.now in
     let mid = c.loop-action.session in
@@ -355,7 +265,9 @@ returns-in-Some-clause-others g c k past =
     let within : i < length list = omega arith in
     let at = at_place list i within in
     let rule_is = may_perform _ _ _ _ _ _ list i old mid _ _ _ _ a c.requires.start c.requires.valid at so_far.way in
-    c.perform.ensures.others k (past_levels old mid (take i list) a k so_far.way.performs rule_is past) ∙ so_far.way.others k past
+    let quiet = c.perform.ensures.keepers_quiet (λ k e. not_both c.perform.result _ (Keeper k) c.in_ok-perform.was e) in
+    ok_kept _ _ _ _ _ _ (λ j. quiet j ∙ so_far.way.quiet j) (c.perform.ensures.slots ∙ so_far.way.room)
+    (λ k past. c.perform.ensures.others k (past_levels old mid (take i list) a k so_far.way.performs rule_is past) ∙ so_far.way.others k past)
 
 pub loop-action-preserved : goal.loop-action-preserved
 loop-action-preserved g c =
@@ -431,65 +343,21 @@ returns-clause-found g c =
           (so_far.going.unfound gone.states gone.have);
     }
 
-pub returns-clause-performs : goal.returns-clause-performs
-returns-clause-performs g c =
-    let so_far = c.loop-action.invariant in
-    let old = c.args.session.now in
-    let list = c.args.list.now in
-    let whole : take c.loop-action.action-index list ≡ list = take_all c.loop-action.action-index list (omega arith) in
-    let P : List Action → Type 0 = λ l. PerformsAll old l c.loop-action.session in
-    subst P whole so_far.way.performs
-
-pub returns-clause-counted : goal.returns-clause-counted
-returns-clause-counted g c =
-    let so_far = c.loop-action.invariant in
-    let old = c.args.session.now in
-    let list = c.args.list.now in
-    let whole : take c.loop-action.action-index list ≡ list = take_all c.loop-action.action-index list (omega arith) in
-    let P : List Action → Type 0 = λ l. c.loop-action.steps ≡ c.args.steps.now + old.unit * forward l in
-    subst P whole so_far.way.counted
-
-pub returns-clause-called : goal.returns-clause-called
-returns-clause-called g c =
+pub returns-clause-performed : goal.returns-clause-performed
+returns-clause-performed g c =
     let so_far = c.loop-action.invariant in
     let old = c.args.session.now in
     let list = c.args.list.now in
     let whole : take c.loop-action.action-index list ≡ list = take_all c.loop-action.action-index list (omega arith) in
     let calls = calls_to g.K.Keeper.put_count g.K.Keeper.get_count g.K.Keeper.free_count in
-    let P : List Action → Type 0 = λ l. Called (calls_of_all l) (calls c.args.keepers.now.items) (calls c.loop-action.keepers.items) in
-    subst P whole so_far.way.called
+    let P : List Action → Type 0 = λ l. Performed old l c.loop-action.session c.args.steps.now c.loop-action.steps (calls c.args.keepers.now.items) (calls c.loop-action.keepers.items) in
+    subst P whole (record { performs = so_far.way.performs; counted = so_far.way.counted; called = so_far.way.called })
 
-pub returns-clause-stands : goal.returns-clause-stands
-returns-clause-stands g c first is stands =
-    c.loop-action.invariant.way.stands first is stands
+pub returns-clause-stays : goal.returns-clause-stays
+returns-clause-stays g c = let way = c.loop-action.invariant.way in record { stands = way.stands; alone = way.alone }
 
-pub returns-clause-alone : goal.returns-clause-alone
-returns-clause-alone g c alone =
-    c.loop-action.invariant.way.alone alone
+pub returns-clause-spared : goal.returns-clause-spared
+returns-clause-spared g c = ok_spared _ _ _ _
 
-pub returns-clause-keepers_quiet : goal.returns-clause-keepers_quiet
-returns-clause-keepers_quiet g c never j =
-    c.loop-action.invariant.way.quiet j
-
-pub returns-clause-keepers_later : goal.returns-clause-keepers_later
-returns-clause-keepers_later g c k =
-    let quiet = c.loop-action.invariant.way.quiet k in omega (arith, quiet)
-
-pub returns-clause-slots : goal.returns-clause-slots
-returns-clause-slots g c =
-    c.loop-action.invariant.way.room
-
-pub returns-clause-others : goal.returns-clause-others
-returns-clause-others g c k past =
-    c.loop-action.invariant.way.others k past
-
-pub returns-in_err-perform-clause-roomy : goal.returns-in_err-perform-clause-roomy
-returns-in_err-perform-clause-roomy g c roomy e =
-    let so_far = c.loop-action.invariant in
-    let old = c.args.session.now in
-    let mid = c.loop-action.session in
-    let rooms = rooms_by g.K.Keeper.room_bytes in
-    let p = err_from_is_err_and c.from_residual.result c.from_residual.ensures.1 in
-    let same = same_fault c.perform.result c.from_residual.result _ _ Memory c.in_err-perform.was p.1 p.2 e in
-    c.perform.ensures.roomy
-    (still_roomy old.work mid.work old.situation.slots mid.situation.slots (rooms c.args.keepers.now.items) (rooms c.loop-action.keepers.items) so_far.way.pages so_far.way.performs.slots so_far.rooms roomy) same
+pub returns-clause-kept : goal.returns-clause-kept
+returns-clause-kept g c = let way = c.loop-action.invariant.way in ok_kept _ _ _ _ _ _ way.quiet way.room way.others

@@ -1,26 +1,27 @@
-use Rattle.std.proofs.Common.{◌≡◌, ◌∙◌, ℕ, ◌+◌, ◌*◌, ◌<◌, inl, inr, List, length, take, slice_get, slice_index_or, Some, Err, Result, true≢false, refl, sym, ap, subst, arith}
+use Rattle.std.proofs.Common.{◌≡◌, ◌≢◌, ◌∙◌, ℕ, ◌<◌, inl, inr, List, length, take, slice_get, slice_index_or, Some, Err, Result, true≢false, refl, sym, ap, subst, arith}
 use Rattle.std.proofs.lemmas.Option.{slice_get-get_or}
 use Rattle.std.proofs.lemmas.Result.{err_from_is_err_and}
 use Rattle.plan_types.specs.declared.action.Action.{Action}
 use Rattle.plan_types.specs.declared.action.Action.TheVariants.{Forward}
 use Rattle.plan_types.specs.declared.action.Keep.TheVariants.{Nothing}
-use Rattle.level_book.specs.CostFold.{forward}
 use Rattle.keepers.specs.Counts.{Rose}
 use Rattle.rv_machine.specs.MachineState.{MachineState}
 use Rattle.rv_machine.specs.States.{state_number}
+use Rattle.reverse_runner.specs.declared.fault.RunFault.{RunFault}
 use Rattle.reverse_runner.specs.declared.fault.RunFault.TheVariants.{Keeper, Damaged, Visitor, Ended, Memory}
-use Rattle.reverse_runner.specs.KeepersSeen.{calls_to, by_number, told_by, Called}
+use Rattle.reverse_runner.specs.KeepersSeen.{calls_to, by_number, told_by}
 use Rattle.reverse_runner.specs.Performed.{states_out}
 use Rattle.reverse_runner.specs.SessionState.{holdings_of}
 use Rattle.reverse_queries.specs.Queries.{hands_out, front_to}
-use Rattle.reverse_queries.specs.Performing.{calls_of_all, PerformsAll, GetsState, MissesState}
+use Rattle.reverse_queries.specs.Asked.{Performed}
+use Rattle.reverse_queries.specs.Performing.{GetsState, MissesState}
 use Rattle.reverse_queries.specs.Picking.{PassesOn}
 use Rattle.reverse_queries.proofs.Fitting.{fault_fits, if_err_at}
 use Rattle.reverse_queries.proofs.Fronts.{front_past, front_ends, front_takes}
 use Rattle.reverse_queries.proofs.Going.{gone_start, gone_on, found_on, got_even}
 use Rattle.reverse_queries.proofs.Picking.{MissesPicked, MissedAt, picks_at, missed_at, shown_at, unshown_at, misses_state, of_visitor}
 use Rattle.reverse_queries.proofs.Turning.{left, left_at_start, left_at_end}
-use Rattle.reverse_queries.proofs.Ways.{way_start, way_on, may_perform, may_go, has_room, refused_in, at_end, goes_from, past_levels, on_err_always, same_fault, not_both, acts_there, gets_there, misses_there, run_has}
+use Rattle.reverse_queries.proofs.Ways.{way_start, way_on, may_perform, may_go, has_room, refused_in, at_end, goes_from, past_levels, on_err_always, same_fault, not_both, acts_there, gets_there, misses_there, run_has, ok_spared, ok_kept, ok_seen}
 use Rattle.reverse_runner.specs.Rooms.{rooms_by}
 use Rattle.reverse_runner.proofs.Rooms.{still_roomy}
 use Rattle.reverse_queries.proofs.queries.state_at.Goals as goal
@@ -112,82 +113,8 @@ returns-then-picked-clause-gets g c =
           ∙ shown.is (state_number first old.journal) (run_has first old mid (told c.loop-action.keepers.items) (take i list) a new.situation.at c.requires.start so_far.way.performs goes (so_far.way.stands first is stands));
     })
 
-pub returns-then-picked-clause-performs : goal.returns-then-picked-clause-performs
-returns-then-picked-clause-performs g c =
-    let so_far = c.loop-action.invariant in
-    let old = c.args.session.now in
-    let mid = c.loop-action.session in
-    let list = c.args.list.now in
-    let i = c.loop-action.action-index in
-    let a = slice_index_or list i (Forward 0 0 Nothing) in
-    let within : i < length list = omega arith in
-    let at = at_place list i within in
-    let new = c.perform.new.self in
-    let done = c.in_ok-perform.ensures in
-    let unit = old.unit in
-    let steps = old.situation.steps in
-    let slots = old.situation.slots in
-    let goes = goes_from old mid new (take i list) a so_far.way.performs done.performs in
-    let told = told_by g.K.Keeper.told in
-    let held = holdings_of mid (told c.loop-action.keepers.items) in
-    let gets = gets_there (PassesOn g.V.Visitor.got) old mid (take i list) a (states_out a mid.work mid.tape.states) c.loop-action.picked c.perform.new.visitor so_far.way.performs done.gets in
-    let it = picks_at g.V.Visitor.got unit steps slots old.journal a mid.situation.at new.situation.at held c.loop-action.picked c.perform.new.visitor goes so_far.way.turns gets in
-    let shown = shown_at g.V.Visitor.got unit steps old.journal a mid.situation.at new.situation.at held c.loop-action.picked c.perform.new.visitor c.args.place c.args.visitor.now so_far.place so_far.visitor so_far.passed c.if-picked.true it in
-    let front = front_ends unit steps c.args.place list i a at shown.hands so_far.front in
-    let last = c.visitor-then-picked-1.given.1 (sym (it.reference ∙ so_far.reference ∙ c.new-picked.ensures.same_reference)) in
-    let on = way_on _ _ _ _ _ _ list i old mid new _ _ c.perform.new.keepers.items _ _ _ a c.requires.start at so_far.way (record {
-      performs = done.performs;
-      acts = done.acts;
-      counted = done.counted;
-      called = done.called;
-      room = c.perform.ensures.slots;
-      quiet = c.perform.ensures.keepers_quiet (λ k e. not_both c.perform.result _ (Keeper k) c.in_ok-perform.was e);
-      others = c.perform.ensures.others;
-      stands = done.stands;
-      alone = done.alone;
-    }) in
-    let P : List Action → Type 0 = λ l. PerformsAll old l new in
-    subst P (sym front) on.performs
-
-pub returns-then-picked-clause-counted : goal.returns-then-picked-clause-counted
-returns-then-picked-clause-counted g c =
-    let so_far = c.loop-action.invariant in
-    let old = c.args.session.now in
-    let mid = c.loop-action.session in
-    let list = c.args.list.now in
-    let i = c.loop-action.action-index in
-    let a = slice_index_or list i (Forward 0 0 Nothing) in
-    let within : i < length list = omega arith in
-    let at = at_place list i within in
-    let new = c.perform.new.self in
-    let done = c.in_ok-perform.ensures in
-    let unit = old.unit in
-    let steps = old.situation.steps in
-    let slots = old.situation.slots in
-    let goes = goes_from old mid new (take i list) a so_far.way.performs done.performs in
-    let told = told_by g.K.Keeper.told in
-    let held = holdings_of mid (told c.loop-action.keepers.items) in
-    let gets = gets_there (PassesOn g.V.Visitor.got) old mid (take i list) a (states_out a mid.work mid.tape.states) c.loop-action.picked c.perform.new.visitor so_far.way.performs done.gets in
-    let it = picks_at g.V.Visitor.got unit steps slots old.journal a mid.situation.at new.situation.at held c.loop-action.picked c.perform.new.visitor goes so_far.way.turns gets in
-    let shown = shown_at g.V.Visitor.got unit steps old.journal a mid.situation.at new.situation.at held c.loop-action.picked c.perform.new.visitor c.args.place c.args.visitor.now so_far.place so_far.visitor so_far.passed c.if-picked.true it in
-    let front = front_ends unit steps c.args.place list i a at shown.hands so_far.front in
-    let last = c.visitor-then-picked-1.given.1 (sym (it.reference ∙ so_far.reference ∙ c.new-picked.ensures.same_reference)) in
-    let on = way_on _ _ _ _ _ _ list i old mid new _ _ c.perform.new.keepers.items _ _ _ a c.requires.start at so_far.way (record {
-      performs = done.performs;
-      acts = done.acts;
-      counted = done.counted;
-      called = done.called;
-      room = c.perform.ensures.slots;
-      quiet = c.perform.ensures.keepers_quiet (λ k e. not_both c.perform.result _ (Keeper k) c.in_ok-perform.was e);
-      others = c.perform.ensures.others;
-      stands = done.stands;
-      alone = done.alone;
-    }) in
-    let P : List Action → Type 0 = λ l. c.perform.new.steps ≡ c.args.steps.now + old.unit * forward l in
-    subst P (sym front) on.counted
-
-pub returns-then-picked-clause-called : goal.returns-then-picked-clause-called
-returns-then-picked-clause-called g c =
+pub returns-then-picked-clause-performed : goal.returns-then-picked-clause-performed
+returns-then-picked-clause-performed g c =
     let so_far = c.loop-action.invariant in
     let old = c.args.session.now in
     let mid = c.loop-action.session in
@@ -221,42 +148,17 @@ returns-then-picked-clause-called g c =
       alone = done.alone;
     }) in
     let calls = calls_to g.K.Keeper.put_count g.K.Keeper.get_count g.K.Keeper.free_count in
-    let P : List Action → Type 0 = λ l. Called (calls_of_all l) (calls c.args.keepers.now.items) (calls c.perform.new.keepers.items) in
-    subst P (sym front) on.called
+    let P : List Action → Type 0 = λ l. Performed old l new c.args.steps.now c.perform.new.steps (calls c.args.keepers.now.items) (calls c.perform.new.keepers.items) in
+    subst P (sym front) (record { performs = on.performs; counted = on.counted; called = on.called })
 
-pub returns-then-picked-clause-stands : goal.returns-then-picked-clause-stands
-returns-then-picked-clause-stands g c first is stands =
-    c.in_ok-perform.ensures.stands first is (c.loop-action.invariant.way.stands first is stands)
-
-pub returns-then-picked-clause-alone : goal.returns-then-picked-clause-alone
-returns-then-picked-clause-alone g c alone =
-    c.in_ok-perform.ensures.alone (c.loop-action.invariant.way.alone alone)
-
-pub returns-then-picked-clause-quiet : goal.returns-then-picked-clause-quiet
-returns-then-picked-clause-quiet g c never =
-    let so_far = c.loop-action.invariant in
-    let old = c.args.session.now in
-    let mid = c.loop-action.session in
-    let list = c.args.list.now in
-    let i = c.loop-action.action-index in
-    let a = slice_index_or list i (Forward 0 0 Nothing) in
-    let within : i < length list = omega arith in
-    let at = at_place list i within in
-    let new = c.perform.new.self in
+pub returns-then-picked-clause-stays : goal.returns-then-picked-clause-stays
+returns-then-picked-clause-stays g c =
+    let way = c.loop-action.invariant.way in
     let done = c.in_ok-perform.ensures in
-    let unit = old.unit in
-    let steps = old.situation.steps in
-    let slots = old.situation.slots in
-    let goes = goes_from old mid new (take i list) a so_far.way.performs done.performs in
-    let told = told_by g.K.Keeper.told in
-    let held = holdings_of mid (told c.loop-action.keepers.items) in
-    let gets = gets_there (PassesOn g.V.Visitor.got) old mid (take i list) a (states_out a mid.work mid.tape.states) c.loop-action.picked c.perform.new.visitor so_far.way.performs done.gets in
-    let it = picks_at g.V.Visitor.got unit steps slots old.journal a mid.situation.at new.situation.at held c.loop-action.picked c.perform.new.visitor goes so_far.way.turns gets in
-    let last = c.visitor-then-picked-1.given.1 (sym (it.reference ∙ so_far.reference ∙ c.new-picked.ensures.same_reference)) in
-    ap g.V.Visitor.fault_count last ∙ c.perform.ensures.quiet (λ e. not_both c.perform.result _ Visitor c.in_ok-perform.was e) ∙ ap g.V.Visitor.fault_count so_far.visitor
+    record { stands = λ first is stands. done.stands first is (way.stands first is stands); alone = λ alone. done.alone (way.alone alone) }
 
-pub returns-then-picked-clause-later : goal.returns-then-picked-clause-later
-returns-then-picked-clause-later g c =
+pub returns-then-picked-clause-seen : goal.returns-then-picked-clause-seen
+returns-then-picked-clause-seen g c =
     let so_far = c.loop-action.invariant in
     let old = c.args.session.now in
     let mid = c.loop-action.session in
@@ -278,24 +180,13 @@ returns-then-picked-clause-later g c =
     let last = ap g.V.Visitor.fault_count (c.visitor-then-picked-1.given.1 (sym (it.reference ∙ so_far.reference ∙ c.new-picked.ensures.same_reference))) in
     let same = c.perform.ensures.quiet (λ e. not_both c.perform.result _ Visitor c.in_ok-perform.was e) in
     let first = ap g.V.Visitor.fault_count so_far.visitor in
-    omega (arith, last, same, first)
+    ok_seen _ _ _ _ (last ∙ same ∙ first)
 
-pub returns-then-picked-clause-keepers_quiet : goal.returns-then-picked-clause-keepers_quiet
-returns-then-picked-clause-keepers_quiet g c never j =
-    c.perform.ensures.keepers_quiet (λ k e. not_both c.perform.result _ (Keeper k) c.in_ok-perform.was e) j ∙ c.loop-action.invariant.way.quiet j
+pub returns-then-picked-clause-spared : goal.returns-then-picked-clause-spared
+returns-then-picked-clause-spared g c = ok_spared _ _ _ _
 
-pub returns-then-picked-clause-keepers_later : goal.returns-then-picked-clause-keepers_later
-returns-then-picked-clause-keepers_later g c k =
-    let quiet = c.loop-action.invariant.way.quiet k in
-    let later = c.perform.ensures.keepers_later k in
-    omega (arith, quiet, later)
-
-pub returns-then-picked-clause-slots : goal.returns-then-picked-clause-slots
-returns-then-picked-clause-slots g c =
-    c.perform.ensures.slots ∙ c.loop-action.invariant.way.room
-
-pub returns-then-picked-clause-others : goal.returns-then-picked-clause-others
-returns-then-picked-clause-others g c k past =
+pub returns-then-picked-clause-kept : goal.returns-then-picked-clause-kept
+returns-then-picked-clause-kept g c =
     let so_far = c.loop-action.invariant in
     let old = c.args.session.now in
     let mid = c.loop-action.session in
@@ -305,20 +196,12 @@ returns-then-picked-clause-others g c k past =
     let within : i < length list = omega arith in
     let at = at_place list i within in
     let rule_is = may_perform _ _ _ _ _ _ list i old mid _ _ _ _ a c.requires.start c.requires.valid at so_far.way in
-    c.perform.ensures.others k (past_levels old mid (take i list) a k so_far.way.performs rule_is past) ∙ so_far.way.others k past
+    let quiet = c.perform.ensures.keepers_quiet (λ k e. not_both c.perform.result _ (Keeper k) c.in_ok-perform.was e) in
+    ok_kept _ _ _ _ _ _ (λ j. quiet j ∙ so_far.way.quiet j) (c.perform.ensures.slots ∙ so_far.way.room)
+    (λ k past. c.perform.ensures.others k (past_levels old mid (take i list) a k so_far.way.performs rule_is past) ∙ so_far.way.others k past)
 
-pub returns-in_err-perform-clause-keepers_later : goal.returns-in_err-perform-clause-keepers_later
-returns-in_err-perform-clause-keepers_later g c k =
-    let quiet = c.loop-action.invariant.way.quiet k in
-    let later = c.perform.ensures.keepers_later k in
-    omega (arith, quiet, later)
-
-pub returns-in_err-perform-clause-slots : goal.returns-in_err-perform-clause-slots
-returns-in_err-perform-clause-slots g c =
-    c.perform.ensures.slots ∙ c.loop-action.invariant.way.room
-
-pub returns-in_err-perform-clause-others : goal.returns-in_err-perform-clause-others
-returns-in_err-perform-clause-others g c k past =
+pub returns-in_err-perform-clause-kept : goal.returns-in_err-perform-clause-kept
+returns-in_err-perform-clause-kept g c =
     let so_far = c.loop-action.invariant in
     let old = c.args.session.now in
     let mid = c.loop-action.session in
@@ -328,7 +211,18 @@ returns-in_err-perform-clause-others g c k past =
     let within : i < length list = omega arith in
     let at = at_place list i within in
     let rule_is = may_perform _ _ _ _ _ _ list i old mid _ _ _ _ a c.requires.start c.requires.valid at so_far.way in
-    c.perform.ensures.others k (past_levels old mid (take i list) a k so_far.way.performs rule_is past) ∙ so_far.way.others k past
+    let p = err_from_is_err_and c.from_residual.result c.from_residual.ensures.1 in
+    record {
+      keeper_cause = λ k e.
+          (let same = same_fault c.perform.result c.from_residual.result _ _ (Keeper k) c.in_err-perform.was p.1 p.2 e in
+          let Q : ℕ → Type 0 = λ n. Rose n (by_number 0 g.K.Keeper.fault_count c.perform.new.keepers.items k) in
+          subst Q (so_far.way.quiet k) (c.perform.ensures.keeper_cause k same).1);
+      keepers_quiet = λ never j.
+          c.perform.ensures.keepers_quiet (λ k e. never k (same_fault c.from_residual.result c.perform.result _ _ (Keeper k) p.1 c.in_err-perform.was (sym p.2) e)) j ∙ so_far.way.quiet j;
+      keepers_later = λ k. (let quiet = so_far.way.quiet k in let later = c.perform.ensures.keepers_later k in omega (arith, quiet, later));
+      slots = c.perform.ensures.slots ∙ so_far.way.room;
+      others = λ k past. c.perform.ensures.others k (past_levels old mid (take i list) a k so_far.way.performs rule_is past) ∙ so_far.way.others k past;
+    }
 
 pub returns-in_err-perform-clause-refused : goal.returns-in_err-perform-clause-refused
 returns-in_err-perform-clause-refused g c =
@@ -359,76 +253,24 @@ returns-in_err-perform-clause-refused g c =
     (refused_in _ _ _ _ _ _ list (front_to old.unit old.situation.steps c.args.place list) i old mid c.perform.new.self _ _ c.perform.new.keepers.items _ _ _ a Misses p.0 at takes.0 takes.1 takes.2 so_far.way so_far.gone
     c.in_err-perform.ensures.refused c.in_err-perform.ensures.uncounted c.in_err-perform.ensures.called_at_most fits)
 
-pub returns-in_err-perform-clause-unseen : goal.returns-in_err-perform-clause-unseen
-returns-in_err-perform-clause-unseen g c =
-    let so_far = c.loop-action.invariant in
+pub returns-in_err-perform-clause-spared : goal.returns-in_err-perform-clause-spared
+returns-in_err-perform-clause-spared g c =
+    let way = c.loop-action.invariant.way in
     let old = c.args.session.now in
     let mid = c.loop-action.session in
-    let list = c.args.list.now in
-    let i = c.loop-action.action-index in
-    let a = slice_index_or list i (Forward 0 0 Nothing) in
-    let within : i < length list = omega arith in
-    let at = at_place list i within in
+    let rooms = rooms_by g.K.Keeper.room_bytes in
     let p = err_from_is_err_and c.from_residual.result c.from_residual.ensures.1 in
-    on_err_always c.from_residual.result (λ never.
-    let still = c.in_err-perform.ensures.unseen (λ e. never (same_fault c.from_residual.result c.perform.result _ _ Visitor p.1 c.in_err-perform.was (sym p.2) (c.in_err-perform.was ∙ e))) in
-    let last = c.in_err-perform.visitor-in-Break-1-own.given.1 (sym (ap (λ v. v.visitor.ghost_name) still ∙ so_far.reference ∙ c.new-picked.ensures.same_reference)) in
-    last ∙ ap (λ v. v.visitor.now) still ∙ so_far.visitor)
+    let same : (f : RunFault) → c.from_residual.result ≡ Err f → c.perform.result ≡ Err f = λ f e. same_fault c.perform.result c.from_residual.result _ _ f c.in_err-perform.was p.1 p.2 e in
+    record {
+      not_ended = λ e. true≢false (sym (c.perform.ensures.ended.0 (same Ended e)) ∙ way.performs.lasts);
+      roomy = λ roomy e.
+          c.perform.ensures.roomy
+          (still_roomy old.work mid.work old.situation.slots mid.situation.slots (rooms c.args.keepers.now.items) (rooms c.loop-action.keepers.items) way.pages way.performs.slots c.loop-action.invariant.rooms roomy) (same Memory e);
+      undamaged = λ first is stands k put got e. c.perform.ensures.undamaged first is (way.stands first is stands) k put got (same (Damaged k put got) e);
+    }
 
-pub returns-in_err-perform-clause-not_ended : goal.returns-in_err-perform-clause-not_ended
-returns-in_err-perform-clause-not_ended g c e =
-    let so_far = c.loop-action.invariant in
-    let old = c.args.session.now in
-    let mid = c.loop-action.session in
-    let list = c.args.list.now in
-    let i = c.loop-action.action-index in
-    let a = slice_index_or list i (Forward 0 0 Nothing) in
-    let within : i < length list = omega arith in
-    let at = at_place list i within in
-    let p = err_from_is_err_and c.from_residual.result c.from_residual.ensures.1 in
-    let same = same_fault c.perform.result c.from_residual.result _ _ Ended c.in_err-perform.was p.1 p.2 e in
-    true≢false (sym (c.perform.ensures.ended.0 same) ∙ c.loop-action.invariant.way.performs.lasts)
-
-pub returns-in_err-perform-clause-cause : goal.returns-in_err-perform-clause-cause
-returns-in_err-perform-clause-cause g c e =
-    let so_far = c.loop-action.invariant in
-    let old = c.args.session.now in
-    let mid = c.loop-action.session in
-    let list = c.args.list.now in
-    let i = c.loop-action.action-index in
-    let a = slice_index_or list i (Forward 0 0 Nothing) in
-    let within : i < length list = omega arith in
-    let at = at_place list i within in
-    let p = err_from_is_err_and c.from_residual.result c.from_residual.ensures.1 in
-    let same = same_fault c.perform.result c.from_residual.result _ _ Visitor c.in_err-perform.was p.1 p.2 e in
-    let told = told_by g.K.Keeper.told in
-    let held = holdings_of mid (told c.loop-action.keepers.items) in
-    let goes = may_go _ _ _ _ _ _ list i old mid _ _ _ _ a c.requires.start c.requires.valid at so_far.way in
-    let missed : c.perform.result ≡ Err Visitor → MissedAt g.V.Visitor.missed old.unit old.situation.steps old.journal a held c.loop-action.picked c.perform.new.visitor = λ e.
-    missed_at g.V.Visitor.got g.V.Visitor.missed old.unit old.situation.steps old.situation.slots old.journal a mid.situation.at _ held c.loop-action.picked c.perform.new.visitor goes so_far.way.turns
-    (misses_there (PassesOn g.V.Visitor.got) (MissesPicked g.V.Visitor.missed) old mid (take i list) a (states_out a mid.work mid.tape.states) c.loop-action.picked c.perform.new.visitor so_far.way.performs (c.perform.ensures.misses e)) in
-    let last = c.in_err-perform.visitor-in-Break-1-own.given.1 (sym ((missed same).reference ∙ so_far.reference ∙ c.new-picked.ensures.same_reference)) in
-    let P : ℕ → Type 0 = λ n. Rose n (g.V.Visitor.fault_count c.perform.new.visitor.visitor.now) in
-    let Q : g.row.V.Denot → Type 0 = λ w. Rose (g.V.Visitor.fault_count c.args.visitor.now) (g.V.Visitor.fault_count w) in
-    subst Q (sym last) (subst P (ap g.V.Visitor.fault_count so_far.visitor) (c.perform.ensures.cause same))
-
-pub returns-in_err-perform-clause-quiet : goal.returns-in_err-perform-clause-quiet
-returns-in_err-perform-clause-quiet g c never =
-    let so_far = c.loop-action.invariant in
-    let old = c.args.session.now in
-    let mid = c.loop-action.session in
-    let list = c.args.list.now in
-    let i = c.loop-action.action-index in
-    let a = slice_index_or list i (Forward 0 0 Nothing) in
-    let within : i < length list = omega arith in
-    let at = at_place list i within in
-    let p = err_from_is_err_and c.from_residual.result c.from_residual.ensures.1 in
-    let still = c.in_err-perform.ensures.unseen (λ e. never (same_fault c.from_residual.result c.perform.result _ _ Visitor p.1 c.in_err-perform.was (sym p.2) (c.in_err-perform.was ∙ e))) in
-    let last = c.in_err-perform.visitor-in-Break-1-own.given.1 (sym (ap (λ v. v.visitor.ghost_name) still ∙ so_far.reference ∙ c.new-picked.ensures.same_reference)) in
-    ap g.V.Visitor.fault_count (last ∙ ap (λ v. v.visitor.now) still ∙ so_far.visitor)
-
-pub returns-in_err-perform-clause-later : goal.returns-in_err-perform-clause-later
-returns-in_err-perform-clause-later g c =
+pub returns-in_err-perform-clause-seen : goal.returns-in_err-perform-clause-seen
+returns-in_err-perform-clause-seen g c =
     let so_far = c.loop-action.invariant in
     let old = c.args.session.now in
     let mid = c.loop-action.session in
@@ -449,52 +291,19 @@ returns-in_err-perform-clause-later g c =
       | inl e ↦ (missed (is ∙ ap (λ f. Err f) e)).reference
       | inr ne ↦ ap (λ v. v.visitor.ghost_name) (c.in_err-perform.ensures.unseen (λ e. ne (same_err c.perform.result _ _ is (c.in_err-perform.was ∙ e))))
     ] in
-    let last = ap g.V.Visitor.fault_count (c.in_err-perform.visitor-in-Break-1-own.given.1 (sym (reference ∙ so_far.reference ∙ c.new-picked.ensures.same_reference))) in
-    let first = ap g.V.Visitor.fault_count so_far.visitor in
-    let later = c.perform.ensures.later in
-    omega (arith, last, first, later)
-
-pub returns-in_err-perform-clause-keeper_cause : goal.returns-in_err-perform-clause-keeper_cause
-returns-in_err-perform-clause-keeper_cause g c k e =
-    let so_far = c.loop-action.invariant in
-    let old = c.args.session.now in
-    let mid = c.loop-action.session in
-    let list = c.args.list.now in
-    let i = c.loop-action.action-index in
-    let a = slice_index_or list i (Forward 0 0 Nothing) in
-    let within : i < length list = omega arith in
-    let at = at_place list i within in
-    let p = err_from_is_err_and c.from_residual.result c.from_residual.ensures.1 in
-    let same = same_fault c.perform.result c.from_residual.result _ _ (Keeper k) c.in_err-perform.was p.1 p.2 e in
-    let Q : ℕ → Type 0 = λ n. Rose n (by_number 0 g.K.Keeper.fault_count c.perform.new.keepers.items k) in
-    subst Q (c.loop-action.invariant.way.quiet k) (c.perform.ensures.keeper_cause k same).1
-
-pub returns-in_err-perform-clause-keepers_quiet : goal.returns-in_err-perform-clause-keepers_quiet
-returns-in_err-perform-clause-keepers_quiet g c never j =
-    let so_far = c.loop-action.invariant in
-    let old = c.args.session.now in
-    let mid = c.loop-action.session in
-    let list = c.args.list.now in
-    let i = c.loop-action.action-index in
-    let a = slice_index_or list i (Forward 0 0 Nothing) in
-    let within : i < length list = omega arith in
-    let at = at_place list i within in
-    let p = err_from_is_err_and c.from_residual.result c.from_residual.ensures.1 in
-    c.perform.ensures.keepers_quiet (λ k e. never k (same_fault c.from_residual.result c.perform.result _ _ (Keeper k) p.1 c.in_err-perform.was (sym p.2) e)) j ∙ c.loop-action.invariant.way.quiet j
-
-pub returns-in_err-perform-clause-undamaged : goal.returns-in_err-perform-clause-undamaged
-returns-in_err-perform-clause-undamaged g c first is stands k put got e =
-    let so_far = c.loop-action.invariant in
-    let old = c.args.session.now in
-    let mid = c.loop-action.session in
-    let list = c.args.list.now in
-    let i = c.loop-action.action-index in
-    let a = slice_index_or list i (Forward 0 0 Nothing) in
-    let within : i < length list = omega arith in
-    let at = at_place list i within in
-    let p = err_from_is_err_and c.from_residual.result c.from_residual.ensures.1 in
-    let same = same_fault c.perform.result c.from_residual.result _ _ (Damaged k put got) c.in_err-perform.was p.1 p.2 e in
-    c.perform.ensures.undamaged first is (c.loop-action.invariant.way.stands first is stands) k put got same
+    let faults = g.V.Visitor.fault_count in
+    let last = c.in_err-perform.visitor-in-Break-1-own.given.1 (sym (reference ∙ so_far.reference ∙ c.new-picked.ensures.same_reference)) in
+    let still = λ (never : c.from_residual.result ≢ Err Visitor).
+    c.in_err-perform.ensures.unseen (λ e. never (same_fault c.from_residual.result c.perform.result _ _ Visitor p.1 c.in_err-perform.was (sym p.2) (c.in_err-perform.was ∙ e))) in
+    record {
+      unseen = on_err_always c.from_residual.result (λ never. last ∙ ap (λ v. v.visitor.now) (still never) ∙ so_far.visitor);
+      cause = λ e.
+          (let P : ℕ → Type 0 = λ n. Rose n (faults c.perform.new.visitor.visitor.now) in
+          let Q : g.row.V.Denot → Type 0 = λ w. Rose (faults c.args.visitor.now) (faults w) in
+          subst Q (sym last) (subst P (ap faults so_far.visitor) (c.perform.ensures.cause (same_fault c.perform.result c.from_residual.result _ _ Visitor c.in_err-perform.was p.1 p.2 e))));
+      quiet = λ never. ap faults (last ∙ ap (λ v. v.visitor.now) (still never) ∙ so_far.visitor);
+      later = (let end = ap faults last in let first = ap faults so_far.visitor in let later = c.perform.ensures.later in omega (arith, end, first, later));
+    }
 
 pub loop-action-preserved : goal.loop-action-preserved
 loop-action-preserved g c =
@@ -551,14 +360,3 @@ unreachable-requires g c =
     let none = left_at_end old.unit old.situation.steps c.loop-action.session.situation.at so_far.way.turns over in
     let still = so_far.still in
     absurd (omega (arith, none, still))
-
-pub returns-in_err-perform-clause-roomy : goal.returns-in_err-perform-clause-roomy
-returns-in_err-perform-clause-roomy g c roomy e =
-    let so_far = c.loop-action.invariant in
-    let old = c.args.session.now in
-    let mid = c.loop-action.session in
-    let rooms = rooms_by g.K.Keeper.room_bytes in
-    let p = err_from_is_err_and c.from_residual.result c.from_residual.ensures.1 in
-    let same = same_fault c.perform.result c.from_residual.result _ _ Memory c.in_err-perform.was p.1 p.2 e in
-    c.perform.ensures.roomy
-    (still_roomy old.work mid.work old.situation.slots mid.situation.slots (rooms c.args.keepers.now.items) (rooms c.loop-action.keepers.items) so_far.way.pages so_far.way.performs.slots so_far.rooms roomy) same
