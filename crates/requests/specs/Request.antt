@@ -30,7 +30,7 @@ use Rattle.requests.specs.Operands.{Schedule, by_name, Limit, Operand, the_word,
 
 -- ---- options
 
--- That the program is raw words, how many pages the stack has, how many workers fill tables of costs, how many instructions a step of a
+-- That the program is raw words, how many pages the stack has, how many workers share the work, how many instructions a step of a
 -- schedule is, and that a level's images are kept in files of a folder. An option that is added is a case here, and in each definition by cases on options.
 pub data Choice : Type 0 where
   raw : Choice
@@ -297,7 +297,7 @@ stack_pages (workers count ∷ options) = stack_pages options
 stack_pages (units count ∷ options) = stack_pages options
 stack_pages (files level folder ∷ options) = stack_pages options
 
--- how many workers fill tables of costs: one where nothing is said
+-- how many workers share the work: one where nothing is said
 abbrev pub worker_count : List Choice → ℕ
 worker_count [] = 1
 worker_count (raw ∷ options) = worker_count options

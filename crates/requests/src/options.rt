@@ -16,7 +16,7 @@ pub enum Choice<'a> {
     Raw,
     /// The stack has so many pages.
     Stack(u64),
-    /// So many workers fill tables of costs.
+    /// So many workers share the work.
     Workers(u64),
     /// A step of a schedule is so many instructions.
     Unit(u64),
@@ -117,7 +117,7 @@ impl<'a> Options<'a> {
         STACK_PAGES
     }
 
-    /// How many workers fill tables of costs.
+    /// How many workers share the work: tables of costs, the search for a digest, or the digests of lines.
     pub fn worker_count(&self) -> u64
         ensures { result ≡ worker_count self.now }
     {

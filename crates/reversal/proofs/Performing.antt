@@ -1,10 +1,10 @@
 -- The deeds of a performed list: what a writer of lines writes for its actions, on the way through a valid list.
-use Rattle.std.proofs.Common.{◌≡◌, ◌⊎◌, inl, inr, ℕ, zero, suc, ◌==◌, true, get_or, eq-eqb, ◌+◌, ◌*◌, ◌<◌, List, [], ◌∷◌, ◌++◌, length, map, take, append-nil, append_assoc, Option, Some, Contains, refl, sym, ◌∙◌, ap, subst, arith, slice_get}
+use Rattle.std.proofs.Common.{◌≡◌, ◌⊎◌, inl, inr, ℕ, zero, suc, ◌==◌, true, get_or, eq-eqb, ◌+◌, ◌*◌, ◌<◌, List, [], ◌∷◌, ◌++◌, length, map, Option, Some, Contains, refl, sym, ◌∙◌, ap, subst, arith}
 use Rattle.std.proofs.Math.Nat.{mul-zero}
 use Rattle.std.proofs.lemmas.List.Sums.{sum_by-cons}
 use Rattle.std.specs.List.{flat_map}
 use Rattle.std.proofs.lemmas.Bool.{false≢true}
-use Rattle.std.proofs.lemmas.Option.{same_Some}
+use Rattle.std.proofs.lemmas.Option.{none-some, same_Some}
 use Rattle.std.proofs.lemmas.Grind.{flat_map-append}
 use Rattle.std.proofs.lemmas.List.Folds.{flat_map-map}
 use Rattle.plan_types.specs.declared.action.Keep.TheVariants.{Nothing, Store, Tape}
@@ -18,150 +18,77 @@ use Rattle.level_book.specs.Rules.{levels_named}
 use Rattle.level_book.specs.Valid.{Valid}
 use Rattle.level_book.specs.CostFold.{steps_of, forward}
 use Rattle.keepers.specs.Counts.{raised}
-use Rattle.keepers.specs.Told.{Tells, AddsPrefix}
+use Rattle.keepers.specs.Told.{Tells}
 use Rattle.rv_machine.specs.MachineState.{MachineState}
 use Rattle.state_image.specs.Line.{line}
-use Rattle.reverse_runner.specs.declared.line_writer.LineWriter.{LineWriter}
-use Rattle.reverse_runner.specs.Performed.{states_out, GetsAll, MissesOne, calls_keepers}
+use Rattle.unit_lines.specs.Lines.{lines_for}
+use Rattle.unit_lines.specs.Sending.{Writes, BreaksOff as BreaksLines}
+use Rattle.reverse_runner.specs.Performed.{states_out, GetsAll, calls_keepers}
 use Rattle.reverse_runner.specs.KeepersSeen.{Called, calls_of, one_if}
 use Rattle.reverse_runner.specs.Handed.{handed_by, handed}
 use Rattle.reverse_runner.specs.Standing.{pair_read}
-use Rattle.reverse_runner.proofs.Getting.{gets_keeps}
 use Rattle.reverse_runner.proofs.Handing.{valid_hands}
 use Rattle.reversal.specs.Output.{line_of, lines_down, Adds}
 use Rattle.reversal.specs.Moment.{Moment}
 use Rattle.reversal.specs.Deeds.{Deed, States, deed_of, CallsLevel, bytes_of, bytes_written, steps_made, Did}
-use Rattle.reversal.specs.Course.{AddsAndPart}
-use Rattle.reversal.proofs.Doing.{tells_then, tells_so, tells_nothing, raised_then, raised_none, did_one}
+use Rattle.reversal.proofs.Doing.{did_one}
 use Rattle.reversal.proofs.Showing.{Shows}
-
--- the writer's relation for a state that it gets: it writes to the same sink, and in one call the line was added
-abbrev pub Wrote : {X : Type 0} → (X → Option (List ℕ)) → (X → ℕ) → LineWriter X → ℕ → MachineState → List (List ℕ) → LineWriter X → Type 0
-Wrote told writes w n s journal v =
-    (v.out.ghost_name ≡ w.out.ghost_name)
-    × Tells (told w.out.now) (told v.out.now) (λ old new. new ≡ old ++ (line n s ++ 10 ∷ []))
-    × (writes v.out.now ≡ raised (writes w.out.now) 1)
-
--- and for one that it misses
-abbrev pub Missed : {X : Type 0} → (X → Option (List ℕ)) → (X → ℕ) → LineWriter X → ℕ → MachineState → List (List ℕ) → LineWriter X → Type 0
-Missed told writes w n s journal v =
-    (v.out.ghost_name ≡ w.out.ghost_name)
-    × Tells (told w.out.now) (told v.out.now) (AddsPrefix (line n s ++ 10 ∷ []))
-    × (writes v.out.now ≡ raised (writes w.out.now) 1)
-
--- after an action the writer writes to the same sink
-pub same_sink : {X : Type 0} (told : X → Option (List ℕ)) (writes : X → ℕ) (journal : List (List ℕ)) (numbers : List ℕ) (states : List MachineState) (x y : LineWriter X) →
-    GetsAll (Wrote told writes) journal numbers states x y → y.out.ghost_name ≡ x.out.ghost_name
-same_sink {X} told writes =
-    gets_keeps (Wrote told writes) (λ (x : LineWriter X) (y : LineWriter X). y.out.ghost_name ≡ x.out.ghost_name) (λ x n s journal y got. got.0) (λ x. refl) (λ x y z h g. g ∙ h)
-
--- and after one that was missed
-pub same_sink_missed : {X : Type 0} (told : X → Option (List ℕ)) (writes : X → ℕ) (journal : List (List ℕ)) (numbers : List ℕ) (states : List MachineState) (x y : LineWriter X) →
-    MissesOne (Wrote told writes) (Missed told writes) journal numbers states x y → y.out.ghost_name ≡ x.out.ghost_name
-same_sink_missed told writes journal [] states x y h = absurd h
-same_sink_missed told writes journal (n ∷ numbers) [] x y h = absurd h
-same_sink_missed told writes journal (n ∷ numbers) (s ∷ states) x y h = elim h [
-  | inl missed ↦ missed.0
-  | inr later ↦ same_sink_missed told writes journal numbers states later.0 y later.1.1 ∙ later.1.0.0
-]
 
 -- the line of a state that is shown
 the_line : (shown : States) (n : ℕ) (state : MachineState) → shown n ≡ state → line n state ++ 10 ∷ [] ≡ line_of shown n
 the_line shown n state is = ap (λ s. line n s ++ 10 ∷ []) (sym is)
 
--- the lines of the states that a writer got
-got_lines : {X : Type 0} (told : X → Option (List ℕ)) (writes : X → ℕ) (shown : States) (journal : List (List ℕ)) (numbers : List ℕ) (states : List MachineState) (x y : LineWriter X) →
-    Shows shown numbers states → GetsAll (Wrote told writes) journal numbers states x y →
-    Tells (told x.out.now) (told y.out.now) (Adds (bytes_of (map (line_of shown) numbers))) × (writes y.out.now ≡ raised (writes x.out.now) (length (map (line_of shown) numbers)))
-got_lines told writes shown journal [] [] x y shows got =
-    (tells_nothing _ _ (ap (λ w. told w.out.now) got), ap (λ w. writes w.out.now) got ∙ raised_none (writes x.out.now))
-got_lines told writes shown journal [] (s ∷ states) x y shows got = absurd got
-got_lines told writes shown journal (n ∷ numbers) [] x y shows got = absurd got
-got_lines told writes shown journal (n ∷ numbers) (s ∷ states) x y shows got =
-    let z = got.0 in
-    let here = got.1.0 in
-    let there = got_lines told writes shown journal numbers states z y shows.1 got.1.1 in
-    let rest = bytes_of (map (line_of shown) numbers) in
-    let same = the_line shown n s shows.0 in (
-      tells_then (told x.out.now) (told z.out.now) (told y.out.now) (λ old new. new ≡ old ++ (line n s ++ 10 ∷ [])) (Adds rest) (Adds (line_of shown n ++ rest)) (λ a b c p q.
-          q ∙ ap (λ l. l ++ rest) (p ∙ ap (λ l. a ++ l) same) ∙ append_assoc a (line_of shown n) rest) here.1 there.0,
-      (let more = raised_then (writes x.out.now) (writes z.out.now) (writes y.out.now) 1 (length (map (line_of shown) numbers)) here.2 there.1 in
-          let one : 1 + length (map (line_of shown) numbers) ≡ length (map (line_of shown) (n ∷ numbers)) = omega arith in
-          more ∙ ap (raised (writes x.out.now)) one),
-    )
+-- the lines of states that are shown, where a visitor got them all
+lines_shown : {V : Type 0} (got : V → ℕ → MachineState → List (List ℕ) → V → Type 0) (shown : States) (journal : List (List ℕ)) (numbers : List ℕ) (states : List MachineState) (u v : V) →
+    Shows shown numbers states → GetsAll got journal numbers states u v → lines_for numbers states ≡ map (line_of shown) numbers
+lines_shown got shown journal [] [] u v shows gets = refl
+lines_shown got shown journal [] (s ∷ states) u v shows gets = absurd gets
+lines_shown got shown journal (n ∷ numbers) [] u v shows gets = absurd gets
+lines_shown got shown journal (n ∷ numbers) (s ∷ states) u v shows gets = λ i. the_line shown n s shows.0 i ∷ lines_shown got shown journal numbers states gets.0 v shows.1 gets.1.1 i
 
--- What is written of pieces, where a write failed: some of them, and a part of the next.
-pub record Part {X : Type 0} (told : X → Option (List ℕ)) (writes : X → ℕ) (pieces : List (List ℕ)) (x y : X) : Type 0 where
-  pub whole : ℕ
-  pub piece : List ℕ
-  pub next : slice_get pieces whole ≡ Some piece
-  pub added : Tells (told x) (told y) (AddsAndPart (bytes_of (take whole pieces)) piece)
-  pub wrote : writes y ≡ raised (writes x) (whole + 1)
+-- those of states come first among the lines of as many or more numbers
+pub lines_first : (shown : States) (numbers : List ℕ) (states : List MachineState) → Shows shown numbers states → (rest : List (List ℕ)) × (lines_for numbers states ++ rest ≡ map (line_of shown) numbers)
+lines_first shown [] states shows = ([], refl)
+lines_first shown (n ∷ numbers) [] shows = (map (line_of shown) (n ∷ numbers), refl)
+lines_first shown (n ∷ numbers) (s ∷ states) shows =
+    let more = lines_first shown numbers states shows.1 in
+    (more.0, λ i. the_line shown n s shows.0 i ∷ more.1 i)
 
-pub missed_lines : {X : Type 0} (told : X → Option (List ℕ)) (writes : X → ℕ) (shown : States) (journal : List (List ℕ)) (numbers : List ℕ) (states : List MachineState) (x y : LineWriter X) →
-    Shows shown numbers states → MissesOne (Wrote told writes) (Missed told writes) journal numbers states x y → Part told writes (map (line_of shown) numbers) x.out.now y.out.now
-missed_lines told writes shown journal [] states x y shows h = absurd h
-missed_lines told writes shown journal (n ∷ numbers) [] x y shows h = absurd h
-missed_lines {X} told writes shown journal (n ∷ numbers) (s ∷ states) x y shows h = elim h [
-  | inl missed ↦ here missed
-  | inr later ↦ there later.0 later.1.0 (missed_lines told writes shown journal numbers states later.0 y shows.1 later.1.1)
-]
-  where
-    same : line n s ++ 10 ∷ [] ≡ line_of shown n
-    same = the_line shown n s shows.0
-
-    here : Missed told writes x n s journal y → Part told writes (map (line_of shown) (n ∷ numbers)) x.out.now y.out.now
-    here missed = record {
-      whole = 0;
-      piece = line_of shown n;
-      next = refl;
-      added =
-          tells_so (told x.out.now) (told y.out.now) (AddsPrefix (line n s ++ 10 ∷ [])) (AddsAndPart [] (line_of shown n))
-          (λ a b p. (p.0, p.1 ∙ (λ i. sym (append-nil a) i ++ take p.0 (same i)))) missed.1;
-      wrote = missed.2;
-    }
-
-    there : (z : LineWriter X) → Wrote told writes x n s journal z → Part told writes (map (line_of shown) numbers) z.out.now y.out.now → Part told writes (map (line_of shown) (n ∷ numbers)) x.out.now y.out.now
-    there z got rest =
-        let front = bytes_of (take rest.whole (map (line_of shown) numbers)) in
-        record {
-          whole = suc rest.whole;
-          piece = rest.piece;
-          next = rest.next;
-          added =
-              tells_then (told x.out.now) (told z.out.now) (told y.out.now) (λ old new. new ≡ old ++ (line n s ++ 10 ∷ [])) (AddsAndPart front rest.piece) (AddsAndPart (line_of shown n ++ front) rest.piece) (λ a b c p q. (
-                q.0,
-                q.1 ∙ ap (λ l. l ++ take q.0 rest.piece) (ap (λ l. l ++ front) (p ∙ ap (λ l. a ++ l) same) ∙ append_assoc a (line_of shown n) front),
-              )) got.1 rest.added;
-          wrote = (let all = raised_then (writes x.out.now) (writes z.out.now) (writes y.out.now) 1 (rest.whole + 1) got.2 rest.wrote in all ∙ ap (raised (writes x.out.now)) (omega arith));
-        }
-
--- a writer's sink is seen at a moment
-pub record IsAt {X : Type 0} (told : X → Option (List ℕ)) (writes : X → ℕ) (x : LineWriter X) (m : Moment) : Type 0 where
-  pub tells : m.told ≡ told x.out.now
-  pub counts : m.writes ≡ writes x.out.now
+-- a sink is seen at a moment
+pub record IsAt {X : Type 0} (told : X → Option (List ℕ)) (writes : X → ℕ) (x : X) (m : Moment) : Type 0 where
+  pub tells : m.told ≡ told x
+  pub counts : m.writes ≡ writes x
 
 -- what an action does that may be done
-pub did_action : {X : Type 0} (told : X → Option (List ℕ)) (writes : X → ℕ) (shown : States) (journal : List (List ℕ)) (unit steps : ℕ) (a : Action) (work : MachineState) (tape : List MachineState) (x y : LineWriter X) (mid new : Moment) →
-    IsAt told writes x mid → IsAt told writes y new → Shows shown (handed_by unit steps a) (states_out a work tape) → GetsAll (Wrote told writes) journal (handed_by unit steps a) (states_out a work tape) x y →
-    new.steps ≡ mid.steps + unit * steps_of a → Called (calls_of a) mid.calls new.calls → Did (deed_of shown unit steps a ∷ []) mid new
-did_action told writes shown journal unit steps a work tape x y mid new before after shows got counted called =
-    let lines = got_lines told writes shown journal (handed_by unit steps a) (states_out a work tape) x y shows got in
+pub did_action : {X V : Type 0} (told : X → Option (List ℕ)) (writes : X → ℕ) (got : V → ℕ → MachineState → List (List ℕ) → V → Type 0) (shown : States) (journal : List (List ℕ)) (unit steps : ℕ) (a : Action) (work : MachineState) (tape : List MachineState) (u v : V) (x y : X) (mid new : Moment) →
+    IsAt told writes x mid → IsAt told writes y new → Shows shown (handed_by unit steps a) (states_out a work tape) → GetsAll got journal (handed_by unit steps a) (states_out a work tape) u v →
+    Writes told writes (lines_for (handed_by unit steps a) (states_out a work tape)) x y → new.steps ≡ mid.steps + unit * steps_of a → Called (calls_of a) mid.calls new.calls → Did (deed_of shown unit steps a ∷ []) mid new
+did_action told writes got shown journal unit steps a work tape u v x y mid new before after shows gets wrote counted called =
     let pieces = map (line_of shown) (handed_by unit steps a) in
+    let lines = subst (λ (ls : List (List ℕ)). Writes told writes ls x y) (lines_shown got shown journal (handed_by unit steps a) (states_out a work tape) u v shows gets) wrote in
     let T : Option (List ℕ) → Option (List ℕ) → Type 0 = λ old now. Tells old now (Adds (bytes_of pieces)) in
     did_one (deed_of shown unit steps a) mid new (bytes_of pieces) (length pieces) refl refl
-    (subst (λ o. T o new.told) (sym before.tells) (subst (T (told x.out.now)) (sym after.tells) lines.0))
-    (after.counts ∙ lines.1 ∙ ap (λ n. raised n (length pieces)) (sym before.counts)) counted called
+    (subst (λ o. T o new.told) (sym before.tells) (subst (T (told x)) (sym after.tells) lines.added))
+    (after.counts ∙ lines.called ∙ ap (λ n. raised n (length pieces)) (sym before.counts)) counted called
 
--- an action that the visitor misses calls no keeper
-pub missed_calls_none : {V : Type 0} (got missed : V → ℕ → MachineState → List (List ℕ) → V → Type 0) (journal : List (List ℕ)) (unit steps : ℕ) (a : Action) (work : MachineState) (tape : List MachineState) (x y : V) →
-    MissesOne got missed journal (handed_by unit steps a) (states_out a work tape) x y → calls_of a ≡ record { puts = λ _. 0; gets = λ _. 0; frees = λ _. 0 }
-missed_calls_none got missed journal unit steps (Forward from to keep) work tape x y h = absurd h
-missed_calls_none got missed journal unit steps (Reverse from to) work tape x y h = refl
-missed_calls_none got missed journal unit steps (Copy n from dest) work tape x y h = absurd h
-missed_calls_none got missed journal unit steps (Move n from dest) work tape x y h = absurd h
-missed_calls_none got missed journal unit steps EndForward work tape x y h = refl
-missed_calls_none got missed journal unit steps EndReverse work tape x y h = absurd h
+-- an action whose lines break off calls no keeper, and takes no step
+pub broken_calls_none : {X : Type 0} (told : X → Option (List ℕ)) (writes : X → ℕ) (unit steps : ℕ) (a : Action) (work : MachineState) (tape : List MachineState) (x y : X) →
+    BreaksLines told writes (lines_for (handed_by unit steps a) (states_out a work tape)) x y → calls_of a ≡ record { puts = λ _. 0; gets = λ _. 0; frees = λ _. 0 }
+broken_calls_none told writes unit steps (Forward from to keep) work tape x y h = absurd (none-some h.line h.next)
+broken_calls_none told writes unit steps (Reverse from to) work tape x y h = refl
+broken_calls_none told writes unit steps (Copy n from dest) work tape x y h = absurd (none-some h.line h.next)
+broken_calls_none told writes unit steps (Move n from dest) work tape x y h = absurd (none-some h.line h.next)
+broken_calls_none told writes unit steps EndForward work tape x y h = refl
+broken_calls_none told writes unit steps EndReverse work tape x y h = absurd (none-some h.line h.next)
+
+pub broken_steps_none : {X : Type 0} (told : X → Option (List ℕ)) (writes : X → ℕ) (unit steps : ℕ) (a : Action) (work : MachineState) (tape : List MachineState) (x y : X) →
+    BreaksLines told writes (lines_for (handed_by unit steps a) (states_out a work tape)) x y → steps_of a ≡ 0
+broken_steps_none told writes unit steps (Forward from to keep) work tape x y h = absurd (none-some h.line h.next)
+broken_steps_none told writes unit steps (Reverse from to) work tape x y h = refl
+broken_steps_none told writes unit steps (Copy n from dest) work tape x y h = absurd (none-some h.line h.next)
+broken_steps_none told writes unit steps (Move n from dest) work tape x y h = absurd (none-some h.line h.next)
+broken_steps_none told writes unit steps EndForward work tape x y h = refl
+broken_steps_none told writes unit steps EndReverse work tape x y h = absurd (none-some h.line h.next)
 
 -- ---- the deeds of a whole list
 

@@ -8,7 +8,7 @@ use Rattle.plan_types.specs.declared.action.Dest.TheVariants.{Work, Level}
 use Rattle.plan_types.specs.declared.action.Action.{Action}
 use Rattle.plan_types.specs.declared.action.Action.TheVariants.{Forward, Reverse, Copy, Move, EndForward, EndReverse}
 use Rattle.image_store.specs.Standing.{IsToldAnd}
-use Rattle.reverse_runner.specs.Acts.{Holdings, Acts}
+use Rattle.reverse_runner.specs.Acts.{Levels, Holdings, IsAsBefore, Acts}
 use Rattle.reverse_queries.specs.Performing.{IsOut}
 use Rattle.reverse_runner.specs.HoldsJust.{HoldsJust}
 use Rattle.reverse_runner.specs.Left.{Spares, MayLeave, HoldsBesides, HoldsAllBut}
@@ -26,8 +26,10 @@ use Rattle.schedule_rules.proofs.Judging.{take_one_more, kept_on_the_way}
 use Rattle.schedule_rules.proofs.Reaching.{sound_on, sound_start, leads_unique}
 use Rattle.rv_machine.specs.MachineState.{MachineState}
 use Rattle.rv_machine.specs.States.{state_number}
-use Rattle.reverse_runner.specs.declared.line_writer.LineWriter.{LineWriter}
-use Rattle.reverse_runner.specs.Performed.{states_out, GetsAll, MissesOne, calls_keepers}
+use Rattle.unit_lines.specs.Lines.{lines_for}
+use Rattle.unit_lines.proofs.Chaining.{breaks_longer}
+use Rattle.unit_lines.specs.Sending.{Writes, BreaksOff as BreaksLines}
+use Rattle.reverse_runner.specs.Performed.{states_out, GetsAll, calls_keepers}
 use Rattle.reverse_runner.specs.Units.{unit_states}
 use Rattle.reverse_runner.specs.KeepersSeen.{Calls, Called, CalledAtMost, calls_of}
 use Rattle.reverse_runner.specs.Handed.{handed_by, handed}
@@ -53,7 +55,7 @@ use Rattle.reversal.specs.JobReading.{Works, fault_ending}
 use Rattle.reversal.proofs.OnTheWay.{led_on}
 use Rattle.reversal.proofs.Doing.{did_none, did_one_more, is_until, broke_off, failed_at, damaged_at, halted_at}
 use Rattle.reversal.proofs.Through.{through_none, has_length, through_more, through_still}
-use Rattle.reversal.proofs.Performing.{Wrote, Missed, missed_lines, IsAt, did_action, missed_calls_none, bytes_performed, steps_performed, none_named, names_levels, calls_named, calls_one, gets_pair}
+use Rattle.reversal.proofs.Performing.{lines_first, IsAt, did_action, broken_calls_none, bytes_performed, steps_performed, none_named, names_levels, calls_named, calls_one, gets_pair}
 use Rattle.reversal.proofs.Showing.{shown_by, showing, Shows, it_shows, IsAbove, above_after, same_before, shows_of_run, handed_more, above_at_start}
 
 -- the deeds before an action, with the states that it shows
@@ -66,32 +68,33 @@ before_it shown unit steps slots list i c a d work tape x y g above did =
     subst P (take-map (deed_of shown unit steps) i list ∙ sym same ∙ sym (take-map (deed_of (showing shown unit steps a work tape) unit steps) i list)) did
 
 -- the deeds up to an action that was performed
-did_so_far : {X : Type 0} (told : X → Option (List ℕ)) (writes : X → ℕ) (shown : States) (journal : List (List ℕ)) (unit steps : ℕ) (slots : List Slots) (list : List Action) (i : ℕ) (c : Configuration) (a : Action) (d : Configuration) (work : MachineState)
-    (tape : List MachineState) (x y : LineWriter X) (old mid new : Moment) → IsAt told writes x mid → IsAt told writes y new → slice_get list i ≡ Some a → Goes steps slots c a d → IsAbove unit steps (handed unit steps (take i list)) c →
-    Did (take i (map (deed_of shown unit steps) list)) old mid → GetsAll (Wrote told writes) journal (handed_by unit steps a) (states_out a work tape) x y → new.steps ≡ mid.steps + unit * steps_of a →
+did_so_far : {X V : Type 0} (told : X → Option (List ℕ)) (writes : X → ℕ) (got : V → ℕ → MachineState → List (List ℕ) → V → Type 0) (shown : States) (journal : List (List ℕ)) (unit steps : ℕ) (slots : List Slots) (list : List Action) (i : ℕ) (c : Configuration) (a : Action) (d : Configuration) (work : MachineState)
+    (tape : List MachineState) (u v : V) (x y : X) (old mid new : Moment) → IsAt told writes x mid → IsAt told writes y new → slice_get list i ≡ Some a → Goes steps slots c a d → IsAbove unit steps (handed unit steps (take i list)) c →
+    Did (take i (map (deed_of shown unit steps) list)) old mid → GetsAll got journal (handed_by unit steps a) (states_out a work tape) u v → Writes told writes (lines_for (handed_by unit steps a) (states_out a work tape)) x y → new.steps ≡ mid.steps + unit * steps_of a →
     Called (calls_of a) mid.calls new.calls → Did (take (i + 1) (map (deed_of (showing shown unit steps a work tape) unit steps) list)) old new
-did_so_far told writes shown journal unit steps slots list i c a d work tape x y old mid new before after at g above did got counted called =
+did_so_far told writes got shown journal unit steps slots list i c a d work tape u v x y old mid new before after at g above did gets wrote counted called =
     let now = showing shown unit steps a work tape in
     did_one_more (map (deed_of now unit steps) list) i (deed_of now unit steps a) old mid new (get_map (deed_of now unit steps) list i a at)
     (before_it shown unit steps slots list i c a d work tape old mid g above did)
-    (did_action told writes now journal unit steps a work tape x y mid new before after (it_shows shown unit steps a work tape) got counted called)
+    (did_action told writes got now journal unit steps a work tape u v x y mid new before after (it_shows shown unit steps a work tape) gets wrote counted called)
 
 -- the deeds before an action whose write failed
-did_before : {X : Type 0} (told : X → Option (List ℕ)) (writes : X → ℕ) (shown : States) (journal : List (List ℕ)) (unit steps : ℕ) (slots : List Slots) (list : List Action) (i : ℕ) (c : Configuration) (a : Action) (d : Configuration) (work : MachineState)
-    (tape : List MachineState) (x y : LineWriter X) (old mid new : Moment) → IsAt told writes x mid → IsAt told writes y new → slice_get list i ≡ Some a → Goes steps slots c a d → IsAbove unit steps (handed unit steps (take i list)) c →
-    Did (take i (map (deed_of shown unit steps) list)) old mid → MissesOne (Wrote told writes) (Missed told writes) journal (handed_by unit steps a) (states_out a work tape) x y → new.steps ≡ mid.steps →
-    CalledAtMost (calls_of a) mid.calls new.calls → DidUntil (map (deed_of (showing shown unit steps a work tape) unit steps) list) i old new
-did_before told writes shown journal unit steps slots list i c a d work tape x y old mid new before after at g above did missed still called =
+did_before : {X : Type 0} (told : X → Option (List ℕ)) (writes : X → ℕ) (shown : States) (unit steps : ℕ) (slots : List Slots) (list : List Action) (i : ℕ) (c : Configuration) (a : Action) (d : Configuration) (work : MachineState)
+    (tape : List MachineState) (x y : X) (old mid new : Moment) → IsAt told writes x mid → IsAt told writes y new → slice_get list i ≡ Some a → Goes steps slots c a d → IsAbove unit steps (handed unit steps (take i list)) c →
+    Did (take i (map (deed_of shown unit steps) list)) old mid → BreaksLines told writes (lines_for (handed_by unit steps a) (states_out a work tape)) x y → new.steps ≡ mid.steps →
+    calls_of a ≡ record { puts = λ _. 0; gets = λ _. 0; frees = λ _. 0 } → CalledAtMost (calls_of a) mid.calls new.calls → DidUntil (map (deed_of (showing shown unit steps a work tape) unit steps) list) i old new
+did_before told writes shown unit steps slots list i c a d work tape x y old mid new before after at g above did breaks still none called =
     let now = showing shown unit steps a work tape in
-    let part = missed_lines told writes now journal (handed_by unit steps a) (states_out a work tape) x y (it_shows shown unit steps a work tape) missed in
+    let first = lines_first now (handed_by unit steps a) (states_out a work tape) (it_shows shown unit steps a work tape) in
+    let part = subst (λ (ls : List (List ℕ)). BreaksLines told writes ls x y) first.1 (breaks_longer told writes (lines_for (handed_by unit steps a) (states_out a work tape)) first.0 x y breaks) in
     let pieces = map (line_of now) (handed_by unit steps a) in
     let P : Calls → Type 0 = λ m. CalledAtMost m mid.calls new.calls in
-    let T : Option (List ℕ) → Option (List ℕ) → Type 0 = λ o n. Tells o n (AddsAndPart (bytes_of (take part.whole pieces)) part.piece) in
-    is_until (map (deed_of now unit steps) list) i (deed_of now unit steps a) part.whole part.piece old mid new (get_map (deed_of now unit steps) list i a at) part.next
+    let T : Option (List ℕ) → Option (List ℕ) → Type 0 = λ o n. Tells o n (AddsAndPart (bytes_of (take part.whole pieces)) part.line) in
+    is_until (map (deed_of now unit steps) list) i (deed_of now unit steps a) part.whole part.line old mid new (get_map (deed_of now unit steps) list i a at) part.next
     (before_it shown unit steps slots list i c a d work tape old mid g above did)
-    (subst (λ o. T o new.told) (sym before.tells) (subst (T (told x.out.now)) (sym after.tells) part.added))
-    (after.counts ∙ part.wrote ∙ ap (λ n. raised n (part.whole + 1)) (sym before.counts)) still
-    (subst P (missed_calls_none (Wrote told writes) (Missed told writes) journal unit steps a work tape x y missed) called)
+    (subst (λ o. T o new.told) (sym before.tells) (subst (T (told x)) (sym after.tells) part.added))
+    (after.counts ∙ part.called ∙ ap (λ n. raised n (part.whole + 1)) (sym before.counts)) still
+    (subst P none called)
 
 -- the tape holds the state that is reversed next
 next_on_tape : (steps : ℕ) (slots : List Slots) (list : List Action) (c : Configuration) → Leads steps slots (start steps slots) list c → MatchOption c.tape (Unit {0}) (λ t. t + 1 ≡ c.reverse)
@@ -142,15 +145,32 @@ pair_held steps slots c (Move m j (Level i)) d n k g pair = at_pair c m j n k pa
 pair_held steps slots c EndForward d n k g pair = absurd cc
 pair_held steps slots c EndReverse d n k g pair = absurd cc
 
--- an action that the visitor misses puts and releases nothing
-pub missed_spares : {V : Type 0} (got missed : V → ℕ → MachineState → List (List ℕ) → V → Type 0) (journal : List (List ℕ)) (unit steps : ℕ) (a : Action) (work : MachineState) (tape : List MachineState) (x y : V) →
-    MissesOne got missed journal (handed_by unit steps a) (states_out a work tape) x y → (k : ℕ) → Spares a k
-missed_spares got missed journal unit steps (Forward from to keep) work tape x y h k = absurd h
-missed_spares got missed journal unit steps (Reverse from to) work tape x y h k = (refl, refl)
-missed_spares got missed journal unit steps (Copy n from dest) work tape x y h k = absurd h
-missed_spares got missed journal unit steps (Move n from dest) work tape x y h k = absurd h
-missed_spares got missed journal unit steps EndForward work tape x y h k = (refl, refl)
-missed_spares got missed journal unit steps EndReverse work tape x y h k = absurd h
+-- an action whose lines break off puts and releases nothing
+pub broken_spares : {X : Type 0} (told : X → Option (List ℕ)) (writes : X → ℕ) (unit steps : ℕ) (a : Action) (work : MachineState) (tape : List MachineState) (x y : X) →
+    BreaksLines told writes (lines_for (handed_by unit steps a) (states_out a work tape)) x y → (k : ℕ) → Spares a k
+broken_spares told writes unit steps (Forward from to keep) work tape x y h k = absurd (none-some h.line h.next)
+broken_spares told writes unit steps (Reverse from to) work tape x y h k = (refl, refl)
+broken_spares told writes unit steps (Copy n from dest) work tape x y h k = absurd (none-some h.line h.next)
+broken_spares told writes unit steps (Move n from dest) work tape x y h k = absurd (none-some h.line h.next)
+broken_spares told writes unit steps EndForward work tape x y h k = (refl, refl)
+broken_spares told writes unit steps EndReverse work tape x y h k = absurd (none-some h.line h.next)
+
+-- and where it was performed, its levels are as they were
+as_it_was : (action : Action) (old new : Levels) → ((k : ℕ) → Spares action k) → ((k : ℕ) → IsAsBefore old new k) → MayLeave action old new.told
+as_it_was action old new spares same = record {
+  spared = λ k s. (same k).1;
+  put_to = λ k writes. absurd (false≢true (sym (spares k).0 ∙ writes));
+  released = λ k n kept frees. absurd (false≢true (sym (spares k).1 ∙ frees));
+}
+
+pub broken_left : {X : Type 0} (told : X → Option (List ℕ)) (writes : X → ℕ) (unit steps : ℕ) (journal : List (List ℕ)) (a : Action) (work : MachineState) (tape : List MachineState) (x y : X) (old new : Holdings) →
+    BreaksLines told writes (lines_for (handed_by unit steps a) (states_out a work tape)) x y → Acts unit journal a old new → MayLeave a old.levels new.levels.told
+broken_left told writes unit steps journal (Forward from to keep) work tape x y old new h acts = absurd (none-some h.line h.next)
+broken_left told writes unit steps journal (Reverse from to) work tape x y old new h acts = as_it_was (Reverse from to) old.levels new.levels (broken_spares told writes unit steps (Reverse from to) work tape x y h) acts.does.2
+broken_left told writes unit steps journal (Copy n from dest) work tape x y old new h acts = absurd (none-some h.line h.next)
+broken_left told writes unit steps journal (Move n from dest) work tape x y old new h acts = absurd (none-some h.line h.next)
+broken_left told writes unit steps journal EndForward work tape x y old new h acts = as_it_was EndForward old.levels new.levels (broken_spares told writes unit steps EndForward work tape x y h) acts.does.2
+broken_left told writes unit steps journal EndReverse work tape x y old new h acts = absurd (none-some h.line h.next)
 
 -- ---- what the next action hands out
 
@@ -280,12 +300,12 @@ pub record FaultCounts (fault : RunFault) (old new : Moment) : Type 0 where
   pub keepers_quiet : ((k : ℕ) → fault ≢ Keeper k) → KeepersAreQuiet old new
 
 -- what a session says of an action that it refused, from the moment before it to the one after it
-pub record Refuses {X : Type 0} (told : X → Option (List ℕ)) (writes : X → ℕ) (first : MachineState) (s : SessionState) (a : Action) (fault : RunFault) (x y : LineWriter X) (mid new : Moment) : Type 0 where
+pub record Refuses {X : Type 0} (told : X → Option (List ℕ)) (writes : X → ℕ) (first : MachineState) (s : SessionState) (a : Action) (fault : RunFault) (x y : X) (mid new : Moment) : Type 0 where
   pub uncounted : new.steps ≡ mid.steps
   pub called : CalledAtMost (calls_of a) mid.calls new.calls
   pub left : MayLeave a (levels_of s mid.images) new.images
   pub whole : (k : ℕ) (put got : List ℕ) → fault ≡ Damaged k put got → (j : ℕ) → new.images j ≡ mid.images j
-  pub misses : fault ≡ Visitor → MissesOne (Wrote told writes) (Missed told writes) s.journal (handed_by s.unit s.situation.steps a) (states_out a s.work s.tape.states) x y
+  pub breaks : fault ≡ Visitor → BreaksLines told writes (lines_for (handed_by s.unit s.situation.steps a) (states_out a s.work s.tape.states)) x y
   pub unseen : fault ≢ Visitor → y ≡ x
   pub counts : FaultCounts fault mid new
   pub named : (k : ℕ) → fault ≡ Keeper k → Contains (levels_named a) k
@@ -294,7 +314,7 @@ pub record Refuses {X : Type 0} (told : X → Option (List ℕ)) (writes : X →
   pub wants : fault ≡ Memory → calls_keepers a ≡ true
   pub lasts : fault ≢ Ended
 
-module _ {X : Type 0} (told : X → Option (List ℕ)) (writes : X → ℕ) (first : MachineState) (s : SessionState) (list : List Action) (i : ℕ) (shown : States) (x : LineWriter X) (old mid : Moment) (a : Action) (at : slice_get list i ≡ Some a)
+module _ {X : Type 0} (told : X → Option (List ℕ)) (writes : X → ℕ) (first : MachineState) (s : SessionState) (list : List Action) (i : ℕ) (shown : States) (x : X) (old mid : Moment) (a : Action) (at : slice_get list i ≡ Some a)
     (before : IsAt told writes x mid) (so_far : SoFar (run_of first s list) i shown s old mid) where
   abbrev run : Run
   run = run_of first s list
@@ -310,10 +330,10 @@ module _ {X : Type 0} (told : X → Option (List ℕ)) (writes : X → ℕ) (fir
       (next_on_tape s.situation.steps s.situation.slots (take i list) s.situation.at so_far.leads) (so_far.of_run tells n within)
 
   -- it was performed
-  pub more : (t : SessionState) (y : LineWriter X) (new : Moment) → IsAt told writes y new → Performs s a t → Acts s.unit s.journal a (holdings_of s mid.images) (holdings_of t new.images) →
-      GetsAll (Wrote told writes) s.journal (handed_by s.unit s.situation.steps a) (states_out a s.work s.tape.states) x y → new.steps ≡ mid.steps + s.unit * steps_of a → Called (calls_of a) mid.calls new.calls →
+  pub more : {V : Type 0} (got : V → ℕ → MachineState → List (List ℕ) → V → Type 0) (t : SessionState) (u v : V) (y : X) (new : Moment) → IsAt told writes y new → Performs s a t → Acts s.unit s.journal a (holdings_of s mid.images) (holdings_of t new.images) →
+      GetsAll got s.journal (handed_by s.unit s.situation.steps a) (states_out a s.work s.tape.states) u v → Writes told writes (lines_for (handed_by s.unit s.situation.steps a) (states_out a s.work s.tape.states)) x y → new.steps ≡ mid.steps + s.unit * steps_of a → Called (calls_of a) mid.calls new.calls →
       (StandsAt first s mid.images → StandsAt first t new.images) → (AreAlone (levels_of s mid.images) → AreAlone (levels_of t new.images)) → NothingFails mid new → SoFar run (i + 1) now t old new
-  more t y new after performs acts got counted called stands alone quiet =
+  more got t u v y new after performs acts gets wrote counted called stands alone quiet =
       let goes = performs.goes in record {
         lasts = performs.lasts;
         steps = performs.steps;
@@ -326,14 +346,14 @@ module _ {X : Type 0} (told : X → Option (List ℕ)) (writes : X → ℕ) (fir
         alone = λ empty. alone (so_far.alone empty);
         above = above_so_far s.unit s.situation.steps s.situation.slots list i s.situation.at a t.situation.at at goes so_far.above;
         of_run = now_of_run t.situation.at goes;
-        through = through_more (Wrote told writes) shown s.unit s.situation.steps s.situation.slots s.journal list i _ _ _ s.situation.at a t.situation.at x y at goes so_far.above got acts so_far.through;
-        did = did_so_far told writes shown s.journal s.unit s.situation.steps s.situation.slots list i s.situation.at a t.situation.at s.work s.tape.states x y old mid new before after at goes so_far.above so_far.did got counted called;
+        through = through_more got shown s.unit s.situation.steps s.situation.slots s.journal list i _ _ _ s.situation.at a t.situation.at u v at goes so_far.above gets acts so_far.through;
+        did = did_so_far told writes got shown s.journal s.unit s.situation.steps s.situation.slots list i s.situation.at a t.situation.at s.work s.tape.states u v x y old mid new before after at goes so_far.above so_far.did gets wrote counted called;
         quiet = quiet_then old mid new so_far.quiet quiet;
       }
 
   -- ---- it was refused
 
-  module _ (valid : Valid s.situation.steps s.situation.slots list) (y : LineWriter X) (new : Moment) (after : IsAt told writes y new) where
+  module _ (valid : Valid s.situation.steps s.situation.slots list) (y : X) (new : Moment) (after : IsAt told writes y new) where
     -- it may be done
     pub may_go : (d : Configuration) × Goes s.situation.steps s.situation.slots s.situation.at a d
     may_go = (rules_moves s.situation.steps s.situation.slots s.situation.at a (take i list, so_far.leads)).0 (kept_on_the_way s.situation.steps s.situation.slots list i s.situation.at a valid.0 at so_far.leads valid.1)
@@ -359,16 +379,17 @@ module _ {X : Type 0} (told : X → Option (List ℕ)) (writes : X → ℕ) (fir
         (breaks : BreaksOff (map (deed_of shown s.unit s.situation.steps) list) i old new) × (breaks.next ≡ deed_of shown s.unit s.situation.steps a)
     broke same still called =
         broke_off (map (deed_of shown s.unit s.situation.steps) list) i (deed_of shown s.unit s.situation.steps a) old mid new (get_map (deed_of shown s.unit s.situation.steps) list i a at) so_far.did
-        (after.tells ∙ ap (λ (v : LineWriter X). told v.out.now) same ∙ sym before.tells) (after.counts ∙ ap (λ (v : LineWriter X). writes v.out.now) same ∙ sym before.counts) still called
+        (after.tells ∙ ap told same ∙ sym before.tells) (after.counts ∙ ap writes same ∙ sym before.counts) still called
 
-    missed : (fault : RunFault) → fault ≡ Visitor → Refuses told writes first s a fault x y mid new → EndsBy (accept (perform run)) (stopped (i + 1)) old new
-    missed fault is refuses =
+    missed_one : (fault : RunFault) → fault ≡ Visitor → Refuses told writes first s a fault x y mid new → EndsBy (accept (perform run)) (stopped (i + 1)) old new
+    missed_one fault is refuses =
         let goes = may_go in
-        let misses = refuses.misses is in
-        let until = did_before told writes shown s.journal s.unit s.situation.steps s.situation.slots list i s.situation.at a goes.0 s.work s.tape.states x y old mid new before after at goes.1 so_far.above so_far.did misses refuses.uncounted refuses.called in
+        let breaks = refuses.breaks is in
+        let until = did_before told writes shown s.unit s.situation.steps s.situation.slots list i s.situation.at a goes.0 s.work s.tape.states x y old mid new before after at goes.1 so_far.above so_far.did breaks refuses.uncounted
+        (broken_calls_none told writes s.unit s.situation.steps a s.work s.tape.states x y breaks) refuses.called in
         let through = through_still shown s.unit s.situation.steps s.situation.slots s.journal (take i list) _ _ s.situation.at a goes.0 s.work s.tape.states goes.1 so_far.above so_far.through in
         let held = went AllLevels now through (shown_next shown s.unit s.situation.steps list i a (holdings_of s mid.images) at)
-        (λ k out. refuses.left.spared k (missed_spares (Wrote told writes) (Missed told writes) s.journal s.unit s.situation.steps a s.work s.tape.states x y misses k)) refuses.left in
+        (λ k out. refuses.left.spared k (broken_spares told writes s.unit s.situation.steps a s.work s.tape.states x y breaks k)) refuses.left in
         let N : ℕ → Type 0 = λ n. Rose n new.faults in
         let other : (k : ℕ) → fault ≢ Keeper k = λ k e. let clash : Visitor ≡ Keeper k = sym is ∙ e in cc in
         let fails : SinkFails old new = record { sink = subst N so_far.quiet.sink (refuses.counts.sink is); keepers = λ k. refuses.counts.keepers_quiet other k ∙ so_far.quiet.keepers k } in
@@ -417,7 +438,7 @@ module _ {X : Type 0} (told : X → Option (List ℕ)) (writes : X → ℕ) (fir
             ))),
           ),
         )
-    refused Visitor refuses = inl (missed Visitor refl refuses)
+    refused Visitor refuses = inl (missed_one Visitor refl refuses)
     refused Memory refuses =
         let wants = refuses.wants refl in
         let deed = deed_of shown s.unit s.situation.steps a in

@@ -8,7 +8,7 @@ ghost use Rattle.level_book.specs.Valid.{Valid, BrokenAt};
 ghost use Rattle.action_text.specs.ScheduleText.{IsSchedule};
 ghost use Rattle.action_text.specs.Faults.{HasFirstFault};
 ghost use Rattle.reverse_runner.specs.KeepersSeen.{HaveRoom};
-ghost use Rattle.requests.specs.Request.{Choice, Run as RunCommand, run as run_command, ask as ask_command, check as check_command, says_raw, stack_pages, unit_count};
+ghost use Rattle.requests.specs.Request.{Choice, Run as RunCommand, run as run_command, ask as ask_command, check as check_command, says_raw, stack_pages, worker_count, unit_count};
 ghost use Rattle.requests.specs.Operands.{by_name, question_bound};
 ghost use Rattle.requests.specs.Bounds.{numbers, IsWithin};
 ghost use Rattle.reversal.specs.Table.{accept, refuse, Keep};
@@ -104,6 +104,7 @@ fn decide_run(
 ) -> Result<Job, Ended>
     requires stack { (1 ≤ stack_pages options.now) × (stack_pages options.now ≤ 1024) }
     requires unit { (1 ≤ unit_count options.now) × (unit_count options.now ≤ 1024) }
+    requires workers { (1 ≤ worker_count options.now) × (worker_count options.now ≤ 64) }
     requires steps { backward.now.run.steps ≤ MOST_STEPS }
     requires instructions { unit_count options.now * backward.now.run.steps ≤ MOST_STEPS }
     requires inputs { AreWithinLimits (inputs_of (run_command (as_backward backward.now))) (map (λ b. b.items) bytes.old) }
@@ -116,13 +117,16 @@ fn decide_run(
 {
     let steps = backward.run.steps as u32;
     match backward.schedule {
-        Schedule::Named(_) => Ok(performance(decide_over(alloc, options, steps, bytes, counts)?)),
+        Schedule::Named(_) => {
+            let over = decide_over(alloc, options, steps, bytes, counts)?;
+            Ok(performance(over, workers_of(options)))
+        }
         Schedule::Made => decide_made(alloc, options, steps, bytes, counts),
     }
 }
 
-// The job of performing a list.
-fn performance(over: Over) -> Job
+// The job of performing a list, with so many workers.
+fn performance(over: Over, workers: u32) -> Job
     ensures job { job_of result ≡ perform (run_over over) }
     ensures can_be_done { IsOver over → CanBeDone result }
     ensures room { (counts : List ℕ) → HaveRoom over.steps (slots_of over.book) counts → KeepersHaveRoom result counts }
@@ -139,6 +143,7 @@ fn performance(over: Over) -> Job
         start,
         journal,
         unit,
+        workers,
         steps,
         book,
         actions: Actions::Listed(Listed::new(list)),
@@ -346,6 +351,14 @@ pub(crate) fn unit_of(options: &Options) -> u32
     ensures { result ≡ unit_count options.now }
 {
     options.unit_count() as u32
+}
+
+// How many workers there are.
+pub(crate) fn workers_of(options: &Options) -> u32
+    requires { worker_count options.now ≤ 64 }
+    ensures { result ≡ worker_count options.now }
+{
+    options.worker_count() as u32
 }
 
 // The recorded input, which keeps the bytes of its journal; none where there is no journal.

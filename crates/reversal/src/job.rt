@@ -31,11 +31,12 @@ use keepers::{Keeper, Sink};
 use level_book::Book;
 use plan_types::Line;
 use requests::Ended;
-use reverse_runner::{LineWriter, RunFault, Session};
+use reverse_runner::{RunFault, Session};
 use rv_machine::{State, Steps};
 use std::alloc::Global;
 use std::sync::ledger::Ledger;
 use std::thread::Threads;
+use unit_lines::{LineBatch, UnitWriter};
 
 /// What is to be done.
 #[derive(Drop)]
@@ -63,12 +64,13 @@ pub enum Job {
 }
 
 /// Some actions, and the run that they are performed over: its first state, the recorded input, how many instructions a step
-/// is, the number of steps and the book.
+/// is, how many workers take the digests of a unit's lines, the number of steps and the book.
 #[derive(Drop)]
 pub struct Performance {
     pub start: State,
     pub journal: Journal,
     pub unit: u32,
+    pub workers: u32,
     pub steps: u32,
     pub book: Book,
     pub actions: Actions,
@@ -95,7 +97,7 @@ impl Job {
             IsUntouched result out.old out.new keepers.old keepers.new counter.old counter.new }
     {
         match self {
-            Job::Perform(performance) => performance.perform(alloc, keepers, out, counter),
+            Job::Perform(performance) => performance.perform(rt, alloc, keepers, out, counter),
             Job::Ask(asking) => asking.answer(alloc, keepers, out, counter),
             Job::Find(finding) => finding.find(rt, alloc, out, counter),
             Job::Write(text) => write_bytes(text.bytes(), out),
@@ -111,8 +113,9 @@ impl Job {
 
 impl Performance {
     // Performs the list from the first state on.
-    fn perform<K: Keeper, O: Sink, L: Ledger>(
+    fn perform<R: Threads + Sync, K: Keeper, O: Sink, L: Ledger>(
         self,
+        rt: &R,
         alloc: Global,
         keepers: &mut Vec<K>,
         out: &mut O,
@@ -131,14 +134,20 @@ impl Performance {
             start,
             journal,
             unit,
+            workers,
             steps,
             book,
             mut actions,
         } = self;
         start.is_machine_state();
+        let Ok(batch) = LineBatch::begin(alloc, &start, unit, workers) else {
+            return Ended::no_memory();
+        };
         match Session::begin(alloc, start, journal, steps, unit, book) {
             Err(_) => Ended::no_memory(),
-            Ok(mut session) => perform_all(&mut session, &mut actions, keepers, out, counter),
+            Ok(mut session) => {
+                perform_all(rt, batch, &mut session, &mut actions, keepers, out, counter)
+            }
         }
     }
 }
@@ -156,13 +165,16 @@ fn write_bytes<O: Sink>(bytes: &[u8], out: &mut O) -> Ended
 }
 
 // Performs the actions that are still to come, a valid list, from the start.
-fn perform_all<K: Keeper, O: Sink, L: Ledger>(
+fn perform_all<R: Threads + Sync, K: Keeper, O: Sink, L: Ledger>(
+    rt: &R,
+    mut batch: LineBatch,
     session: &mut Session,
     actions: &mut Actions,
     keepers: &mut Vec<K>,
     out: &mut O,
     counter: &mut Steps<L>,
 ) -> Ended
+    requires none_waits { batch ≡ [] }
     requires begun { session.old ≡ begun session.old.work session.old.journal session.old.unit session.old.situation.steps session.old.situation.slots }
     requires stands { (told : ℕ → Option Images) → AllTell (length session.old.situation.slots) told → StandsAt session.old.work session.old told }
     requires alone { (told : ℕ → Option Images) → AllEmpty (length session.old.situation.slots) told → AreAlone (levels_of session.old told) }
@@ -177,13 +189,17 @@ fn perform_all<K: Keeper, O: Sink, L: Ledger>(
     ensures roomy { AreRoomy (image_room session.old.work) (length session.old.situation.slots) (rooms_by K.room_bytes keepers.old.items) →
         result.status ≢ 17 }
 {
-    let mut writer = LineWriter::new(out);
+    let mut writer = UnitWriter::new(&mut batch, out);
     let mut place = 0;
     while let Some(action) = actions.next() {
         place += 1;
         match session.perform(&action, keepers, &mut writer, counter) {
             Ok(()) => {}
             Err(fault) => return fault_ending(place, fault),
+        }
+        match writer.write_waiting(rt) {
+            Ok(()) => {}
+            Err(_) => return fault_ending(place, RunFault::Visitor),
         }
     }
     Ended::done()

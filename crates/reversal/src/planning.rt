@@ -9,7 +9,7 @@ ghost use Rattle.action_text.specs.Canonical.{HasSpelling};
 ghost use Rattle.cert_text.specs.Canonical.{pieces};
 ghost use Rattle.revolve_gen.specs.Plans.{HasPlan};
 ghost use Rattle.revolve_gen.specs.Written.{revolve_list};
-ghost use Rattle.requests.specs.Request.{Choice, Run as RunCommand, run as run_command, stack_pages, unit_count};
+ghost use Rattle.requests.specs.Request.{Choice, Run as RunCommand, run as run_command, stack_pages, worker_count, unit_count};
 ghost use Rattle.requests.specs.Operands.{made};
 ghost use Rattle.reversal.specs.Job.{perform, write};
 ghost use Rattle.reversal.specs.Moment.{Moment, beside};
@@ -26,7 +26,7 @@ ghost use Rattle.reversal.specs.JobReading.{job_of, pieces_of, IsWritable, CanBe
 ghost use Rattle.reversal.specs.Plans.{line_of_action, list_pieces};
 
 use crate::actions::Actions;
-use crate::decision::{book_in, journal_in, keep, start_of, unit_of};
+use crate::decision::{book_in, journal_in, keep, start_of, unit_of, workers_of};
 use crate::job::{Job, Performance};
 use action_text::print_action;
 use bound_cert::certify_revolve;
@@ -62,6 +62,7 @@ pub fn decide_made(
 ) -> Result<Job, Ended>
     requires stack { (1 ≤ stack_pages options.now) × (stack_pages options.now ≤ 1024) }
     requires unit { (1 ≤ unit_count options.now) × (unit_count options.now ≤ 1024) }
+    requires workers { (1 ≤ worker_count options.now) × (worker_count options.now ≤ 64) }
     requires steps { steps ≤ MOST_STEPS }
     requires instructions { unit_count options.now * steps ≤ MOST_STEPS }
     requires inputs { (r : RunCommand) × AreWithinLimits (inputs_of (run_command (record { run = r; schedule = made }))) (map (λ b. b.items) bytes.old) }
@@ -101,6 +102,7 @@ fn decide_texts(
 ) -> Result<Job, Ended>
     requires stack { (1 ≤ stack_pages options.now) × (stack_pages options.now ≤ 1024) }
     requires unit { (1 ≤ unit_count options.now) × (unit_count options.now ≤ 1024) }
+    requires workers { (1 ≤ worker_count options.now) × (worker_count options.now ≤ 64) }
     requires steps { steps ≤ MOST_STEPS }
     requires instructions { unit_count options.now * steps ≤ MOST_STEPS }
     ensures accepted { IfOk result (λ job. DecidesOver perform options.now steps texts.entry.program.now
@@ -120,6 +122,7 @@ fn decide_texts(
         start,
         journal,
         unit: unit_of(options),
+        workers: workers_of(options),
         steps,
         book,
         actions: Actions::Streamed(revolve),

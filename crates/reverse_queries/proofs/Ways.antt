@@ -21,6 +21,7 @@ use Rattle.schedule_rules.proofs.Reaching.{sound_on, sound_start, leads_unique}
 use Rattle.rv_machine.specs.MachineState.{MachineState, IsMachineState}
 use Rattle.reverse_runner.specs.declared.fault.RunFault.{RunFault}
 use Rattle.reverse_runner.specs.Acts.{Holdings, Acts}
+use Rattle.reverse_runner.specs.After.{KeepersAfter, VisitorAfter}
 use Rattle.reverse_runner.specs.KeepersSeen.{Calls, Called, CalledAtMost, CalledBetween, by_number, told_by, calls_to, calls_of, is_release, HaveRoom}
 use Rattle.reverse_runner.specs.SessionState.{SessionState, SamePages, levels_of, holdings_of}
 use Rattle.reverse_runner.specs.LevelsStand.{AreAlone, HoldingsStandAt}
@@ -28,7 +29,7 @@ use Rattle.reverse_runner.specs.Handed.{handed_by}
 use Rattle.reverse_runner.specs.Performed.{GetsAll, MissesOne}
 use Rattle.rv_machine.specs.States.{state_number}
 use Rattle.reverse_runner.specs.Standing.{StandsAt, Performs, SessionEnds}
-use Rattle.reverse_queries.specs.Asked.{IsSpared, KeepersAfter, VisitorAfter}
+use Rattle.reverse_queries.specs.Asked.{IsSpared}
 use Rattle.reverse_queries.specs.Performing.{calls_of_all, done_after, PerformsAll, FaultFits, RefusedIn}
 use Rattle.reverse_queries.proofs.Fronts.{is_within}
 use Rattle.reverse_queries.proofs.Fitting.{same_there}
@@ -299,9 +300,9 @@ run_has first old mid told front a d start_ so_far goes stands =
 pub ok_spared : {A : Type 0} (x : A) (session : SessionState) (told : ℕ → Option Images) (rooms : ℕ → Option ℕ) → IsSpared (Ok x) session told rooms
 ok_spared x session told rooms = record { not_ended = λ e. cc; roomy = λ roomy e. cc; undamaged = λ first is stands k put got e. cc }
 
-pub ok_kept : {A K : Type 0} (slots faults : K → ℕ) (levels : ℕ) (x : A) (ks ls : List K) → ((k : ℕ) → by_number 0 faults ls k ≡ by_number 0 faults ks k) → map slots ls ≡ map slots ks → ((k : ℕ) → levels ≤ k → slice_get ls k ≡ slice_get ks k) →
-    KeepersAfter slots faults levels (Ok x) ks ls
-ok_kept slots faults levels x ks ls quiet room others = record {
+pub ok_kept : {A K : Type 0} (slots faults : K → ℕ) (Untouched : ℕ → Type 0) (x : A) (ks ls : List K) → ((k : ℕ) → by_number 0 faults ls k ≡ by_number 0 faults ks k) → map slots ls ≡ map slots ks → ((k : ℕ) → Untouched k → slice_get ls k ≡ slice_get ks k) →
+    KeepersAfter slots faults Untouched (Ok x) ks ls
+ok_kept slots faults Untouched x ks ls quiet room others = record {
   keeper_cause = λ k e. absurd cc;
   keepers_quiet = λ never. quiet;
   keepers_later = λ k. (let same = quiet k in omega (arith, same));

@@ -4,13 +4,14 @@ ghost use Rattle.level_book.specs.Configuration.{start};
 ghost use Rattle.level_book.specs.Valid.{Valid};
 ghost use Rattle.rv_machine.specs.MachineState.{MachineState, IsMachineState};
 ghost use Rattle.rv_machine.specs.States.{state_number};
+ghost use Rattle.reverse_runner.specs.After.{Stays, KeepersAfter};
 ghost use Rattle.reverse_runner.specs.KeepersSeen.{told_by, calls_to, HaveRoom};
 ghost use Rattle.reverse_runner.specs.Rooms.{rooms_by};
 ghost use Rattle.reverse_runner.specs.SessionState.{holdings_of};
 ghost use Rattle.reverse_runner.specs.Standing.{StandsAt};
 ghost use Rattle.reverse_queries.specs.Queries.{Differ, IsLast, up_to};
 ghost use Rattle.reverse_queries.specs.Performing.{RefusedIn};
-ghost use Rattle.reverse_queries.specs.Asked.{Performed, Stays, IsSpared, KeepersAfter};
+ghost use Rattle.reverse_queries.specs.Asked.{Performed, IsSpared};
 ghost use Rattle.reverse_queries.specs.OnTheWay.{IsFoundOn};
 ghost use Rattle.reverse_queries.specs.Finding.{word_bytes, SomeDiffer, DoesWhatIsAsked, Finds, Got};
 
@@ -145,7 +146,7 @@ pub(crate) fn find_last<K: Keeper, L: Ledger>(
         (calls_to K.put_count K.get_count K.free_count keepers.new.items)) }
     ensures not_visitor { result ≢ Err RunFault.Visitor }
     ensures spared { IsSpared result session.old (told_by K.told keepers.old.items) (rooms_by K.room_bytes keepers.old.items) }
-    ensures kept { KeepersAfter K.slot_count K.fault_count (length session.old.situation.slots) result keepers.old.items keepers.new.items }
+    ensures kept { KeepersAfter K.slot_count K.fault_count (λ k. length session.old.situation.slots ≤ k) result keepers.old.items keepers.new.items }
 {
     let last = session.unit() * session.config().reverse();
     let mut finder = Finder::new(question, word, last);

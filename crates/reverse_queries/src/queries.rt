@@ -3,12 +3,13 @@ ghost use Rattle.std.specs.Prelude.{◌≡◌, ◌≢◌, ◌+◌, ◌*◌, ◌�
 ghost use Rattle.level_book.specs.Configuration.{start};
 ghost use Rattle.level_book.specs.Valid.{Valid};
 ghost use Rattle.rv_machine.specs.MachineState.{MachineState, IsMachineState};
+ghost use Rattle.reverse_runner.specs.After.{Stays, KeepersAfter, VisitorAfter};
 ghost use Rattle.reverse_runner.specs.KeepersSeen.{told_by, calls_to, HaveRoom};
 ghost use Rattle.reverse_runner.specs.Rooms.{rooms_by};
 ghost use Rattle.reverse_runner.specs.SessionState.{holdings_of};
 ghost use Rattle.reverse_runner.specs.Standing.{StandsAt};
 ghost use Rattle.reverse_queries.specs.Queries.{WritesIn, ChangesIn, WritesWord, ChangesWord, IsLast, front_to, up_to};
-ghost use Rattle.reverse_queries.specs.Asked.{Performed, Stays, IsSpared, KeepersAfter, VisitorAfter};
+ghost use Rattle.reverse_queries.specs.Asked.{Performed, IsSpared};
 ghost use Rattle.reverse_queries.specs.OnTheWay.{IsFoundOn};
 ghost use Rattle.reverse_queries.specs.Performing.{GetsState, MissesState, RefusedIn};
 
@@ -44,8 +45,9 @@ pub fn state_at<K: Keeper, V: Visitor, L: Ledger>(
         (holdings_of session.old (told_by K.told keepers.old.items)) (holdings_of session.new (told_by K.told keepers.new.items))) }
 
     // What was performed for it.
-    ensures performed { OnOk result (Performed session.old (front_to session.old.unit session.old.situation.steps place list.now) session.new steps.old steps.new
-        (calls_to K.put_count K.get_count K.free_count keepers.old.items) (calls_to K.put_count K.get_count K.free_count keepers.new.items)) }
+    ensures performed { OnOk result (Performed session.old (front_to session.old.unit session.old.situation.steps place list.now) session.new
+        steps.old steps.new (calls_to K.put_count K.get_count K.free_count keepers.old.items)
+        (calls_to K.put_count K.get_count K.free_count keepers.new.items)) }
     ensures stays { OnOk result (Stays session.old (told_by K.told keepers.old.items) session.new (told_by K.told keepers.new.items)) }
 
     // What stands after a refusal, and its cause.
@@ -56,7 +58,7 @@ pub fn state_at<K: Keeper, V: Visitor, L: Ledger>(
         (calls_to K.put_count K.get_count K.free_count keepers.new.items)) }
     ensures spared { IsSpared result session.old (told_by K.told keepers.old.items) (rooms_by K.room_bytes keepers.old.items) }
     ensures seen { VisitorAfter V.fault_count result visitor.old visitor.new }
-    ensures kept { KeepersAfter K.slot_count K.fault_count (length session.old.situation.slots) result keepers.old.items keepers.new.items }
+    ensures kept { KeepersAfter K.slot_count K.fault_count (λ k. length session.old.situation.slots ≤ k) result keepers.old.items keepers.new.items }
 {
     let mut picked = Picked::new(place, visitor);
     for action in list {
@@ -105,7 +107,7 @@ pub fn last_write<K: Keeper, L: Ledger>(
         (calls_to K.put_count K.get_count K.free_count keepers.new.items)) }
     ensures not_visitor { result ≢ Err RunFault.Visitor }
     ensures spared { IsSpared result session.old (told_by K.told keepers.old.items) (rooms_by K.room_bytes keepers.old.items) }
-    ensures kept { KeepersAfter K.slot_count K.fault_count (length session.old.situation.slots) result keepers.old.items keepers.new.items }
+    ensures kept { KeepersAfter K.slot_count K.fault_count (λ k. length session.old.situation.slots ≤ k) result keepers.old.items keepers.new.items }
 {
     find_last(session, list, keepers, Sought::Write, word, steps)
 }
@@ -147,7 +149,7 @@ pub fn last_change<K: Keeper, L: Ledger>(
         (calls_to K.put_count K.get_count K.free_count keepers.new.items)) }
     ensures not_visitor { result ≢ Err RunFault.Visitor }
     ensures spared { IsSpared result session.old (told_by K.told keepers.old.items) (rooms_by K.room_bytes keepers.old.items) }
-    ensures kept { KeepersAfter K.slot_count K.fault_count (length session.old.situation.slots) result keepers.old.items keepers.new.items }
+    ensures kept { KeepersAfter K.slot_count K.fault_count (λ k. length session.old.situation.slots ≤ k) result keepers.old.items keepers.new.items }
 {
     find_last(session, list, keepers, Sought::Change, word, steps)
 }

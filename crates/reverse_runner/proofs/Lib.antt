@@ -14,3 +14,4 @@ pub mod Rooms
 pub mod StandingAfter
 pub mod Taping
 pub mod Undamaged
+pub mod Caused

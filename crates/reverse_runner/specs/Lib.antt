@@ -1,4 +1,5 @@
 pub mod Acts
+pub mod After
 pub mod Handed
 pub mod HoldsJust
 pub mod KeepersSeen

@@ -5,11 +5,11 @@ ghost use Rattle.plan_types.specs.declared.limits.TheConstants.{MOST_STEPS};
 ghost use Rattle.level_book.specs.BookCosts.{slots_of};
 ghost use Rattle.level_book.specs.Rules.{rule, levels_named};
 ghost use Rattle.level_book.specs.CostFold.{steps_of};
-ghost use Rattle.keepers.specs.Counts.{Rose};
 ghost use Rattle.keepers.specs.Told.{Images};
 ghost use Rattle.rv_machine.specs.MachineState.{MachineState, IsMachineState};
 ghost use Rattle.reverse_runner.specs.Acts.{Acts};
-ghost use Rattle.reverse_runner.specs.KeepersSeen.{by_number, told_by, calls_to, calls_of, HaveRoom, Called, CalledAtMost};
+ghost use Rattle.reverse_runner.specs.After.{Stays, KeepersAfter, VisitorAfter};
+ghost use Rattle.reverse_runner.specs.KeepersSeen.{told_by, calls_to, calls_of, HaveRoom, Called, CalledAtMost};
 ghost use Rattle.reverse_runner.specs.LevelsStand.{AreAlone};
 ghost use Rattle.reverse_runner.specs.Left.{MayLeave};
 ghost use Rattle.reverse_runner.specs.Handed.{handed_by};
@@ -141,10 +141,7 @@ impl Session {
             (states_out action.now self.old.work self.old.tape.states) visitor.old visitor.new) }
 
         // Where the session stood before, it stands where it went.
-        ensures stands { (first : MachineState) → IsMachineState first → StandsAt first self.old (told_by K.told keepers.old.items) →
-            OnOk result (StandsAt first self.new (told_by K.told keepers.new.items)) }
-        ensures alone { AreAlone (levels_of self.old (told_by K.told keepers.old.items)) →
-            OnOk result (AreAlone (levels_of self.new (told_by K.told keepers.new.items))) }
+        ensures stays { OnOk result (Stays self.old (told_by K.told keepers.old.items) self.new (told_by K.told keepers.new.items)) }
 
         // A refusal ends the session.
         ensures refused { OnErr result (SessionEnds self.old self.new) }
@@ -159,21 +156,14 @@ impl Session {
         ensures misses { result ≡ Err RunFault.Visitor →
             MissesOne V.got V.missed self.old.journal (handed_by self.old.unit self.old.situation.steps action.now)
             (states_out action.now self.old.work self.old.tape.states) visitor.old visitor.new }
-        ensures unseen { OnErr result (result ≢ Err RunFault.Visitor → visitor.new ≡ visitor.old) }
 
         // The cause of each refusal.
-        ensures keeper_cause { (k : ℕ) → result ≡ Err (RunFault.Keeper k) →
-            Contains (levels_named action.now) k × Rose (by_number 0 K.fault_count keepers.old.items k) (by_number 0 K.fault_count keepers.new.items k) }
-        ensures keepers_quiet { ((k : ℕ) → result ≢ Err (RunFault.Keeper k)) → (j : ℕ) →
-            by_number 0 K.fault_count keepers.new.items j ≡ by_number 0 K.fault_count keepers.old.items j }
-        ensures keepers_later { (k : ℕ) → by_number 0 K.fault_count keepers.old.items k ≤ by_number 0 K.fault_count keepers.new.items k }
+        ensures named { (k : ℕ) → result ≡ Err (RunFault.Keeper k) → Contains (levels_named action.now) k }
         ensures damaged { (k : ℕ) (put got : List ℕ) → result ≡ Err (RunFault.Damaged k put got) →
             IsDamage action.now (holdings_of self.old (told_by K.told keepers.old.items)) k put got }
         ensures undamaged { (first : MachineState) → IsMachineState first → StandsAt first self.old (told_by K.told keepers.old.items) →
             (k : ℕ) (put got : List ℕ) → result ≢ Err (RunFault.Damaged k put got) }
-        ensures cause { result ≡ Err RunFault.Visitor → Rose (V.fault_count visitor.old) (V.fault_count visitor.new) }
-        ensures quiet { result ≢ Err RunFault.Visitor → V.fault_count visitor.new ≡ V.fault_count visitor.old }
-        ensures later { V.fault_count visitor.old ≤ V.fault_count visitor.new }
+        ensures seen { VisitorAfter V.fault_count result visitor.old visitor.new }
         ensures wants { result ≡ Err RunFault.Memory → IsTrue (calls_keepers action.now) }
         ensures roomy { AreRoomy (image_room self.old.work) (length self.old.situation.slots) (rooms_by K.room_bytes keepers.old.items) →
             result ≢ Err RunFault.Memory }
@@ -181,10 +171,9 @@ impl Session {
         // The states map the pages that they mapped.
         ensures pages { SamePages self.old.work self.new.work }
 
-        // The keepers have the slots and rooms that they had, and those of levels that the action doesn't name are as they were.
-        ensures slots { map K.slot_count keepers.new.items ≡ map K.slot_count keepers.old.items }
+        // The keepers, of which those of levels that the action doesn't name are as they were. They have the rooms that they had.
+        ensures kept { KeepersAfter K.slot_count K.fault_count (λ k. Contains (levels_named action.now) k → ⊥) result keepers.old.items keepers.new.items }
         ensures rooms { SameRooms (rooms_by K.room_bytes keepers.old.items) (rooms_by K.room_bytes keepers.new.items) }
-        ensures others { (k : ℕ) → (Contains (levels_named action.now) k → ⊥) → slice_get keepers.new.items k ≡ slice_get keepers.old.items k }
     {
         if self.ended {
             return Err(RunFault::Ended);

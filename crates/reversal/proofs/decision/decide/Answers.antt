@@ -30,6 +30,9 @@ decide_run-requires-clause-steps g c =
 pub decide_run-requires-clause-unit : goal.decide_run-requires-clause-unit
 decide_run-requires-clause-unit g c = unit_within c.args.request.now.options (all_front _ _ c.requires.numbers)
 
+pub decide_run-requires-clause-workers : goal.decide_run-requires-clause-workers
+decide_run-requires-clause-workers g c = workers_within c.args.request.now.options (all_front _ _ c.requires.numbers)
+
 pub decide_run-requires-clause-instructions : goal.decide_run-requires-clause-instructions
 decide_run-requires-clause-instructions g c =
     let P : Command → Type 0 = λ x. AllByRecursion IsWithin (command_numbers (unit_count c.args.request.now.options) (as_command x)) in

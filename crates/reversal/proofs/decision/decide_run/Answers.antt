@@ -24,15 +24,15 @@ decide_made-requires-clause-inputs c =
     let P : Schedule → Type 0 = λ s. AreWithinLimits (inputs_of (run (record { run = as_run c.args.backward.now.run; schedule = as_schedule s }))) (map (λ b. b.items) c.args.bytes.now) in
     (as_run c.args.backward.now.run, subst P c.in-Made.is c.requires.inputs)
 
-pub returns-in_err-decide_over-in-Named-clause-refused : goal.returns-in_err-decide_over-in-Named-clause-refused
-returns-in_err-decide_over-in-Named-clause-refused c =
+pub returns-in_err-over-in-Named-clause-refused : goal.returns-in_err-over-in-Named-clause-refused
+returns-in_err-over-in-Named-clause-refused c =
     on_error c.from_residual.result _ _ c.from_residual.ensures.1 (λ e gives.
-    let same : c.in_err-decide_over-in-Named.field-0.0 ≡ e = cc in
+    let same : c.in_err-over-in-Named.field-0.0 ≡ e = cc in
     let D : Schedule → Ended → Type 0 = λ s x. (x ≡ no_memory) ⊎ DecidesOverBytes perform c.args.options.now (as_schedule s) c.args.backward.now.run.steps (map (λ b. b.items) c.args.bytes.now) c.args.counts.now (refuse x) in
-    subst (λ s. D s e) (sym c.in-Named.is) (subst (D (Named c.in-Named.field-0)) same (c.in_err-decide_over-in-Named.ensures.refused perform c.in-Named.field-0.now)))
+    subst (λ s. D s e) (sym c.in-Named.is) (subst (D (Named c.in-Named.field-0)) same (c.in_err-over-in-Named.ensures.refused perform c.in-Named.field-0.now)))
 
-pub returns-in_ok-decide_over-in-Named-clause-accepted : goal.returns-in_ok-decide_over-in-Named-clause-accepted
-returns-in_ok-decide_over-in-Named-clause-accepted c =
+pub returns-in_ok-over-in-Named-clause-accepted : goal.returns-in_ok-over-in-Named-clause-accepted
+returns-in_ok-over-in-Named-clause-accepted c =
     let D : Schedule → Job → Type 0 = λ s j. DecidesOverBytes perform c.args.options.now (as_schedule s) c.args.backward.now.run.steps (map (λ b. b.items) c.args.bytes.now) c.args.counts.now (accept j) in
     subst (λ s. D s (job_of c.performance.result)) (sym c.in-Named.is)
-    (subst (D (Named c.in-Named.field-0)) (sym c.performance.ensures.job) (c.in_ok-decide_over-in-Named.ensures.accepted perform c.in-Named.field-0.now))
+    (subst (D (Named c.in-Named.field-0)) (sym c.performance.ensures.job) (c.in_ok-over-in-Named.ensures.accepted perform c.in-Named.field-0.now))

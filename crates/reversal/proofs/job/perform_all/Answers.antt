@@ -1,4 +1,5 @@
-use Rattle.std.proofs.Common.{◌≡◌, ◌≢◌, ◌∙◌, ◌+◌, ◌≤◌, ℕ, List, map, length, Some, Err, inl, arith, sym, ap, refl, subst, slice_get, inr}
+use Rattle.std.proofs.Common.{◌≡◌, ◌≢◌, ◌∙◌, ◌+◌, ◌*◌, ◌≤◌, ℕ, List, map, length, Some, Err, inl, arith, sym, ap, refl, subst, slice_get, inr}
+use Rattle.std.proofs.Math.Nat.{mul-zero}
 use Rattle.std.proofs.lemmas.List.{length-map}
 use Rattle.std.proofs.lemmas.Bool.{false≢true}
 use Rattle.keepers.specs.Counts.{Rose}
@@ -18,8 +19,13 @@ use Rattle.reversal.specs.Deeds.{States}
 use Rattle.reversal.specs.JobReading.{Works, fault_ending}
 use Rattle.reversal.specs.ActionsLeft.{left_of}
 use Rattle.reversal.proofs.OnTheWay.{allowed}
-use Rattle.reversal.proofs.Performing.{same_sink, IsAt, same_sink_missed}
-use Rattle.reversal.proofs.Progress.{past_is_unnamed, run_of, SoFar, same_run, Refuses, went_whole, nothing_so_far, same_Err, more, refused, may_go}
+use Rattle.unit_lines.specs.Lines.{lines_for}
+use Rattle.unit_lines.specs.Sending.{Writes, BreaksOff}
+use Rattle.unit_lines.proofs.Gathered.{Got, same_sink, same_sink_missed, gathered, broken, then_written, then_broken, from_none}
+use Rattle.reversal.proofs.Performing.{IsAt, broken_steps_none}
+use Rattle.reverse_runner.proofs.AllCalls.{at_most}
+use Rattle.reverse_runner.specs.declared.fault.RunFault.TheVariants.{Keeper, Damaged, Memory, Visitor, Ended}
+use Rattle.reversal.proofs.Progress.{broken_left, past_is_unnamed, run_of, SoFar, same_run, Refuses, went_whole, nothing_so_far, same_Err, more, refused, may_go}
 use Rattle.reversal.proofs.job.perform_all.Given.{Over}
 use Rattle.reversal.proofs.job.perform_all.Goals.{After-perform}
 use Rattle.reverse_runner.specs.Rooms.{rooms_by}
@@ -27,6 +33,19 @@ use Rattle.reverse_runner.proofs.Rooms.{still_roomy}
 use Rattle.reversal.proofs.Rooms.{is_memory}
 use Rattle.reversal.proofs.job.perform_all.Goals as goal
 use Rattle.reversal.proofs.Asked.{is_visitor}
+
+-- a fault of the visitor is no other
+other_damaged : (k : ℕ) (put got : List ℕ) → Visitor ≡ Damaged k put got → ⊥
+other_damaged k put got e = cc
+
+other_keeper : (k : ℕ) → Visitor ≡ Keeper k → ⊥
+other_keeper k e = cc
+
+other_memory : Visitor ≡ Memory → ⊥
+other_memory e = cc
+
+other_ended : Visitor ≡ Ended → ⊥
+other_ended e = cc
 
 -- ---- what is known before an action
 
@@ -87,6 +106,7 @@ loop-action-init g c =
       rooms = λ k. refl;
       pages = refl;
       room = refl;
+      none_waits = c.new-writer.ensures.batch ∙ c.requires.none_waits;
       reference = refl;
       others = λ k past. refl;
     }
@@ -101,11 +121,16 @@ loop-action-preserved g c =
     let list = list_of g p in
     let next = at_front list c.loop-action.place c.in-Some.action _ (sym inv.rest ∙ c.in-Some.ensures) in
     let ok = c.in-Ok.ensures in
-    let new = moment g.O.Sink.told g.O.Sink.call_count g.O.Sink.fault_count g.K.Keeper.told g.K.Keeper.put_count g.K.Keeper.get_count g.K.Keeper.free_count g.K.Keeper.fault_count c.perform.new.visitor.out.now c.perform.new.keepers.items c.perform.new.steps in
-    let is_at = λ (m : Moment). IsAt g.O.Sink.told g.O.Sink.call_count in
-    let one = more g.O.Sink.told g.O.Sink.call_count first before list c.loop-action.place inv.so_far.0 c.loop-action.writer (old_of g p) (mid_of g p) c.in-Some.action (there g p) (record { tells = refl; counts = refl }) (here g p)
-    after c.perform.new.visitor new (record { tells = refl; counts = refl }) ok.performs ok.acts ok.gets ok.counted ok.called (ok.stands first c.requires.state) ok.alone
-    (record { sink = c.perform.ensures.quiet (λ e. cc); keepers = c.perform.ensures.keepers_quiet (λ j e. cc) }) in
+    let written = c.in-Ok-write_waiting.ensures in
+    let new = moment g.O.Sink.told g.O.Sink.call_count g.O.Sink.fault_count g.K.Keeper.told g.K.Keeper.put_count g.K.Keeper.get_count g.K.Keeper.free_count g.K.Keeper.fault_count c.write_waiting.new.self.out.now c.perform.new.keepers.items c.perform.new.steps in
+    let numbers = handed_by before.unit before.situation.steps c.in-Some.action in
+    let states = states_out c.in-Some.action before.work before.tape.states in
+    let lines : Writes g.O.Sink.told g.O.Sink.call_count (lines_for numbers states) c.loop-action.writer.out.now c.write_waiting.new.self.out.now =
+    then_written g.O.Sink.told g.O.Sink.call_count c.loop-action.writer.batch.now (lines_for numbers states) c.perform.new.visitor.batch.now c.loop-action.writer.out.now c.perform.new.visitor.out.now c.write_waiting.new.self.out.now inv.none_waits
+    (gathered g.O.Sink.told g.O.Sink.call_count before.journal numbers states c.loop-action.writer c.perform.new.visitor ok.gets) written.written in
+    let one = more g.O.Sink.told g.O.Sink.call_count first before list c.loop-action.place inv.so_far.0 c.loop-action.writer.out.now (old_of g p) (mid_of g p) c.in-Some.action (there g p) (record { tells = refl; counts = refl }) (here g p)
+    (Got g.O.Sink.told g.O.Sink.call_count) after c.loop-action.writer c.perform.new.visitor c.write_waiting.new.self.out.now new (record { tells = refl; counts = refl }) ok.performs ok.acts ok.gets lines ok.counted ok.called
+    (ok.stays.stands first c.requires.state) ok.stays.alone (record { sink = written.quiet ∙ c.perform.ensures.seen.quiet (λ e. cc); keepers = c.perform.ensures.kept.keepers_quiet (λ j e. cc) }) in
     let now : States = _ in
     let R : Run → Type 0 = λ r. SoFar r (c.loop-action.place + 1) now after (old_of g p) new in
     record {
@@ -114,12 +139,11 @@ loop-action-preserved g c =
       so_far = (_, subst R (run_now g p) one);
       rooms = λ k. c.perform.ensures.rooms k ∙ inv.rooms k;
       pages = sym c.perform.ensures.pages ∙ inv.pages;
-      room = c.perform.ensures.slots ∙ inv.room;
-      reference =
-          same_sink g.O.Sink.told g.O.Sink.call_count before.journal (handed_by before.unit before.situation.steps c.in-Some.action) (states_out c.in-Some.action before.work before.tape.states) c.loop-action.writer c.perform.new.visitor ok.gets
-          ∙ inv.reference;
+      room = c.perform.ensures.kept.slots ∙ inv.room;
+      none_waits = c.write_waiting.ensures.empty;
+      reference = c.write_waiting.ensures.sink ∙ same_sink g.O.Sink.told g.O.Sink.call_count before.journal numbers states c.loop-action.writer c.perform.new.visitor ok.gets ∙ inv.reference;
       others = λ k past.
-          c.perform.ensures.others k (past_is_unnamed before.situation.steps before.situation.slots before.situation.at c.in-Some.action after.situation.at k ok.performs.goes
+          c.perform.ensures.kept.others k (past_is_unnamed before.situation.steps before.situation.slots before.situation.at c.in-Some.action after.situation.at k ok.performs.goes
           (let slots = ap length inv.so_far.1.slots in omega (arith, past, slots)))
           ∙ inv.others k past;
     }
@@ -145,26 +169,30 @@ returns-in-Err-clause-works g c =
     let isnt = λ (f : RunFault) (ne : fault ≢ f) (e : c.perform.result ≡ Err f). ne (same_Err c.perform.result _ _ c.in-Err.is e) in
     let kept : c.perform.new.visitor.out.ghost_name ≡ c.loop-action.writer.out.ghost_name = elim (is_visitor fault) [
       | inl e ↦ same_sink_missed g.O.Sink.told g.O.Sink.call_count before.journal (handed_by before.unit before.situation.steps a) (states_out a before.work before.tape.states) c.loop-action.writer c.perform.new.visitor (all.misses (is _ e))
-      | inr ne ↦ ap (λ v. v.out.ghost_name) (err.unseen (λ e. ne cc))
+      | inr ne ↦ ap (λ v. v.out.ghost_name) (err.seen.unseen (λ e. ne cc))
     ] in
     let last = c.in-Err.out-1-own.given.1 (sym (kept ∙ inv.reference ∙ c.new-writer.ensures.same_reference)) in
     let new = moment g.O.Sink.told g.O.Sink.call_count g.O.Sink.fault_count g.K.Keeper.told g.K.Keeper.put_count g.K.Keeper.get_count g.K.Keeper.free_count g.K.Keeper.fault_count c.in-Err.out-1-own.given.0 c.perform.new.keepers.items c.perform.new.steps in
-    let at_end : IsAt g.O.Sink.told g.O.Sink.call_count c.perform.new.visitor new = record { tells = ap g.O.Sink.told last; counts = ap g.O.Sink.call_count last } in
+    let at_end : IsAt g.O.Sink.told g.O.Sink.call_count c.perform.new.visitor.out.now new = record { tells = ap g.O.Sink.told last; counts = ap g.O.Sink.call_count last } in
     let V : ℕ → Type 0 = λ n. Rose (g.O.Sink.fault_count c.loop-action.writer.out.now) n in
-    let refuses : Refuses g.O.Sink.told g.O.Sink.call_count first before a fault c.loop-action.writer c.perform.new.visitor (mid_of g p) new = record {
+    let numbers = handed_by before.unit before.situation.steps a in
+    let states = states_out a before.work before.tape.states in
+    let y = c.perform.new.visitor.out.now in
+    let refuses : Refuses g.O.Sink.told g.O.Sink.call_count first before a fault c.loop-action.writer.out.now y (mid_of g p) new = record {
       uncounted = err.uncounted;
       called = err.called_at_most;
       left = err.left so_far.lasts;
       whole = λ k put got e. all.whole k put got (is _ e);
-      misses = λ e. all.misses (is _ e);
-      unseen = λ ne. err.unseen (λ e. ne cc);
+      breaks = λ e. from_none g.O.Sink.told g.O.Sink.call_count c.loop-action.writer.batch.now (lines_for numbers states) c.loop-action.writer.out.now y inv.none_waits
+          (broken g.O.Sink.told g.O.Sink.call_count before.journal numbers states c.loop-action.writer c.perform.new.visitor (all.misses (is _ e)));
+      unseen = λ ne. ap (λ v. v.out.now) (err.seen.unseen (λ e. ne cc));
       counts = record {
-        sink = λ e. subst V (ap g.O.Sink.fault_count (sym last)) (all.cause (is _ e));
-        sink_quiet = λ ne. ap g.O.Sink.fault_count last ∙ all.quiet (isnt _ ne);
-        keeper = λ k e. (all.keeper_cause k (is _ e)).1;
-        keepers_quiet = λ ne. all.keepers_quiet (λ k. isnt _ (ne k));
+        sink = λ e. subst V (ap g.O.Sink.fault_count (sym last)) (all.seen.cause (is _ e));
+        sink_quiet = λ ne. ap g.O.Sink.fault_count last ∙ all.seen.quiet (isnt _ ne);
+        keeper = λ k e. all.kept.keeper_cause k (is _ e);
+        keepers_quiet = λ ne. all.kept.keepers_quiet (λ k. isnt _ (ne k));
       };
-      named = λ k e. (all.keeper_cause k (is _ e)).0;
+      named = λ k e. all.named k (is _ e);
       damaged = λ k put got e. all.damaged k put got (is _ e);
       undamaged = λ stands k put got e. all.undamaged first c.requires.state stands k put got (is _ e);
       wants = λ e. all.wants (is _ e);
@@ -176,8 +204,8 @@ returns-in-Err-clause-works g c =
     let valid = subst V2 (sym inv.so_far.1.slots) (subst V1 (sym inv.so_far.1.steps) c.requires.valid) in
     let E : Ending → Type 0 = λ e. Works (perform (run_of first c.args.session.now list)) e (old_of g p) new in
     subst E (sym c.fault_ending.ensures) (subst R (run_now g p)
-    (refused g.O.Sink.told g.O.Sink.call_count first before list c.loop-action.place inv.so_far.0 c.loop-action.writer (old_of g p) (mid_of g p) a (there g p) (record { tells = refl; counts = refl }) so_far
-    valid c.perform.new.visitor new at_end fault refuses))
+    (refused g.O.Sink.told g.O.Sink.call_count first before list c.loop-action.place inv.so_far.0 c.loop-action.writer.out.now (old_of g p) (mid_of g p) a (there g p) (record { tells = refl; counts = refl }) so_far
+    valid y new at_end fault refuses))
 
 pub returns-in-Err-clause-others : goal.returns-in-Err-clause-others
 returns-in-Err-clause-others g c =
@@ -188,11 +216,11 @@ returns-in-Err-clause-others g c =
     let V2 : List Slots → Type 0 = λ s. Valid before.situation.steps s list in
     let V1 : ℕ → Type 0 = λ n. Valid n c.args.session.now.situation.slots list in
     let valid = subst V2 (sym inv.so_far.1.slots) (subst V1 (sym inv.so_far.1.steps) c.requires.valid) in
-    let goes = may_go g.O.Sink.told g.O.Sink.call_count c.args.session.now.work before list c.loop-action.place inv.so_far.0 c.loop-action.writer (old_of g p) (mid_of g p) c.in-Some.action (there g p) (record { tells = refl; counts = refl }) (here g p)
-    valid c.loop-action.writer (mid_of g p) (record { tells = refl; counts = refl }) in (
-      sym (length-map c.perform.new.keepers.items g.K.Keeper.slot_count) ∙ ap length (c.perform.ensures.slots ∙ inv.room) ∙ length-map c.args.keepers.now.items g.K.Keeper.slot_count,
+    let goes = may_go g.O.Sink.told g.O.Sink.call_count c.args.session.now.work before list c.loop-action.place inv.so_far.0 c.loop-action.writer.out.now (old_of g p) (mid_of g p) c.in-Some.action (there g p) (record { tells = refl; counts = refl }) (here g p)
+    valid c.loop-action.writer.out.now (mid_of g p) (record { tells = refl; counts = refl }) in (
+      sym (length-map c.perform.new.keepers.items g.K.Keeper.slot_count) ∙ ap length (c.perform.ensures.kept.slots ∙ inv.room) ∙ length-map c.args.keepers.now.items g.K.Keeper.slot_count,
       λ k past.
-          c.perform.ensures.others k (past_is_unnamed before.situation.steps before.situation.slots before.situation.at c.in-Some.action goes.0 k goes.1
+          c.perform.ensures.kept.others k (past_is_unnamed before.situation.steps before.situation.slots before.situation.at c.in-Some.action goes.0 k goes.1
           (let slots = ap length inv.so_far.1.slots in omega (arith, past, slots)))
           ∙ inv.others k past,
     )
@@ -237,3 +265,70 @@ returns-in-Err-clause-roomy g c roomy e =
     let rooms = rooms_by g.K.Keeper.room_bytes in
     c.perform.ensures.roomy
     (still_roomy first.work before.work first.situation.slots before.situation.slots (rooms c.args.keepers.now.items) (rooms c.loop-action.keepers.items) inv.pages inv.so_far.1.slots inv.rooms roomy) (is _ wants)
+
+-- ---- the lines that waited were not all written
+
+pub returns-in-Err-write_waiting-clause-works : goal.returns-in-Err-write_waiting-clause-works
+returns-in-Err-write_waiting-clause-works g c =
+    let p = (goal.at.returns-in-Err-write_waiting-clause-works g c).After-perform in
+    let inv = c.loop-action.invariant in
+    let first = c.args.session.now.work in
+    let before = c.loop-action.session in
+    let after = c.perform.new.self in
+    let ok = c.in-Ok.ensures in
+    let err = c.in-Err-write_waiting.ensures in
+    let list = list_of g p in
+    let a = c.in-Some.action in
+    let so_far = here g p in
+    let numbers = handed_by before.unit before.situation.steps a in
+    let states = states_out a before.work before.tape.states in
+    let x = c.loop-action.writer.out.now in
+    let y = c.write_waiting.new.self.out.now in
+    let breaks : BreaksOff g.O.Sink.told g.O.Sink.call_count (lines_for numbers states) x y =
+    then_broken g.O.Sink.told g.O.Sink.call_count c.loop-action.writer.batch.now (lines_for numbers states) c.perform.new.visitor.batch.now x c.perform.new.visitor.out.now y inv.none_waits
+    (gathered g.O.Sink.told g.O.Sink.call_count before.journal numbers states c.loop-action.writer c.perform.new.visitor ok.gets) err.refused in
+    let kept = c.write_waiting.ensures.sink ∙ same_sink g.O.Sink.told g.O.Sink.call_count before.journal numbers states c.loop-action.writer c.perform.new.visitor ok.gets in
+    let last = c.out-in-Err-write_waiting-1.given.1 (sym (kept ∙ inv.reference ∙ c.new-writer.ensures.same_reference)) in
+    let new = moment g.O.Sink.told g.O.Sink.call_count g.O.Sink.fault_count g.K.Keeper.told g.K.Keeper.put_count g.K.Keeper.get_count g.K.Keeper.free_count g.K.Keeper.fault_count c.out-in-Err-write_waiting-1.given.0 c.perform.new.keepers.items c.perform.new.steps in
+    let at_end : IsAt g.O.Sink.told g.O.Sink.call_count y new = record { tells = ap g.O.Sink.told last; counts = ap g.O.Sink.call_count last } in
+    let none = broken_steps_none g.O.Sink.told g.O.Sink.call_count before.unit before.situation.steps a before.work before.tape.states x y breaks in
+    let still : c.loop-action.counter + before.unit * 0 ≡ c.loop-action.counter = omega (arith, mul-zero before.unit) in
+    let V : ℕ → Type 0 = λ n. Rose n (g.O.Sink.fault_count y) in
+    let W : ℕ → Type 0 = λ n. Rose (g.O.Sink.fault_count x) n in
+    let refuses : Refuses g.O.Sink.told g.O.Sink.call_count first before a Visitor x y (mid_of g p) new = record {
+      uncounted = ok.counted ∙ ap (λ n. c.loop-action.counter + before.unit * n) none ∙ still;
+      called = at_most _ _ _ ok.called;
+      left = broken_left g.O.Sink.told g.O.Sink.call_count before.unit before.situation.steps before.journal a before.work before.tape.states x y _ _ breaks ok.acts;
+      whole = λ k put got e. absurd (other_damaged k put got e);
+      breaks = λ e. breaks;
+      unseen = λ ne. absurd (ne refl);
+      counts = record {
+        sink = λ e. subst W (ap g.O.Sink.fault_count (sym last)) (subst V (c.perform.ensures.seen.quiet (λ e. cc)) err.cause);
+        sink_quiet = λ ne. absurd (ne refl);
+        keeper = λ k e. absurd (other_keeper k e);
+        keepers_quiet = λ ne. c.perform.ensures.kept.keepers_quiet (λ j e. cc);
+      };
+      named = λ k e. absurd (other_keeper k e);
+      damaged = λ k put got e. absurd (other_damaged k put got e);
+      undamaged = λ stands k put got e. other_damaged k put got e;
+      wants = λ e. absurd (other_memory e);
+      lasts = λ e. other_ended e;
+    } in
+    let R : Run → Type 0 = λ r. Works (perform r) (fault_ending (c.loop-action.place + 1) Visitor) (old_of g p) new in
+    let V2 : List Slots → Type 0 = λ s. Valid before.situation.steps s list in
+    let V1 : ℕ → Type 0 = λ n. Valid n c.args.session.now.situation.slots list in
+    let valid = subst V2 (sym inv.so_far.1.slots) (subst V1 (sym inv.so_far.1.steps) c.requires.valid) in
+    let E : Ending → Type 0 = λ e. Works (perform (run_of first c.args.session.now list)) e (old_of g p) new in
+    subst E (sym c.fault_ending-in-Err-write_waiting.ensures) (subst R (run_now g p)
+    (refused g.O.Sink.told g.O.Sink.call_count first before list c.loop-action.place inv.so_far.0 x (old_of g p) (mid_of g p) a (there g p) (record { tells = refl; counts = refl }) so_far valid y new at_end Visitor refuses))
+
+pub returns-in-Err-write_waiting-clause-others : goal.returns-in-Err-write_waiting-clause-others
+returns-in-Err-write_waiting-clause-others g c =
+    let inv = c.loop-action.invariant in
+    let before = c.loop-action.session in (
+      sym (length-map c.perform.new.keepers.items g.K.Keeper.slot_count) ∙ ap length (c.perform.ensures.kept.slots ∙ inv.room) ∙ length-map c.args.keepers.now.items g.K.Keeper.slot_count,
+      λ k past.
+          c.perform.ensures.kept.others k (past_is_unnamed before.situation.steps before.situation.slots before.situation.at c.in-Some.action c.perform.new.self.situation.at k c.in-Ok.ensures.performs.goes
+          (let slots = ap length inv.so_far.1.slots in omega (arith, past, slots)))
+          ∙ inv.others k past,
+    )

@@ -1,4 +1,4 @@
-use Rattle.std.proofs.Common.{◌≡◌, ℕ, ◌≤◌, map, drop, length, slice_get}
+use Rattle.std.proofs.Common.{◌≡◌, ℕ, ◌≤◌, [], map, drop, length, slice_get}
 use Rattle.reverse_runner.specs.Rooms.{rooms_by, SameRooms}
 use Rattle.reverse_runner.specs.SessionState.{SamePages}
 use Rattle.reversal.specs.ActionsLeft.{left_of}
@@ -21,6 +21,7 @@ invariant-loop-action g l = record {
   rooms : SameRooms (rooms_by g.K.Keeper.room_bytes l.fn.keepers.items) (rooms_by g.K.Keeper.room_bytes l.keepers.items);
   pages : SamePages l.session.work l.fn.session.work;
   room : map g.K.Keeper.slot_count l.keepers.items ≡ map g.K.Keeper.slot_count l.fn.keepers.items;
+  none_waits : l.writer.batch.now ≡ [];
   reference : l.writer.out.ghost_name ≡ l.initial.writer.out.ghost_name;
   others : (k : ℕ) → length l.fn.session.situation.slots ≤ k → slice_get l.keepers.items k ≡ slice_get l.fn.keepers.items k;
 }

@@ -103,8 +103,8 @@ returns-in_err-perform-clause-refused g c =
     let at = at_place list i within in
     let p = err_from_is_err_and c.from_residual.result c.from_residual.ensures.1 in
     let is = same_fault c.perform.result c.from_residual.result _ _ p.0 c.in_err-perform.was p.1 p.2 p.1 in
-    let fits = fault_fits (λ action held. ⊥) a _ c.perform.result p.0 is (λ k e. (c.perform.ensures.keeper_cause k e).0) c.perform.ensures.damaged c.perform.ensures.wants
-    (λ e. (let rose = c.perform.ensures.cause e in absurd (omega (arith, rose))))
+    let fits = fault_fits (λ action held. ⊥) a _ c.perform.result p.0 is c.perform.ensures.named c.perform.ensures.damaged c.perform.ensures.wants
+    (λ e. (let rose = c.perform.ensures.seen.cause e in absurd (omega (arith, rose))))
     (λ e. true≢false (sym (c.perform.ensures.ended.0 e) ∙ so_far.way.performs.lasts)) in
     if_err_at _ c.from_residual.result p.0 p.1
     (refused_in _ _ _ _ _ _ list list i old mid c.perform.new.self _ _ c.perform.new.keepers.items _ _ _ a (λ action held. ⊥) p.0 at refl refl within so_far.way so_far.going.gone
@@ -114,7 +114,7 @@ pub returns-in_err-perform-clause-not_visitor : goal.returns-in_err-perform-clau
 returns-in_err-perform-clause-not_visitor g c e =
     let p = err_from_is_err_and c.from_residual.result c.from_residual.ensures.1 in
     let same = same_fault c.perform.result c.from_residual.result _ _ Visitor c.in_err-perform.was p.1 p.2 e in
-    let rose = c.perform.ensures.cause same in
+    let rose = c.perform.ensures.seen.cause same in
     absurd (omega (arith, rose))
 
 pub returns-in_err-perform-clause-spared : goal.returns-in_err-perform-clause-spared
@@ -149,12 +149,12 @@ returns-in_err-perform-clause-kept g c =
       keeper_cause = λ k e.
           (let same = same_fault c.perform.result c.from_residual.result _ _ (Keeper k) c.in_err-perform.was p.1 p.2 e in
           let Q : ℕ → Type 0 = λ n. Rose n (by_number 0 g.K.Keeper.fault_count c.perform.new.keepers.items k) in
-          subst Q (so_far.way.quiet k) (c.perform.ensures.keeper_cause k same).1);
+          subst Q (so_far.way.quiet k) (c.perform.ensures.kept.keeper_cause k same));
       keepers_quiet = λ never j.
-          c.perform.ensures.keepers_quiet (λ k e. never k (same_fault c.from_residual.result c.perform.result _ _ (Keeper k) p.1 c.in_err-perform.was (sym p.2) e)) j ∙ so_far.way.quiet j;
-      keepers_later = λ k. (let quiet = so_far.way.quiet k in let later = c.perform.ensures.keepers_later k in omega (arith, quiet, later));
-      slots = c.perform.ensures.slots ∙ so_far.way.room;
-      others = λ k past. c.perform.ensures.others k (past_levels old mid (take i list) a k so_far.way.performs rule_is past) ∙ so_far.way.others k past;
+          c.perform.ensures.kept.keepers_quiet (λ k e. never k (same_fault c.from_residual.result c.perform.result _ _ (Keeper k) p.1 c.in_err-perform.was (sym p.2) e)) j ∙ so_far.way.quiet j;
+      keepers_later = λ k. (let quiet = so_far.way.quiet k in let later = c.perform.ensures.kept.keepers_later k in omega (arith, quiet, later));
+      slots = c.perform.ensures.kept.slots ∙ so_far.way.room;
+      others = λ k past. c.perform.ensures.kept.others k (past_levels old mid (take i list) a k so_far.way.performs rule_is past) ∙ so_far.way.others k past;
     }
 
 pub returns-in-Some-clause-answer : goal.returns-in-Some-clause-answer
@@ -235,11 +235,11 @@ returns-in-Some-clause-performed g c =
       acts = done.acts;
       counted = done.counted;
       called = done.called;
-      room = c.perform.ensures.slots;
-      quiet = c.perform.ensures.keepers_quiet (λ k e. not_both c.perform.result _ (Keeper k) c.in_ok-perform.was e);
-      others = c.perform.ensures.others;
-      stands = done.stands;
-      alone = done.alone;
+      room = c.perform.ensures.kept.slots;
+      quiet = c.perform.ensures.kept.keepers_quiet (λ k e. not_both c.perform.result _ (Keeper k) c.in_ok-perform.was e);
+      others = c.perform.ensures.kept.others;
+      stands = done.stays.stands;
+      alone = done.stays.alone;
     }) in
     let calls = calls_to g.K.Keeper.put_count g.K.Keeper.get_count g.K.Keeper.free_count in
     let P : List Action → Type 0 = λ l. Performed old l new c.args.steps.now c.perform.new.steps (calls c.args.keepers.now.items) (calls c.perform.new.keepers.items) in
@@ -249,7 +249,7 @@ pub returns-in-Some-clause-stays : goal.returns-in-Some-clause-stays
 returns-in-Some-clause-stays g c =
     let way = c.loop-action.invariant.way in
     let done = c.in_ok-perform.ensures in
-    record { stands = λ first is stands. done.stands first is (way.stands first is stands); alone = λ alone. done.alone (way.alone alone) }
+    record { stands = λ first is stands. done.stays.stands first is (way.stands first is stands); alone = λ alone. done.stays.alone (way.alone alone) }
 
 pub returns-in-Some-clause-spared : goal.returns-in-Some-clause-spared
 returns-in-Some-clause-spared g c = ok_spared _ _ _ _
@@ -265,9 +265,9 @@ returns-in-Some-clause-kept g c =
     let within : i < length list = omega arith in
     let at = at_place list i within in
     let rule_is = may_perform _ _ _ _ _ _ list i old mid _ _ _ _ a c.requires.start c.requires.valid at so_far.way in
-    let quiet = c.perform.ensures.keepers_quiet (λ k e. not_both c.perform.result _ (Keeper k) c.in_ok-perform.was e) in
-    ok_kept _ _ _ _ _ _ (λ j. quiet j ∙ so_far.way.quiet j) (c.perform.ensures.slots ∙ so_far.way.room)
-    (λ k past. c.perform.ensures.others k (past_levels old mid (take i list) a k so_far.way.performs rule_is past) ∙ so_far.way.others k past)
+    let quiet = c.perform.ensures.kept.keepers_quiet (λ k e. not_both c.perform.result _ (Keeper k) c.in_ok-perform.was e) in
+    ok_kept _ _ _ _ _ _ (λ j. quiet j ∙ so_far.way.quiet j) (c.perform.ensures.kept.slots ∙ so_far.way.room)
+    (λ k past. c.perform.ensures.kept.others k (past_levels old mid (take i list) a k so_far.way.performs rule_is past) ∙ so_far.way.others k past)
 
 pub loop-action-preserved : goal.loop-action-preserved
 loop-action-preserved g c =
@@ -293,11 +293,11 @@ loop-action-preserved g c =
       acts = done.acts;
       counted = done.counted;
       called = done.called;
-      room = c.perform.ensures.slots;
-      quiet = c.perform.ensures.keepers_quiet (λ k e. not_both c.perform.result _ (Keeper k) c.in_ok-perform.was e);
-      others = c.perform.ensures.others;
-      stands = done.stands;
-      alone = done.alone;
+      room = c.perform.ensures.kept.slots;
+      quiet = c.perform.ensures.kept.keepers_quiet (λ k e. not_both c.perform.result _ (Keeper k) c.in_ok-perform.was e);
+      others = c.perform.ensures.kept.others;
+      stands = done.stays.stands;
+      alone = done.stays.alone;
     }) in
     let next = ran.unanswered c.in_default.is in
     let told = told_by g.K.Keeper.told in

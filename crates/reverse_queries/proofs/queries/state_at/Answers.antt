@@ -141,11 +141,11 @@ returns-then-picked-clause-performed g c =
       acts = done.acts;
       counted = done.counted;
       called = done.called;
-      room = c.perform.ensures.slots;
-      quiet = c.perform.ensures.keepers_quiet (λ k e. not_both c.perform.result _ (Keeper k) c.in_ok-perform.was e);
-      others = c.perform.ensures.others;
-      stands = done.stands;
-      alone = done.alone;
+      room = c.perform.ensures.kept.slots;
+      quiet = c.perform.ensures.kept.keepers_quiet (λ k e. not_both c.perform.result _ (Keeper k) c.in_ok-perform.was e);
+      others = c.perform.ensures.kept.others;
+      stands = done.stays.stands;
+      alone = done.stays.alone;
     }) in
     let calls = calls_to g.K.Keeper.put_count g.K.Keeper.get_count g.K.Keeper.free_count in
     let P : List Action → Type 0 = λ l. Performed old l new c.args.steps.now c.perform.new.steps (calls c.args.keepers.now.items) (calls c.perform.new.keepers.items) in
@@ -155,7 +155,7 @@ pub returns-then-picked-clause-stays : goal.returns-then-picked-clause-stays
 returns-then-picked-clause-stays g c =
     let way = c.loop-action.invariant.way in
     let done = c.in_ok-perform.ensures in
-    record { stands = λ first is stands. done.stands first is (way.stands first is stands); alone = λ alone. done.alone (way.alone alone) }
+    record { stands = λ first is stands. done.stays.stands first is (way.stands first is stands); alone = λ alone. done.stays.alone (way.alone alone) }
 
 pub returns-then-picked-clause-seen : goal.returns-then-picked-clause-seen
 returns-then-picked-clause-seen g c =
@@ -178,7 +178,7 @@ returns-then-picked-clause-seen g c =
     let gets = gets_there (PassesOn g.V.Visitor.got) old mid (take i list) a (states_out a mid.work mid.tape.states) c.loop-action.picked c.perform.new.visitor so_far.way.performs done.gets in
     let it = picks_at g.V.Visitor.got unit steps slots old.journal a mid.situation.at new.situation.at held c.loop-action.picked c.perform.new.visitor goes so_far.way.turns gets in
     let last = ap g.V.Visitor.fault_count (c.visitor-then-picked-1.given.1 (sym (it.reference ∙ so_far.reference ∙ c.new-picked.ensures.same_reference))) in
-    let same = c.perform.ensures.quiet (λ e. not_both c.perform.result _ Visitor c.in_ok-perform.was e) in
+    let same = c.perform.ensures.seen.quiet (λ e. not_both c.perform.result _ Visitor c.in_ok-perform.was e) in
     let first = ap g.V.Visitor.fault_count so_far.visitor in
     ok_seen _ _ _ _ (last ∙ same ∙ first)
 
@@ -196,9 +196,9 @@ returns-then-picked-clause-kept g c =
     let within : i < length list = omega arith in
     let at = at_place list i within in
     let rule_is = may_perform _ _ _ _ _ _ list i old mid _ _ _ _ a c.requires.start c.requires.valid at so_far.way in
-    let quiet = c.perform.ensures.keepers_quiet (λ k e. not_both c.perform.result _ (Keeper k) c.in_ok-perform.was e) in
-    ok_kept _ _ _ _ _ _ (λ j. quiet j ∙ so_far.way.quiet j) (c.perform.ensures.slots ∙ so_far.way.room)
-    (λ k past. c.perform.ensures.others k (past_levels old mid (take i list) a k so_far.way.performs rule_is past) ∙ so_far.way.others k past)
+    let quiet = c.perform.ensures.kept.keepers_quiet (λ k e. not_both c.perform.result _ (Keeper k) c.in_ok-perform.was e) in
+    ok_kept _ _ _ _ _ _ (λ j. quiet j ∙ so_far.way.quiet j) (c.perform.ensures.kept.slots ∙ so_far.way.room)
+    (λ k past. c.perform.ensures.kept.others k (past_levels old mid (take i list) a k so_far.way.performs rule_is past) ∙ so_far.way.others k past)
 
 pub returns-in_err-perform-clause-kept : goal.returns-in_err-perform-clause-kept
 returns-in_err-perform-clause-kept g c =
@@ -216,12 +216,12 @@ returns-in_err-perform-clause-kept g c =
       keeper_cause = λ k e.
           (let same = same_fault c.perform.result c.from_residual.result _ _ (Keeper k) c.in_err-perform.was p.1 p.2 e in
           let Q : ℕ → Type 0 = λ n. Rose n (by_number 0 g.K.Keeper.fault_count c.perform.new.keepers.items k) in
-          subst Q (so_far.way.quiet k) (c.perform.ensures.keeper_cause k same).1);
+          subst Q (so_far.way.quiet k) (c.perform.ensures.kept.keeper_cause k same));
       keepers_quiet = λ never j.
-          c.perform.ensures.keepers_quiet (λ k e. never k (same_fault c.from_residual.result c.perform.result _ _ (Keeper k) p.1 c.in_err-perform.was (sym p.2) e)) j ∙ so_far.way.quiet j;
-      keepers_later = λ k. (let quiet = so_far.way.quiet k in let later = c.perform.ensures.keepers_later k in omega (arith, quiet, later));
-      slots = c.perform.ensures.slots ∙ so_far.way.room;
-      others = λ k past. c.perform.ensures.others k (past_levels old mid (take i list) a k so_far.way.performs rule_is past) ∙ so_far.way.others k past;
+          c.perform.ensures.kept.keepers_quiet (λ k e. never k (same_fault c.from_residual.result c.perform.result _ _ (Keeper k) p.1 c.in_err-perform.was (sym p.2) e)) j ∙ so_far.way.quiet j;
+      keepers_later = λ k. (let quiet = so_far.way.quiet k in let later = c.perform.ensures.kept.keepers_later k in omega (arith, quiet, later));
+      slots = c.perform.ensures.kept.slots ∙ so_far.way.room;
+      others = λ k past. c.perform.ensures.kept.others k (past_levels old mid (take i list) a k so_far.way.performs rule_is past) ∙ so_far.way.others k past;
     }
 
 pub returns-in_err-perform-clause-refused : goal.returns-in_err-perform-clause-refused
@@ -244,7 +244,7 @@ returns-in_err-perform-clause-refused g c =
     let takes = front_takes old.unit old.situation.steps c.args.place list i a at so_far.front in
     let is = same_fault c.perform.result c.from_residual.result _ _ p.0 c.in_err-perform.was p.1 p.2 p.1 in
     let Misses = MissesState g.V.Visitor.missed old (told c.args.keepers.now.items) c.args.place c.args.visitor.now _ in
-    let fits = fault_fits Misses a held c.perform.result p.0 is (λ k e. (c.perform.ensures.keeper_cause k e).0) c.perform.ensures.damaged c.perform.ensures.wants
+    let fits = fault_fits Misses a held c.perform.result p.0 is c.perform.ensures.named c.perform.ensures.damaged c.perform.ensures.wants
     (λ e. misses_state g.V.Visitor.missed old (told c.args.keepers.now.items) a held c.loop-action.picked c.perform.new.visitor c.args.place c.args.visitor.now _ so_far.place so_far.visitor
     (c.in_err-perform.visitor-in-Break-1-own.given.1 (sym ((missed e).reference ∙ so_far.reference ∙ c.new-picked.ensures.same_reference)))
     (λ first is stands. run_has first old mid (told c.loop-action.keepers.items) (take i list) a _ c.requires.start so_far.way.performs goes (so_far.way.stands first is stands)) (missed e))
@@ -289,20 +289,20 @@ returns-in_err-perform-clause-seen g c =
     let is = same_fault c.perform.result c.from_residual.result _ _ p.0 c.in_err-perform.was p.1 p.2 p.1 in
     let reference : c.perform.new.visitor.visitor.ghost_name ≡ c.loop-action.picked.visitor.ghost_name = elim (of_visitor p.0) [
       | inl e ↦ (missed (is ∙ ap (λ f. Err f) e)).reference
-      | inr ne ↦ ap (λ v. v.visitor.ghost_name) (c.in_err-perform.ensures.unseen (λ e. ne (same_err c.perform.result _ _ is (c.in_err-perform.was ∙ e))))
+      | inr ne ↦ ap (λ v. v.visitor.ghost_name) (c.in_err-perform.ensures.seen.unseen (λ e. ne (same_err c.perform.result _ _ is (c.in_err-perform.was ∙ e))))
     ] in
     let faults = g.V.Visitor.fault_count in
     let last = c.in_err-perform.visitor-in-Break-1-own.given.1 (sym (reference ∙ so_far.reference ∙ c.new-picked.ensures.same_reference)) in
     let still = λ (never : c.from_residual.result ≢ Err Visitor).
-    c.in_err-perform.ensures.unseen (λ e. never (same_fault c.from_residual.result c.perform.result _ _ Visitor p.1 c.in_err-perform.was (sym p.2) (c.in_err-perform.was ∙ e))) in
+    c.in_err-perform.ensures.seen.unseen (λ e. never (same_fault c.from_residual.result c.perform.result _ _ Visitor p.1 c.in_err-perform.was (sym p.2) (c.in_err-perform.was ∙ e))) in
     record {
       unseen = on_err_always c.from_residual.result (λ never. last ∙ ap (λ v. v.visitor.now) (still never) ∙ so_far.visitor);
       cause = λ e.
           (let P : ℕ → Type 0 = λ n. Rose n (faults c.perform.new.visitor.visitor.now) in
           let Q : g.row.V.Denot → Type 0 = λ w. Rose (faults c.args.visitor.now) (faults w) in
-          subst Q (sym last) (subst P (ap faults so_far.visitor) (c.perform.ensures.cause (same_fault c.perform.result c.from_residual.result _ _ Visitor c.in_err-perform.was p.1 p.2 e))));
+          subst Q (sym last) (subst P (ap faults so_far.visitor) (c.perform.ensures.seen.cause (same_fault c.perform.result c.from_residual.result _ _ Visitor c.in_err-perform.was p.1 p.2 e))));
       quiet = λ never. ap faults (last ∙ ap (λ v. v.visitor.now) (still never) ∙ so_far.visitor);
-      later = (let end = ap faults last in let first = ap faults so_far.visitor in let later = c.perform.ensures.later in omega (arith, end, first, later));
+      later = (let end = ap faults last in let first = ap faults so_far.visitor in let later = c.perform.ensures.seen.later in omega (arith, end, first, later));
     }
 
 pub loop-action-preserved : goal.loop-action-preserved
@@ -330,11 +330,11 @@ loop-action-preserved g c =
       acts = done.acts;
       counted = done.counted;
       called = done.called;
-      room = c.perform.ensures.slots;
-      quiet = c.perform.ensures.keepers_quiet (λ k e. not_both c.perform.result _ (Keeper k) c.in_ok-perform.was e);
-      others = c.perform.ensures.others;
-      stands = done.stands;
-      alone = done.alone;
+      room = c.perform.ensures.kept.slots;
+      quiet = c.perform.ensures.kept.keepers_quiet (λ k e. not_both c.perform.result _ (Keeper k) c.in_ok-perform.was e);
+      others = c.perform.ensures.kept.others;
+      stands = done.stays.stands;
+      alone = done.stays.alone;
     }) in
     let none = unshown_at g.V.Visitor.got unit steps old.journal a mid.situation.at new.situation.at held c.loop-action.picked c.perform.new.visitor c.if-picked.false it in
     let acts = acts_there old mid (take i list) a _ _ so_far.way.performs done.acts in

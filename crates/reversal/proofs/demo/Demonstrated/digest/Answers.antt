@@ -16,8 +16,8 @@ loop-action-preserved g c =
     let ok = c.in_ok-ok.ensures.value in
     let r = c.perform.result in
     one_more_done c.args.self.now c.loop-action.self _ c.loop-action.hasher c.perform.new.visitor c.args.counter.now c.loop-action.counter c.perform.new.steps c.in-Some.action c.loop-action.invariant c.in-Some.ensures
-    (where_ok r _ ok c.perform.ensures.performs) c.perform.ensures.slots
-    (where_ok r _ ok (c.perform.ensures.stands c.args.self.now.session.work c.requires.state c.loop-action.invariant.stands))
+    (where_ok r _ ok c.perform.ensures.performs) c.perform.ensures.kept.slots
+    ((where_ok r _ ok c.perform.ensures.stays).stands c.args.self.now.session.work c.requires.state c.loop-action.invariant.stands)
     (where_ok r _ ok c.perform.ensures.gets) (where_ok r _ ok c.perform.ensures.counted)
 
 pub returns-in_err-ok : goal.returns-in_err-ok

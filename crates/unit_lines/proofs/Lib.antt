@@ -1,0 +1,3 @@
+pub mod Gathering
+pub mod Chaining
+pub mod Gathered
