@@ -1,8 +1,9 @@
 -- How the calls of the keepers of a session add up.
 use Rattle.std.proofs.Common.{◌≡◌, ℕ, ◌+◌, ◌∙◌, ap, arith}
 use Rattle.keepers.specs.Counts.{raised}
-use Rattle.plan_types.specs.declared.action.Dest.TheVariants.{Level}
-use Rattle.plan_types.specs.declared.action.Action.TheVariants.{Copy}
+use Rattle.plan_types.specs.declared.action.Dest.{Dest}
+use Rattle.plan_types.specs.declared.action.Dest.TheVariants.{Work, Level}
+use Rattle.plan_types.specs.declared.action.Action.TheVariants.{Copy, Move}
 use Rattle.reverse_runner.specs.KeepersSeen.{Calls, calls_of, RiseBy, RiseByAtMost, Called, CalledAtMost}
 use Rattle.reverse_runner.specs.Touching.{one_put, one_get}
 
@@ -57,3 +58,8 @@ pub called_copy : (n k j : ℕ) (a b c : Calls) → Called (one_get k) a b → C
 called_copy n k j a b c got put =
     called_same (calls_then (one_get k) (one_put j)) (calls_of (Copy n k (Level j))) a c (called_then (one_get k) (one_put j) a b c got put)
     (λ i. omega arith) (λ i. omega arith) (λ i. omega arith)
+
+-- some of the calls of a Copy are some of those of the Move
+pub some_moved : (n k : ℕ) (to : Dest) (a b : Calls) → CalledAtMost (calls_of (Copy n k to)) a b → CalledAtMost (calls_of (Move n k to)) a b
+some_moved n k Work a b called = record { put_calls = called.put_calls; get_calls = called.get_calls; free_calls = λ j. (let f = called.free_calls j in (omega (arith, f), omega (arith, f))) }
+some_moved n k (Level i) a b called = record { put_calls = called.put_calls; get_calls = called.get_calls; free_calls = λ j. (let f = called.free_calls j in (omega (arith, f), omega (arith, f))) }

@@ -255,10 +255,6 @@ caused_then faults a b c (Err Visitor) same h = λ j. h j ∙ same j
 caused_then faults a b c (Err Memory) same h = λ j. h j ∙ same j
 caused_then faults a b c (Err Ended) same h = λ j. h j ∙ same j
 
--- a call that was done is no cause
-pub uncaused : {K : Type 0} (faults : K → ℕ) (a b : List K) (r : Result Unit RunFault) (x : Unit) → r ≡ Ok x → IsCaused faults a b r → (j : ℕ) → by_number 0 faults b j ≡ by_number 0 faults a j
-uncaused faults a b r x is h = let P : Result Unit RunFault → Type 0 = λ o. IsCaused faults a b o in subst P is h
-
 -- ---- what a Forward does
 
 -- it keeps nothing

@@ -1,19 +1,16 @@
 -- Images stay short, and keepers with a room never want memory.
-use Rattle.std.proofs.Common.{◌≡◌, ◌≢◌, ℕ, ◌+◌, ◌*◌, ◌<◌, ◌≤◌, List, [], ◌∷◌, ◌⊎◌, zero, suc, length, replicate, map, get_or, slice_set, Result, Ok, Err, OnOk, Option, None, Some, refl, sym, ◌∙◌, ap, subst, inl, inr, arith}
+use Rattle.std.proofs.Common.{◌≡◌, ◌≢◌, ℕ, ◌+◌, ◌*◌, ◌<◌, ◌≤◌, List, [], ◌∷◌, ◌⊎◌, zero, suc, length, replicate, slice_set, Option, None, Some, refl, sym, ◌∙◌, ap, subst, inl, inr, arith}
 use Rattle.std.proofs.lemmas.Bool.{cases_eq, cases_lt}
-use Rattle.std.proofs.lemmas.List.{get_or-set_same, get_or-set_other, get_or_past, length-map}
+use Rattle.std.proofs.lemmas.List.{get_or-set_same, get_or-set_other}
 use Rattle.level_book.specs.declared.book.Slots.{Slots}
-use Rattle.level_book.specs.BookCosts.{least}
-use Rattle.rv_pages.specs.Memory.{page_numbers}
 use Rattle.rv_machine.specs.MachineState.{MachineState}
 use Rattle.image_store.specs.declared.shelf.Kept.{Kept}
 use Rattle.image_store.specs.declared.shelf.StoreFault.{StoreFault}
 use Rattle.image_store.specs.declared.shelf.StoreFault.TheVariants as store
 use Rattle.image_store.specs.Calls.{with_pair, without_pair, kept_in}
 use Rattle.image_store.specs.Pairs.{pair_at}
-use Rattle.image_store.specs.Shelves.{ShelfState, level_of, kept_at, no_pairs, no_pairs_on}
-use Rattle.reverse_runner.specs.declared.fault.RunFault.{RunFault}
-use Rattle.reverse_runner.specs.declared.fault.RunFault.TheVariants.{Memory, Damaged, Visitor}
+use Rattle.image_store.specs.Shelves.{ShelfState, level_of, kept_at, no_pairs_on}
+use Rattle.reverse_runner.specs.declared.fault.RunFault.TheVariants.{Memory}
 use Rattle.reverse_runner.specs.Rooms.{image_room, IsRoomy, AreRoomy, SameRooms, AreShort}
 use Rattle.reverse_runner.specs.SessionState.{SamePages}
 use Rattle.reverse_runner.specs.Touching.{fault_on}

@@ -1,5 +1,5 @@
 -- The states of a session follow its configuration through the steps that are taken.
-use Rattle.std.proofs.Common.{◌≡◌, ℕ, ◌+◌, ◌-◌, ◌*◌, ◌<◌, List, sym, ◌∙◌, ap, arith, subst, Option, MatchOption}
+use Rattle.std.proofs.Common.{◌≡◌, ℕ, ◌+◌, ◌-◌, ◌*◌, ◌<◌, List, sym, ◌∙◌, ap, arith, Option, MatchOption}
 use Rattle.level_book.specs.Configuration.{Configuration}
 use Rattle.level_book.specs.Moves.{MayAdvance}
 use Rattle.rv_machine.specs.MachineState.{MachineState}

@@ -12,6 +12,7 @@ use Rattle.reverse_runner.specs.declared.workspace.Workspace.{Workspace}
 use Rattle.reverse_runner.specs.Acts.{TapeState, Levels, Holdings}
 use Rattle.reverse_runner.specs.KeepersSeen.{HaveRoom}
 use Rattle.reverse_runner.specs.LevelsStand.{IsLaidOut}
+use Rattle.reverse_runner.specs.Rooms.{image_room, AreShort}
 use Rattle.reverse_runner.specs.SessionState.{SamePages}
 
 -- its levels over what the keepers tell, and all that it holds
@@ -35,6 +36,13 @@ pub record IsInOrder (w : Workspace) : Type 0 where
   pub few : length (page_numbers w.work.memory) ≤ 4096
   pub back : LeadsBack w.undo.entries w.tape (led_back w.undo.entries w.tape)
   pub buffer : 164 + 4100 * length (page_numbers w.work.memory) ≤ vec_capacity w.buffer
+
+-- A workspace stays in order: its states map the pages that they mapped, and no image that a level keeps is longer than one of the
+-- state in work can be, if none was.
+pub record StaysInOrder (old new : Workspace) : Type 0 where
+  pub fits : IsInOrder new
+  pub pages : SamePages old.work new.work
+  pub short : AreShort (image_room old.work) old.store → AreShort (image_room old.work) new.store
 
 -- An action may be done at a configuration: it is sound, the levels hold the pairs that it names, and there are keepers
 -- with so many slots.

@@ -1,23 +1,17 @@
 // What an action does to the states and the images of a session.
-ghost use Rattle.std.specs.Prelude.{◌≡◌, ◌≢◌, ◌+◌, ◌-◌, ◌*◌, ◌<◌, ◌≤◌, ◌^◌, ℕ, List, length, map, slice_get, Err, OnOk, OnErr, IfErr, IsTrue, Contains};
+ghost use Rattle.std.specs.Prelude.{◌≡◌, ◌≢◌, ℕ, List, length, map, Err, OnOk, OnErr, IfErr, IsTrue, Contains};
 ghost use Rattle.level_book.specs.Configuration.{Configuration};
 ghost use Rattle.level_book.specs.Moves.{Goes};
 ghost use Rattle.level_book.specs.Rules.{rule, levels_named};
-ghost use Rattle.level_book.specs.CostFold.{steps_of};
 ghost use Rattle.input_journal.specs.Form.{IsRecorded};
-ghost use Rattle.rv_machine.specs.MachineState.{MachineState, IsMachineState};
-ghost use Rattle.keepers.specs.Counts.{Rose};
-ghost use Rattle.reverse_runner.specs.Acts.{Acts};
-ghost use Rattle.reverse_runner.specs.KeepersSeen.{told_by, calls_to, calls_of, Called, CalledAtMost};
-ghost use Rattle.reverse_runner.specs.LevelsStand.{HoldingsStandAt};
+ghost use Rattle.reverse_runner.specs.Acted.{Acted, Leaves, HasReason, IsSafe};
+ghost use Rattle.reverse_runner.specs.After.{KeepersAfter, VisitorAfter};
+ghost use Rattle.reverse_runner.specs.KeepersSeen.{told_by, calls_to};
 ghost use Rattle.reverse_runner.specs.Handed.{handed_by};
 ghost use Rattle.reverse_runner.specs.Performed.{states_out, GetsAll, MissesOne, calls_keepers};
-ghost use Rattle.reverse_runner.specs.Rooms.{image_room, rooms_by, AreRoomy, SameRooms, AreShort};
-ghost use Rattle.reverse_runner.specs.SessionState.{SamePages};
-ghost use Rattle.reverse_runner.specs.Standing.{IsDamage};
-ghost use Rattle.reverse_runner.specs.Touching.{Remain, IsCaused, IsOfStorage};
-ghost use Rattle.reverse_runner.specs.Left.{MayLeave};
-ghost use Rattle.reverse_runner.specs.Workspaces.{IsInOrder, IsReady, HasUnits, tape_in, levels_in, holdings_in};
+ghost use Rattle.reverse_runner.specs.Rooms.{image_room, rooms_by, SameRooms, AreShort};
+ghost use Rattle.reverse_runner.specs.Touching.{IsOfStorage};
+ghost use Rattle.reverse_runner.specs.Workspaces.{IsReady, HasUnits, StaysInOrder, tape_in, levels_in, holdings_in};
 
 use crate::fault::RunFault;
 use crate::visitor::{Visitor, hand_out};
@@ -43,45 +37,28 @@ pub(crate) fn act<K: Keeper, V: Visitor, L: Ledger>(
     requires ready { IsReady config.now.steps config.now.slots config.now.at space.old (map K.slot_count keepers.old.items) }
     requires units { HasUnits unit journal.now config.now.steps config.now.at space.old }
     requires allowed { rule config.now.steps config.now.slots config.now.at action.now ≡ 0 }
-    ensures acts { OnOk result (Acts unit journal.now action.now (holdings_in space.old (told_by K.told keepers.old.items))
-        (holdings_in space.new (told_by K.told keepers.new.items))) }
-    ensures left { OnErr result (MayLeave action.now (levels_in space.old (told_by K.told keepers.old.items)) (told_by K.told keepers.new.items)) }
-    ensures whole { (k : ℕ) (put got : List ℕ) → result ≡ Err (RunFault.Damaged k put got) → (j : ℕ) →
-        told_by K.told keepers.new.items j ≡ told_by K.told keepers.old.items j }
-    ensures counted { OnOk result (steps.new ≡ steps.old + unit * steps_of action.now) }
-    ensures uncounted { OnErr result (steps.new ≡ steps.old) }
-    ensures called { OnOk result (Called (calls_of action.now) (calls_to K.put_count K.get_count K.free_count keepers.old.items)
-        (calls_to K.put_count K.get_count K.free_count keepers.new.items)) }
-    ensures at_most { CalledAtMost (calls_of action.now) (calls_to K.put_count K.get_count K.free_count keepers.old.items)
-        (calls_to K.put_count K.get_count K.free_count keepers.new.items) }
-    ensures damaged { (k : ℕ) (put got : List ℕ) → result ≡ Err (RunFault.Damaged k put got) →
-        IsDamage action.now (holdings_in space.old (told_by K.told keepers.old.items)) k put got }
-    ensures undamaged { (first : MachineState) (journal : List (List ℕ)) (unit : ℕ) → IsMachineState first → IsRecorded journal →
-        HoldingsStandAt first journal unit config.now.at (holdings_in space.old (told_by K.told keepers.old.items)) →
-        (k : ℕ) (put got : List ℕ) → result ≢ Err (RunFault.Damaged k put got) }
-    ensures remain { Remain K.slot_count K.fault_count keepers.old.items keepers.new.items }
-    ensures others { (k : ℕ) → (Contains (levels_named action.now) k → ⊥) → slice_get keepers.new.items k ≡ slice_get keepers.old.items k }
-    ensures caused { IsCaused K.fault_count keepers.old.items keepers.new.items result }
-    ensures named { (k : ℕ) → result ≡ Err (RunFault.Keeper k) → Contains (levels_named action.now) k }
-    ensures fits { IsInOrder space.new }
+    ensures acted { OnOk result (Acted unit journal.now action.now
+        (holdings_in space.old (told_by K.told keepers.old.items)) (holdings_in space.new (told_by K.told keepers.new.items)) steps.old steps.new
+        (calls_to K.put_count K.get_count K.free_count keepers.old.items) (calls_to K.put_count K.get_count K.free_count keepers.new.items)) }
+    ensures leaves { OnErr result (Leaves action.now
+        (levels_in space.old (told_by K.told keepers.old.items)) (told_by K.told keepers.new.items) steps.old steps.new
+        (calls_to K.put_count K.get_count K.free_count keepers.old.items) (calls_to K.put_count K.get_count K.free_count keepers.new.items)) }
+    ensures caused { HasReason result action.now (holdings_in space.old (told_by K.told keepers.old.items)) (told_by K.told keepers.new.items) }
+    ensures spared { IsRecorded journal.now → AreShort (image_room space.old.work) space.old.store →
+        IsSafe result journal.now unit config.now.at (holdings_in space.old (told_by K.told keepers.old.items)) (length config.now.slots)
+        (rooms_by K.room_bytes keepers.old.items) }
+    ensures kept { KeepersAfter K.slot_count K.fault_count (λ k. Contains (levels_named action.now) k → ⊥) result keepers.old.items keepers.new.items }
     ensures rooms { SameRooms (rooms_by K.room_bytes keepers.old.items) (rooms_by K.room_bytes keepers.new.items) }
-    ensures pages { SamePages space.old.work space.new.work }
-    ensures short { AreShort (image_room space.old.work) space.old.store → AreShort (image_room space.old.work) space.new.store }
-    ensures roomy { AreShort (image_room space.old.work) space.old.store →
-        AreRoomy (image_room space.old.work) (length config.now.slots) (rooms_by K.room_bytes keepers.old.items) → result ≢ Err RunFault.Memory }
+    ensures order { StaysInOrder space.old space.new }
     ensures units { (d : Configuration) → Goes config.now.steps config.now.slots config.now.at action.now d →
         OnOk result (HasUnits unit journal.now config.now.steps d space.new) }
-    ensures wants { result ≡ Err RunFault.Memory → IsTrue (calls_keepers action.now) }
     ensures lasting { result ≢ Err RunFault.Ended }
     ensures gets { OnOk result (GetsAll V.got journal.now (handed_by unit config.now.steps action.now)
         (states_out action.now space.old.work (tape_in space.old).states) visitor.old visitor.new) }
     ensures misses { result ≡ Err RunFault.Visitor →
         MissesOne V.got V.missed journal.now (handed_by unit config.now.steps action.now)
         (states_out action.now space.old.work (tape_in space.old).states) visitor.old visitor.new }
-    ensures unseen { OnErr result (result ≢ Err RunFault.Visitor → visitor.new ≡ visitor.old) }
-    ensures visitor_quiet { result ≢ Err RunFault.Visitor → V.fault_count visitor.new ≡ V.fault_count visitor.old }
-    ensures visitor_later { V.fault_count visitor.old ≤ V.fault_count visitor.new }
-    ensures visitor_cause { result ≡ Err RunFault.Visitor → Rose (V.fault_count visitor.old) (V.fault_count visitor.new) }
+    ensures seen { VisitorAfter V.fault_count result visitor.old visitor.new }
 {
     match *action {
         Action::Forward { from, to, keep } => {
@@ -110,37 +87,25 @@ fn forward<K: Keeper, L: Ledger>(
     requires ready { IsReady config.now.steps config.now.slots config.now.at space.old (map K.slot_count keepers.old.items) }
     requires units { HasUnits unit journal.now config.now.steps config.now.at space.old }
     requires allowed { rule config.now.steps config.now.slots config.now.at (Action.Forward from to keep) ≡ 0 }
-    ensures acts { OnOk result (Acts unit journal.now (Action.Forward from to keep) (holdings_in space.old (told_by K.told keepers.old.items))
-        (holdings_in space.new (told_by K.told keepers.new.items))) }
-    ensures left { OnErr result (MayLeave (Action.Forward from to keep) (levels_in space.old (told_by K.told keepers.old.items))
-        (told_by K.told keepers.new.items)) }
-    ensures whole { (k : ℕ) (put got : List ℕ) → result ≡ Err (RunFault.Damaged k put got) → (j : ℕ) →
-        told_by K.told keepers.new.items j ≡ told_by K.told keepers.old.items j }
-    ensures counted { OnOk result (steps.new ≡ steps.old + unit * (to - from)) }
-    ensures uncounted { OnErr result (steps.new ≡ steps.old) }
-    ensures stores { OnErr result (IsTrue (calls_keepers (Action.Forward from to keep))) }
-    ensures fault { IfErr result IsOfStorage }
-    ensures called { OnOk result (Called (calls_of (Action.Forward from to keep)) (calls_to K.put_count K.get_count K.free_count keepers.old.items)
-        (calls_to K.put_count K.get_count K.free_count keepers.new.items)) }
-    ensures at_most { CalledAtMost (calls_of (Action.Forward from to keep)) (calls_to K.put_count K.get_count K.free_count keepers.old.items)
-        (calls_to K.put_count K.get_count K.free_count keepers.new.items) }
-    ensures damaged { (k : ℕ) (put got : List ℕ) → result ≡ Err (RunFault.Damaged k put got) →
-        IsDamage (Action.Forward from to keep) (holdings_in space.old (told_by K.told keepers.old.items)) k put got }
-    ensures undamaged { (first : MachineState) (journal : List (List ℕ)) (unit : ℕ) → IsMachineState first → IsRecorded journal →
-        HoldingsStandAt first journal unit config.now.at (holdings_in space.old (told_by K.told keepers.old.items)) →
-        (k : ℕ) (put got : List ℕ) → result ≢ Err (RunFault.Damaged k put got) }
-    ensures remain { Remain K.slot_count K.fault_count keepers.old.items keepers.new.items }
-    ensures others { (k : ℕ) → (Contains (levels_named (Action.Forward from to keep)) k → ⊥) → slice_get keepers.new.items k ≡ slice_get keepers.old.items k }
-    ensures caused { IsCaused K.fault_count keepers.old.items keepers.new.items result }
-    ensures named { (k : ℕ) → result ≡ Err (RunFault.Keeper k) → Contains (levels_named (Action.Forward from to keep)) k }
-    ensures fits { IsInOrder space.new }
+    ensures acted { OnOk result (Acted unit journal.now (Action.Forward from to keep)
+        (holdings_in space.old (told_by K.told keepers.old.items)) (holdings_in space.new (told_by K.told keepers.new.items)) steps.old steps.new
+        (calls_to K.put_count K.get_count K.free_count keepers.old.items) (calls_to K.put_count K.get_count K.free_count keepers.new.items)) }
+    ensures leaves { OnErr result (Leaves (Action.Forward from to keep)
+        (levels_in space.old (told_by K.told keepers.old.items)) (told_by K.told keepers.new.items) steps.old steps.new
+        (calls_to K.put_count K.get_count K.free_count keepers.old.items) (calls_to K.put_count K.get_count K.free_count keepers.new.items)) }
+    ensures caused { HasReason result (Action.Forward from to keep) (holdings_in space.old (told_by K.told keepers.old.items))
+        (told_by K.told keepers.new.items) }
+    ensures spared { IsRecorded journal.now → AreShort (image_room space.old.work) space.old.store →
+        IsSafe result journal.now unit config.now.at (holdings_in space.old (told_by K.told keepers.old.items)) (length config.now.slots)
+        (rooms_by K.room_bytes keepers.old.items) }
+    ensures kept { KeepersAfter K.slot_count K.fault_count (λ k. Contains (levels_named (Action.Forward from to keep)) k → ⊥) result
+        keepers.old.items keepers.new.items }
     ensures rooms { SameRooms (rooms_by K.room_bytes keepers.old.items) (rooms_by K.room_bytes keepers.new.items) }
-    ensures pages { SamePages space.old.work space.new.work }
-    ensures short { AreShort (image_room space.old.work) space.old.store → AreShort (image_room space.old.work) space.new.store }
-    ensures roomy { AreShort (image_room space.old.work) space.old.store →
-        AreRoomy (image_room space.old.work) (length config.now.slots) (rooms_by K.room_bytes keepers.old.items) → result ≢ Err RunFault.Memory }
+    ensures order { StaysInOrder space.old space.new }
     ensures units { (d : Configuration) → Goes config.now.steps config.now.slots config.now.at (Action.Forward from to keep) d →
         OnOk result (HasUnits unit journal.now config.now.steps d space.new) }
+    ensures stores { OnErr result (IsTrue (calls_keepers (Action.Forward from to keep))) }
+    ensures fault { IfErr result IsOfStorage }
 {
     let count = unit * (to - from);
     match keep {
@@ -166,33 +131,22 @@ fn copy<K: Keeper>(
 ) -> Result<(), RunFault>
     requires ready { IsReady config.now.steps config.now.slots config.now.at space.old (map K.slot_count keepers.old.items) }
     requires allowed { rule config.now.steps config.now.slots config.now.at (Action.Copy n from dest) ≡ 0 }
-    ensures acts { (unit : ℕ) (journal : List (List ℕ)) →
-        OnOk result (Acts unit journal (Action.Copy n from dest) (holdings_in space.old (told_by K.told keepers.old.items))
-        (holdings_in space.new (told_by K.told keepers.new.items))) }
-    ensures left { OnErr result (MayLeave (Action.Copy n from dest) (levels_in space.old (told_by K.told keepers.old.items))
-        (told_by K.told keepers.new.items)) }
-    ensures whole { (k : ℕ) (put got : List ℕ) → result ≡ Err (RunFault.Damaged k put got) → (j : ℕ) →
-        told_by K.told keepers.new.items j ≡ told_by K.told keepers.old.items j }
-    ensures fault { IfErr result IsOfStorage }
-    ensures called { OnOk result (Called (calls_of (Action.Copy n from dest)) (calls_to K.put_count K.get_count K.free_count keepers.old.items)
-        (calls_to K.put_count K.get_count K.free_count keepers.new.items)) }
-    ensures at_most { CalledAtMost (calls_of (Action.Copy n from dest)) (calls_to K.put_count K.get_count K.free_count keepers.old.items)
-        (calls_to K.put_count K.get_count K.free_count keepers.new.items) }
-    ensures damaged { (k : ℕ) (put got : List ℕ) → result ≡ Err (RunFault.Damaged k put got) →
-        IsDamage (Action.Copy n from dest) (holdings_in space.old (told_by K.told keepers.old.items)) k put got }
-    ensures undamaged { (first : MachineState) (journal : List (List ℕ)) (unit : ℕ) → IsMachineState first → IsRecorded journal →
-        HoldingsStandAt first journal unit config.now.at (holdings_in space.old (told_by K.told keepers.old.items)) →
-        (k : ℕ) (put got : List ℕ) → result ≢ Err (RunFault.Damaged k put got) }
-    ensures remain { Remain K.slot_count K.fault_count keepers.old.items keepers.new.items }
-    ensures others { (k : ℕ) → (Contains (levels_named (Action.Copy n from dest)) k → ⊥) → slice_get keepers.new.items k ≡ slice_get keepers.old.items k }
-    ensures caused { IsCaused K.fault_count keepers.old.items keepers.new.items result }
-    ensures named { (k : ℕ) → result ≡ Err (RunFault.Keeper k) → Contains (levels_named (Action.Copy n from dest)) k }
-    ensures fits { IsInOrder space.new }
+    ensures acted { (unit : ℕ) (journal : List (List ℕ)) (steps : ℕ) → OnOk result (Acted unit journal (Action.Copy n from dest)
+        (holdings_in space.old (told_by K.told keepers.old.items)) (holdings_in space.new (told_by K.told keepers.new.items)) steps steps
+        (calls_to K.put_count K.get_count K.free_count keepers.old.items) (calls_to K.put_count K.get_count K.free_count keepers.new.items)) }
+    ensures leaves { (steps : ℕ) → OnErr result (Leaves (Action.Copy n from dest)
+        (levels_in space.old (told_by K.told keepers.old.items)) (told_by K.told keepers.new.items) steps steps
+        (calls_to K.put_count K.get_count K.free_count keepers.old.items) (calls_to K.put_count K.get_count K.free_count keepers.new.items)) }
+    ensures caused { HasReason result (Action.Copy n from dest) (holdings_in space.old (told_by K.told keepers.old.items))
+        (told_by K.told keepers.new.items) }
+    ensures spared { (unit : ℕ) (journal : List (List ℕ)) → IsRecorded journal → AreShort (image_room space.old.work) space.old.store →
+        IsSafe result journal unit config.now.at (holdings_in space.old (told_by K.told keepers.old.items)) (length config.now.slots)
+        (rooms_by K.room_bytes keepers.old.items) }
+    ensures kept { KeepersAfter K.slot_count K.fault_count (λ k. Contains (levels_named (Action.Copy n from dest)) k → ⊥) result
+        keepers.old.items keepers.new.items }
     ensures rooms { SameRooms (rooms_by K.room_bytes keepers.old.items) (rooms_by K.room_bytes keepers.new.items) }
-    ensures pages { SamePages space.old.work space.new.work }
-    ensures short { AreShort (image_room space.old.work) space.old.store → AreShort (image_room space.old.work) space.new.store }
-    ensures roomy { AreShort (image_room space.old.work) space.old.store →
-        AreRoomy (image_room space.old.work) (length config.now.slots) (rooms_by K.room_bytes keepers.old.items) → result ≢ Err RunFault.Memory }
+    ensures order { StaysInOrder space.old space.new }
+    ensures fault { IfErr result IsOfStorage }
     ensures undo { space.new.undo ≡ space.old.undo }
 {
     space.fetch(keepers, from, n)?;
@@ -213,33 +167,22 @@ fn move_<K: Keeper>(
 ) -> Result<(), RunFault>
     requires ready { IsReady config.now.steps config.now.slots config.now.at space.old (map K.slot_count keepers.old.items) }
     requires allowed { rule config.now.steps config.now.slots config.now.at (Action.Move n from dest) ≡ 0 }
-    ensures acts { (unit : ℕ) (journal : List (List ℕ)) →
-        OnOk result (Acts unit journal (Action.Move n from dest) (holdings_in space.old (told_by K.told keepers.old.items))
-        (holdings_in space.new (told_by K.told keepers.new.items))) }
-    ensures left { OnErr result (MayLeave (Action.Move n from dest) (levels_in space.old (told_by K.told keepers.old.items))
-        (told_by K.told keepers.new.items)) }
-    ensures whole { (k : ℕ) (put got : List ℕ) → result ≡ Err (RunFault.Damaged k put got) → (j : ℕ) →
-        told_by K.told keepers.new.items j ≡ told_by K.told keepers.old.items j }
-    ensures fault { IfErr result IsOfStorage }
-    ensures called { OnOk result (Called (calls_of (Action.Move n from dest)) (calls_to K.put_count K.get_count K.free_count keepers.old.items)
-        (calls_to K.put_count K.get_count K.free_count keepers.new.items)) }
-    ensures at_most { CalledAtMost (calls_of (Action.Move n from dest)) (calls_to K.put_count K.get_count K.free_count keepers.old.items)
-        (calls_to K.put_count K.get_count K.free_count keepers.new.items) }
-    ensures damaged { (k : ℕ) (put got : List ℕ) → result ≡ Err (RunFault.Damaged k put got) →
-        IsDamage (Action.Move n from dest) (holdings_in space.old (told_by K.told keepers.old.items)) k put got }
-    ensures undamaged { (first : MachineState) (journal : List (List ℕ)) (unit : ℕ) → IsMachineState first → IsRecorded journal →
-        HoldingsStandAt first journal unit config.now.at (holdings_in space.old (told_by K.told keepers.old.items)) →
-        (k : ℕ) (put got : List ℕ) → result ≢ Err (RunFault.Damaged k put got) }
-    ensures remain { Remain K.slot_count K.fault_count keepers.old.items keepers.new.items }
-    ensures others { (k : ℕ) → (Contains (levels_named (Action.Move n from dest)) k → ⊥) → slice_get keepers.new.items k ≡ slice_get keepers.old.items k }
-    ensures caused { IsCaused K.fault_count keepers.old.items keepers.new.items result }
-    ensures named { (k : ℕ) → result ≡ Err (RunFault.Keeper k) → Contains (levels_named (Action.Move n from dest)) k }
-    ensures fits { IsInOrder space.new }
+    ensures acted { (unit : ℕ) (journal : List (List ℕ)) (steps : ℕ) → OnOk result (Acted unit journal (Action.Move n from dest)
+        (holdings_in space.old (told_by K.told keepers.old.items)) (holdings_in space.new (told_by K.told keepers.new.items)) steps steps
+        (calls_to K.put_count K.get_count K.free_count keepers.old.items) (calls_to K.put_count K.get_count K.free_count keepers.new.items)) }
+    ensures leaves { (steps : ℕ) → OnErr result (Leaves (Action.Move n from dest)
+        (levels_in space.old (told_by K.told keepers.old.items)) (told_by K.told keepers.new.items) steps steps
+        (calls_to K.put_count K.get_count K.free_count keepers.old.items) (calls_to K.put_count K.get_count K.free_count keepers.new.items)) }
+    ensures caused { HasReason result (Action.Move n from dest) (holdings_in space.old (told_by K.told keepers.old.items))
+        (told_by K.told keepers.new.items) }
+    ensures spared { (unit : ℕ) (journal : List (List ℕ)) → IsRecorded journal → AreShort (image_room space.old.work) space.old.store →
+        IsSafe result journal unit config.now.at (holdings_in space.old (told_by K.told keepers.old.items)) (length config.now.slots)
+        (rooms_by K.room_bytes keepers.old.items) }
+    ensures kept { KeepersAfter K.slot_count K.fault_count (λ k. Contains (levels_named (Action.Move n from dest)) k → ⊥) result
+        keepers.old.items keepers.new.items }
     ensures rooms { SameRooms (rooms_by K.room_bytes keepers.old.items) (rooms_by K.room_bytes keepers.new.items) }
-    ensures pages { SamePages space.old.work space.new.work }
-    ensures short { AreShort (image_room space.old.work) space.old.store → AreShort (image_room space.old.work) space.new.store }
-    ensures roomy { AreShort (image_room space.old.work) space.old.store →
-        AreRoomy (image_room space.old.work) (length config.now.slots) (rooms_by K.room_bytes keepers.old.items) → result ≢ Err RunFault.Memory }
+    ensures order { StaysInOrder space.old space.new }
+    ensures fault { IfErr result IsOfStorage }
     ensures undo { space.new.undo ≡ space.old.undo }
 {
     copy(space, config, keepers, n, from, dest)?;

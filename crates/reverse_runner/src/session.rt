@@ -1,22 +1,19 @@
 // A session: a run that is gone through by the actions of a schedule.
-ghost use Rattle.std.specs.Prelude.{◌≡◌, ◌≢◌, ◌+◌, ◌*◌, ◌<◌, ◌≤◌, ◌↔◌, ℕ, List, true, false, length, map, slice_get, Option, Some, Err, IfOk, OnOk, OnErr, IsErrOf, IsSome, IsTrue, Contains};
+ghost use Rattle.std.specs.Prelude.{◌≡◌, ◌≢◌, ◌*◌, ◌<◌, ◌≤◌, ◌↔◌, ℕ, true, false, length, map, Option, Some, Err, IfOk, OnOk, OnErr, IsErrOf, IsSome, Contains};
 ghost use Rattle.std.specs.FinMap as finmap;
 ghost use Rattle.plan_types.specs.declared.limits.TheConstants.{MOST_STEPS};
 ghost use Rattle.level_book.specs.BookCosts.{slots_of};
 ghost use Rattle.level_book.specs.Rules.{rule, levels_named};
-ghost use Rattle.level_book.specs.CostFold.{steps_of};
 ghost use Rattle.keepers.specs.Told.{Images};
-ghost use Rattle.rv_machine.specs.MachineState.{MachineState, IsMachineState};
-ghost use Rattle.reverse_runner.specs.Acts.{Acts};
+ghost use Rattle.reverse_runner.specs.Acted.{Acted, Leaves, HasReason, IsSafe};
 ghost use Rattle.reverse_runner.specs.After.{Stays, KeepersAfter, VisitorAfter};
-ghost use Rattle.reverse_runner.specs.KeepersSeen.{told_by, calls_to, calls_of, HaveRoom, Called, CalledAtMost};
+ghost use Rattle.reverse_runner.specs.KeepersSeen.{told_by, calls_to, HaveRoom};
 ghost use Rattle.reverse_runner.specs.LevelsStand.{AreAlone};
-ghost use Rattle.reverse_runner.specs.Left.{MayLeave};
 ghost use Rattle.reverse_runner.specs.Handed.{handed_by};
-ghost use Rattle.reverse_runner.specs.Performed.{states_out, GetsAll, MissesOne, calls_keepers};
-ghost use Rattle.reverse_runner.specs.Rooms.{image_room, rooms_by, AreRoomy, SameRooms};
+ghost use Rattle.reverse_runner.specs.Performed.{states_out, GetsAll, MissesOne};
+ghost use Rattle.reverse_runner.specs.Rooms.{rooms_by, SameRooms};
 ghost use Rattle.reverse_runner.specs.SessionState.{SamePages, levels_of, holdings_of};
-ghost use Rattle.reverse_runner.specs.Standing.{begun, Performs, SessionEnds, StandsAt, IsDamage};
+ghost use Rattle.reverse_runner.specs.Standing.{begun, Performs, SessionEnds, StandsAt};
 
 use crate::acting::act;
 use crate::fault::RunFault;
@@ -132,41 +129,29 @@ impl Session {
 
         // What was done: where the session goes, and what becomes of its states and levels, by the bytes that were fetched.
         ensures performs { OnOk result (Performs self.old action.now self.new) }
-        ensures acts { OnOk result (Acts self.old.unit self.old.journal action.now (holdings_of self.old (told_by K.told keepers.old.items))
-            (holdings_of self.new (told_by K.told keepers.new.items))) }
-        ensures counted { OnOk result (steps.new ≡ steps.old + self.old.unit * steps_of action.now) }
-        ensures called { OnOk result (Called (calls_of action.now) (calls_to K.put_count K.get_count K.free_count keepers.old.items)
-            (calls_to K.put_count K.get_count K.free_count keepers.new.items)) }
+        ensures acted { OnOk result (Acted self.old.unit self.old.journal action.now
+            (holdings_of self.old (told_by K.told keepers.old.items)) (holdings_of self.new (told_by K.told keepers.new.items)) steps.old steps.new
+            (calls_to K.put_count K.get_count K.free_count keepers.old.items) (calls_to K.put_count K.get_count K.free_count keepers.new.items)) }
         ensures gets { OnOk result (GetsAll V.got self.old.journal (handed_by self.old.unit self.old.situation.steps action.now)
             (states_out action.now self.old.work self.old.tape.states) visitor.old visitor.new) }
 
         // Where the session stood before, it stands where it went.
         ensures stays { OnOk result (Stays self.old (told_by K.told keepers.old.items) self.new (told_by K.told keepers.new.items)) }
 
-        // A refusal ends the session.
+        // A refusal ends the session, and this is what it leaves.
         ensures refused { OnErr result (SessionEnds self.old self.new) }
-        ensures uncounted { OnErr result (steps.new ≡ steps.old) }
-        ensures left { self.old.ended ≡ false →
-            OnErr result (MayLeave action.now (levels_of self.old (told_by K.told keepers.old.items)) (told_by K.told keepers.new.items)) }
-        ensures whole { (k : ℕ) (put got : List ℕ) → result ≡ Err (RunFault.Damaged k put got) → (j : ℕ) →
-            told_by K.told keepers.new.items j ≡ told_by K.told keepers.old.items j }
-        ensures called_at_most { OnErr result
-            (CalledAtMost (calls_of action.now) (calls_to K.put_count K.get_count K.free_count keepers.old.items)
-            (calls_to K.put_count K.get_count K.free_count keepers.new.items)) }
+        ensures leaves { self.old.ended ≡ false → OnErr result (Leaves action.now
+            (levels_of self.old (told_by K.told keepers.old.items)) (told_by K.told keepers.new.items) steps.old steps.new
+            (calls_to K.put_count K.get_count K.free_count keepers.old.items) (calls_to K.put_count K.get_count K.free_count keepers.new.items)) }
         ensures misses { result ≡ Err RunFault.Visitor →
             MissesOne V.got V.missed self.old.journal (handed_by self.old.unit self.old.situation.steps action.now)
             (states_out action.now self.old.work self.old.tape.states) visitor.old visitor.new }
 
-        // The cause of each refusal.
-        ensures named { (k : ℕ) → result ≡ Err (RunFault.Keeper k) → Contains (levels_named action.now) k }
-        ensures damaged { (k : ℕ) (put got : List ℕ) → result ≡ Err (RunFault.Damaged k put got) →
-            IsDamage action.now (holdings_of self.old (told_by K.told keepers.old.items)) k put got }
-        ensures undamaged { (first : MachineState) → IsMachineState first → StandsAt first self.old (told_by K.told keepers.old.items) →
-            (k : ℕ) (put got : List ℕ) → result ≢ Err (RunFault.Damaged k put got) }
+        // The cause of each refusal, and which refusals don't come.
+        ensures caused { HasReason result action.now (holdings_of self.old (told_by K.told keepers.old.items)) (told_by K.told keepers.new.items) }
+        ensures spared { IsSafe result self.old.journal self.old.unit self.old.situation.at (holdings_of self.old (told_by K.told keepers.old.items))
+            (length self.old.situation.slots) (rooms_by K.room_bytes keepers.old.items) }
         ensures seen { VisitorAfter V.fault_count result visitor.old visitor.new }
-        ensures wants { result ≡ Err RunFault.Memory → IsTrue (calls_keepers action.now) }
-        ensures roomy { AreRoomy (image_room self.old.work) (length self.old.situation.slots) (rooms_by K.room_bytes keepers.old.items) →
-            result ≢ Err RunFault.Memory }
 
         // The states map the pages that they mapped.
         ensures pages { SamePages self.old.work self.new.work }

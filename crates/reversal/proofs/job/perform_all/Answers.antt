@@ -129,7 +129,7 @@ loop-action-preserved g c =
     then_written g.O.Sink.told g.O.Sink.call_count c.loop-action.writer.batch.now (lines_for numbers states) c.perform.new.visitor.batch.now c.loop-action.writer.out.now c.perform.new.visitor.out.now c.write_waiting.new.self.out.now inv.none_waits
     (gathered g.O.Sink.told g.O.Sink.call_count before.journal numbers states c.loop-action.writer c.perform.new.visitor ok.gets) written.written in
     let one = more g.O.Sink.told g.O.Sink.call_count first before list c.loop-action.place inv.so_far.0 c.loop-action.writer.out.now (old_of g p) (mid_of g p) c.in-Some.action (there g p) (record { tells = refl; counts = refl }) (here g p)
-    (Got g.O.Sink.told g.O.Sink.call_count) after c.loop-action.writer c.perform.new.visitor c.write_waiting.new.self.out.now new (record { tells = refl; counts = refl }) ok.performs ok.acts ok.gets lines ok.counted ok.called
+    (Got g.O.Sink.told g.O.Sink.call_count) after c.loop-action.writer c.perform.new.visitor c.write_waiting.new.self.out.now new (record { tells = refl; counts = refl }) ok.performs ok.acted.acts ok.gets lines ok.acted.counted ok.acted.called
     (ok.stays.stands first c.requires.state) ok.stays.alone (record { sink = written.quiet ∙ c.perform.ensures.seen.quiet (λ e. cc); keepers = c.perform.ensures.kept.keepers_quiet (λ j e. cc) }) in
     let now : States = _ in
     let R : Run → Type 0 = λ r. SoFar r (c.loop-action.place + 1) now after (old_of g p) new in
@@ -165,6 +165,7 @@ returns-in-Err-clause-works g c =
     let list = list_of g p in
     let a = c.in-Some.action in
     let so_far = here g p in
+    let leaves = err.leaves so_far.lasts in
     let is = λ (f : RunFault) (e : fault ≡ f). c.in-Err.is ∙ ap (λ x. Err x) e in
     let isnt = λ (f : RunFault) (ne : fault ≢ f) (e : c.perform.result ≡ Err f). ne (same_Err c.perform.result _ _ c.in-Err.is e) in
     let kept : c.perform.new.visitor.out.ghost_name ≡ c.loop-action.writer.out.ghost_name = elim (is_visitor fault) [
@@ -179,10 +180,10 @@ returns-in-Err-clause-works g c =
     let states = states_out a before.work before.tape.states in
     let y = c.perform.new.visitor.out.now in
     let refuses : Refuses g.O.Sink.told g.O.Sink.call_count first before a fault c.loop-action.writer.out.now y (mid_of g p) new = record {
-      uncounted = err.uncounted;
-      called = err.called_at_most;
-      left = err.left so_far.lasts;
-      whole = λ k put got e. all.whole k put got (is _ e);
+      uncounted = leaves.uncounted;
+      called = leaves.called_at_most;
+      left = leaves.left;
+      whole = λ k put got e. all.caused.whole k put got (is _ e);
       breaks = λ e. from_none g.O.Sink.told g.O.Sink.call_count c.loop-action.writer.batch.now (lines_for numbers states) c.loop-action.writer.out.now y inv.none_waits
           (broken g.O.Sink.told g.O.Sink.call_count before.journal numbers states c.loop-action.writer c.perform.new.visitor (all.misses (is _ e)));
       unseen = λ ne. ap (λ v. v.out.now) (err.seen.unseen (λ e. ne cc));
@@ -192,10 +193,10 @@ returns-in-Err-clause-works g c =
         keeper = λ k e. all.kept.keeper_cause k (is _ e);
         keepers_quiet = λ ne. all.kept.keepers_quiet (λ k. isnt _ (ne k));
       };
-      named = λ k e. all.named k (is _ e);
-      damaged = λ k put got e. all.damaged k put got (is _ e);
-      undamaged = λ stands k put got e. all.undamaged first c.requires.state stands k put got (is _ e);
-      wants = λ e. all.wants (is _ e);
+      named = λ k e. all.caused.named k (is _ e);
+      damaged = λ k put got e. all.caused.damaged k put got (is _ e);
+      undamaged = λ stands k put got e. all.spared.undamaged first c.requires.state stands k put got (is _ e);
+      wants = λ e. all.caused.wants (is _ e);
       lasts = λ e. absurd (false≢true (sym so_far.lasts ∙ all.ended.0 (is _ e)));
     } in
     let R : Run → Type 0 = λ r. Works (perform r) (fault_ending (c.loop-action.place + 1) fault) (old_of g p) new in
@@ -263,7 +264,7 @@ returns-in-Err-clause-roomy g c roomy e =
     let wants = is_memory (c.loop-action.place + 1) fault (λ q. absurd (false≢true (sym inv.so_far.1.lasts ∙ c.perform.ensures.ended.0 (is _ q))))
     (sym (ap (λ (x : Ending). x.status) c.fault_ending.ensures) ∙ e) in
     let rooms = rooms_by g.K.Keeper.room_bytes in
-    c.perform.ensures.roomy
+    c.perform.ensures.spared.roomy
     (still_roomy first.work before.work first.situation.slots before.situation.slots (rooms c.args.keepers.now.items) (rooms c.loop-action.keepers.items) inv.pages inv.so_far.1.slots inv.rooms roomy) (is _ wants)
 
 -- ---- the lines that waited were not all written
@@ -296,9 +297,9 @@ returns-in-Err-write_waiting-clause-works g c =
     let V : ℕ → Type 0 = λ n. Rose n (g.O.Sink.fault_count y) in
     let W : ℕ → Type 0 = λ n. Rose (g.O.Sink.fault_count x) n in
     let refuses : Refuses g.O.Sink.told g.O.Sink.call_count first before a Visitor x y (mid_of g p) new = record {
-      uncounted = ok.counted ∙ ap (λ n. c.loop-action.counter + before.unit * n) none ∙ still;
-      called = at_most _ _ _ ok.called;
-      left = broken_left g.O.Sink.told g.O.Sink.call_count before.unit before.situation.steps before.journal a before.work before.tape.states x y _ _ breaks ok.acts;
+      uncounted = ok.acted.counted ∙ ap (λ n. c.loop-action.counter + before.unit * n) none ∙ still;
+      called = at_most _ _ _ ok.acted.called;
+      left = broken_left g.O.Sink.told g.O.Sink.call_count before.unit before.situation.steps before.journal a before.work before.tape.states x y _ _ breaks ok.acted.acts;
       whole = λ k put got e. absurd (other_damaged k put got e);
       breaks = λ e. breaks;
       unseen = λ ne. absurd (ne refl);

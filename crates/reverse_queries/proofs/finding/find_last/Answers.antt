@@ -103,12 +103,13 @@ returns-in_err-perform-clause-refused g c =
     let at = at_place list i within in
     let p = err_from_is_err_and c.from_residual.result c.from_residual.ensures.1 in
     let is = same_fault c.perform.result c.from_residual.result _ _ p.0 c.in_err-perform.was p.1 p.2 p.1 in
-    let fits = fault_fits (λ action held. ⊥) a _ c.perform.result p.0 is c.perform.ensures.named c.perform.ensures.damaged c.perform.ensures.wants
+    let fits = fault_fits (λ action held. ⊥) a _ c.perform.result p.0 is c.perform.ensures.caused.named c.perform.ensures.caused.damaged c.perform.ensures.caused.wants
     (λ e. (let rose = c.perform.ensures.seen.cause e in absurd (omega (arith, rose))))
     (λ e. true≢false (sym (c.perform.ensures.ended.0 e) ∙ so_far.way.performs.lasts)) in
+    let leaves = c.in_err-perform.ensures.leaves so_far.way.performs.lasts in
     if_err_at _ c.from_residual.result p.0 p.1
     (refused_in _ _ _ _ _ _ list list i old mid c.perform.new.self _ _ c.perform.new.keepers.items _ _ _ a (λ action held. ⊥) p.0 at refl refl within so_far.way so_far.going.gone
-    c.in_err-perform.ensures.refused c.in_err-perform.ensures.uncounted c.in_err-perform.ensures.called_at_most fits)
+    c.in_err-perform.ensures.refused leaves.uncounted leaves.called_at_most fits)
 
 pub returns-in_err-perform-clause-not_visitor : goal.returns-in_err-perform-clause-not_visitor
 returns-in_err-perform-clause-not_visitor g c e =
@@ -128,9 +129,9 @@ returns-in_err-perform-clause-spared g c =
     record {
       not_ended = λ e. true≢false (sym (c.perform.ensures.ended.0 (same Ended e)) ∙ way.performs.lasts);
       roomy = λ roomy e.
-          c.perform.ensures.roomy
+          c.perform.ensures.spared.roomy
           (still_roomy old.work mid.work old.situation.slots mid.situation.slots (rooms c.args.keepers.now.items) (rooms c.loop-action.keepers.items) way.pages way.performs.slots c.loop-action.invariant.rooms roomy) (same Memory e);
-      undamaged = λ first is stands k put got e. c.perform.ensures.undamaged first is (way.stands first is stands) k put got (same (Damaged k put got) e);
+      undamaged = λ first is stands k put got e. c.perform.ensures.spared.undamaged first is (way.stands first is stands) k put got (same (Damaged k put got) e);
     }
 
 pub returns-in_err-perform-clause-kept : goal.returns-in_err-perform-clause-kept
@@ -203,7 +204,7 @@ returns-in-Some-clause-found g c =
     let ends = ran.answered c.in-Some.place c.in-Some.is in
     let front = front_ends unit steps c.in-Some.place list i a at ends.0 (so_far.front c.in-Some.place ends.1) in
     let told = told_by g.K.Keeper.told in
-    let acts = acts_there old mid (take i list) a _ _ so_far.way.performs done.acts in
+    let acts = acts_there old mid (take i list) a _ _ so_far.way.performs done.acted.acts in
     let even = got_even Got old.journal unit steps a held c.loop-action.finder c.perform.new.visitor gets in
     found_on (λ states. IsLast (DoesWhatIsAsked c.args.question old.journal c.args.word states) (unit * steps) (Some c.in-Some.place)) unit steps slots old.journal list (up_to unit steps (Some c.in-Some.place) list) i
     (holdings_of old (told c.args.keepers.now.items)) held (holdings_of new (told c.perform.new.keepers.items)) mid.situation.at a new.situation.at (omega (arith, within)) front goes so_far.way.turns at acts even so_far.going.gone
@@ -232,9 +233,9 @@ returns-in-Some-clause-performed g c =
     let front = front_ends unit steps c.in-Some.place list i a at ends.0 (so_far.front c.in-Some.place ends.1) in
     let on = way_on _ _ _ _ _ _ list i old mid new _ _ c.perform.new.keepers.items _ _ _ a c.requires.start at so_far.way (record {
       performs = done.performs;
-      acts = done.acts;
-      counted = done.counted;
-      called = done.called;
+      acts = done.acted.acts;
+      counted = done.acted.counted;
+      called = done.acted.called;
       room = c.perform.ensures.kept.slots;
       quiet = c.perform.ensures.kept.keepers_quiet (λ k e. not_both c.perform.result _ (Keeper k) c.in_ok-perform.was e);
       others = c.perform.ensures.kept.others;
@@ -290,9 +291,9 @@ loop-action-preserved g c =
     let ran = ran_at c.args.question c.args.word unit steps slots old.journal mid.situation.at a new.situation.at held c.loop-action.finder c.perform.new.visitor goes so_far.way.turns so_far.asked gets in
     let on = way_on _ _ _ _ _ _ list i old mid new _ _ c.perform.new.keepers.items _ _ _ a c.requires.start at so_far.way (record {
       performs = done.performs;
-      acts = done.acts;
-      counted = done.counted;
-      called = done.called;
+      acts = done.acted.acts;
+      counted = done.acted.counted;
+      called = done.acted.called;
       room = c.perform.ensures.kept.slots;
       quiet = c.perform.ensures.kept.keepers_quiet (λ k e. not_both c.perform.result _ (Keeper k) c.in_ok-perform.was e);
       others = c.perform.ensures.kept.others;
@@ -301,7 +302,7 @@ loop-action-preserved g c =
     }) in
     let next = ran.unanswered c.in_default.is in
     let told = told_by g.K.Keeper.told in
-    let acts = acts_there old mid (take i list) a _ _ so_far.way.performs done.acts in
+    let acts = acts_there old mid (take i list) a _ _ so_far.way.performs done.acted.acts in
     let even = got_even Got old.journal unit steps a held c.loop-action.finder c.perform.new.visitor gets in
     record {
       rooms = λ k. c.perform.ensures.rooms k ∙ so_far.rooms k;

@@ -99,7 +99,7 @@ returns-then-picked-clause-gets g c =
     let shown = shown_at g.V.Visitor.got unit steps old.journal a mid.situation.at new.situation.at held c.loop-action.picked c.perform.new.visitor c.args.place c.args.visitor.now so_far.place so_far.visitor so_far.passed c.if-picked.true it in
     let front = front_ends unit steps c.args.place list i a at shown.hands so_far.front in
     let last = c.visitor-then-picked-1.given.1 (sym (it.reference ∙ so_far.reference ∙ c.new-picked.ensures.same_reference)) in
-    let acts = acts_there old mid (take i list) a _ _ so_far.way.performs done.acts in
+    let acts = acts_there old mid (take i list) a _ _ so_far.way.performs done.acted.acts in
     let even = got_even (PassesOn g.V.Visitor.got) old.journal unit steps a held c.loop-action.picked c.perform.new.visitor gets in
     found_on (GetsState g.V.Visitor.got old (told c.args.keepers.now.items) c.args.place c.args.visitor.now _) unit steps slots old.journal list (front_to unit steps c.args.place list) i
     (holdings_of old (told c.args.keepers.now.items)) held (holdings_of new (told c.perform.new.keepers.items)) mid.situation.at a new.situation.at (omega (arith, within)) front goes so_far.way.turns at acts even so_far.gone
@@ -138,9 +138,9 @@ returns-then-picked-clause-performed g c =
     let last = c.visitor-then-picked-1.given.1 (sym (it.reference ∙ so_far.reference ∙ c.new-picked.ensures.same_reference)) in
     let on = way_on _ _ _ _ _ _ list i old mid new _ _ c.perform.new.keepers.items _ _ _ a c.requires.start at so_far.way (record {
       performs = done.performs;
-      acts = done.acts;
-      counted = done.counted;
-      called = done.called;
+      acts = done.acted.acts;
+      counted = done.acted.counted;
+      called = done.acted.called;
       room = c.perform.ensures.kept.slots;
       quiet = c.perform.ensures.kept.keepers_quiet (λ k e. not_both c.perform.result _ (Keeper k) c.in_ok-perform.was e);
       others = c.perform.ensures.kept.others;
@@ -244,14 +244,15 @@ returns-in_err-perform-clause-refused g c =
     let takes = front_takes old.unit old.situation.steps c.args.place list i a at so_far.front in
     let is = same_fault c.perform.result c.from_residual.result _ _ p.0 c.in_err-perform.was p.1 p.2 p.1 in
     let Misses = MissesState g.V.Visitor.missed old (told c.args.keepers.now.items) c.args.place c.args.visitor.now _ in
-    let fits = fault_fits Misses a held c.perform.result p.0 is c.perform.ensures.named c.perform.ensures.damaged c.perform.ensures.wants
+    let fits = fault_fits Misses a held c.perform.result p.0 is c.perform.ensures.caused.named c.perform.ensures.caused.damaged c.perform.ensures.caused.wants
     (λ e. misses_state g.V.Visitor.missed old (told c.args.keepers.now.items) a held c.loop-action.picked c.perform.new.visitor c.args.place c.args.visitor.now _ so_far.place so_far.visitor
     (c.in_err-perform.visitor-in-Break-1-own.given.1 (sym ((missed e).reference ∙ so_far.reference ∙ c.new-picked.ensures.same_reference)))
     (λ first is stands. run_has first old mid (told c.loop-action.keepers.items) (take i list) a _ c.requires.start so_far.way.performs goes (so_far.way.stands first is stands)) (missed e))
     (λ e. true≢false (sym (c.perform.ensures.ended.0 e) ∙ so_far.way.performs.lasts)) in
+    let leaves = c.in_err-perform.ensures.leaves so_far.way.performs.lasts in
     if_err_at _ c.from_residual.result p.0 p.1
     (refused_in _ _ _ _ _ _ list (front_to old.unit old.situation.steps c.args.place list) i old mid c.perform.new.self _ _ c.perform.new.keepers.items _ _ _ a Misses p.0 at takes.0 takes.1 takes.2 so_far.way so_far.gone
-    c.in_err-perform.ensures.refused c.in_err-perform.ensures.uncounted c.in_err-perform.ensures.called_at_most fits)
+    c.in_err-perform.ensures.refused leaves.uncounted leaves.called_at_most fits)
 
 pub returns-in_err-perform-clause-spared : goal.returns-in_err-perform-clause-spared
 returns-in_err-perform-clause-spared g c =
@@ -264,9 +265,9 @@ returns-in_err-perform-clause-spared g c =
     record {
       not_ended = λ e. true≢false (sym (c.perform.ensures.ended.0 (same Ended e)) ∙ way.performs.lasts);
       roomy = λ roomy e.
-          c.perform.ensures.roomy
+          c.perform.ensures.spared.roomy
           (still_roomy old.work mid.work old.situation.slots mid.situation.slots (rooms c.args.keepers.now.items) (rooms c.loop-action.keepers.items) way.pages way.performs.slots c.loop-action.invariant.rooms roomy) (same Memory e);
-      undamaged = λ first is stands k put got e. c.perform.ensures.undamaged first is (way.stands first is stands) k put got (same (Damaged k put got) e);
+      undamaged = λ first is stands k put got e. c.perform.ensures.spared.undamaged first is (way.stands first is stands) k put got (same (Damaged k put got) e);
     }
 
 pub returns-in_err-perform-clause-seen : goal.returns-in_err-perform-clause-seen
@@ -327,9 +328,9 @@ loop-action-preserved g c =
     let it = picks_at g.V.Visitor.got unit steps slots old.journal a mid.situation.at new.situation.at held c.loop-action.picked c.perform.new.visitor goes so_far.way.turns gets in
     let on = way_on _ _ _ _ _ _ list i old mid new _ _ c.perform.new.keepers.items _ _ _ a c.requires.start at so_far.way (record {
       performs = done.performs;
-      acts = done.acts;
-      counted = done.counted;
-      called = done.called;
+      acts = done.acted.acts;
+      counted = done.acted.counted;
+      called = done.acted.called;
       room = c.perform.ensures.kept.slots;
       quiet = c.perform.ensures.kept.keepers_quiet (λ k e. not_both c.perform.result _ (Keeper k) c.in_ok-perform.was e);
       others = c.perform.ensures.kept.others;
@@ -337,7 +338,7 @@ loop-action-preserved g c =
       alone = done.stays.alone;
     }) in
     let none = unshown_at g.V.Visitor.got unit steps old.journal a mid.situation.at new.situation.at held c.loop-action.picked c.perform.new.visitor c.if-picked.false it in
-    let acts = acts_there old mid (take i list) a _ _ so_far.way.performs done.acts in
+    let acts = acts_there old mid (take i list) a _ _ so_far.way.performs done.acted.acts in
     let even = got_even (PassesOn g.V.Visitor.got) old.journal unit steps a held c.loop-action.picked c.perform.new.visitor gets in
     let P : ℕ → Type 0 = λ n. n < left unit steps mid.situation.at → n < left unit steps new.situation.at in
     record {

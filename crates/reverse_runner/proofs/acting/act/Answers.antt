@@ -16,11 +16,11 @@ returns-in-Copy-clause-units g c d goes =
     let now = c.args.config.now in
     let G : Action → Type 0 = λ a. Goes now.steps now.slots now.at a d in
     on_ok_weaker c.copy.result (λ _. units_kept c.args.unit now.steps c.args.journal.now now.at d c.args.space.now c.copy.new.space c.copy.ensures.undo
-    (copy_tape now.steps now.slots now.at c.in-Copy.n c.in-Copy.from c.in-Copy.dest d (subst G c.in-Copy.is goes)) c.requires.units) (c.copy.ensures.acts 0 [])
+    (copy_tape now.steps now.slots now.at c.in-Copy.n c.in-Copy.from c.in-Copy.dest d (subst G c.in-Copy.is goes)) c.requires.units) (c.copy.ensures.acted 0 [] 0)
 
 pub returns-in-Move-clause-units : goal.returns-in-Move-clause-units
 returns-in-Move-clause-units g c d goes =
     let now = c.args.config.now in
     let G : Action → Type 0 = λ a. Goes now.steps now.slots now.at a d in
     on_ok_weaker c.move_.result (λ _. units_kept c.args.unit now.steps c.args.journal.now now.at d c.args.space.now c.move_.new.space c.move_.ensures.undo
-    (move_tape now.steps now.slots now.at c.in-Move.n c.in-Move.from c.in-Move.dest d (subst G c.in-Move.is goes)) c.requires.units) (c.move_.ensures.acts 0 [])
+    (move_tape now.steps now.slots now.at c.in-Move.n c.in-Move.from c.in-Move.dest d (subst G c.in-Move.is goes)) c.requires.units) (c.move_.ensures.acted 0 [] 0)

@@ -1,4 +1,4 @@
-use Rattle.std.proofs.Common.{◌≡◌, ◌<◌, ◌∙◌, ℕ, List, length, Err, Contains, refl, ap, sym, subst}
+use Rattle.std.proofs.Common.{◌≡◌, ◌<◌, ◌∙◌, ℕ, List, length, Err, Contains, refl, ap, sym, subst, arith, rules}
 use Rattle.std.proofs.lemmas.Result.{IfErr-at_err, err_from_is_err_and, on_ok_weaker, on_err_weaker}
 use Rattle.plan_types.specs.declared.action.Dest.{Dest}
 use Rattle.plan_types.specs.declared.action.Dest.TheVariants.{Level}
@@ -14,37 +14,71 @@ use Rattle.image_store.specs.Pairs.{held}
 use Rattle.reverse_runner.specs.declared.fault.RunFault.TheVariants.{Keeper, Damaged}
 use Rattle.reverse_runner.specs.Acts.{IsDecoded}
 use Rattle.reverse_runner.specs.KeepersSeen.{told_by, calls_of, calls_to, CalledAtMost}
-use Rattle.reverse_runner.specs.Touching.{IsKeeping}
+use Rattle.reverse_runner.specs.Touching.{IsKeeping, IsCaused, Remain}
+use Rattle.reverse_runner.proofs.Caused.{kept_by}
 use Rattle.reverse_runner.specs.Workspaces.{levels_in, holdings_in}
 use Rattle.reverse_runner.proofs.Asking.{may_get, may_give, copies_held, copies_free, damage_of, copied_to_work, copy_names_source, copy_names_target, not_named, keeping_is_on, has_keeper_still}
 use Rattle.reverse_runner.proofs.AllCalls.{called_copy, at_most}
 use Rattle.reverse_runner.proofs.Taping.{same_tape}
 use Rattle.reverse_runner.proofs.Undamaged.{held_stands, fetched_image, state_of_run}
 use Rattle.reverse_runner.proofs.Leaving.{on_err, leaves_not_got, leaves_copied}
-use Rattle.reverse_runner.specs.Rooms.{image_room, IsRoomy, rooms_by}
+use Rattle.reverse_runner.specs.Rooms.{image_room, rooms_by}
 use Rattle.reverse_runner.proofs.Rooms.{roomy_still, short_same}
 use Rattle.reverse_runner.proofs.acting.copy.Goals as goal
 
-pub returns-in_err-fetch-clause-damaged : goal.returns-in_err-fetch-clause-damaged
-returns-in_err-fetch-clause-damaged g c k put got e =
-    let p = err_from_is_err_and c.from_residual.result c.from_residual.ensures.1 in
-    let same : c.fetch.result ≡ Err (Damaged k put got) = cc in
-    let other = c.fetch.ensures.damaged k put got same in
-    damage_of (Copy c.args.n c.args.from c.args.dest) (holdings_in c.args.space.now (told_by g.K.Keeper.told c.args.keepers.now.items)) c.args.n c.args.from k put got refl other.0 other.1
-
-pub returns-in_err-fetch-clause-undamaged : goal.returns-in_err-fetch-clause-undamaged
-returns-in_err-fetch-clause-undamaged g c first journal unit is recorded stands k put got e =
-    let p = err_from_is_err_and c.from_residual.result c.from_residual.ensures.1 in
-    let same : c.fetch.result ≡ Err (Damaged k put got) = cc in
+pub returns-in_err-fetch-clause-leaves : goal.returns-in_err-fetch-clause-leaves
+returns-in_err-fetch-clause-leaves g c steps =
+    let told = g.K.Keeper.told in
     let now = c.args.config.now in
+    let old = levels_in c.args.space.now (told_by told c.args.keepers.now.items) in
     let is_held = copies_held now.steps now.slots now.at c.args.n c.args.from c.args.dest c.requires.allowed in
-    let s = holdings_in c.args.space.now (told_by g.K.Keeper.told c.args.keepers.now.items) in
-    let there = held_stands first journal unit now.steps now.slots now.at s c.args.from c.args.n stands c.requires.ready.laid is_held.level is_held.there in
-    IfErr-at_err (IsKeeping c.args.from) same (c.fetch.ensures.sound there.0 there.1)
+    let give = may_give now.steps now.slots now.at c.args.space.now.store c.args.n c.args.from c.requires.ready.laid is_held in
+    let left = leaves_not_got c.args.n c.args.from c.args.dest old (told_by told c.fetch.new.keepers.items) (λ k. (c.fetch.ensures.same k).1)
+    (λ k e.
+    let free = copies_free now.steps now.slots now.at c.args.n c.args.from k c.args.dest c.requires.allowed e in
+    (may_get now.steps now.slots now.at c.args.space.now.store c.args.n k c.requires.ready.laid free.1 give.1).0) in
+    on_err c.from_residual.result (record { left = left; uncounted = refl; called_at_most = search rules })
 
-pub returns-in_err-fetch-clause-others : goal.returns-in_err-fetch-clause-others
-returns-in_err-fetch-clause-others g c k free =
-    c.fetch.ensures.keepers k (not_named (levels_named (Copy c.args.n c.args.from c.args.dest)) k c.args.from (copy_names_source c.args.n c.args.from c.args.dest) free)
+pub returns-in_err-fetch-clause-caused : goal.returns-in_err-fetch-clause-caused
+returns-in_err-fetch-clause-caused g c =
+    record {
+      named = search rules;
+      damaged = λ k put got e.
+          (let p = err_from_is_err_and c.from_residual.result c.from_residual.ensures.1 in
+          let same : c.fetch.result ≡ Err (Damaged k put got) = cc in
+          let other = c.fetch.ensures.damaged k put got same in
+          damage_of (Copy c.args.n c.args.from c.args.dest) (holdings_in c.args.space.now (told_by g.K.Keeper.told c.args.keepers.now.items)) c.args.n c.args.from k put got refl other.0 other.1);
+      whole = search rules;
+      wants = search rules;
+    }
+
+pub returns-in_err-fetch-clause-spared : goal.returns-in_err-fetch-clause-spared
+returns-in_err-fetch-clause-spared g c unit journal recorded short =
+    record {
+      roomy = search rules;
+      undamaged = λ first is stands k put got e.
+          (let p = err_from_is_err_and c.from_residual.result c.from_residual.ensures.1 in
+          let same : c.fetch.result ≡ Err (Damaged k put got) = cc in
+          let now = c.args.config.now in
+          let is_held = copies_held now.steps now.slots now.at c.args.n c.args.from c.args.dest c.requires.allowed in
+          let s = holdings_in c.args.space.now (told_by g.K.Keeper.told c.args.keepers.now.items) in
+          let there = held_stands first journal unit now.steps now.slots now.at s c.args.from c.args.n stands c.requires.ready.laid is_held.level is_held.there in
+          IfErr-at_err (IsKeeping c.args.from) same (c.fetch.ensures.sound there.0 there.1));
+    }
+
+pub returns-in_err-fetch-clause-kept : goal.returns-in_err-fetch-clause-kept
+returns-in_err-fetch-clause-kept g c =
+    let caused : IsCaused g.K.Keeper.fault_count c.args.keepers.now.items c.fetch.new.keepers.items c.from_residual.result = search rules in
+    kept_by _ _ _ _ _ _ c.fetch.ensures.remain caused
+    (λ k free. c.fetch.ensures.keepers k (not_named (levels_named (Copy c.args.n c.args.from c.args.dest)) k c.args.from (copy_names_source c.args.n c.args.from c.args.dest) free))
+
+pub keep-requires-clause-there : goal.keep-requires-clause-there
+keep-requires-clause-there g c =
+    let now = c.args.config.now in
+    let free = copies_free now.steps now.slots now.at c.args.n c.args.from c.in-Level.to c.args.dest c.requires.allowed c.in-Level.is in
+    let has = has_keeper_still g.K.Keeper.slot_count c.args.keepers.now.items c.fetch.new.keepers.items now.steps now.slots now.at c.args.space.now.store c.fetch.new.self.store c.in-Level.to
+    c.requires.ready.laid c.requires.ready.room free.1.level c.fetch.ensures.remain.slots_same c.fetch.ensures.states.2 in
+    omega (arith, has.0, c.fetch.new.keepers.ok.0)
 
 pub keep-requires-clause-room : goal.keep-requires-clause-room
 keep-requires-clause-room g c =
@@ -63,81 +97,6 @@ keep-requires-clause-slots g c =
     (has_keeper_still g.K.Keeper.slot_count c.args.keepers.now.items c.fetch.new.keepers.items now.steps now.slots now.at c.args.space.now.store c.fetch.new.self.store c.in-Level.to
     c.requires.ready.laid c.requires.ready.room free.1.level c.fetch.ensures.remain.slots_same c.fetch.ensures.states.2).1
 
-pub returns-in-Work-clause-acts : goal.returns-in-Work-clause-acts
-returns-in-Work-clause-acts g c unit journal =
-    let told = g.K.Keeper.told in
-    let old = holdings_in c.args.space.now (told_by told c.args.keepers.now.items) in
-    let new = holdings_in c.decode.new.self (told_by told c.fetch.new.keepers.items) in
-    let stays = c.fetch.ensures.states in
-    let P : MachineState → Type 0 = λ s. IsDecoded s c.decode.new.self.work c.fetch.new.self.buffer.items in
-    on_ok_weaker c.decode.result (λ decoded.
-    copied_to_work unit journal c.args.n c.args.from c.args.dest old new c.fetch.new.self.buffer.items c.in-Work.is c.in_ok-fetch.ensures.fetched (subst P stays.0 decoded)
-    (same_tape c.decode.new.self c.args.space.now (c.decode.ensures.tape ∙ stays.1) (c.decode.ensures.undo ∙ stays.3)) (ap length (c.decode.ensures.store ∙ stays.2))
-    (λ j. let same = c.fetch.ensures.same j in (ap (λ (s : List ShelfState). level_of s j) (c.decode.ensures.store ∙ stays.2), same.1)))
-    c.decode.ensures.decoded
-
-pub returns-in-Work-clause-undamaged : goal.returns-in-Work-clause-undamaged
-returns-in-Work-clause-undamaged g c first journal unit is recorded stands k put got e =
-    let now = c.args.config.now in
-    let is_held = copies_held now.steps now.slots now.at c.args.n c.args.from c.args.dest c.requires.allowed in
-    let s = holdings_in c.args.space.now (told_by g.K.Keeper.told c.args.keepers.now.items) in
-    let got_is = fetched_image first journal unit now.steps now.slots now.at s c.args.from c.args.n c.fetch.new.self.buffer.items stands c.requires.ready.laid is_held.level is_held.there
-    c.in_ok-fetch.ensures.fetched in
-    let state = state_of_run first journal unit now.at s c.args.n is recorded stands in
-    let none = IfErr-at_err (λ fault. (fault ≡ Damaged c.args.from (sha256 c.fetch.new.self.buffer.items) (sha256 c.fetch.new.self.buffer.items)) × IsNoImage c.fetch.new.self.work c.fetch.new.self.buffer.items) e
-    c.decode.ensures.damaged in
-    none.1 (unit_states first journal unit c.args.n) state.0 (state.1 ∙ sym (ap (λ (x : MachineState). page_numbers x.memory) c.fetch.ensures.states.0)) (sym got_is)
-
-pub returns-in-Work-clause-others : goal.returns-in-Work-clause-others
-returns-in-Work-clause-others g c k free =
-    c.fetch.ensures.keepers k (not_named (levels_named (Copy c.args.n c.args.from c.args.dest)) k c.args.from (copy_names_source c.args.n c.args.from c.args.dest) free)
-
-pub returns-in-Level-clause-at_most : goal.returns-in-Level-clause-at_most
-returns-in-Level-clause-at_most g c =
-    let calls = calls_to g.K.Keeper.put_count g.K.Keeper.get_count g.K.Keeper.free_count in
-    let old = calls c.args.keepers.now.items in
-    let new = calls c.keep.new.keepers.items in
-    let P : Dest → Type 0 = λ d. CalledAtMost (calls_of (Copy c.args.n c.args.from d)) old new in
-    subst P (sym c.in-Level.is)
-    (at_most (calls_of (Copy c.args.n c.args.from (Level c.in-Level.to))) old new
-    (called_copy c.args.n c.args.from c.in-Level.to old (calls c.fetch.new.keepers.items) new c.fetch.ensures.called c.keep.ensures.called))
-
-pub returns-in-Level-clause-others : goal.returns-in-Level-clause-others
-returns-in-Level-clause-others g c k free =
-    let names = levels_named (Copy c.args.n c.args.from c.args.dest) in
-    c.keep.ensures.keepers k (not_named names k c.in-Level.to (copy_names_target c.args.n c.args.from c.in-Level.to c.args.dest c.in-Level.is) free)
-    ∙ c.fetch.ensures.keepers k (not_named names k c.args.from (copy_names_source c.args.n c.args.from c.args.dest) free)
-
-pub returns-in-Level-clause-named : goal.returns-in-Level-clause-named
-returns-in-Level-clause-named g c k e =
-    let on = keeping_is_on c.in-Level.to k (Keeper k) (IfErr-at_err (IsKeeping c.in-Level.to) e c.keep.ensures.fault) refl in
-    let P : ℕ → Type 0 = λ j. Contains (levels_named (Copy c.args.n c.args.from c.args.dest)) j in
-    subst P (sym on) (copy_names_target c.args.n c.args.from c.in-Level.to c.args.dest c.in-Level.is)
-
-pub returns-in_err-fetch-clause-left : goal.returns-in_err-fetch-clause-left
-returns-in_err-fetch-clause-left g c =
-    let told = g.K.Keeper.told in
-    let now = c.args.config.now in
-    let old = levels_in c.args.space.now (told_by told c.args.keepers.now.items) in
-    let is_held = copies_held now.steps now.slots now.at c.args.n c.args.from c.args.dest c.requires.allowed in
-    let give = may_give now.steps now.slots now.at c.args.space.now.store c.args.n c.args.from c.requires.ready.laid is_held in
-    let left = leaves_not_got c.args.n c.args.from c.args.dest old (told_by told c.fetch.new.keepers.items) (λ k. (c.fetch.ensures.same k).1)
-    (λ k e.
-    let free = copies_free now.steps now.slots now.at c.args.n c.args.from k c.args.dest c.requires.allowed e in
-    (may_get now.steps now.slots now.at c.args.space.now.store c.args.n k c.requires.ready.laid free.1 give.1).0) in
-    on_err c.from_residual.result left
-
-pub returns-in-Level-clause-left : goal.returns-in-Level-clause-left
-returns-in-Level-clause-left g c =
-    let told = g.K.Keeper.told in
-    let old = levels_in c.args.space.now (told_by told c.args.keepers.now.items) in
-    let mid = levels_in c.fetch.new.self (told_by told c.fetch.new.keepers.items) in
-    let to = c.in-Level.to in
-    on_err_weaker c.keep.result (λ left.
-    leaves_copied c.args.n c.args.from to c.args.dest old mid (told_by told c.keep.new.keepers.items) c.in-Level.is (c.fetch.ensures.same to).0 (λ k. (c.fetch.ensures.same k).1) left
-    (λ k ne. (c.keep.ensures.others k ne).1))
-    c.keep.ensures.left
-
 pub keep-requires-clause-number : goal.keep-requires-clause-number
 keep-requires-clause-number g c =
     let now = c.args.config.now in
@@ -148,16 +107,105 @@ keep-requires-clause-number g c =
     let P : List ShelfState → Type 0 = λ s. c.args.n < length (level_of s c.in-Level.to).pairs in
     subst P (sym c.fetch.ensures.states.2) get.2
 
-pub returns-in-Level-clause-short : goal.returns-in-Level-clause-short
-returns-in-Level-clause-short g c short =
-    let bound = image_room c.args.space.now.work in
-    c.keep.ensures.short bound (c.in_ok-fetch.ensures.few bound short) (short_same bound c.args.space.now.store c.fetch.new.self.store c.fetch.ensures.states.2 short)
+pub returns-in-Work-clause-acted : goal.returns-in-Work-clause-acted
+returns-in-Work-clause-acted g c unit journal steps =
+    let told = g.K.Keeper.told in
+    let old = holdings_in c.args.space.now (told_by told c.args.keepers.now.items) in
+    let new = holdings_in c.decode.new.self (told_by told c.fetch.new.keepers.items) in
+    let stays = c.fetch.ensures.states in
+    let P : MachineState → Type 0 = λ s. IsDecoded s c.decode.new.self.work c.fetch.new.self.buffer.items in
+    on_ok_weaker c.decode.result (λ decoded. record {
+      acts = copied_to_work unit journal c.args.n c.args.from c.args.dest old new c.fetch.new.self.buffer.items c.in-Work.is c.in_ok-fetch.ensures.fetched (subst P stays.0 decoded)
+          (same_tape c.decode.new.self c.args.space.now (c.decode.ensures.tape ∙ stays.1) (c.decode.ensures.undo ∙ stays.3)) (ap length (c.decode.ensures.store ∙ stays.2))
+          (λ j. let same = c.fetch.ensures.same j in (ap (λ (s : List ShelfState). level_of s j) (c.decode.ensures.store ∙ stays.2), same.1));
+      counted = search rules;
+      called = search rules;
+    }) c.decode.ensures.decoded
 
-pub returns-in-Level-clause-roomy : goal.returns-in-Level-clause-roomy
-returns-in-Level-clause-roomy g c short roomy e =
-    let now = c.args.config.now in
-    let bound = image_room c.args.space.now.work in
-    let free = copies_free now.steps now.slots now.at c.args.n c.args.from c.in-Level.to c.args.dest c.requires.allowed c.in-Level.is in
-    let rooms = rooms_by g.K.Keeper.room_bytes in
-    let there = roomy_still bound (rooms c.args.keepers.now.items c.in-Level.to) (rooms c.fetch.new.keepers.items c.in-Level.to) (c.fetch.ensures.rooms c.in-Level.to) (roomy c.in-Level.to free.1.level) in
-    c.keep.ensures.roomy bound there (c.in_ok-fetch.ensures.few bound short) e
+pub returns-in-Work-clause-spared : goal.returns-in-Work-clause-spared
+returns-in-Work-clause-spared g c unit journal recorded short =
+    record {
+      roomy = search rules;
+      undamaged = λ first is stands k put got e.
+          (let now = c.args.config.now in
+          let is_held = copies_held now.steps now.slots now.at c.args.n c.args.from c.args.dest c.requires.allowed in
+          let s = holdings_in c.args.space.now (told_by g.K.Keeper.told c.args.keepers.now.items) in
+          let got_is = fetched_image first journal unit now.steps now.slots now.at s c.args.from c.args.n c.fetch.new.self.buffer.items stands c.requires.ready.laid is_held.level is_held.there
+          c.in_ok-fetch.ensures.fetched in
+          let state = state_of_run first journal unit now.at s c.args.n is recorded stands in
+          let none = IfErr-at_err (λ fault. (fault ≡ Damaged c.args.from (sha256 c.fetch.new.self.buffer.items) (sha256 c.fetch.new.self.buffer.items)) × IsNoImage c.fetch.new.self.work c.fetch.new.self.buffer.items) e
+          c.decode.ensures.damaged in
+          none.1 (unit_states first journal unit c.args.n) state.0 (state.1 ∙ sym (ap (λ (x : MachineState). page_numbers x.memory) c.fetch.ensures.states.0)) (sym got_is));
+    }
+
+pub returns-in-Work-clause-kept : goal.returns-in-Work-clause-kept
+returns-in-Work-clause-kept g c =
+    let caused : IsCaused g.K.Keeper.fault_count c.args.keepers.now.items c.fetch.new.keepers.items c.decode.result = search rules in
+    kept_by _ _ _ _ _ _ c.fetch.ensures.remain caused
+    (λ k free. c.fetch.ensures.keepers k (not_named (levels_named (Copy c.args.n c.args.from c.args.dest)) k c.args.from (copy_names_source c.args.n c.args.from c.args.dest) free))
+
+pub returns-in-Level-clause-leaves : goal.returns-in-Level-clause-leaves
+returns-in-Level-clause-leaves g c steps =
+    let calls = calls_to g.K.Keeper.put_count g.K.Keeper.get_count g.K.Keeper.free_count in
+    let old = calls c.args.keepers.now.items in
+    let new = calls c.keep.new.keepers.items in
+    let P : Dest → Type 0 = λ d. CalledAtMost (calls_of (Copy c.args.n c.args.from d)) old new in
+    let called : CalledAtMost (calls_of (Copy c.args.n c.args.from c.args.dest)) old new =
+    subst P (sym c.in-Level.is)
+    (at_most (calls_of (Copy c.args.n c.args.from (Level c.in-Level.to))) old new
+    (called_copy c.args.n c.args.from c.in-Level.to old (calls c.fetch.new.keepers.items) new c.fetch.ensures.called c.keep.ensures.called)) in
+    let told = g.K.Keeper.told in
+    let levels = levels_in c.args.space.now (told_by told c.args.keepers.now.items) in
+    let mid = levels_in c.fetch.new.self (told_by told c.fetch.new.keepers.items) in
+    let to = c.in-Level.to in
+    on_err_weaker c.keep.result (λ left. record {
+      left = leaves_copied c.args.n c.args.from to c.args.dest levels mid (told_by told c.keep.new.keepers.items) c.in-Level.is (c.fetch.ensures.same to).0 (λ k. (c.fetch.ensures.same k).1) left
+          (λ k ne. (c.keep.ensures.others k ne).1);
+      uncounted = refl;
+      called_at_most = called;
+    })
+    c.keep.ensures.left
+
+pub returns-in-Level-clause-caused : goal.returns-in-Level-clause-caused
+returns-in-Level-clause-caused g c =
+    record {
+      named = λ k e.
+          (let on = keeping_is_on c.in-Level.to k (Keeper k) (IfErr-at_err (IsKeeping c.in-Level.to) e c.keep.ensures.fault) refl in
+          let P : ℕ → Type 0 = λ j. Contains (levels_named (Copy c.args.n c.args.from c.args.dest)) j in
+          subst P (sym on) (copy_names_target c.args.n c.args.from c.in-Level.to c.args.dest c.in-Level.is));
+      damaged = search rules;
+      whole = search rules;
+      wants = search rules;
+    }
+
+pub returns-in-Level-clause-spared : goal.returns-in-Level-clause-spared
+returns-in-Level-clause-spared g c unit journal recorded short =
+    record {
+      roomy = λ roomy e.
+          (let now = c.args.config.now in
+          let bound = image_room c.args.space.now.work in
+          let free = copies_free now.steps now.slots now.at c.args.n c.args.from c.in-Level.to c.args.dest c.requires.allowed c.in-Level.is in
+          let rooms = rooms_by g.K.Keeper.room_bytes in
+          let there = roomy_still bound (rooms c.args.keepers.now.items c.in-Level.to) (rooms c.fetch.new.keepers.items c.in-Level.to) (c.fetch.ensures.rooms c.in-Level.to) (roomy c.in-Level.to free.1.level) in
+          c.keep.ensures.roomy bound there (c.in_ok-fetch.ensures.few bound short) e);
+      undamaged = search rules;
+    }
+
+pub returns-in-Level-clause-kept : goal.returns-in-Level-clause-kept
+returns-in-Level-clause-kept g c =
+    let caused : IsCaused g.K.Keeper.fault_count c.args.keepers.now.items c.keep.new.keepers.items c.keep.result = search rules in
+    let names = levels_named (Copy c.args.n c.args.from c.args.dest) in
+    let remain : Remain g.K.Keeper.slot_count g.K.Keeper.fault_count c.args.keepers.now.items c.keep.new.keepers.items = search rules in
+    kept_by _ _ _ _ _ _ remain caused
+    (λ k free. c.keep.ensures.keepers k (not_named names k c.in-Level.to (copy_names_target c.args.n c.args.from c.in-Level.to c.args.dest c.in-Level.is) free)
+    ∙ c.fetch.ensures.keepers k (not_named names k c.args.from (copy_names_source c.args.n c.args.from c.args.dest) free))
+
+pub returns-in-Level-clause-order : goal.returns-in-Level-clause-order
+returns-in-Level-clause-order g c =
+    record {
+      fits = search rules;
+      pages = search rules;
+      short = λ short.
+          (let bound = image_room c.args.space.now.work in
+          c.keep.ensures.short bound (c.in_ok-fetch.ensures.few bound short) (short_same bound c.args.space.now.store c.fetch.new.self.store c.fetch.ensures.states.2 short));
+    }

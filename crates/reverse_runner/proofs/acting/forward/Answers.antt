@@ -1,4 +1,4 @@
-use Rattle.std.proofs.Common.{◌≡◌, ◌<◌, ◌∙◌, ◌-◌, ◌*◌, ℕ, List, Err, length, refl, ap, sym, subst, arith}
+use Rattle.std.proofs.Common.{◌≡◌, ◌<◌, ◌∙◌, ◌-◌, ◌*◌, ℕ, List, Ok, Err, length, rules, refl, ap, sym, subst, arith}
 use Rattle.plan_types.specs.declared.action.Keep.{Keep}
 use Rattle.plan_types.specs.declared.action.Action.TheVariants.{Forward}
 use Rattle.level_book.specs.Rules.{rule, levels_named}
@@ -22,6 +22,8 @@ use Rattle.std.proofs.lemmas.Result.{err_from_is_err_and}
 use Rattle.reverse_runner.specs.declared.fault.RunFault.TheVariants.{Memory}
 use Rattle.reverse_runner.specs.Rooms.{image_room}
 use Rattle.reverse_runner.proofs.Rooms.{short_same}
+use Rattle.reverse_runner.specs.Touching.{IsCaused}
+use Rattle.reverse_runner.proofs.Caused.{kept_by}
 use Rattle.reverse_runner.proofs.acting.forward.Goals as goal
 
 pub keep-requires-clause-room : goal.keep-requires-clause-room
@@ -41,8 +43,8 @@ keep-requires-clause-slots g c =
     (has_keeper_still g.K.Keeper.slot_count c.args.keepers.now.items c.args.keepers.now.items now.steps now.slots now.at c.args.space.now.store c.encode.new.self.store c.in-Store.level
     c.requires.ready.laid c.requires.ready.room free.0.level refl c.encode.ensures.store).1
 
-pub returns-in_ok-keep-in-Store-clause-acts : goal.returns-in_ok-keep-in-Store-clause-acts
-returns-in_ok-keep-in-Store-clause-acts g c =
+pub returns-in_ok-keep-in-Store-clause-acted : goal.returns-in_ok-keep-in-Store-clause-acted
+returns-in_ok-keep-in-Store-clause-acted g c =
     let told = g.K.Keeper.told in
     let old = holdings_in c.args.space.now (told_by told c.args.keepers.now.items) in
     let new = holdings_in c.advance-in-Store.new.self (told_by told c.keep.new.keepers.items) in
@@ -58,19 +60,37 @@ returns-in_ok-keep-in-Store-clause-acts g c =
     let S : List ShelfState → Type 0 = λ s. IsKept (level_of c.args.space.now.store level) (level_of s level) c.args.from (image c.args.space.now.work)
     (told_by told c.args.keepers.now.items level) (told_by told c.keep.new.keepers.items level) in
     let keeps = subst S (sym stored) (subst B c.encode.ensures.image (subst K c.encode.ensures.store c.in_ok-keep-in-Store.ensures.keeps)) in
-    forward_stored c.args.unit journal c.args.from c.args.to level c.args.keep old new c.in-Store.is
-    (c.advance-in-Store.ensures.work ∙ ap (λ (s : MachineState). state_number s journal count) (stays.0 ∙ c.encode.ensures.work))
-    (same_tape c.advance-in-Store.new.self c.args.space.now (c.advance-in-Store.ensures.tape ∙ stays.1 ∙ c.encode.ensures.tape) (c.advance-in-Store.ensures.undo ∙ stays.3 ∙ c.encode.ensures.undo))
-    (ap length stored ∙ c.keep.ensures.count ∙ ap length c.encode.ensures.store)
-    keeps
-    (λ j ne. (
-      ap (λ (s : List ShelfState). level_of s j) stored ∙ (c.keep.ensures.others j ne).0 ∙ ap (λ (s : List ShelfState). level_of s j) c.encode.ensures.store,
-      (c.keep.ensures.others j ne).1,
-    ))
+    record {
+      acts =
+          forward_stored c.args.unit journal c.args.from c.args.to level c.args.keep old new c.in-Store.is
+          (c.advance-in-Store.ensures.work ∙ ap (λ (s : MachineState). state_number s journal count) (stays.0 ∙ c.encode.ensures.work))
+          (same_tape c.advance-in-Store.new.self c.args.space.now (c.advance-in-Store.ensures.tape ∙ stays.1 ∙ c.encode.ensures.tape) (c.advance-in-Store.ensures.undo ∙ stays.3 ∙ c.encode.ensures.undo))
+          (ap length stored ∙ c.keep.ensures.count ∙ ap length c.encode.ensures.store)
+          keeps
+          (λ j ne. (
+            ap (λ (s : List ShelfState). level_of s j) stored ∙ (c.keep.ensures.others j ne).0 ∙ ap (λ (s : List ShelfState). level_of s j) c.encode.ensures.store,
+            (c.keep.ensures.others j ne).1,
+          ));
+      counted = search rules;
+      called = search rules;
+    }
 
-pub returns-in_ok-keep-in-Store-clause-others : goal.returns-in_ok-keep-in-Store-clause-others
-returns-in_ok-keep-in-Store-clause-others g c k free =
-    c.keep.ensures.keepers k (not_named (levels_named (Forward c.args.from c.args.to c.args.keep)) k c.in-Store.level (store_names c.args.from c.args.to c.in-Store.level c.args.keep c.in-Store.is) free)
+pub returns-in_ok-keep-in-Store-clause-kept : goal.returns-in_ok-keep-in-Store-clause-kept
+returns-in_ok-keep-in-Store-clause-kept g c =
+    let caused : IsCaused g.K.Keeper.fault_count c.args.keepers.now.items c.keep.new.keepers.items (Ok tt) = search rules in
+    kept_by _ _ _ _ _ _ c.keep.ensures.remain caused
+    (λ k free. c.keep.ensures.keepers k (not_named (levels_named (Forward c.args.from c.args.to c.args.keep)) k c.in-Store.level (store_names c.args.from c.args.to c.in-Store.level c.args.keep c.in-Store.is) free))
+
+pub returns-in_ok-keep-in-Store-clause-order : goal.returns-in_ok-keep-in-Store-clause-order
+returns-in_ok-keep-in-Store-clause-order g c =
+    record {
+      fits = search rules;
+      pages = search rules;
+      short = λ short.
+          (let bound = image_room c.args.space.now.work in
+          let kept = c.keep.ensures.short bound c.encode.ensures.few (short_same bound c.args.space.now.store c.encode.new.self.store c.encode.ensures.store short) in
+          short_same bound c.keep.new.self.store c.advance-in-Store.new.self.store c.advance-in-Store.ensures.store kept);
+    }
 
 pub returns-in_ok-keep-in-Store-clause-units : goal.returns-in_ok-keep-in-Store-clause-units
 returns-in_ok-keep-in-Store-clause-units g c d goes =
@@ -87,28 +107,37 @@ returns-in-Nothing-clause-units g c d goes =
     let at = subst G c.in-Nothing.is goes in
     units_kept c.args.unit now.steps c.args.journal.now now.at d c.args.space.now c.advance.new.self c.advance.ensures.undo (ap (λ (x : Configuration). x.tape) at.2) c.requires.units
 
-pub returns-in-Tape-clause-acts : goal.returns-in-Tape-clause-acts
-returns-in-Tape-clause-acts g c =
+pub returns-in-Tape-clause-acted : goal.returns-in-Tape-clause-acted
+returns-in-Tape-clause-acted g c =
     let told = g.K.Keeper.told in
     let x = c.advance_on_tape in
     let old = holdings_in c.args.space.now (told_by told c.args.keepers.now.items) in
     let new = holdings_in c.advance_on_tape.new.self (told_by told c.args.keepers.now.items) in
-    forward_taped c.args.unit c.args.journal.now c.args.from c.args.to c.args.keep old new c.in-Tape.is c.advance_on_tape.ensures.work
-    (λ i. record { states = led c.advance_on_tape.new.self.undo.entries c.advance_on_tape.new.self.tape _ c.advance_on_tape.ensures.back i; after = c.advance_on_tape.ensures.tape i })
-    (ap length c.advance_on_tape.ensures.store)
-    (λ k. (ap (λ (s : List ShelfState). level_of s k) c.advance_on_tape.ensures.store, refl))
+    record {
+      acts =
+          forward_taped c.args.unit c.args.journal.now c.args.from c.args.to c.args.keep old new c.in-Tape.is c.advance_on_tape.ensures.work
+          (λ i. record { states = led c.advance_on_tape.new.self.undo.entries c.advance_on_tape.new.self.tape _ c.advance_on_tape.ensures.back i; after = c.advance_on_tape.ensures.tape i })
+          (ap length c.advance_on_tape.ensures.store)
+          (λ k. (ap (λ (s : List ShelfState). level_of s k) c.advance_on_tape.ensures.store, refl));
+      counted = search rules;
+      called = search rules;
+    }
 
-pub returns-in-Tape-clause-fits : goal.returns-in-Tape-clause-fits
-returns-in-Tape-clause-fits g c =
+pub returns-in-Tape-clause-order : goal.returns-in-Tape-clause-order
+returns-in-Tape-clause-order g c =
     let fits = c.requires.ready.fits in
     let pages = c.advance_on_tape.ensures.pages in
     let count : length (page_numbers c.args.space.now.work.memory) ≡ length (page_numbers c.advance_on_tape.new.self.work.memory) = ap length pages in
     let reserved : vec_capacity c.advance_on_tape.new.self.buffer ≡ vec_capacity c.args.space.now.buffer = ap (λ b. vec_capacity b) c.advance_on_tape.ensures.buffer in
     record {
-      pages = ap (λ (s : MachineState). page_numbers s.memory) c.advance_on_tape.ensures.tape;
-      few = omega (arith, count, fits.few);
-      back = leads_there c.advance_on_tape.new.self.undo.entries c.advance_on_tape.new.self.tape _ c.advance_on_tape.ensures.back;
-      buffer = omega (arith, count, reserved, fits.buffer);
+      fits = record {
+        pages = ap (λ (s : MachineState). page_numbers s.memory) c.advance_on_tape.ensures.tape;
+        few = omega (arith, count, fits.few);
+        back = leads_there c.advance_on_tape.new.self.undo.entries c.advance_on_tape.new.self.tape _ c.advance_on_tape.ensures.back;
+        buffer = omega (arith, count, reserved, fits.buffer);
+      };
+      pages = search rules;
+      short = search rules;
     }
 
 pub returns-in-Tape-clause-units : goal.returns-in-Tape-clause-units
@@ -118,36 +147,41 @@ returns-in-Tape-clause-units g c d goes =
     units_put c.args.unit now.steps c.args.from c.args.to c.args.journal.now now.slots now.at d c.args.space.now c.advance_on_tape.new.self c.args.space.now.work (subst G c.in-Tape.is goes)
     c.advance_on_tape.ensures.back c.advance_on_tape.ensures.undo.0 c.advance_on_tape.ensures.undo.1 c.requires.units
 
-pub returns-in_err-keep-in-Store-clause-left : goal.returns-in_err-keep-in-Store-clause-left
-returns-in_err-keep-in-Store-clause-left g c =
+pub returns-in_err-keep-in-Store-clause-leaves : goal.returns-in_err-keep-in-Store-clause-leaves
+returns-in_err-keep-in-Store-clause-leaves g c =
     let told = g.K.Keeper.told in
     let old = levels_in c.args.space.now (told_by told c.args.keepers.now.items) in
     let mid = levels_in c.encode.new.self (told_by told c.args.keepers.now.items) in
     let level = c.in-Store.level in
     let left = leaves_stored c.args.from c.args.to level c.args.keep old mid (told_by told c.keep.new.keepers.items) c.in-Store.is
     (ap (λ (s : List ShelfState). level_of s level) c.encode.ensures.store) (λ k. refl) c.in_err-keep-in-Store.ensures.left (λ k ne. (c.keep.ensures.others k ne).1) in
-    on_err c.from_residual.result left
+    on_err c.from_residual.result (record { left = left; uncounted = search rules; called_at_most = search rules })
 
-pub returns-in_err-keep-in-Store-clause-others : goal.returns-in_err-keep-in-Store-clause-others
-returns-in_err-keep-in-Store-clause-others g c k free =
-    c.keep.ensures.keepers k (not_named (levels_named (Forward c.args.from c.args.to c.args.keep)) k c.in-Store.level (store_names c.args.from c.args.to c.in-Store.level c.args.keep c.in-Store.is) free)
+pub returns-in_err-keep-in-Store-clause-kept : goal.returns-in_err-keep-in-Store-clause-kept
+returns-in_err-keep-in-Store-clause-kept g c =
+    let caused : IsCaused g.K.Keeper.fault_count c.args.keepers.now.items c.keep.new.keepers.items c.from_residual.result = search rules in
+    kept_by _ _ _ _ _ _ c.keep.ensures.remain caused
+    (λ k free. c.keep.ensures.keepers k (not_named (levels_named (Forward c.args.from c.args.to c.args.keep)) k c.in-Store.level (store_names c.args.from c.args.to c.in-Store.level c.args.keep c.in-Store.is) free))
 
-pub returns-in_err-keep-in-Store-clause-short : goal.returns-in_err-keep-in-Store-clause-short
-returns-in_err-keep-in-Store-clause-short g c short =
-    let bound = image_room c.args.space.now.work in
-    c.keep.ensures.short bound c.encode.ensures.few (short_same bound c.args.space.now.store c.encode.new.self.store c.encode.ensures.store short)
+pub returns-in_err-keep-in-Store-clause-order : goal.returns-in_err-keep-in-Store-clause-order
+returns-in_err-keep-in-Store-clause-order g c =
+    record {
+      fits = search rules;
+      pages = search rules;
+      short = λ short.
+          (let bound = image_room c.args.space.now.work in
+          c.keep.ensures.short bound c.encode.ensures.few (short_same bound c.args.space.now.store c.encode.new.self.store c.encode.ensures.store short));
+    }
 
-pub returns-in_err-keep-in-Store-clause-roomy : goal.returns-in_err-keep-in-Store-clause-roomy
-returns-in_err-keep-in-Store-clause-roomy g c short roomy e =
-    let p = err_from_is_err_and c.from_residual.result c.from_residual.ensures.1 in
-    let same : c.keep.result ≡ Err Memory = cc in
-    let now = c.args.config.now in
-    let P : Keep → Type 0 = λ k. rule now.steps now.slots now.at (Forward c.args.from c.args.to k) ≡ 0 in
-    let free = stores_free now.steps now.slots now.at c.args.from c.args.to c.in-Store.level c.requires.ready.sound (subst P c.in-Store.is c.requires.allowed) in
-    c.keep.ensures.roomy (image_room c.args.space.now.work) (roomy c.in-Store.level free.0.level) c.encode.ensures.few same
-
-pub returns-in_ok-keep-in-Store-clause-short : goal.returns-in_ok-keep-in-Store-clause-short
-returns-in_ok-keep-in-Store-clause-short g c short =
-    let bound = image_room c.args.space.now.work in
-    let kept = c.keep.ensures.short bound c.encode.ensures.few (short_same bound c.args.space.now.store c.encode.new.self.store c.encode.ensures.store short) in
-    short_same bound c.keep.new.self.store c.advance-in-Store.new.self.store c.advance-in-Store.ensures.store kept
+pub returns-in_err-keep-in-Store-clause-spared : goal.returns-in_err-keep-in-Store-clause-spared
+returns-in_err-keep-in-Store-clause-spared g c recorded short =
+    record {
+      roomy = λ roomy e.
+          (let p = err_from_is_err_and c.from_residual.result c.from_residual.ensures.1 in
+          let same : c.keep.result ≡ Err Memory = cc in
+          let now = c.args.config.now in
+          let P : Keep → Type 0 = λ k. rule now.steps now.slots now.at (Forward c.args.from c.args.to k) ≡ 0 in
+          let free = stores_free now.steps now.slots now.at c.args.from c.args.to c.in-Store.level c.requires.ready.sound (subst P c.in-Store.is c.requires.allowed) in
+          c.keep.ensures.roomy (image_room c.args.space.now.work) (roomy c.in-Store.level free.0.level) c.encode.ensures.few same);
+      undamaged = search rules;
+    }

@@ -1,7 +1,6 @@
 -- The undo list is cleared, and then watches the steps.
-use Rattle.std.proofs.Common.{◌≡◌, ◌∙◌, ap, sym, subst, arith}
+use Rattle.std.proofs.Common.{◌∙◌, ap, sym, subst, arith}
 use Rattle.rv_machine.specs.MachineState.{MachineState}
-use Rattle.rv_machine.specs.States.{state_number}
 use Rattle.unit_undo.specs.UndoState.{UndoState}
 use Rattle.unit_undo.specs.Leading.{LeadsBack, states_below, IsMadeFor}
 use Rattle.unit_undo.proofs.Leading.{can_note, noted}

@@ -1,5 +1,4 @@
 use Rattle.std.proofs.Common.{◌≡◌, ℕ, suc, ◌+◌, List, [], ◌∷◌, ◌++◌, length, sym, ap, subst, ◌∙◌, append_assoc, arith, Result, Ok, Err, OnErr}
-use Rattle.rv_machine.specs.MachineState.{MachineState}
 use Rattle.unit_undo.specs.UndoState.{UndoState}
 use Rattle.unit_undo.specs.Leading.{led_back}
 use Rattle.unit_undo.proofs.Leading.{gone, gone_states}
