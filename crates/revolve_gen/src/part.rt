@@ -79,6 +79,7 @@ impl StretchStream {
     }
 
     /// The next action of the stretch, and None after the last and from then on. It takes no memory.
+    #[inline(always)]
     pub fn next(&mut self) -> Option<Action>
         ensures next { MatchOption result ((self.old.actions ≡ []) × (self.new.actions ≡ [])) (λ action. self.old.actions ≡ action ∷ self.new.actions) }
         ensures same { (self.new.levels ≡ self.old.levels) × (self.new.slots ≡ self.old.slots) }

@@ -67,6 +67,7 @@ impl Revolve {
     }
 
     /// The next action, and None after the last and from then on. It takes no memory.
+    #[inline(always)]
     pub fn next(&mut self) -> Option<Action>
         ensures { MatchOption result ((self.old ≡ []) × (self.new ≡ [])) (λ action. self.old ≡ action ∷ self.new) }
     {
