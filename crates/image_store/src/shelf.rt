@@ -106,17 +106,19 @@ impl Shelf {
         }
     }
 
-    /// Puts an image into a slot that no pair has, and keeps it for a pair. After a refusal the pairs are as before.
+    /// Puts an image with its digest into a slot that no pair has, and keeps it for a pair. After a refusal the pairs are as before.
     pub fn keep<K: Keeper>(
         &mut self,
         keeper: &mut K,
         n: u32,
         image: &[u8],
+        digest: &[u8; 32],
     ) -> Result<(), StoreFault>
         requires number { n < length self.old.pairs }
         requires new { pair_at self.old.pairs n ≡ None }
         requires room { held self.old.pairs < self.old.room }
         requires size { length image.now < 2 ^ 32 }
+        requires digest { digest.now ≡ sha256 image.now }
         requires slots { self.old.room ≤ K.slot_count keeper.old }
         ensures ok { OnOk result (IsKept self.old self.new n image.now (K.told keeper.old) (K.told keeper.new)) }
         ensures stands { (bytes : Images) → LevelStands self.old (K.told keeper.old) bytes →
@@ -146,22 +148,23 @@ impl Shelf {
         self.places[n as usize] = slot + 1;
         self.fingerprints[slot as usize] = Fingerprint {
             length: image.len() as u32,
-            digest: Sha256::digest(image),
+            digest: *digest,
         };
         Ok(())
     }
 
-    /// Gets the bytes of a held pair. Damaged says that their digest isn't that of the bytes that were put.
+    /// Gets the bytes of a held pair, and gives their digest. Damaged says that it isn't that of the bytes that were put.
     pub fn fetch<K: Keeper>(
         &self,
         keeper: &mut K,
         n: u32,
         into: &mut Vec<u8>,
-    ) -> Result<(), StoreFault>
+    ) -> Result<[u8; 32], StoreFault>
         requires held { IsSome (pair_at self.now.pairs n) }
         requires slots { self.now.room ≤ K.slot_count keeper.old }
         ensures ok { OnOk result ((kept : Kept) → pair_at self.now.pairs n ≡ Some kept →
             IsGot kept (K.told keeper.old) into.new.items × (vec_len into.new ≤ kept.length) × (sha256 into.new.items ≡ kept.digest)) }
+        ensures digest { IfOk result (λ digest. digest ≡ sha256 into.new.items) }
         ensures short { OnOk result (vec_len into.new < 2 ^ 32) }
         ensures damaged { (put got : List ℕ) → result ≡ Err (StoreFault.Damaged put got) → (kept : Kept) → pair_at self.now.pairs n ≡ Some kept →
             IsGot kept (K.told keeper.old) into.new.items × (put ≡ kept.digest) × (got ≡ sha256 into.new.items) × (got ≢ put) }
@@ -193,7 +196,7 @@ impl Shelf {
                 got,
             });
         }
-        Ok(())
+        Ok(got)
     }
 
     /// Frees the slot of a held pair, and keeps the pair no longer. After a refusal the pairs are as before.

@@ -47,20 +47,22 @@ impl Store {
         Ok(Store { shelves })
     }
 
-    /// Puts an image into a slot that no pair of its level has, and keeps it for a pair. After a refusal the pairs are as
-    /// before.
+    /// Puts an image with its digest into a slot that no pair of its level has, and keeps it for a pair. After a refusal the
+    /// pairs are as before.
     pub fn keep<K: Keeper>(
         &mut self,
         keeper: &mut K,
         level: u8,
         n: u32,
         image: &[u8],
+        digest: &[u8; 32],
     ) -> Result<(), StoreFault>
         requires level { level < length self.old }
         requires number { n < length (level_of self.old level).pairs }
         requires new { kept_at self.old level n ≡ None }
         requires room { held (level_of self.old level).pairs < (level_of self.old level).room }
         requires size { length image.now < 2 ^ 32 }
+        requires digest { digest.now ≡ sha256 image.now }
         requires slots { (level_of self.old level).room ≤ K.slot_count keeper.old }
         ensures ok { OnOk result (IsKept (level_of self.old level) (level_of self.new level) n image.now (K.told keeper.old) (K.told keeper.new)) }
         ensures others { self.new ≡ slice_set self.old level (level_of self.new level) }
@@ -82,22 +84,23 @@ impl Store {
         ensures whole { (put got : List ℕ) → result ≢ Err (StoreFault.Damaged put got) }
         ensures roomy { (room : ℕ) → K.room_bytes keeper.old ≡ Some room → length image.now ≤ room → result ≢ Err StoreFault.Memory }
     {
-        self.shelves[level as usize].keep(keeper, n, image)
+        self.shelves[level as usize].keep(keeper, n, image, digest)
     }
 
-    /// Gets the bytes of a held pair. Damaged says that their digest isn't that of the bytes that were put.
+    /// Gets the bytes of a held pair, and gives their digest. Damaged says that it isn't that of the bytes that were put.
     pub fn fetch<K: Keeper>(
         &self,
         keeper: &mut K,
         level: u8,
         n: u32,
         into: &mut Vec<u8>,
-    ) -> Result<(), StoreFault>
+    ) -> Result<[u8; 32], StoreFault>
         requires level { level < length self.now }
         requires held { IsSome (kept_at self.now level n) }
         requires slots { (level_of self.now level).room ≤ K.slot_count keeper.old }
         ensures ok { OnOk result ((kept : Kept) → kept_at self.now level n ≡ Some kept →
             IsGot kept (K.told keeper.old) into.new.items × (vec_len into.new ≤ kept.length) × (sha256 into.new.items ≡ kept.digest)) }
+        ensures digest { IfOk result (λ digest. digest ≡ sha256 into.new.items) }
         ensures short { OnOk result (vec_len into.new < 2 ^ 32) }
         ensures damaged { (put got : List ℕ) → result ≡ Err (StoreFault.Damaged put got) → (kept : Kept) → kept_at self.now level n ≡ Some kept →
             IsGot kept (K.told keeper.old) into.new.items × (put ≡ kept.digest) × (got ≡ sha256 into.new.items) × (got ≢ put) }

@@ -2,7 +2,7 @@
 use crate::states::first_state;
 use input_journal::Journal;
 use keepers::MemorySink;
-use reverse_runner::Visitor;
+use reverse_runner::{KnownState, Visitor};
 use std::alloc::Global;
 use std::process::Abort;
 use std::test::Fail;
@@ -16,13 +16,15 @@ fn three_lines<R: Threads + Sync>(
     alloc: Global,
     workers: u32,
 ) -> Result<MemorySink, Fail> {
-    let mut state = first_state(abort, alloc, &[0x10, 0x11], &[0x13], 0)?;
+    let start = first_state(abort, alloc, &[0x10, 0x11], &[0x13], 0)?;
     let journal = Journal::none(alloc);
     let mut out = MemorySink::new(alloc, 4096)?;
-    let mut batch = LineBatch::begin(alloc, &state, 3, workers)?;
+    let mut batch = LineBatch::begin(alloc, &start, 3, workers)?;
     let mut writer = UnitWriter::new(&mut batch, &mut out);
     for n in 0..3 {
+        let mut state = start.clone()?;
         state.pages.store32(0x11000, n);
+        let state = KnownState::new(state);
         assert!(abort; writer.state(2 - n, &state, &journal).is_ok());
     }
     assert!(abort; writer.write_waiting(rt).is_ok());

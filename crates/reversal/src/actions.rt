@@ -23,6 +23,7 @@ pub enum Actions {
 
 impl Actions {
     /// The next action, and None after the last and from then on. It takes no memory.
+    #[inline(always)]
     pub fn next(&mut self) -> Option<Action>
         ensures { MatchOption result ((left_of self.old ≡ []) × (left_of self.new ≡ [])) (λ action. left_of self.old ≡ action ∷ left_of self.new) }
     {

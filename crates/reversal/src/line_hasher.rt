@@ -6,10 +6,8 @@ ghost use Rattle.state_image.specs.Line.{line};
 
 use input_journal::Journal;
 use plan_types::Line;
-use reverse_runner::{VisitFault, Visitor};
-use rv_machine::State;
+use reverse_runner::{KnownState, VisitFault, Visitor};
 use sha2::{Digest, Sha256};
-use state_image::state_line;
 
 /// Hashes the line of each state that it gets, and a line end.
 #[derive(Drop)]
@@ -42,9 +40,9 @@ impl Visitor for LineHasher {
 
     ghost fault_count = { λ _. 0 };
 
-    fn state(&mut self, n: u32, state: &State, _journal: &Journal) -> Result<(), VisitFault> {
+    fn state(&mut self, n: u32, state: &KnownState, _journal: &Journal) -> Result<(), VisitFault> {
         let mut line = Line::new();
-        state_line(n, state, &mut line);
+        state.show(n, &mut line);
         line.push(b"\n");
         self.hasher.update(line.bytes());
         Ok(())

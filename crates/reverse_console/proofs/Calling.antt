@@ -16,12 +16,12 @@ if_err_map P Q (Ok x) f h = tt
 if_err_map P Q (Err e) f h = f e h
 
 -- a call that was done left all counts of faults
-pub quiet_of : {K : Type 0} (faults : K → ℕ) (old new : List K) (r : Result Unit RunFault) → IsCaused faults old new r → OnOk r (Quiet faults old new)
+pub quiet_of : {K A : Type 0} (faults : K → ℕ) (old new : List K) (r : Result A RunFault) → IsCaused faults old new r → OnOk r (Quiet faults old new)
 quiet_of faults old new (Ok x) h = h
 quiet_of faults old new (Err e) h = tt
 
 -- a fault of keeping has its cause
-pub keeping_cause : {K : Type 0} (faults : K → ℕ) (p : MarkPlan) (k : ℕ) (old new : List K) (r : Result Unit RunFault) → k < length p.slots → IsCaused faults old new r → IfErr r (IsKeeping k) → IfErr r (HasCause faults p old new)
+pub keeping_cause : {K A : Type 0} (faults : K → ℕ) (p : MarkPlan) (k : ℕ) (old new : List K) (r : Result A RunFault) → k < length p.slots → IsCaused faults old new r → IfErr r (IsKeeping k) → IfErr r (HasCause faults p old new)
 keeping_cause faults p k old new (Ok x) within h is = tt
 keeping_cause faults p k old new (Err (Keeper j)) within h is = (omega (arith, within, is), h)
 keeping_cause faults p k old new (Err (Damaged j put got)) within h is = absurd is
@@ -30,7 +30,7 @@ keeping_cause faults p k old new (Err Memory) within h is = h
 keeping_cause faults p k old new (Err Ended) within h is = absurd is
 
 -- and so has one of fetching
-pub fetching_cause : {K : Type 0} (faults : K → ℕ) (p : MarkPlan) (k : ℕ) (old new : List K) (r : Result Unit RunFault) → k < length p.slots → IsCaused faults old new r → IfErr r (IsFetching k) → IfErr r (HasCause faults p old new)
+pub fetching_cause : {K A : Type 0} (faults : K → ℕ) (p : MarkPlan) (k : ℕ) (old new : List K) (r : Result A RunFault) → k < length p.slots → IsCaused faults old new r → IfErr r (IsFetching k) → IfErr r (HasCause faults p old new)
 fetching_cause faults p k old new (Ok x) within h is = tt
 fetching_cause faults p k old new (Err (Keeper j)) within h is = (omega (arith, within, is), h)
 fetching_cause faults p k old new (Err (Damaged j put got)) within h is = h
@@ -106,8 +106,8 @@ quiet_else faults p a b Ended h none = absurd h
 pub not_ended : {K : Type 0} (faults : K → ℕ) (p : MarkPlan) (a b : List K) (fault : RunFault) → HasCause faults p a b fault → fault ≡ Ended → ⊥
 not_ended faults p a b fault h e = let P : RunFault → Type 0 = HasCause faults p a b in subst P e h
 
-pub quiet_at_ok : {K : Type 0} (faults : K → ℕ) (old new : List K) (r : Result Unit RunFault) (x : Unit) → r ≡ Ok x → IsCaused faults old new r → Quiet faults old new
-quiet_at_ok faults old new r x is h = let P : Result Unit RunFault → Type 0 = λ o. IsCaused faults old new o in subst P is h
+pub quiet_at_ok : {K A : Type 0} (faults : K → ℕ) (old new : List K) (r : Result A RunFault) (x : A) → r ≡ Ok x → IsCaused faults old new r → Quiet faults old new
+quiet_at_ok {A = A} faults old new r x is h = let P : Result A RunFault → Type 0 = λ o. IsCaused faults old new o in subst P is h
 
 -- a test whether there is one
 pub none_is_none : {A : Type 0} (o : Option A) → o ≡ None → is_some o ≡ true → ⊥

@@ -224,7 +224,7 @@ module _ {K : Type 0} (told : K → Option Images) (puts gets frees slots faults
         (of_fetching (mark_level p i) k ek fault h)
 
     -- the mark could not be fetched
-    pub gets_unfetched : {A : Type 0} (r : Result Unit RunFault) (s : Result A RunFault) (x y : RunFault) → r ≡ Err x → s ≡ Err y → y ≡ x → IsCaused faults old new r → IfErr r (IsFetching k) →
+    pub gets_unfetched : {A B : Type 0} (r : Result B RunFault) (s : Result A RunFault) (x y : RunFault) → r ≡ Err x → s ≡ Err y → y ≡ x → IsCaused faults old new r → IfErr r (IsFetching k) →
         ((j : ℕ) (put got : List ℕ) → r ≡ Err (Damaged j put got) → (j ≡ k) × IsOther (levels_in w (told_by told old)) k n put got) →
         ((images : Images) → LevelStands (level_of w.store k) (told_by told old k) images → IfErr r (IsKeeping k)) → Got 1 s w v old new
     gets_unfetched r s x y first second same_one caused fetching damaged sound = record {

@@ -19,17 +19,17 @@ use image_store::{Store, StoreFault};
 use input_journal::Journal;
 use keepers::Keeper;
 use level_book::Book;
-use reverse_runner::RunFault;
-use rv_machine::{State, Steps, advance};
+use reverse_runner::{KnownState, RunFault};
+use rv_machine::{State, Steps};
 use sha2::{Digest, Sha256};
-use state_image::{decode_image, encode_image, max_image};
+use state_image::{encode_image, max_image};
 use std::alloc::{AllocError, Global};
 use std::sync::ledger::Ledger;
 
 // The state in work, which images the levels keep, and a buffer for the bytes of one image.
 #[derive(Drop)]
 pub(crate) struct Desk {
-    pub work: State,
+    pub work: KnownState,
     pub store: Store,
     pub buffer: Vec<u8>,
 }
@@ -57,7 +57,7 @@ impl Desk {
         let store = Store::begin(alloc, book, steps)?;
         let buffer = Vec::with_capacity(alloc, max_image(&start) as usize)?;
         Ok(Desk {
-            work: start,
+            work: KnownState::new(start),
             store,
             buffer,
         })
@@ -71,24 +71,27 @@ impl Desk {
         ensures buffer { self.new.buffer ≡ self.old.buffer }
         ensures counted { steps.new ≡ steps.old + count }
     {
-        advance(&mut self.work, journal, count, steps);
+        self.work.advance(journal, count, steps);
     }
 
-    // Writes the image of the state in work into the buffer.
-    pub fn encode(&mut self)
+    // Writes the image of the state in work into the buffer, and gives its digest.
+    pub fn encode(&mut self) -> [u8; 32]
         requires { Fits self.old }
+        ensures digest { result ≡ sha256 self.new.buffer.items }
         ensures image { self.new.buffer.items ≡ image self.old.work }
         ensures short { vec_len self.new.buffer < 2 ^ 32 }
         ensures work { self.new.work ≡ self.old.work }
         ensures store { self.new.store ≡ self.old.store }
         ensures fits { Fits self.new }
     {
-        encode_image(&self.work, &mut self.buffer);
+        encode_image(self.work.state(), &mut self.buffer);
+        Sha256::digest(self.buffer.as_slice())
     }
 
-    // Makes the state in work the one whose image stands in the buffer, which came from a level.
-    pub fn decode(&mut self, level: u8) -> Result<(), RunFault>
-        requires { Fits self.old }
+    // Makes the state in work the one whose image stands in the buffer, which came from a level and has this digest.
+    pub fn decode(&mut self, level: u8, digest: &[u8; 32]) -> Result<(), RunFault>
+        requires fits { Fits self.old }
+        requires digest { digest.now ≡ sha256 self.old.buffer.items }
         ensures decoded { OnOk result (IsDecoded self.old.work self.new.work self.old.buffer.items) }
         ensures damaged { IfErr result (λ fault. (fault ≡ RunFault.Damaged level (sha256 self.old.buffer.items) (sha256 self.old.buffer.items))
             × IsNoImage self.old.work self.old.buffer.items) }
@@ -96,28 +99,23 @@ impl Desk {
         ensures store { self.new.store ≡ self.old.store }
         ensures fits { Fits self.new }
     {
-        match decode_image(self.buffer.as_slice(), &mut self.work) {
-            Ok(()) => {
-                self.work.is_machine_state();
-                Ok(())
-            }
-            Err(_) => {
-                let digest = Sha256::digest(self.buffer.as_slice());
-                Err(RunFault::Damaged {
-                    level,
-                    put: digest,
-                    got: digest,
-                })
-            }
+        match self.work.decode(self.buffer.as_slice(), digest) {
+            Ok(()) => Ok(()),
+            Err(_) => Err(RunFault::Damaged {
+                level,
+                put: *digest,
+                got: *digest,
+            }),
         }
     }
 
-    // Keeps the bytes in the buffer on a level.
+    // Keeps the bytes in the buffer, which have this digest, on a level.
     pub fn keep<K: Keeper>(
         &mut self,
         keepers: &mut Vec<K>,
         level: u8,
         n: u32,
+        digest: &[u8; 32],
     ) -> Result<(), RunFault>
         requires there { level < vec_len keepers.old }
         requires level { level < length self.old.store }
@@ -125,6 +123,7 @@ impl Desk {
         requires new { kept_at self.old.store level n ≡ None }
         requires room { held (level_of self.old.store level).pairs < (level_of self.old.store level).room }
         requires size { vec_len self.old.buffer < 2 ^ 32 }
+        requires digest { digest.now ≡ sha256 self.old.buffer.items }
         requires slots { (level_of self.old.store level).room ≤ by_number 0 K.slot_count keepers.old.items level }
         ensures keeps { OnOk result (Keeps (levels_in self.old (told_by K.told keepers.old.items)) (levels_in self.new (told_by K.told keepers.new.items))
             level n self.old.buffer.items) }
@@ -140,19 +139,20 @@ impl Desk {
         ensures fault { IfErr result (IsKeeping level) }
     {
         let keeper = &mut keepers[level as usize];
-        match self.store.keep(keeper, level, n, self.buffer.as_slice()) {
+        let bytes = self.buffer.as_slice();
+        match self.store.keep(keeper, level, n, bytes, digest) {
             Ok(()) => Ok(()),
             Err(fault) => Err(on(level, fault)),
         }
     }
 
-    // Gets the bytes of a held pair into the buffer.
+    // Gets the bytes of a held pair into the buffer, and gives their digest.
     pub fn fetch<K: Keeper>(
         &mut self,
         keepers: &mut Vec<K>,
         level: u8,
         n: u32,
-    ) -> Result<(), RunFault>
+    ) -> Result<[u8; 32], RunFault>
         requires there { level < vec_len keepers.old }
         requires level { level < length self.old.store }
         requires held { IsSome (kept_at self.old.store level n) }
@@ -162,6 +162,7 @@ impl Desk {
             × IsOther (levels_in self.old (told_by K.told keepers.old.items)) level n put got }
         ensures sound { (images : Images) → LevelStands (level_of self.old.store level) (told_by K.told keepers.old.items level) images →
             IfErr result (IsKeeping level) }
+        ensures digest { IfOk result (λ digest. digest ≡ sha256 self.new.buffer.items) }
         ensures fault { IfErr result (IsFetching level) }
         ensures same { (j : ℕ) → IsAsBefore (levels_in self.old (told_by K.told keepers.old.items)) (levels_in self.new (told_by K.told keepers.new.items)) j }
         ensures reserved { vec_capacity self.old.buffer ≤ vec_capacity self.new.buffer }
@@ -174,7 +175,7 @@ impl Desk {
     {
         let keeper = &mut keepers[level as usize];
         match self.store.fetch(keeper, level, n, &mut self.buffer) {
-            Ok(()) => Ok(()),
+            Ok(digest) => Ok(digest),
             Err(fault) => Err(on(level, fault)),
         }
     }

@@ -54,8 +54,8 @@ fn set_mark<K: Keeper>(
 {
     marks.are_roomy();
     marks.have_room();
-    desk.encode();
-    desk.keep(keepers, marks.level(mark), marks.marked(mark))
+    let digest = desk.encode();
+    desk.keep(keepers, marks.level(mark), marks.marked(mark), &digest)
 }
 
 // Takes the steps to the next mark, and sets it.
@@ -151,8 +151,8 @@ pub(crate) fn recall<K: Keeper>(
     marks.have_room();
     journal.is_recorded();
     let level = marks.level(mark);
-    desk.fetch(keepers, level, marks.marked(mark))?;
-    desk.decode(level)
+    let digest = desk.fetch(keepers, level, marks.marked(mark))?;
+    desk.decode(level, &digest)
 }
 
 // Goes to a state from its mark, and gives it to the visitor.

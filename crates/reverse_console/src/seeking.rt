@@ -19,13 +19,13 @@ use crate::memory_word::{bytes_of_word, some_differ};
 use crate::order::Sought;
 use input_journal::Journal;
 use keepers::Keeper;
-use reverse_runner::RunFault;
-use rv_machine::{State, Steps, advance, wrote};
+use reverse_runner::{KnownState, RunFault};
+use rv_machine::{Steps, wrote};
 use std::sync::ledger::Ledger;
 
 // Takes a step, and says whether what is sought holds of the state before it.
 fn step_seeking<L: Ledger>(
-    work: &mut State,
+    work: &mut KnownState,
     journal: &Journal,
     sought: &Sought,
     steps: &mut Steps<L>,
@@ -38,18 +38,18 @@ fn step_seeking<L: Ledger>(
 {
     match *sought {
         Sought::Pc(address) => {
-            let here = work.pc == address;
-            advance(work, journal, 1, steps);
+            let here = work.state().pc == address;
+            work.advance(journal, 1, steps);
             here
         }
         Sought::Change(word) => {
-            let before = bytes_of_word(work, word);
-            advance(work, journal, 1, steps);
-            some_differ(&before, &bytes_of_word(work, word))
+            let before = bytes_of_word(work.state(), word);
+            work.advance(journal, 1, steps);
+            some_differ(&before, &bytes_of_word(work.state(), word))
         }
         Sought::Write(word) => {
-            let writes = wrote(work, journal, word);
-            advance(work, journal, 1, steps);
+            let writes = wrote(work.state(), journal, word);
+            work.advance(journal, 1, steps);
             writes
         }
     }
@@ -58,7 +58,7 @@ fn step_seeking<L: Ledger>(
 // The last state from one number on and below another of which what is sought holds. The state in work has the first number
 // before, and the other one after it.
 fn seek_last<L: Ledger>(
-    work: &mut State,
+    work: &mut KnownState,
     journal: &Journal,
     sought: &Sought,
     from: u32,
@@ -83,7 +83,7 @@ fn seek_last<L: Ledger>(
 // The first state above one number and up to another whose next instruction stands at an address. The state in work has the
 // first number before.
 fn seek_first<L: Ledger>(
-    work: &mut State,
+    work: &mut KnownState,
     journal: &Journal,
     address: u32,
     from: u32,
@@ -96,8 +96,8 @@ fn seek_first<L: Ledger>(
     ensures counted { (steps.old ≤ steps.new) × (steps.new ≤ steps.old + (to - from)) }
 {
     for n in from..to {
-        advance(work, journal, 1, steps);
-        if work.pc == address {
+        work.advance(journal, 1, steps);
+        if work.state().pc == address {
             return Some(n + 1);
         }
     }

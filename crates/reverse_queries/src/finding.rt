@@ -19,7 +19,7 @@ use crate::finder::{Finder, Sought};
 use input_journal::Journal;
 use keepers::Keeper;
 use plan_types::Action;
-use reverse_runner::{RunFault, Session, VisitFault, Visitor};
+use reverse_runner::{KnownState, RunFault, Session, VisitFault, Visitor};
 use rv_machine::{State, Steps, wrote};
 use std::sync::ledger::Ledger;
 
@@ -60,10 +60,11 @@ impl Visitor for Finder {
 
     ghost fault_count = { λ v. 0 };
 
-    fn state(&mut self, n: u32, state: &State, journal: &Journal) -> Result<(), VisitFault> {
+    fn state(&mut self, n: u32, state: &KnownState, journal: &Journal) -> Result<(), VisitFault> {
         if self.answer.is_some() {
             return Ok(());
         }
+        let state = state.state();
         let bytes = bytes_of_word(state, self.word);
         if self.finds(state, journal, &bytes) && n < self.last {
             self.answer = Some(n);

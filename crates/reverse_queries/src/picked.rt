@@ -3,8 +3,7 @@ ghost use Rattle.std.specs.Prelude.{◌≡◌, ◌≢◌, false};
 ghost use Rattle.reverse_queries.specs.Picking.{PassesOn};
 
 use input_journal::Journal;
-use reverse_runner::{VisitFault, Visitor};
-use rv_machine::State;
+use reverse_runner::{KnownState, VisitFault, Visitor};
 
 // It gives a visitor the state with one number, and no other.
 #[derive(Drop)]
@@ -37,7 +36,7 @@ impl<'a, V: Visitor> Visitor for Picked<'a, V> {
 
     ghost fault_count = { λ p. V.fault_count p.visitor.now };
 
-    fn state(&mut self, n: u32, state: &State, journal: &Journal) -> Result<(), VisitFault> {
+    fn state(&mut self, n: u32, state: &KnownState, journal: &Journal) -> Result<(), VisitFault> {
         if n != self.place {
             return Ok(());
         }

@@ -7,11 +7,11 @@ use Rattle.reverse_runner.specs.KeepersSeen.{by_number}
 use Rattle.reverse_runner.specs.Touching.{IsCaused, Remain}
 use Rattle.reverse_runner.specs.After.{KeepersAfter}
 
-pub caused_rose : {K : Type 0} (faults : K → ℕ) (ks ls : List K) (r : Result Unit RunFault) → IsCaused faults ks ls r → (k : ℕ) → r ≡ Err (Keeper k) → Rose (by_number 0 faults ks k) (by_number 0 faults ls k)
+pub caused_rose : {K A : Type 0} (faults : K → ℕ) (ks ls : List K) (r : Result A RunFault) → IsCaused faults ks ls r → (k : ℕ) → r ≡ Err (Keeper k) → Rose (by_number 0 faults ks k) (by_number 0 faults ls k)
 caused_rose faults ks ls (Err (Keeper j)) h k e = let same : j ≡ k = cc in subst (λ n. Rose (by_number 0 faults ks n) (by_number 0 faults ls n)) same h
 caused_rose faults ks ls other h k e = absurd cc
 
-pub caused_quiet : {K : Type 0} (faults : K → ℕ) (ks ls : List K) (r : Result Unit RunFault) → IsCaused faults ks ls r → ((k : ℕ) → r ≢ Err (Keeper k)) → (j : ℕ) → by_number 0 faults ls j ≡ by_number 0 faults ks j
+pub caused_quiet : {K A : Type 0} (faults : K → ℕ) (ks ls : List K) (r : Result A RunFault) → IsCaused faults ks ls r → ((k : ℕ) → r ≢ Err (Keeper k)) → (j : ℕ) → by_number 0 faults ls j ≡ by_number 0 faults ks j
 caused_quiet faults ks ls (Err (Keeper k)) h never j = absurd (never k refl)
 caused_quiet faults ks ls (Err (Damaged k put got)) h never j = h j
 caused_quiet faults ks ls (Err Visitor) h never j = h j

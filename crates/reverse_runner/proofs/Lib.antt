@@ -4,6 +4,7 @@ pub mod Getting
 pub mod Handing
 pub mod HoldingJust
 pub mod HoldingsAfter
+pub mod Knowing
 pub mod Leaving
 pub mod LeftHolding
 pub mod LevelsAfter

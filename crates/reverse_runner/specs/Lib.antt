@@ -3,6 +3,7 @@ pub mod Acts
 pub mod After
 pub mod Handed
 pub mod HoldsJust
+pub mod KnownDigests
 pub mod KeepersSeen
 pub mod Left
 pub mod LevelsStand

@@ -32,7 +32,7 @@ abbrev pub OthersRemain : {K : Type 0} → ℕ → List K → List K → Type 0
 OthersRemain k old new = (j : ℕ) → j ≢ k → slice_get new j ≡ slice_get old j
 
 -- where a keeper is said to have failed its count rose, and else no count did
-abbrev pub IsCaused : {K : Type 0} → (K → ℕ) → List K → List K → Result Unit RunFault → Type 0
+abbrev pub IsCaused : {K A : Type 0} → (K → ℕ) → List K → List K → Result A RunFault → Type 0
 IsCaused faults old new (Err (Keeper k)) = Rose (by_number 0 faults old k) (by_number 0 faults new k)
 IsCaused faults old new (Err (Damaged k put got)) = (j : ℕ) → by_number 0 faults new j ≡ by_number 0 faults old j
 IsCaused faults old new (Err Visitor) = (j : ℕ) → by_number 0 faults new j ≡ by_number 0 faults old j

@@ -11,6 +11,7 @@ use Rattle.unit_undo.specs.Leading.{LeadsBack, led_back, IsMadeFor}
 use Rattle.reverse_runner.specs.declared.workspace.Workspace.{Workspace}
 use Rattle.reverse_runner.specs.Acts.{TapeState, Levels, Holdings}
 use Rattle.reverse_runner.specs.KeepersSeen.{HaveRoom}
+use Rattle.reverse_runner.specs.KnownDigests.{IsDigestOfLast}
 use Rattle.reverse_runner.specs.LevelsStand.{IsLaidOut}
 use Rattle.reverse_runner.specs.Rooms.{image_room, AreShort}
 use Rattle.reverse_runner.specs.SessionState.{SamePages}
@@ -30,11 +31,13 @@ IsTaped unit c w = MatchOption c.tape (Unit {0}) (λ n. length w.undo.entries �
 abbrev pub holdings_in : Workspace → (ℕ → Option Images) → Holdings
 holdings_in w told = record { work = w.work; tape = tape_in w; levels = levels_in w told }
 
--- its states map the same pages, the buffer was reserved for the image of each, and the undo list leads back from the tape
+-- Its states map the same pages, the buffer was reserved for the image of each, and the undo list leads back from the tape. A digest
+-- that is known of the first state on the tape is that of its image.
 pub record IsInOrder (w : Workspace) : Type 0 where
   pub pages : SamePages w.tape w.work
   pub few : length (page_numbers w.work.memory) ≤ 4096
   pub back : LeadsBack w.undo.entries w.tape (led_back w.undo.entries w.tape)
+  pub first : IsDigestOfLast w.first (led_back w.undo.entries w.tape)
   pub buffer : 164 + 4100 * length (page_numbers w.work.memory) ≤ vec_capacity w.buffer
 
 -- A workspace stays in order: its states map the pages that they mapped, and no image that a level keeps is longer than one of the

@@ -111,8 +111,8 @@ fn forward<K: Keeper, L: Ledger>(
     match keep {
         Keep::Nothing => space.advance(journal, count, steps),
         Keep::Store(level) => {
-            space.encode();
-            space.keep(keepers, level, from)?;
+            let digest = space.encode();
+            space.keep(keepers, level, from, &digest)?;
             space.advance(journal, count, steps);
         }
         Keep::Tape => space.advance_on_tape(journal, count, steps),
@@ -149,10 +149,10 @@ fn copy<K: Keeper>(
     ensures fault { IfErr result IsOfStorage }
     ensures undo { space.new.undo ≡ space.old.undo }
 {
-    space.fetch(keepers, from, n)?;
+    let digest = space.fetch(keepers, from, n)?;
     match dest {
-        Dest::Work => space.decode(from),
-        Dest::Level(to) => space.keep(keepers, to, n),
+        Dest::Work => space.decode(from, &digest),
+        Dest::Level(to) => space.keep(keepers, to, n, &digest),
     }
 }
 

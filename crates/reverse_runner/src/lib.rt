@@ -6,6 +6,7 @@
 
 mod acting;
 mod fault;
+mod known_state;
 pub mod laws;
 mod line_writer;
 mod session;
@@ -13,6 +14,7 @@ mod visitor;
 mod workspace;
 
 pub use crate::fault::RunFault;
-pub use crate::line_writer::LineWriter;
+pub use crate::known_state::KnownState;
+pub use crate::line_writer::{LineWriter, write_line};
 pub use crate::session::Session;
 pub use crate::visitor::{VisitFault, Visitor};

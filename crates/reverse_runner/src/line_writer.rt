@@ -1,15 +1,29 @@
 // The visitor that writes lines.
-ghost use Rattle.std.specs.Prelude.{◌≡◌, [], ◌∷◌, ◌++◌};
-ghost use Rattle.keepers.specs.Counts.{raised};
+ghost use Rattle.std.specs.Prelude.{◌≡◌, ◌≤◌, [], ◌∷◌, ◌++◌, OnOk, OnErr};
+ghost use Rattle.keepers.specs.Counts.{raised, Rose};
 ghost use Rattle.keepers.specs.Told.{Tells, AddsPrefix};
 ghost use Rattle.state_image.specs.Line.{line};
 
+use crate::known_state::KnownState;
 use crate::visitor::{VisitFault, Visitor};
 use input_journal::Journal;
-use keepers::Sink;
+use keepers::{Sink, SinkFault};
 use plan_types::Line;
-use rv_machine::State;
-use state_image::state_line;
+
+/// Writes the line of a state with a number, and a line end, to a sink in one write.
+pub fn write_line<O: Sink>(n: u32, state: &KnownState, out: &mut O) -> Result<(), SinkFault>
+    ensures ok { OnOk result (Tells (O.told out.old) (O.told out.new) (λ old new. new ≡ old ++ (line n state.now ++ 10 ∷ []))) }
+    ensures refused { OnErr result (Tells (O.told out.old) (O.told out.new) (AddsPrefix (line n state.now ++ 10 ∷ []))) }
+    ensures calls { O.call_count out.new ≡ raised (O.call_count out.old) 1 }
+    ensures quiet { OnOk result (O.fault_count out.new ≡ O.fault_count out.old) }
+    ensures later { O.fault_count out.old ≤ O.fault_count out.new }
+    ensures cause { OnErr result (Rose (O.fault_count out.old) (O.fault_count out.new)) }
+{
+    let mut text = Line::new();
+    state.show(n, &mut text);
+    text.push(b"\n");
+    out.write(text.bytes())
+}
 
 /// Writes the line of each state that it gets, and a line end, to a sink in one write.
 #[derive(Drop)]
@@ -37,11 +51,8 @@ impl<'a, O: Sink> Visitor for LineWriter<'a, O> {
 
     ghost fault_count = { λ w. O.fault_count w.out.now };
 
-    fn state(&mut self, n: u32, state: &State, _journal: &Journal) -> Result<(), VisitFault> {
-        let mut line = Line::new();
-        state_line(n, state, &mut line);
-        line.push(b"\n");
-        match self.out.write(line.bytes()) {
+    fn state(&mut self, n: u32, state: &KnownState, _journal: &Journal) -> Result<(), VisitFault> {
+        match write_line(n, state, self.out) {
             Ok(()) => Ok(()),
             Err(_) => Err(VisitFault::Failed),
         }

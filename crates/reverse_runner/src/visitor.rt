@@ -4,8 +4,8 @@ ghost use Rattle.keepers.specs.Counts.{Rose};
 ghost use Rattle.rv_machine.specs.MachineState.{MachineState};
 
 use crate::fault::RunFault;
+use crate::known_state::KnownState;
 use input_journal::Journal;
-use rv_machine::State;
 use thiserror::Error;
 
 /// Why a visitor refuses a state.
@@ -26,7 +26,7 @@ pub trait Visitor {
     ghost fault_count: { Self → ℕ };
 
     /// Gets state number `n`.
-    fn state(&mut self, n: u32, state: &State, journal: &Journal) -> Result<(), VisitFault>
+    fn state(&mut self, n: u32, state: &KnownState, journal: &Journal) -> Result<(), VisitFault>
         ensures ok { OnOk result (got self.old n state.now journal.now self.new) }
         ensures refused { OnErr result (missed self.old n state.now journal.now self.new) }
         ensures quiet { OnOk result (fault_count self.new ≡ fault_count self.old) }
@@ -38,7 +38,7 @@ pub trait Visitor {
 pub(crate) fn hand_out<V: Visitor>(
     visitor: &mut V,
     n: u32,
-    state: &State,
+    state: &KnownState,
     journal: &Journal,
 ) -> Result<(), RunFault>
     ensures got { OnOk result (V.got visitor.old n state.now journal.now visitor.new) }

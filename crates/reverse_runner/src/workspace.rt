@@ -17,6 +17,7 @@ ghost use Rattle.keepers.specs.Told.{Images};
 ghost use Rattle.reverse_runner.specs.Acts.{IsAsBefore, IsFetched, IsDecoded, Keeps, Releases};
 ghost use Rattle.reverse_runner.specs.KeepersSeen.{by_number, told_by, calls_to, Called};
 ghost use Rattle.reverse_runner.specs.Handed.{numbers_from};
+ghost use Rattle.reverse_runner.specs.KnownDigests.{IsDigestOfLast};
 ghost use Rattle.reverse_runner.specs.Performed.{GetsAll, MissesOne};
 ghost use Rattle.reverse_runner.specs.Rooms.{image_room, rooms_by, IsRoomy, SameRooms, AreShort};
 ghost use Rattle.reverse_runner.specs.SessionState.{SamePages};
@@ -25,14 +26,15 @@ ghost use Rattle.reverse_runner.specs.Touching.{one_put, one_get, one_free, Rema
 ghost use Rattle.sha2.specs.Sha256.{sha256};
 
 use crate::fault::RunFault;
+use crate::known_state::KnownState;
 use crate::visitor::{Visitor, hand_out};
 use image_store::Store;
 use input_journal::Journal;
 use keepers::Keeper;
 use level_book::Book;
-use rv_machine::{State, Steps, advance, advance_watched};
+use rv_machine::{State, Steps};
 use sha2::{Digest, Sha256};
-use state_image::{decode_image, encode_image, max_image};
+use state_image::{encode_image, max_image};
 use std::alloc::{AllocError, Global};
 use std::sync::ledger::Ledger;
 use unit_undo::Undo;
@@ -41,9 +43,11 @@ use unit_undo::Undo;
 /// states of a unit: the state after them, and the undo list that leads back over them.
 #[derive(Drop)]
 pub(crate) struct Workspace {
-    pub work: State,
-    pub tape: State,
+    pub work: KnownState,
+    pub tape: KnownState,
     pub undo: Undo,
+    // The digest of the first state on the tape, where it is known.
+    pub first: Option<[u8; 32]>,
     pub store: Store,
     pub buffer: Vec<u8>,
 }
@@ -72,9 +76,10 @@ impl Workspace {
         let tape = start.clone()?;
         let undo = Undo::begin(alloc, unit, journal)?;
         Ok(Workspace {
-            work: start,
-            tape,
+            work: KnownState::new(start),
+            tape: KnownState::new(tape),
             undo,
+            first: None,
             store,
             buffer,
         })
@@ -86,11 +91,12 @@ impl Workspace {
         ensures pages { SamePages self.old.work self.new.work }
         ensures tape { self.new.tape ≡ self.old.tape }
         ensures undo { self.new.undo ≡ self.old.undo }
+        ensures first { self.new.first ≡ self.old.first }
         ensures store { self.new.store ≡ self.old.store }
         ensures buffer { self.new.buffer ≡ self.old.buffer }
         ensures counted { steps.new ≡ steps.old + count }
     {
-        advance(&mut self.work, journal, count, steps);
+        self.work.advance(journal, count, steps);
     }
 
     /// Takes the steps of a unit of the machine, and puts the states before them on the tape.
@@ -107,13 +113,16 @@ impl Workspace {
         ensures pages { SamePages self.old.work self.new.work }
         ensures tape { self.new.tape ≡ self.new.work }
         ensures back { LeadsBack self.new.undo.entries self.new.tape (states_below self.old.work journal.now count) }
+        ensures first { IsDigestOfLast self.new.first (led_back self.new.undo.entries self.new.tape) }
         ensures undo { (self.new.undo.unit ≡ self.old.undo.unit) × (self.new.undo.room ≡ self.old.undo.room) }
         ensures store { self.new.store ≡ self.old.store }
         ensures buffer { self.new.buffer ≡ self.old.buffer }
         ensures counted { steps.new ≡ steps.old + count }
     {
+        self.first = self.work.known();
         self.undo.clear();
-        advance_watched(&mut self.work, journal, count, steps, &mut self.undo);
+        self.work
+            .advance_watched(journal, count, steps, &mut self.undo);
         self.tape.copy_from(&self.work);
     }
 
@@ -126,12 +135,14 @@ impl Workspace {
     ) -> Result<(), RunFault>
         requires few { first + length self.old.undo.entries < 2 ^ 32 }
         requires back { LeadsBack self.old.undo.entries self.old.tape (led_back self.old.undo.entries self.old.tape) }
+        requires first { IsDigestOfLast self.old.first (led_back self.old.undo.entries self.old.tape) }
         ensures gets { OnOk result (GetsAll V.got journal.now (numbers_from first (length self.old.undo.entries)) (tape_in self.old).states
             visitor.old visitor.new) }
         ensures misses { OnErr result (MissesOne V.got V.missed journal.now (numbers_from first (length self.old.undo.entries))
             (tape_in self.old).states visitor.old visitor.new) }
         ensures empty { OnOk result (self.new.undo.entries ≡ []) }
         ensures back { LeadsBack self.new.undo.entries self.new.tape (led_back self.new.undo.entries self.new.tape) }
+        ensures first { IsDigestOfLast self.new.first (led_back self.new.undo.entries self.new.tape) }
         ensures undo { (self.new.undo.unit ≡ self.old.undo.unit) × (self.new.undo.room ≡ self.old.undo.room) }
         ensures pages { SamePages self.new.tape self.old.tape }
         ensures work { self.new.work ≡ self.old.work }
@@ -143,15 +154,16 @@ impl Workspace {
         ensures cause { OnErr result (Rose (V.fault_count visitor.old) (V.fault_count visitor.new)) }
     {
         while self.undo.count() > 0 {
-            self.undo.back(&mut self.tape);
+            self.tape.back(&mut self.undo, &self.first);
             hand_out(visitor, first + self.undo.count(), &self.tape, journal)?;
         }
         Ok(())
     }
 
-    /// Writes the image of the state in work into the buffer.
-    pub fn encode(&mut self)
+    /// Writes the image of the state in work into the buffer, and gives its digest.
+    pub fn encode(&mut self) -> [u8; 32]
         requires { IsInOrder self.old }
+        ensures digest { result ≡ sha256 self.new.buffer.items }
         ensures image { self.new.buffer.items ≡ image self.old.work }
         ensures short { vec_len self.new.buffer < 2 ^ 32 }
         ensures few { vec_len self.new.buffer ≤ image_room self.old.work }
@@ -161,12 +173,17 @@ impl Workspace {
         ensures store { self.new.store ≡ self.old.store }
         ensures fits { IsInOrder self.new }
     {
-        encode_image(&self.work, &mut self.buffer);
+        encode_image(self.work.state(), &mut self.buffer);
+        match self.work.known() {
+            Some(digest) => digest,
+            None => Sha256::digest(self.buffer.as_slice()),
+        }
     }
 
-    /// Makes the state in work the one whose image stands in the buffer, which came from a level.
-    pub fn decode(&mut self, level: u8) -> Result<(), RunFault>
-        requires { IsInOrder self.old }
+    /// Makes the state in work the one whose image stands in the buffer, which came from a level and has this digest.
+    pub fn decode(&mut self, level: u8, digest: &[u8; 32]) -> Result<(), RunFault>
+        requires fits { IsInOrder self.old }
+        requires digest { digest.now ≡ sha256 self.old.buffer.items }
         ensures decoded { OnOk result (IsDecoded self.old.work self.new.work self.old.buffer.items) }
         ensures damaged { IfErr result (λ fault. (fault ≡ RunFault.Damaged level (sha256 self.old.buffer.items) (sha256 self.old.buffer.items))
             × IsNoImage self.old.work self.old.buffer.items) }
@@ -175,28 +192,23 @@ impl Workspace {
         ensures store { self.new.store ≡ self.old.store }
         ensures fits { IsInOrder self.new }
     {
-        match decode_image(self.buffer.as_slice(), &mut self.work) {
-            Ok(()) => {
-                self.work.is_machine_state();
-                Ok(())
-            }
-            Err(_) => {
-                let digest = Sha256::digest(self.buffer.as_slice());
-                Err(RunFault::Damaged {
-                    level,
-                    put: digest,
-                    got: digest,
-                })
-            }
+        match self.work.decode(self.buffer.as_slice(), digest) {
+            Ok(()) => Ok(()),
+            Err(_) => Err(RunFault::Damaged {
+                level,
+                put: *digest,
+                got: *digest,
+            }),
         }
     }
 
-    /// Keeps the bytes in the buffer on a level.
+    /// Keeps the bytes in the buffer, which have this digest, on a level.
     pub fn keep<K: Keeper>(
         &mut self,
         keepers: &mut Vec<K>,
         level: u8,
         n: u32,
+        digest: &[u8; 32],
     ) -> Result<(), RunFault>
         requires there { level < vec_len keepers.old }
         requires level { level < length self.old.store }
@@ -204,6 +216,7 @@ impl Workspace {
         requires new { kept_at self.old.store level n ≡ None }
         requires room { held (level_of self.old.store level).pairs < (level_of self.old.store level).room }
         requires size { vec_len self.old.buffer < 2 ^ 32 }
+        requires digest { digest.now ≡ sha256 self.old.buffer.items }
         requires slots { (level_of self.old.store level).room ≤ by_number 0 K.slot_count keepers.old.items level }
         ensures keeps { OnOk result (Keeps (levels_in self.old (told_by K.told keepers.old.items))
             (levels_in self.new (told_by K.told keepers.new.items)) level n self.old.buffer.items) }
@@ -213,7 +226,7 @@ impl Workspace {
             IsAsBefore (levels_in self.old (told_by K.told keepers.old.items)) (levels_in self.new (told_by K.told keepers.new.items)) j }
         ensures count { length self.new.store ≡ length self.old.store }
         ensures states { (self.new.work ≡ self.old.work) × (self.new.tape ≡ self.old.tape) × (self.new.buffer ≡ self.old.buffer)
-            × (self.new.undo ≡ self.old.undo) }
+            × (self.new.undo ≡ self.old.undo) × (self.new.first ≡ self.old.first) }
         ensures called { Called (one_put level) (calls_to K.put_count K.get_count K.free_count keepers.old.items)
             (calls_to K.put_count K.get_count K.free_count keepers.new.items) }
         ensures remain { Remain K.slot_count K.fault_count keepers.old.items keepers.new.items }
@@ -226,19 +239,20 @@ impl Workspace {
         ensures rooms { SameRooms (rooms_by K.room_bytes keepers.old.items) (rooms_by K.room_bytes keepers.new.items) }
     {
         let keeper = &mut keepers[level as usize];
-        match self.store.keep(keeper, level, n, self.buffer.as_slice()) {
+        let bytes = self.buffer.as_slice();
+        match self.store.keep(keeper, level, n, bytes, digest) {
             Ok(()) => Ok(()),
             Err(fault) => Err(RunFault::on(level, fault)),
         }
     }
 
-    /// Gets the bytes of a held pair into the buffer.
+    /// Gets the bytes of a held pair into the buffer, and gives their digest.
     pub fn fetch<K: Keeper>(
         &mut self,
         keepers: &mut Vec<K>,
         level: u8,
         n: u32,
-    ) -> Result<(), RunFault>
+    ) -> Result<[u8; 32], RunFault>
         requires there { level < vec_len keepers.old }
         requires level { level < length self.old.store }
         requires held { IsSome (kept_at self.old.store level n) }
@@ -248,6 +262,7 @@ impl Workspace {
             (k ≡ level) × IsOther (levels_in self.old (told_by K.told keepers.old.items)) level n put got }
         ensures sound { (images : Images) → LevelStands (level_of self.old.store level) (told_by K.told keepers.old.items level) images →
             IfErr result (IsKeeping level) }
+        ensures digest { IfOk result (λ digest. digest ≡ sha256 self.new.buffer.items) }
         ensures fault { IfErr result (IsFetching level) }
         ensures few { (most : ℕ) → AreShort most self.old.store → OnOk result (vec_len self.new.buffer ≤ most) }
         ensures roomy { (most : ℕ) → IsRoomy most (rooms_by K.room_bytes keepers.old.items level) → AreShort most self.old.store →
@@ -257,7 +272,7 @@ impl Workspace {
         ensures short { OnOk result (vec_len self.new.buffer < 2 ^ 32) }
         ensures reserved { vec_capacity self.old.buffer ≤ vec_capacity self.new.buffer }
         ensures states { (self.new.work ≡ self.old.work) × (self.new.tape ≡ self.old.tape) × (self.new.store ≡ self.old.store)
-            × (self.new.undo ≡ self.old.undo) }
+            × (self.new.undo ≡ self.old.undo) × (self.new.first ≡ self.old.first) }
         ensures called { Called (one_get level) (calls_to K.put_count K.get_count K.free_count keepers.old.items)
             (calls_to K.put_count K.get_count K.free_count keepers.new.items) }
         ensures remain { Remain K.slot_count K.fault_count keepers.old.items keepers.new.items }
@@ -266,7 +281,7 @@ impl Workspace {
     {
         let keeper = &mut keepers[level as usize];
         match self.store.fetch(keeper, level, n, &mut self.buffer) {
-            Ok(()) => Ok(()),
+            Ok(digest) => Ok(digest),
             Err(fault) => Err(RunFault::on(level, fault)),
         }
     }
@@ -290,7 +305,7 @@ impl Workspace {
             IsAsBefore (levels_in self.old (told_by K.told keepers.old.items)) (levels_in self.new (told_by K.told keepers.new.items)) j }
         ensures count { length self.new.store ≡ length self.old.store }
         ensures states { (self.new.work ≡ self.old.work) × (self.new.tape ≡ self.old.tape) × (self.new.buffer ≡ self.old.buffer)
-            × (self.new.undo ≡ self.old.undo) }
+            × (self.new.undo ≡ self.old.undo) × (self.new.first ≡ self.old.first) }
         ensures called { Called (one_free level) (calls_to K.put_count K.get_count K.free_count keepers.old.items)
             (calls_to K.put_count K.get_count K.free_count keepers.new.items) }
         ensures remain { Remain K.slot_count K.fault_count keepers.old.items keepers.new.items }

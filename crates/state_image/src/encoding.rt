@@ -31,6 +31,17 @@ pub fn encode_image(state: &State, into: &mut Vec<u8>)
     ensures short { vec_len into.new ≤ 164 + 4100 * length (page_numbers state.now.memory) }
     ensures reserved { vec_capacity into.old ≤ vec_capacity into.new }
 {
+    into.clear();
+    append_image(state, into);
+}
+
+/// Writes the image of a state behind what is there, into memory that is reserved for it. It takes no memory.
+pub fn append_image(state: &State, into: &mut Vec<u8>)
+    requires { vec_len into.old + 164 + 4100 * length (page_numbers state.now.memory) ≤ vec_capacity into.old }
+    ensures image { into.new.items ≡ into.old.items ++ image state.now }
+    ensures short { vec_len into.new ≤ vec_len into.old + 164 + 4100 * length (page_numbers state.now.memory) }
+    ensures reserved { vec_capacity into.old ≤ vec_capacity into.new }
+{
     let mut stored = [false; MAX_PAGES];
     let count = mark_stored(&state.pages, &mut stored);
     push_header(state, count, into);
@@ -40,12 +51,11 @@ pub fn encode_image(state: &State, into: &mut Vec<u8>)
 // Writes all of the image before its pages, of which so many are stored.
 fn push_header(state: &State, stored: u32, into: &mut Vec<u8>)
     requires stored { stored ≡ length (pages_stored state.now.memory) }
-    requires room { 164 ≤ vec_capacity into.old }
-    ensures items { into.new.items ≡ header state.now }
-    ensures len { vec_len into.new ≡ 164 }
+    requires room { vec_len into.old + 164 ≤ vec_capacity into.old }
+    ensures items { into.new.items ≡ into.old.items ++ header state.now }
+    ensures len { vec_len into.new ≡ vec_len into.old + 164 }
     ensures reserved { vec_capacity into.old ≤ vec_capacity into.new }
 {
-    into.clear();
     push(into, b"RVST");
     push_word(into, VERSION);
     push_word(into, state.pc);

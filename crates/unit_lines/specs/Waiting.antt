@@ -28,5 +28,4 @@ pub record IsBatch (b : Inside) : Type 0 where
   pub entries : AllByRecursion (IsEntry b.images.items) b.entries.items
   pub images_reserved : b.room ≤ vec_capacity b.images
   pub entries_reserved : b.unit ≤ vec_capacity b.entries
-  pub image_reserved : b.longest ≤ vec_capacity b.image
   pub small : b.room < 2 ^ 32

@@ -1,16 +1,16 @@
 // Lines that wait, and how they are written.
-ghost use Rattle.std.specs.Prelude.{◌≡◌, ◌+◌, ◌*◌, ◌≤◌, ◌<◌, [], ◌∷◌, ◌++◌, IfOk, IsTrue, IsFalse, OnOk, OnErr, map};
+ghost use Rattle.std.specs.Prelude.{◌≡◌, ◌+◌, ◌*◌, ◌≤◌, ◌<◌, [], ◌∷◌, ◌++◌, IfOk, IsTrue, IsFalse, map};
 ghost use Rattle.std.specs.List.{AllByRecursion};
-ghost use Rattle.keepers.specs.Counts.{Rose};
+ghost use denote.Param.Send.{IsSync};
 ghost use Rattle.state_image.specs.Line.{line};
-ghost use Rattle.unit_lines.specs.Sending.{Writes, BreaksOff};
+ghost use Rattle.unit_lines.specs.Sending.{WritesOrBreaks};
 ghost use Rattle.unit_lines.specs.Waiting.{whole_line, IsEntry};
 
 use crate::entry::Entry;
 use keepers::{Sink, SinkFault};
 use plan_types::Line;
 use rv_machine::State;
-use state_image::{encode_image, line_front, max_image};
+use state_image::{append_image, line_front, max_image};
 use std::alloc::{AllocError, Global};
 use std::marker::Model;
 use std::thread;
@@ -20,19 +20,15 @@ use std::thread::Threads;
 pub const BATCH_BYTES: u32 = 64 * 1024 * 1024;
 
 /// The lines of states that wait for their digests, and how many workers take these. Only `begin` takes memory: for as many
-/// entries as the unit, for the images, and for one image beside.
+/// entries as the unit, and for the images.
 #[derive(Drop)]
 pub struct LineBatch {
     workers: u32,
     // How many entries there may be, and how many bytes of images.
     unit: u32,
     room: u32,
-    // The most bytes that an image may have.
-    longest: u32,
     entries: Vec<Entry>,
     images: Vec<u8>,
-    // The image of the state that comes next.
-    image: Vec<u8>,
 }
 
 impl Model for LineBatch {
@@ -58,38 +54,33 @@ impl LineBatch {
     ) -> Result<LineBatch, AllocError>
         ensures { IfOk result (λ batch. batch ≡ []) }
     {
-        let (unit, longest) = match workers > 1 && unit > 1 {
-            true => (unit, max_image(start)),
-            false => (0, 0),
+        let unit = match workers > 1 && unit > 1 {
+            true => unit,
+            false => 0,
         };
-        let room = (longest as u64 * unit as u64).min(BATCH_BYTES as u64) as u32;
+        let room = (max_image(start) as u64 * unit as u64).min(BATCH_BYTES as u64) as u32;
         Ok(LineBatch {
             workers,
             unit,
             room,
-            longest,
             entries: Vec::with_capacity(alloc, unit as usize)?,
             images: Vec::with_capacity(alloc, room as usize)?,
-            image: Vec::with_capacity(alloc, longest as usize)?,
         })
     }
 
-    /// Adds the line of the state with the number `n`, without its digest yet, where there is room for it, and tells whether there
-    /// was.
+    /// Adds the line of the state with the number `n`, without its digest yet, where there is room for it and for the longest image
+    /// that the state can have, and tells whether there was.
     pub fn gather(&mut self, n: u32, state: &State) -> bool
         ensures added { IsTrue result → self.new ≡ self.old ++ (line n state.now ++ 10 ∷ []) ∷ [] }
         ensures full { IsFalse result → self.new ≡ self.old }
     {
-        if self.entries.len() >= self.unit as usize || max_image(state) > self.longest {
-            return false;
-        }
-        encode_image(state, &mut self.image);
         let start = self.images.len();
-        let size = self.image.len();
-        if start + size > self.room as usize {
+        let longest = max_image(state) as usize;
+        if self.entries.len() >= self.unit as usize || start + longest > self.room as usize {
             return false;
         }
-        self.images.extend_from_slice(&self.image).unwrap();
+        append_image(state, &mut self.images);
+        let size = self.images.len() - start;
         let mut line = Line::new();
         line_front(n, state, &mut line);
         self.entries.push(Entry { line, start, size }).unwrap();
@@ -104,13 +95,9 @@ impl LineBatch {
         out: &mut O,
     ) -> Result<(), SinkFault>
         ensures empty { self.new ≡ [] }
-        ensures written { OnOk result (Writes O.told O.call_count self.old out.old out.new) }
-        ensures refused { OnErr result (BreaksOff O.told O.call_count self.old out.old out.new) }
-        ensures quiet { OnOk result (O.fault_count out.new ≡ O.fault_count out.old) }
-        ensures later { O.fault_count out.old ≤ O.fault_count out.new }
-        ensures cause { OnErr result (Rose (O.fault_count out.old) (O.fault_count out.new)) }
+        ensures wrote { WritesOrBreaks O.told O.call_count O.fault_count self.old result out.old out.new }
     {
-        finish_all(rt, &mut self.entries, &self.images, self.workers);
+        finish_all(rt, &self.images, self.workers, &mut self.entries);
         let written = write_all(&self.entries, out);
         self.entries.clear();
         self.images.clear();
@@ -120,11 +107,7 @@ impl LineBatch {
     /// The same, by the caller alone.
     pub(crate) fn write_alone<O: Sink>(&mut self, out: &mut O) -> Result<(), SinkFault>
         ensures empty { self.new ≡ [] }
-        ensures written { OnOk result (Writes O.told O.call_count self.old out.old out.new) }
-        ensures refused { OnErr result (BreaksOff O.told O.call_count self.old out.old out.new) }
-        ensures quiet { OnOk result (O.fault_count out.new ≡ O.fault_count out.old) }
-        ensures later { O.fault_count out.old ≤ O.fault_count out.new }
-        ensures cause { OnErr result (Rose (O.fault_count out.old) (O.fault_count out.new)) }
+        ensures wrote { WritesOrBreaks O.told O.call_count O.fault_count self.old result out.old out.new }
     {
         let written = write_each(&self.entries, &self.images, out);
         self.entries.clear();
@@ -133,8 +116,48 @@ impl LineBatch {
     }
 }
 
-// Makes all lines whole, by so many workers.
-fn finish_all<R: Threads + Sync>(rt: &R, entries: &mut [Entry], images: &[u8], workers: u32)
+// Makes all lines whole, by so many workers: each has a part of the entries, and the caller the last one. It starts all threads
+// itself, since one that is to start others may wait for a processor until the caller is done.
+#[cycle(parts)]
+fn finish_all<R: Threads + Sync>(rt: &R, images: &[u8], workers: u32, entries: &mut [Entry])
+    requires { AllByRecursion (IsEntry images.now) entries.old }
+    ensures { map (λ e. e.line) entries.new ≡ map (whole_line images.now) entries.old }
+{
+    if workers < 2 || entries.len() < 2 {
+        return finish_each(rt, images, entries);
+    }
+    let part = (entries.len() / workers as usize).max(1).min(entries.len());
+    let (front, back) = entries.split_at_mut(part);
+    finish_parts(rt, images, workers - 1, front, back);
+}
+
+// Makes the lines of a part whole in a thread, and those behind it by the other workers.
+#[cycle(parts)]
+fn finish_parts<R: Threads + Sync>(
+    rt: &R,
+    images: &[u8],
+    others: u32,
+    front: &mut [Entry],
+    back: &mut [Entry],
+)
+    requires front { AllByRecursion (IsEntry images.now) front.old }
+    requires back { AllByRecursion (IsEntry images.now) back.old }
+    ensures front { map (λ e. e.line) front.new ≡ map (whole_line images.now) front.old }
+    ensures back { map (λ e. e.line) back.new ≡ map (whole_line images.now) back.old }
+{
+    let mut first = ||
+        requires { IsSync R.row × AllByRecursion (IsEntry images.now) front.now }
+        ensures { map (λ e. e.line) front.exit.now ≡ map (whole_line images.entry.now) front.entry.now }
+    { finish_each(rt, images, front) };
+    let mut behind = ||
+        requires { IsSync R.row × AllByRecursion (IsEntry images.now) back.now }
+        ensures { map (λ e. e.line) back.exit.now ≡ map (whole_line images.entry.now) back.entry.now }
+    { finish_all(rt, images, others, back) };
+    thread::join_mut(rt, &mut first, &mut behind);
+}
+
+// Makes lines whole, one after the other.
+fn finish_each<R: Threads + Sync>(rt: &R, images: &[u8], entries: &mut [Entry])
     requires { AllByRecursion (IsEntry images.now) entries.old }
     ensures { map (λ e. e.line) entries.new ≡ map (whole_line images.now) entries.old }
 {
@@ -142,16 +165,12 @@ fn finish_all<R: Threads + Sync>(rt: &R, entries: &mut [Entry], images: &[u8], w
         requires { IsEntry images.now entry.now }
         ensures { entry.exit.now.line ≡ whole_line images.entry.now entry.entry.now }
     { entry.finish(images) };
-    thread::for_each_mut(rt, entries, workers.max(1) as usize, &finish);
+    thread::for_each_mut(rt, entries, 1, &finish);
 }
 
 // Writes lines that are whole.
 fn write_all<O: Sink>(entries: &[Entry], out: &mut O) -> Result<(), SinkFault>
-    ensures written { OnOk result (Writes O.told O.call_count (map (λ e. e.line) entries.now) out.old out.new) }
-    ensures refused { OnErr result (BreaksOff O.told O.call_count (map (λ e. e.line) entries.now) out.old out.new) }
-    ensures quiet { OnOk result (O.fault_count out.new ≡ O.fault_count out.old) }
-    ensures later { O.fault_count out.old ≤ O.fault_count out.new }
-    ensures cause { OnErr result (Rose (O.fault_count out.old) (O.fault_count out.new)) }
+    ensures { WritesOrBreaks O.told O.call_count O.fault_count (map (λ e. e.line) entries.now) result out.old out.new }
 {
     for entry in entries {
         out.write(entry.line.bytes())?;
@@ -162,11 +181,7 @@ fn write_all<O: Sink>(entries: &[Entry], out: &mut O) -> Result<(), SinkFault>
 // Writes lines that are not whole yet, by the images of their states.
 fn write_each<O: Sink>(entries: &[Entry], images: &[u8], out: &mut O) -> Result<(), SinkFault>
     requires { AllByRecursion (IsEntry images.now) entries.now }
-    ensures written { OnOk result (Writes O.told O.call_count (map (whole_line images.now) entries.now) out.old out.new) }
-    ensures refused { OnErr result (BreaksOff O.told O.call_count (map (whole_line images.now) entries.now) out.old out.new) }
-    ensures quiet { OnOk result (O.fault_count out.new ≡ O.fault_count out.old) }
-    ensures later { O.fault_count out.old ≤ O.fault_count out.new }
-    ensures cause { OnErr result (Rose (O.fault_count out.old) (O.fault_count out.new)) }
+    ensures { WritesOrBreaks O.told O.call_count O.fault_count (map (whole_line images.now) entries.now) result out.old out.new }
 {
     for entry in entries {
         let mut text = Line::new();

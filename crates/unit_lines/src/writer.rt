@@ -1,16 +1,12 @@
 // The visitor that writes the lines of a unit.
-ghost use Rattle.std.specs.Prelude.{◌≡◌, ◌≤◌, [], ◌∷◌, ◌++◌, OnOk, OnErr};
-ghost use Rattle.keepers.specs.Counts.{Rose};
+ghost use Rattle.std.specs.Prelude.{◌≡◌, [], ◌∷◌, ◌++◌};
 ghost use Rattle.state_image.specs.Line.{line};
-ghost use Rattle.unit_lines.specs.Sending.{Writes, BreaksOff, Sends};
+ghost use Rattle.unit_lines.specs.Sending.{BreaksOff, Sends, WritesOrBreaks};
 
 use crate::batch::LineBatch;
 use input_journal::Journal;
 use keepers::{Sink, SinkFault};
-use plan_types::Line;
-use reverse_runner::{VisitFault, Visitor};
-use rv_machine::State;
-use state_image::state_line;
+use reverse_runner::{KnownState, VisitFault, Visitor, write_line};
 use std::thread::Threads;
 
 /// Gets states for the lines of a unit, each with a line end. They wait in a batch until `write_waiting` writes them. Where there is
@@ -35,45 +31,20 @@ impl<'a, O: Sink> UnitWriter<'a, O> {
     pub fn write_waiting<R: Threads + Sync>(&mut self, rt: &R) -> Result<(), SinkFault>
         ensures empty { self.new.batch.now ≡ [] }
         ensures sink { self.new.out.ghost_name ≡ self.old.out.ghost_name }
-        ensures written { OnOk result (Writes O.told O.call_count self.old.batch.now self.old.out.now self.new.out.now) }
-        ensures refused { OnErr result (BreaksOff O.told O.call_count self.old.batch.now self.old.out.now self.new.out.now) }
-        ensures quiet { OnOk result (O.fault_count self.new.out.now ≡ O.fault_count self.old.out.now) }
-        ensures later { O.fault_count self.old.out.now ≤ O.fault_count self.new.out.now }
-        ensures cause { OnErr result (Rose (O.fault_count self.old.out.now) (O.fault_count self.new.out.now)) }
+        ensures wrote { WritesOrBreaks O.told O.call_count O.fault_count self.old.batch.now result self.old.out.now self.new.out.now }
     {
         self.batch.write(rt, self.out)
     }
 
-    // Writes the line of a state by itself.
-    fn write_line(&mut self, n: u32, state: &State) -> Result<(), SinkFault>
-        ensures batch { self.new.batch.now ≡ self.old.batch.now }
-        ensures sink { self.new.out.ghost_name ≡ self.old.out.ghost_name }
-        ensures written { OnOk result (Writes O.told O.call_count ((line n state.now ++ 10 ∷ []) ∷ []) self.old.out.now self.new.out.now) }
-        ensures refused { OnErr result (BreaksOff O.told O.call_count ((line n state.now ++ 10 ∷ []) ∷ []) self.old.out.now self.new.out.now) }
-        ensures quiet { OnOk result (O.fault_count self.new.out.now ≡ O.fault_count self.old.out.now) }
-        ensures later { O.fault_count self.old.out.now ≤ O.fault_count self.new.out.now }
-        ensures cause { OnErr result (Rose (O.fault_count self.old.out.now) (O.fault_count self.new.out.now)) }
-    {
-        let mut line = Line::new();
-        state_line(n, state, &mut line);
-        line.push(b"\n");
-        self.out.write(line.bytes())
-    }
-
     // Writes the lines that wait, and then that of a state.
-    fn write_with(&mut self, n: u32, state: &State) -> Result<(), SinkFault>
+    fn write_with(&mut self, n: u32, state: &KnownState) -> Result<(), SinkFault>
         ensures empty { self.new.batch.now ≡ [] }
         ensures sink { self.new.out.ghost_name ≡ self.old.out.ghost_name }
-        ensures written { OnOk result (Writes O.told O.call_count (self.old.batch.now ++ (line n state.now ++ 10 ∷ []) ∷ []) self.old.out.now
-            self.new.out.now) }
-        ensures refused { OnErr result (BreaksOff O.told O.call_count (self.old.batch.now ++ (line n state.now ++ 10 ∷ []) ∷ []) self.old.out.now
-            self.new.out.now) }
-        ensures quiet { OnOk result (O.fault_count self.new.out.now ≡ O.fault_count self.old.out.now) }
-        ensures later { O.fault_count self.old.out.now ≤ O.fault_count self.new.out.now }
-        ensures cause { OnErr result (Rose (O.fault_count self.old.out.now) (O.fault_count self.new.out.now)) }
+        ensures wrote { WritesOrBreaks O.told O.call_count O.fault_count (self.old.batch.now ++ (line n state.now ++ 10 ∷ []) ∷ []) result
+            self.old.out.now self.new.out.now }
     {
         self.batch.write_alone(self.out)?;
-        self.write_line(n, state)
+        write_line(n, state, self.out)
     }
 }
 
@@ -86,8 +57,8 @@ impl<'a, O: Sink> Visitor for UnitWriter<'a, O> {
 
     ghost fault_count = { λ w. O.fault_count w.out.now };
 
-    fn state(&mut self, n: u32, state: &State, _journal: &Journal) -> Result<(), VisitFault> {
-        if self.batch.gather(n, state) {
+    fn state(&mut self, n: u32, state: &KnownState, _journal: &Journal) -> Result<(), VisitFault> {
+        if self.batch.gather(n, state.state()) {
             return Ok(());
         }
         match self.write_with(n, state) {

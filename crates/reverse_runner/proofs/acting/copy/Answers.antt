@@ -26,8 +26,8 @@ use Rattle.reverse_runner.specs.Rooms.{image_room, rooms_by}
 use Rattle.reverse_runner.proofs.Rooms.{roomy_still, short_same}
 use Rattle.reverse_runner.proofs.acting.copy.Goals as goal
 
-pub returns-in_err-fetch-clause-leaves : goal.returns-in_err-fetch-clause-leaves
-returns-in_err-fetch-clause-leaves g c steps =
+pub returns-in_err-digest-clause-leaves : goal.returns-in_err-digest-clause-leaves
+returns-in_err-digest-clause-leaves g c steps =
     let told = g.K.Keeper.told in
     let now = c.args.config.now in
     let old = levels_in c.args.space.now (told_by told c.args.keepers.now.items) in
@@ -39,8 +39,8 @@ returns-in_err-fetch-clause-leaves g c steps =
     (may_get now.steps now.slots now.at c.args.space.now.store c.args.n k c.requires.ready.laid free.1 give.1).0) in
     on_err c.from_residual.result (record { left = left; uncounted = refl; called_at_most = search rules })
 
-pub returns-in_err-fetch-clause-caused : goal.returns-in_err-fetch-clause-caused
-returns-in_err-fetch-clause-caused g c =
+pub returns-in_err-digest-clause-caused : goal.returns-in_err-digest-clause-caused
+returns-in_err-digest-clause-caused g c =
     record {
       named = search rules;
       damaged = λ k put got e.
@@ -52,8 +52,8 @@ returns-in_err-fetch-clause-caused g c =
       wants = search rules;
     }
 
-pub returns-in_err-fetch-clause-spared : goal.returns-in_err-fetch-clause-spared
-returns-in_err-fetch-clause-spared g c unit journal recorded short =
+pub returns-in_err-digest-clause-spared : goal.returns-in_err-digest-clause-spared
+returns-in_err-digest-clause-spared g c unit journal recorded short =
     record {
       roomy = search rules;
       undamaged = λ first is stands k put got e.
@@ -66,8 +66,8 @@ returns-in_err-fetch-clause-spared g c unit journal recorded short =
           IfErr-at_err (IsKeeping c.args.from) same (c.fetch.ensures.sound there.0 there.1));
     }
 
-pub returns-in_err-fetch-clause-kept : goal.returns-in_err-fetch-clause-kept
-returns-in_err-fetch-clause-kept g c =
+pub returns-in_err-digest-clause-kept : goal.returns-in_err-digest-clause-kept
+returns-in_err-digest-clause-kept g c =
     let caused : IsCaused g.K.Keeper.fault_count c.args.keepers.now.items c.fetch.new.keepers.items c.from_residual.result = search rules in
     kept_by _ _ _ _ _ _ c.fetch.ensures.remain caused
     (λ k free. c.fetch.ensures.keepers k (not_named (levels_named (Copy c.args.n c.args.from c.args.dest)) k c.args.from (copy_names_source c.args.n c.args.from c.args.dest) free))
@@ -115,7 +115,7 @@ returns-in-Work-clause-acted g c unit journal steps =
     let stays = c.fetch.ensures.states in
     let P : MachineState → Type 0 = λ s. IsDecoded s c.decode.new.self.work c.fetch.new.self.buffer.items in
     on_ok_weaker c.decode.result (λ decoded. record {
-      acts = copied_to_work unit journal c.args.n c.args.from c.args.dest old new c.fetch.new.self.buffer.items c.in-Work.is c.in_ok-fetch.ensures.fetched (subst P stays.0 decoded)
+      acts = copied_to_work unit journal c.args.n c.args.from c.args.dest old new c.fetch.new.self.buffer.items c.in-Work.is c.in_ok-digest.ensures.fetched (subst P stays.0 decoded)
           (same_tape c.decode.new.self c.args.space.now (c.decode.ensures.tape ∙ stays.1) (c.decode.ensures.undo ∙ stays.3)) (ap length (c.decode.ensures.store ∙ stays.2))
           (λ j. let same = c.fetch.ensures.same j in (ap (λ (s : List ShelfState). level_of s j) (c.decode.ensures.store ∙ stays.2), same.1));
       counted = search rules;
@@ -131,7 +131,7 @@ returns-in-Work-clause-spared g c unit journal recorded short =
           let is_held = copies_held now.steps now.slots now.at c.args.n c.args.from c.args.dest c.requires.allowed in
           let s = holdings_in c.args.space.now (told_by g.K.Keeper.told c.args.keepers.now.items) in
           let got_is = fetched_image first journal unit now.steps now.slots now.at s c.args.from c.args.n c.fetch.new.self.buffer.items stands c.requires.ready.laid is_held.level is_held.there
-          c.in_ok-fetch.ensures.fetched in
+          c.in_ok-digest.ensures.fetched in
           let state = state_of_run first journal unit now.at s c.args.n is recorded stands in
           let none = IfErr-at_err (λ fault. (fault ≡ Damaged c.args.from (sha256 c.fetch.new.self.buffer.items) (sha256 c.fetch.new.self.buffer.items)) × IsNoImage c.fetch.new.self.work c.fetch.new.self.buffer.items) e
           c.decode.ensures.damaged in
@@ -187,7 +187,7 @@ returns-in-Level-clause-spared g c unit journal recorded short =
           let free = copies_free now.steps now.slots now.at c.args.n c.args.from c.in-Level.to c.args.dest c.requires.allowed c.in-Level.is in
           let rooms = rooms_by g.K.Keeper.room_bytes in
           let there = roomy_still bound (rooms c.args.keepers.now.items c.in-Level.to) (rooms c.fetch.new.keepers.items c.in-Level.to) (c.fetch.ensures.rooms c.in-Level.to) (roomy c.in-Level.to free.1.level) in
-          c.keep.ensures.roomy bound there (c.in_ok-fetch.ensures.few bound short) e);
+          c.keep.ensures.roomy bound there (c.in_ok-digest.ensures.few bound short) e);
       undamaged = search rules;
     }
 
@@ -207,5 +207,5 @@ returns-in-Level-clause-order g c =
       pages = search rules;
       short = λ short.
           (let bound = image_room c.args.space.now.work in
-          c.keep.ensures.short bound (c.in_ok-fetch.ensures.few bound short) (short_same bound c.args.space.now.store c.fetch.new.self.store c.fetch.ensures.states.2 short));
+          c.keep.ensures.short bound (c.in_ok-digest.ensures.few bound short) (short_same bound c.args.space.now.store c.fetch.new.self.store c.fetch.ensures.states.2 short));
     }

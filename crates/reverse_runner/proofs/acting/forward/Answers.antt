@@ -33,15 +33,15 @@ keep-requires-clause-room g c =
     let free = stores_free now.steps now.slots now.at c.args.from c.args.to c.in-Store.level c.requires.ready.sound (subst P c.in-Store.is c.requires.allowed) in
     let get = may_get now.steps now.slots now.at c.args.space.now.store c.args.from c.in-Store.level c.requires.ready.laid free.0 free.1 in
     let Q : List ShelfState → Type 0 = λ s. held (level_of s c.in-Store.level).pairs < (level_of s c.in-Store.level).room in
-    subst Q (sym c.encode.ensures.store) get.0
+    subst Q (sym c.encode-digest.ensures.store) get.0
 
 pub keep-requires-clause-slots : goal.keep-requires-clause-slots
 keep-requires-clause-slots g c =
     let now = c.args.config.now in
     let P : Keep → Type 0 = λ k. rule now.steps now.slots now.at (Forward c.args.from c.args.to k) ≡ 0 in
     let free = stores_free now.steps now.slots now.at c.args.from c.args.to c.in-Store.level c.requires.ready.sound (subst P c.in-Store.is c.requires.allowed) in
-    (has_keeper_still g.K.Keeper.slot_count c.args.keepers.now.items c.args.keepers.now.items now.steps now.slots now.at c.args.space.now.store c.encode.new.self.store c.in-Store.level
-    c.requires.ready.laid c.requires.ready.room free.0.level refl c.encode.ensures.store).1
+    (has_keeper_still g.K.Keeper.slot_count c.args.keepers.now.items c.args.keepers.now.items now.steps now.slots now.at c.args.space.now.store c.encode-digest.new.self.store c.in-Store.level
+    c.requires.ready.laid c.requires.ready.room free.0.level refl c.encode-digest.ensures.store).1
 
 pub returns-in_ok-keep-in-Store-clause-acted : goal.returns-in_ok-keep-in-Store-clause-acted
 returns-in_ok-keep-in-Store-clause-acted g c =
@@ -53,22 +53,22 @@ returns-in_ok-keep-in-Store-clause-acted g c =
     let stays = c.keep.ensures.states in
     let level = c.in-Store.level in
     let stored = c.advance-in-Store.ensures.store in
-    let K : List ShelfState → Type 0 = λ s. IsKept (level_of s level) (level_of c.keep.new.self.store level) c.args.from c.encode.new.self.buffer.items (told_by told c.args.keepers.now.items level)
+    let K : List ShelfState → Type 0 = λ s. IsKept (level_of s level) (level_of c.keep.new.self.store level) c.args.from c.encode-digest.new.self.buffer.items (told_by told c.args.keepers.now.items level)
     (told_by told c.keep.new.keepers.items level) in
     let B : List ℕ → Type 0 = λ b. IsKept (level_of c.args.space.now.store level) (level_of c.keep.new.self.store level) c.args.from b (told_by told c.args.keepers.now.items level)
     (told_by told c.keep.new.keepers.items level) in
     let S : List ShelfState → Type 0 = λ s. IsKept (level_of c.args.space.now.store level) (level_of s level) c.args.from (image c.args.space.now.work)
     (told_by told c.args.keepers.now.items level) (told_by told c.keep.new.keepers.items level) in
-    let keeps = subst S (sym stored) (subst B c.encode.ensures.image (subst K c.encode.ensures.store c.in_ok-keep-in-Store.ensures.keeps)) in
+    let keeps = subst S (sym stored) (subst B c.encode-digest.ensures.image (subst K c.encode-digest.ensures.store c.in_ok-keep-in-Store.ensures.keeps)) in
     record {
       acts =
           forward_stored c.args.unit journal c.args.from c.args.to level c.args.keep old new c.in-Store.is
-          (c.advance-in-Store.ensures.work ∙ ap (λ (s : MachineState). state_number s journal count) (stays.0 ∙ c.encode.ensures.work))
-          (same_tape c.advance-in-Store.new.self c.args.space.now (c.advance-in-Store.ensures.tape ∙ stays.1 ∙ c.encode.ensures.tape) (c.advance-in-Store.ensures.undo ∙ stays.3 ∙ c.encode.ensures.undo))
-          (ap length stored ∙ c.keep.ensures.count ∙ ap length c.encode.ensures.store)
+          (c.advance-in-Store.ensures.work ∙ ap (λ (s : MachineState). state_number s journal count) (stays.0 ∙ c.encode-digest.ensures.work))
+          (same_tape c.advance-in-Store.new.self c.args.space.now (c.advance-in-Store.ensures.tape ∙ stays.1 ∙ c.encode-digest.ensures.tape) (c.advance-in-Store.ensures.undo ∙ stays.3 ∙ c.encode-digest.ensures.undo))
+          (ap length stored ∙ c.keep.ensures.count ∙ ap length c.encode-digest.ensures.store)
           keeps
           (λ j ne. (
-            ap (λ (s : List ShelfState). level_of s j) stored ∙ (c.keep.ensures.others j ne).0 ∙ ap (λ (s : List ShelfState). level_of s j) c.encode.ensures.store,
+            ap (λ (s : List ShelfState). level_of s j) stored ∙ (c.keep.ensures.others j ne).0 ∙ ap (λ (s : List ShelfState). level_of s j) c.encode-digest.ensures.store,
             (c.keep.ensures.others j ne).1,
           ));
       counted = search rules;
@@ -77,7 +77,7 @@ returns-in_ok-keep-in-Store-clause-acted g c =
 
 pub returns-in_ok-keep-in-Store-clause-kept : goal.returns-in_ok-keep-in-Store-clause-kept
 returns-in_ok-keep-in-Store-clause-kept g c =
-    let caused : IsCaused g.K.Keeper.fault_count c.args.keepers.now.items c.keep.new.keepers.items (Ok tt) = search rules in
+    let caused : IsCaused {A = Unit} g.K.Keeper.fault_count c.args.keepers.now.items c.keep.new.keepers.items (Ok tt) = search rules in
     kept_by _ _ _ _ _ _ c.keep.ensures.remain caused
     (λ k free. c.keep.ensures.keepers k (not_named (levels_named (Forward c.args.from c.args.to c.args.keep)) k c.in-Store.level (store_names c.args.from c.args.to c.in-Store.level c.args.keep c.in-Store.is) free))
 
@@ -88,7 +88,7 @@ returns-in_ok-keep-in-Store-clause-order g c =
       pages = search rules;
       short = λ short.
           (let bound = image_room c.args.space.now.work in
-          let kept = c.keep.ensures.short bound c.encode.ensures.few (short_same bound c.args.space.now.store c.encode.new.self.store c.encode.ensures.store short) in
+          let kept = c.keep.ensures.short bound c.encode-digest.ensures.few (short_same bound c.args.space.now.store c.encode-digest.new.self.store c.encode-digest.ensures.store short) in
           short_same bound c.keep.new.self.store c.advance-in-Store.new.self.store c.advance-in-Store.ensures.store kept);
     }
 
@@ -98,7 +98,7 @@ returns-in_ok-keep-in-Store-clause-units g c d goes =
     let G : Keep → Type 0 = λ k. Goes now.steps now.slots now.at (Forward c.args.from c.args.to k) d in
     let at = subst G c.in-Store.is goes in
     units_kept c.args.unit now.steps c.args.journal.now now.at d c.args.space.now c.advance-in-Store.new.self
-    (c.advance-in-Store.ensures.undo ∙ c.keep.ensures.states.3 ∙ c.encode.ensures.undo) (ap (λ (x : Configuration). x.tape) at.3) c.requires.units
+    (c.advance-in-Store.ensures.undo ∙ c.keep.ensures.states.3 ∙ c.encode-digest.ensures.undo) (ap (λ (x : Configuration). x.tape) at.3) c.requires.units
 
 pub returns-in-Nothing-clause-units : goal.returns-in-Nothing-clause-units
 returns-in-Nothing-clause-units g c d goes =
@@ -134,6 +134,7 @@ returns-in-Tape-clause-order g c =
         pages = ap (λ (s : MachineState). page_numbers s.memory) c.advance_on_tape.ensures.tape;
         few = omega (arith, count, fits.few);
         back = leads_there c.advance_on_tape.new.self.undo.entries c.advance_on_tape.new.self.tape _ c.advance_on_tape.ensures.back;
+        first = c.advance_on_tape.ensures.first;
         buffer = omega (arith, count, reserved, fits.buffer);
       };
       pages = search rules;
@@ -151,10 +152,10 @@ pub returns-in_err-keep-in-Store-clause-leaves : goal.returns-in_err-keep-in-Sto
 returns-in_err-keep-in-Store-clause-leaves g c =
     let told = g.K.Keeper.told in
     let old = levels_in c.args.space.now (told_by told c.args.keepers.now.items) in
-    let mid = levels_in c.encode.new.self (told_by told c.args.keepers.now.items) in
+    let mid = levels_in c.encode-digest.new.self (told_by told c.args.keepers.now.items) in
     let level = c.in-Store.level in
     let left = leaves_stored c.args.from c.args.to level c.args.keep old mid (told_by told c.keep.new.keepers.items) c.in-Store.is
-    (ap (λ (s : List ShelfState). level_of s level) c.encode.ensures.store) (λ k. refl) c.in_err-keep-in-Store.ensures.left (λ k ne. (c.keep.ensures.others k ne).1) in
+    (ap (λ (s : List ShelfState). level_of s level) c.encode-digest.ensures.store) (λ k. refl) c.in_err-keep-in-Store.ensures.left (λ k ne. (c.keep.ensures.others k ne).1) in
     on_err c.from_residual.result (record { left = left; uncounted = search rules; called_at_most = search rules })
 
 pub returns-in_err-keep-in-Store-clause-kept : goal.returns-in_err-keep-in-Store-clause-kept
@@ -170,7 +171,7 @@ returns-in_err-keep-in-Store-clause-order g c =
       pages = search rules;
       short = λ short.
           (let bound = image_room c.args.space.now.work in
-          c.keep.ensures.short bound c.encode.ensures.few (short_same bound c.args.space.now.store c.encode.new.self.store c.encode.ensures.store short));
+          c.keep.ensures.short bound c.encode-digest.ensures.few (short_same bound c.args.space.now.store c.encode-digest.new.self.store c.encode-digest.ensures.store short));
     }
 
 pub returns-in_err-keep-in-Store-clause-spared : goal.returns-in_err-keep-in-Store-clause-spared
@@ -182,6 +183,6 @@ returns-in_err-keep-in-Store-clause-spared g c recorded short =
           let now = c.args.config.now in
           let P : Keep → Type 0 = λ k. rule now.steps now.slots now.at (Forward c.args.from c.args.to k) ≡ 0 in
           let free = stores_free now.steps now.slots now.at c.args.from c.args.to c.in-Store.level c.requires.ready.sound (subst P c.in-Store.is c.requires.allowed) in
-          c.keep.ensures.roomy (image_room c.args.space.now.work) (roomy c.in-Store.level free.0.level) c.encode.ensures.few same);
+          c.keep.ensures.roomy (image_room c.args.space.now.work) (roomy c.in-Store.level free.0.level) c.encode-digest.ensures.few same);
       undamaged = search rules;
     }

@@ -64,14 +64,14 @@ shelf_more prints places free count n slot image digest shelf t is = record {
 pub invariant_of-self : goal.invariant_of-self
 invariant_of-self g c =
     let t = taken _ _ _ _ c.args.n c.index-slot.result.now c.args.self.now c.self.invariant c.self.view_is c.requires.number c.requires.new c.requires.room c.index-slot.ensures in
-    shelf_more _ _ _ _ c.args.n c.index-slot.result.now c.args.image.now c.digest.result c.self.invariant t c.digest.ensures
+    shelf_more _ _ _ _ c.args.n c.index-slot.result.now c.args.image.now c.args.digest.now c.self.invariant t c.requires.digest
 
 pub returns-clause-ok : goal.returns-clause-ok
 returns-clause-ok g c =
     let slot = c.index-slot.result.now in
     let t = taken _ _ _ _ c.args.n slot c.args.self.now c.self.invariant c.self.view_is c.requires.number c.requires.new c.requires.room c.index-slot.ensures in
-    let e = more _ _ _ _ c.args.n slot c.args.image.now c.digest.result c.self.invariant t c.digest.ensures in
-    let changed : ◌≡◌ {A = ShelfState} (record { pairs = pairs_in (set c.self.inside.fingerprints.items slot (record { length = length c.args.image.now; digest = c.digest.result })) (set c.self.inside.places.items c.args.n (slot + 1)); room = length c.self.inside.free.items }) (with_pair (record { pairs = pairs_in c.self.inside.fingerprints.items c.self.inside.places.items; room = length c.self.inside.free.items }) c.args.n (kept_in slot c.args.image.now)) =
+    let e = more _ _ _ _ c.args.n slot c.args.image.now c.args.digest.now c.self.invariant t c.requires.digest in
+    let changed : ◌≡◌ {A = ShelfState} (record { pairs = pairs_in (set c.self.inside.fingerprints.items slot (record { length = length c.args.image.now; digest = c.args.digest.now })) (set c.self.inside.places.items c.args.n (slot + 1)); room = length c.self.inside.free.items }) (with_pair (record { pairs = pairs_in c.self.inside.fingerprints.items c.self.inside.places.items; room = length c.self.inside.free.items }) c.args.n (kept_in slot c.args.image.now)) =
     λ i. record { pairs = e i; room = length c.self.inside.free.items } in
     record {
       slot = slot;
@@ -85,7 +85,7 @@ pub returns-clause-stands : goal.returns-clause-stands
 returns-clause-stands g c = λ bytes stands.
     let slot = c.index-slot.result.now in
     let t = taken _ _ _ _ c.args.n slot c.args.self.now c.self.invariant c.self.view_is c.requires.number c.requires.new c.requires.room c.index-slot.ensures in
-    let e = more _ _ _ _ c.args.n slot c.args.image.now c.digest.result c.self.invariant t c.digest.ensures in
+    let e = more _ _ _ _ c.args.n slot c.args.image.now c.args.digest.now c.self.invariant t c.requires.digest in
     let before = subst (λ (s : ShelfState). LevelStands s (g.K.Keeper.told c.args.keeper.now) bytes) (sym c.self.view_is) stands in
     let after = level_more (pairs_in c.self.inside.fingerprints.items c.self.inside.places.items) bytes (g.K.Keeper.told c.args.keeper.now) (g.K.Keeper.told c.put.new.self) c.args.n slot c.args.image.now t.within t.unused c.in-Ok.ensures.ok before in
     subst (λ (ps : List (Option Kept)). IsToldAnd (g.K.Keeper.told c.put.new.self) (KeepsAs ps (finmap.insert bytes c.args.n c.args.image.now))) (sym e) after
@@ -94,7 +94,7 @@ pub returns-clause-alone : goal.returns-clause-alone
 returns-clause-alone g c = λ alone.
     let slot = c.index-slot.result.now in
     let t = taken _ _ _ _ c.args.n slot c.args.self.now c.self.invariant c.self.view_is c.requires.number c.requires.new c.requires.room c.index-slot.ensures in
-    let e = more _ _ _ _ c.args.n slot c.args.image.now c.digest.result c.self.invariant t c.digest.ensures in
+    let e = more _ _ _ _ c.args.n slot c.args.image.now c.args.digest.now c.self.invariant t c.requires.digest in
     let before = subst (λ (s : ShelfState). LevelAlone s (g.K.Keeper.told c.args.keeper.now)) (sym c.self.view_is) alone in
     let after = level_alone_more (pairs_in c.self.inside.fingerprints.items c.self.inside.places.items) (g.K.Keeper.told c.args.keeper.now) (g.K.Keeper.told c.put.new.self) c.args.n slot c.args.image.now t.within t.none c.in-Ok.ensures.ok before in
     subst (λ (ps : List (Option Kept)). IsToldAnd (g.K.Keeper.told c.put.new.self) (Alone ps)) (sym e) after

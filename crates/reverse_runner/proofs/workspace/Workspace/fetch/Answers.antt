@@ -1,4 +1,4 @@
-use Rattle.std.proofs.Common.{◌≡◌, ◌<◌, length, set, Option, None, Err, refl, sym, ◌∙◌, ap, subst, arith}
+use Rattle.std.proofs.Common.{ℕ, List, ◌≡◌, ◌<◌, length, set, Option, None, Err, refl, sym, ◌∙◌, ap, subst, arith}
 use Rattle.keepers.specs.Told.{Images}
 use Rattle.image_store.specs.Calls.{IsGot}
 use Rattle.image_store.specs.Standing.{LevelStands}
@@ -48,8 +48,8 @@ returns-in-Ok-clause-caused g c =
 pub returns-in-Err-clause-caused : goal.returns-in-Err-clause-caused
 returns-in-Err-clause-caused g c =
     let within : c.args.level < length c.args.keepers.now.items = omega (arith, c.requires.there, c.args.keepers.now.ok.0) in
-    let P : RunFault → Type 0 = λ f. IsCaused g.K.Keeper.fault_count c.args.keepers.now.items (set c.args.keepers.now.items c.args.level c.fetch.new.keeper) (Err f) in
-    subst P (sym c.on.ensures) (caused c.args.keepers.now.items c.args.level c.index_mut-keeper.result.now c.fetch.new.keeper within c.index_mut-keeper.ensures.value g.K.Keeper.fault_count c.in-Err.fault (λ q. c.fetch.ensures.cause (c.in-Err.is ∙ ap (λ f. Err f) q)) (λ ne. c.fetch.ensures.quiet (λ q. ne cc)))
+    let P : RunFault → Type 0 = λ f. IsCaused {A = List ℕ} g.K.Keeper.fault_count c.args.keepers.now.items (set c.args.keepers.now.items c.args.level c.fetch.new.keeper) (Err f) in
+    subst P (sym c.on.ensures) (caused c.args.keepers.now.items c.args.level c.index_mut-keeper.result.now c.fetch.new.keeper within c.index_mut-keeper.ensures.value g.K.Keeper.fault_count (List ℕ) c.in-Err.fault (λ q. c.fetch.ensures.cause (c.in-Err.is ∙ ap (λ f. Err f) q)) (λ ne. c.fetch.ensures.quiet (λ q. ne cc)))
 
 pub returns-in-Ok-clause-same : goal.returns-in-Ok-clause-same
 returns-in-Ok-clause-same g c =

@@ -4,6 +4,8 @@ use Rattle.unit_undo.specs.Leading.{led_back}
 use Rattle.unit_undo.proofs.Leading.{gone, gone_states}
 use Rattle.reverse_runner.specs.Handed.{numbers_from}
 use Rattle.reverse_runner.specs.Performed.{MissesOne}
+use Rattle.reverse_runner.specs.KnownDigests.{IsDigestOfLast}
+use Rattle.reverse_runner.proofs.Knowing.{known_behind}
 use Rattle.reverse_runner.proofs.Taping.{gets_more, misses_next}
 use Rattle.reverse_runner.proofs.workspace.Workspace.hand_back.Goals as goal
 
@@ -19,23 +21,24 @@ loop-self-preserved g c =
     let h = c.loop-self.invariant in
     let p = c.back.ensures.back in
     let old = c.loop-self.self.undo in
-    let new = c.back.new.self in
-    let tape = c.back.new.state in
-    let one : length c.loop-self.self.undo.entries ≡ suc (length c.back.new.self.entries) = ap (λ (u : UndoState). length u.entries) p.1.0 in
-    let number : c.args.first + c.count-in-loop-self.result ≡ c.args.first + length c.back.new.self.entries = ap (λ n. c.args.first + n) c.count-in-loop-self.ensures in
-    let states = gone_states c.loop-self.self.undo c.back.new.self p.0 c.loop-self.self.tape c.back.new.state p.1.0 p.1.1 in
+    let new = c.back.new.undo in
+    let tape = c.back.new.self in
+    let one : length c.loop-self.self.undo.entries ≡ suc (length c.back.new.undo.entries) = ap (λ (u : UndoState). length u.entries) p.1.0 in
+    let number : c.args.first + c.count-in-loop-self.result ≡ c.args.first + length c.back.new.undo.entries = ap (λ n. c.args.first + n) c.count-in-loop-self.ensures in
+    let states = gone_states c.loop-self.self.undo c.back.new.undo p.0 c.loop-self.self.tape c.back.new.self p.1.0 p.1.1 in
     let n : ℕ = c.args.first + c.count-in-loop-self.result in
-    let numbers_left = fewer h.got.0 c.args.first (length c.loop-self.self.undo.entries) (length c.back.new.self.entries) _ h.got.3 one in
+    let numbers_left = fewer h.got.0 c.args.first (length c.loop-self.self.undo.entries) (length c.back.new.undo.entries) _ h.got.3 one in
     let states_left = ap (λ xs. h.got.1 ++ xs) (sym states) ∙ h.got.4 in
     record {
       few = (let few = h.few in omega (arith, few, one));
-      leads = gone c.loop-self.self.undo c.back.new.self p.0 c.loop-self.self.tape c.back.new.state p.1.0 p.1.1 h.leads;
+      known = known_behind c.loop-self.self.first c.back.new.self _ (subst (IsDigestOfLast c.loop-self.self.first) states h.known);
+      leads = gone c.loop-self.self.undo c.back.new.undo p.0 c.loop-self.self.tape c.back.new.self p.1.0 p.1.1 h.leads;
       got = (
         h.got.0 ++ n ∷ [],
-        h.got.1 ++ c.back.new.state ∷ [],
-        gets_more g.V.Visitor.got c.args.journal.now h.got.0 h.got.1 n c.back.new.state _ _ _ h.got.2 c.in_ok-hand_out.ensures.got,
-        joined h.got.0 n _ _ (ap (λ m. h.got.0 ++ m ∷ numbers_from c.args.first (length c.back.new.self.entries)) number ∙ numbers_left),
-        joined h.got.1 c.back.new.state _ _ states_left,
+        h.got.1 ++ c.back.new.self ∷ [],
+        gets_more g.V.Visitor.got c.args.journal.now h.got.0 h.got.1 n c.back.new.self _ _ _ h.got.2 c.in_ok-hand_out.ensures.got,
+        joined h.got.0 n _ _ (ap (λ m. h.got.0 ++ m ∷ numbers_from c.args.first (length c.back.new.undo.entries)) number ∙ numbers_left),
+        joined h.got.1 c.back.new.self _ _ states_left,
       );
       unit = sym (ap (λ (u : UndoState). u.unit) p.1.0) ∙ h.unit;
       room = sym (ap (λ (u : UndoState). u.room) p.1.0) ∙ h.room;
@@ -54,14 +57,23 @@ pub returns-in_err-hand_out-clause-misses : goal.returns-in_err-hand_out-clause-
 returns-in_err-hand_out-clause-misses g c =
     let h = c.loop-self.invariant in
     let p = c.back.ensures.back in
-    let one : length c.loop-self.self.undo.entries ≡ suc (length c.back.new.self.entries) = ap (λ (u : UndoState). length u.entries) p.1.0 in
-    let number : c.args.first + c.count-in-loop-self.result ≡ c.args.first + length c.back.new.self.entries = ap (λ n. c.args.first + n) c.count-in-loop-self.ensures in
-    let states = gone_states c.loop-self.self.undo c.back.new.self p.0 c.loop-self.self.tape c.back.new.state p.1.0 p.1.1 in
+    let one : length c.loop-self.self.undo.entries ≡ suc (length c.back.new.undo.entries) = ap (λ (u : UndoState). length u.entries) p.1.0 in
+    let number : c.args.first + c.count-in-loop-self.result ≡ c.args.first + length c.back.new.undo.entries = ap (λ n. c.args.first + n) c.count-in-loop-self.ensures in
+    let states = gone_states c.loop-self.self.undo c.back.new.undo p.0 c.loop-self.self.tape c.back.new.self p.1.0 p.1.1 in
     let n : ℕ = c.args.first + c.count-in-loop-self.result in
-    let numbers_left = fewer h.got.0 c.args.first (length c.loop-self.self.undo.entries) (length c.back.new.self.entries) _ h.got.3 one in
+    let numbers_left = fewer h.got.0 c.args.first (length c.loop-self.self.undo.entries) (length c.back.new.undo.entries) _ h.got.3 one in
     let states_left = ap (λ xs. h.got.1 ++ xs) (sym states) ∙ h.got.4 in
-    let misses = misses_next g.V.Visitor.got g.V.Visitor.missed c.args.journal.now h.got.0 (numbers_from c.args.first (length c.back.new.self.entries)) h.got.1 (led_back c.back.new.self.entries c.back.new.state) n c.back.new.state _ _ _ h.got.2 c.in_err-hand_out.ensures.missed in
+    let misses = misses_next g.V.Visitor.got g.V.Visitor.missed c.args.journal.now h.got.0 (numbers_from c.args.first (length c.back.new.undo.entries)) h.got.1 (led_back c.back.new.undo.entries c.back.new.self) n c.back.new.self _ _ _ h.got.2 c.in_err-hand_out.ensures.missed in
     on_err _ c.from_residual.result
     (subst (λ ms. MissesOne g.V.Visitor.got g.V.Visitor.missed c.args.journal.now ms (led_back c.args.self.now.undo.entries c.args.self.now.tape) c.args.visitor.now c.hand_out.new.visitor)
-    (ap (λ m. h.got.0 ++ m ∷ numbers_from c.args.first (length c.back.new.self.entries)) number ∙ numbers_left)
-    (subst (λ ts. MissesOne g.V.Visitor.got g.V.Visitor.missed c.args.journal.now (h.got.0 ++ n ∷ numbers_from c.args.first (length c.back.new.self.entries)) ts c.args.visitor.now c.hand_out.new.visitor) states_left misses))
+    (ap (λ m. h.got.0 ++ m ∷ numbers_from c.args.first (length c.back.new.undo.entries)) number ∙ numbers_left)
+    (subst (λ ts. MissesOne g.V.Visitor.got g.V.Visitor.missed c.args.journal.now (h.got.0 ++ n ∷ numbers_from c.args.first (length c.back.new.undo.entries)) ts c.args.visitor.now c.hand_out.new.visitor) states_left misses))
+
+pub back-requires-clause-first : goal.back-requires-clause-first
+back-requires-clause-first g c = c.loop-self.invariant.known
+
+pub returns-in_err-hand_out-clause-first : goal.returns-in_err-hand_out-clause-first
+returns-in_err-hand_out-clause-first g c =
+    let p = c.back.ensures.back in
+    let states = gone_states c.loop-self.self.undo c.back.new.undo p.0 c.loop-self.self.tape c.back.new.self p.1.0 p.1.1 in
+    known_behind c.loop-self.self.first c.back.new.self _ (subst (IsDigestOfLast c.loop-self.self.first) states c.loop-self.invariant.known)

@@ -46,8 +46,8 @@ returns-in-Ok-clause-caused g c =
 pub returns-in-Err-clause-caused : goal.returns-in-Err-clause-caused
 returns-in-Err-clause-caused g c =
     let within : c.args.level < length c.args.keepers.now.items = omega (arith, c.requires.there, c.args.keepers.now.ok.0) in
-    let P : RunFault → Type 0 = λ f. IsCaused g.K.Keeper.fault_count c.args.keepers.now.items (set c.args.keepers.now.items c.args.level c.keep.new.keeper) (Err f) in
-    subst P (sym c.on.ensures) (caused c.args.keepers.now.items c.args.level c.index_mut-keeper.result.now c.keep.new.keeper within c.index_mut-keeper.ensures.value g.K.Keeper.fault_count c.in-Err.fault (λ q. c.keep.ensures.cause (c.in-Err.is ∙ ap (λ f. Err f) q)) (λ ne. c.keep.ensures.quiet (λ q. ne cc)))
+    let P : RunFault → Type 0 = λ f. IsCaused {A = Unit} g.K.Keeper.fault_count c.args.keepers.now.items (set c.args.keepers.now.items c.args.level c.keep.new.keeper) (Err f) in
+    subst P (sym c.on.ensures) (caused c.args.keepers.now.items c.args.level c.index_mut-keeper.result.now c.keep.new.keeper within c.index_mut-keeper.ensures.value g.K.Keeper.fault_count (Unit) c.in-Err.fault (λ q. c.keep.ensures.cause (c.in-Err.is ∙ ap (λ f. Err f) q)) (λ ne. c.keep.ensures.quiet (λ q. ne cc)))
 
 pub returns-in-Err-clause-others : goal.returns-in-Err-clause-others
 returns-in-Err-clause-others g c =
@@ -68,8 +68,8 @@ pub returns-in-Ok-clause-short : goal.returns-in-Ok-clause-short
 returns-in-Ok-clause-short g c most fits short =
     let kept = c.in-Ok.ensures.ok in
     let bytes : length c.args.self.now.buffer.items ≤ most = omega (arith, fits, c.args.self.now.buffer.ok.0) in
-    let read : c.as_slice.result.now ≡ c.args.self.now.buffer.items = c.as_slice.ensures.value in
-    short_kept most c.args.level c.args.n kept.slot c.as_slice.result.now c.args.self.now.store c.keep.new.self (omega (arith, bytes, ap length read)) kept.pairs
+    let read : c.as_slice-bytes.result.now ≡ c.args.self.now.buffer.items = c.as_slice-bytes.ensures.value in
+    short_kept most c.args.level c.args.n kept.slot c.as_slice-bytes.result.now c.args.self.now.store c.keep.new.self (omega (arith, bytes, ap length read)) kept.pairs
     (λ j ne. ap (λ (s : List ShelfState). level_of s j) c.keep.ensures.others ∙ get_or-set_other c.args.self.now.store c.args.level j (level_of c.keep.new.self c.args.level) (level_of [] 0) ne) short
 
 pub returns-in-Err-clause-short : goal.returns-in-Err-clause-short
@@ -80,6 +80,6 @@ returns-in-Err-clause-roomy g c most has fits e =
     let within : c.args.level < length c.args.keepers.now.items = omega (arith, c.requires.there, c.args.keepers.now.ok.0) in
     let at = roomy_still most _ _ (sym (seen_before c.args.keepers.now.items c.args.level c.index_mut-keeper.result.now c.keep.new.keeper within c.index_mut-keeper.ensures.value None g.K.Keeper.room_bytes)) has in
     let room = roomy_is most _ at in
-    let bytes : length c.as_slice.result.now ≤ room.0 = omega (arith, fits, room.2, c.args.self.now.buffer.ok.0, ap length c.as_slice.ensures.value) in
+    let bytes : length c.as_slice-bytes.result.now ≤ room.0 = omega (arith, fits, room.2, c.args.self.now.buffer.ok.0, ap length c.as_slice-bytes.ensures.value) in
     let is : c.in-Err.fault ≡ store.Memory = memory_is c.args.level c.in-Err.fault (sym c.on.ensures ∙ cc) in
     c.keep.ensures.roomy room.0 room.1 bytes (c.in-Err.is ∙ ap (λ f. Err f) is)

@@ -46,8 +46,8 @@ returns-in-Ok-clause-caused g c =
 pub returns-in-Err-clause-caused : goal.returns-in-Err-clause-caused
 returns-in-Err-clause-caused g c =
     let within : c.args.level < length c.args.keepers.now.items = omega (arith, c.requires.there, c.args.keepers.now.ok.0) in
-    let P : RunFault → Type 0 = λ f. IsCaused g.K.Keeper.fault_count c.args.keepers.now.items (set c.args.keepers.now.items c.args.level c.release.new.keeper) (Err f) in
-    subst P (sym c.on.ensures) (caused c.args.keepers.now.items c.args.level c.index_mut-keeper.result.now c.release.new.keeper within c.index_mut-keeper.ensures.value g.K.Keeper.fault_count c.in-Err.fault (λ q. c.release.ensures.cause (c.in-Err.is ∙ ap (λ f. Err f) q)) (λ ne. c.release.ensures.quiet (λ q. ne cc)))
+    let P : RunFault → Type 0 = λ f. IsCaused {A = Unit} g.K.Keeper.fault_count c.args.keepers.now.items (set c.args.keepers.now.items c.args.level c.release.new.keeper) (Err f) in
+    subst P (sym c.on.ensures) (caused c.args.keepers.now.items c.args.level c.index_mut-keeper.result.now c.release.new.keeper within c.index_mut-keeper.ensures.value g.K.Keeper.fault_count (Unit) c.in-Err.fault (λ q. c.release.ensures.cause (c.in-Err.is ∙ ap (λ f. Err f) q)) (λ ne. c.release.ensures.quiet (λ q. ne cc)))
 
 pub returns-in-Err-clause-others : goal.returns-in-Err-clause-others
 returns-in-Err-clause-others g c =

@@ -2,7 +2,7 @@ use Rattle.std.proofs.Common.{◌∙◌, ap, sym}
 use Rattle.unit_lines.specs.declared.entry.Entry.{Entry}
 use Rattle.unit_lines.specs.Waiting.{whole_line}
 use Rattle.unit_lines.proofs.Gathering.{maps_meet}
-use Rattle.unit_lines.proofs.batch.finish_all.Goals as goal
+use Rattle.unit_lines.proofs.batch.finish_each.Goals as goal
 
 pub returns : goal.returns
 returns g c = maps_meet (whole_line c.args.images.now) c.args.entries.now c.for_each_mut.new.s c.for_each_mut.auto.s (λ k d l.

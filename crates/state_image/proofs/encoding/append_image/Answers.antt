@@ -1,5 +1,5 @@
 use Rattle.state_image.proofs.Stored.{no_marks}
-use Rattle.state_image.proofs.encoding.encode_image.Goals as goal
+use Rattle.state_image.proofs.encoding.append_image.Goals as goal
 
 pub mark_stored-count-requires-clause-unmarked : goal.mark_stored-count-requires-clause-unmarked
 mark_stored-count-requires-clause-unmarked c = λ k. no_marks 4096 k

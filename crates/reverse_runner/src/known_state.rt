@@ -1,0 +1,158 @@
+// A state, and the digest of its image where it is known.
+ghost use Rattle.std.specs.Prelude.{◌≡◌, ◌+◌, ◌≤◌, ◌∷◌, length, OnOk, OnErr};
+ghost use Rattle.rv_machine.specs.States.{state_number};
+ghost use Rattle.rv_machine.specs.Watching.{CanNote, AreNoted};
+ghost use Rattle.rv_pages.specs.Memory.{page_numbers};
+ghost use Rattle.sha2.specs.Sha256.{sha256};
+ghost use Rattle.state_image.specs.Image.{image};
+ghost use Rattle.state_image.specs.Line.{line};
+ghost use Rattle.unit_undo.specs.Entry.{Entry, undone};
+ghost use Rattle.unit_undo.specs.Leading.{led_back};
+ghost use Rattle.unit_undo.specs.UndoState.{CanGoBack};
+ghost use Rattle.reverse_runner.specs.Acts.{IsDecoded};
+ghost use Rattle.reverse_runner.specs.KnownDigests.{IsDigestOf, IsDigestOfLast};
+ghost use Rattle.reverse_runner.specs.Standing.{IsNoImage};
+
+use input_journal::Journal;
+use plan_types::Line;
+use rv_machine::{State, Steps, Watch, advance, advance_watched};
+use state_image::{ImageFault, decode_image, image_digest, line_front, push_digest};
+use std::marker::Model;
+use std::sync::ledger::Ledger;
+use unit_undo::Undo;
+
+/// A state of the machine, with the SHA-256 of its image where that is known: it was made from these bytes. So the digest of a
+/// state that was fetched isn't taken again. Contracts see the state alone.
+#[derive(Drop)]
+pub struct KnownState {
+    state: State,
+    digest: Option<[u8; 32]>,
+}
+
+impl Model for KnownState {
+    ghost use Rattle.rv_machine.specs.MachineState.{MachineState};
+    ghost use Rattle.rv_machine.specs.StateCode.{state_code};
+    ghost use Rattle.reverse_runner.specs.KnownDigests.{IsDigestOf};
+
+    ghost Value = { MachineState };
+
+    ghost coded = { state_code };
+
+    ghost view = { λ s. s.state };
+
+    ghost invariant = { λ s. IsDigestOf s.digest s.state };
+}
+
+impl KnownState {
+    /// A state of which no digest is known.
+    pub fn new(state: State) -> KnownState
+        ensures { result ≡ state }
+    {
+        KnownState {
+            state,
+            digest: None,
+        }
+    }
+
+    /// The state alone.
+    pub fn state(&self) -> &State
+        ensures { result.now ≡ self.now }
+    {
+        &self.state
+    }
+
+    /// The SHA-256 of its image. It takes no memory, and where it is known no time.
+    pub fn digest(&self) -> [u8; 32]
+        ensures { result ≡ sha256 (image self.now) }
+    {
+        match self.digest {
+            Some(digest) => digest,
+            None => image_digest(&self.state),
+        }
+    }
+
+    /// Writes the line of the state with the number `n`, in place of what was in `text`. It takes no memory.
+    pub fn show(&self, n: u32, text: &mut Line)
+        ensures text { text.new ≡ line n self.now }
+        ensures short { length text.new ≤ 420 }
+    {
+        line_front(n, &self.state, text);
+        push_digest(text, &self.digest());
+    }
+
+    /// The digest where it is known.
+    pub(crate) fn known(&self) -> Option<[u8; 32]>
+        ensures { IsDigestOf result self.now }
+    {
+        self.digest
+    }
+
+    /// Takes so many steps of the machine.
+    pub fn advance<L: Ledger>(&mut self, journal: &Journal, count: u32, steps: &mut Steps<L>)
+        ensures states { self.new ≡ state_number self.old journal.now count }
+        ensures counted { steps.new ≡ steps.old + count }
+        ensures mapped { page_numbers self.new.memory ≡ page_numbers self.old.memory }
+    {
+        self.digest = None;
+        advance(&mut self.state, journal, count, steps);
+    }
+
+    /// The same, and a watch looks at each step before it is taken.
+    pub(crate) fn advance_watched<L: Ledger, W: Watch>(
+        &mut self,
+        journal: &Journal,
+        count: u32,
+        steps: &mut Steps<L>,
+        watch: &mut W,
+    )
+        requires { CanNote W.can_note W.noted self.old journal.now count watch.old }
+        ensures states { self.new ≡ state_number self.old journal.now count }
+        ensures counted { steps.new ≡ steps.old + count }
+        ensures mapped { page_numbers self.new.memory ≡ page_numbers self.old.memory }
+        ensures noted { AreNoted W.noted self.old journal.now count watch.old watch.new }
+    {
+        self.digest = None;
+        advance_watched(&mut self.state, journal, count, steps, watch);
+    }
+
+    /// Makes this state the other one, which has the same pages.
+    pub(crate) fn copy_from(&mut self, other: &KnownState)
+        requires { page_numbers self.old.memory ≡ page_numbers other.now.memory }
+        ensures { self.new ≡ other.now }
+    {
+        self.state.copy_from(&other.state);
+        self.digest = other.digest;
+    }
+
+    /// Undoes the step of the last entry of an undo list, and takes the entry away. `first` is the digest of the first state of
+    /// the list where it is known.
+    pub(crate) fn back(&mut self, undo: &mut Undo, first: &Option<[u8; 32]>)
+        requires back { CanGoBack undo.old.entries self.old }
+        requires first { IsDigestOfLast first.now (led_back undo.old.entries self.old) }
+        ensures back { (e : Entry) × ((undo.old ≡ record undo.new { entries = e ∷ undo.new.entries }) × (self.new ≡ undone e self.old)) }
+        ensures pages { page_numbers self.new.memory ≡ page_numbers self.old.memory }
+    {
+        undo.back(&mut self.state);
+        self.digest = match undo.count() {
+            0 => *first,
+            _ => None,
+        };
+    }
+
+    /// Makes this state the one of an image with a digest. After a refusal it is as before.
+    pub fn decode(&mut self, bytes: &[u8], digest: &[u8; 32]) -> Result<(), ImageFault>
+        requires { digest.now ≡ sha256 bytes.now }
+        ensures decoded { OnOk result (IsDecoded self.old self.new bytes.now) }
+        ensures refused { OnErr result ((self.new ≡ self.old) × IsNoImage self.old bytes.now) }
+        ensures pages { page_numbers self.new.memory ≡ page_numbers self.old.memory }
+    {
+        match decode_image(bytes, &mut self.state) {
+            Ok(()) => {
+                self.digest = Some(*digest);
+                self.state.is_machine_state();
+                Ok(())
+            }
+            Err(fault) => Err(fault),
+        }
+    }
+}
