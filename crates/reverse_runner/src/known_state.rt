@@ -1,10 +1,11 @@
 // A state, and the digest of its image where it is known.
-ghost use Rattle.std.specs.Prelude.{◌≡◌, ◌+◌, ◌≤◌, ◌∷◌, length, OnOk, OnErr};
+ghost use Rattle.std.specs.Prelude.{◌≡◌, ◌↔◌, ℕ, ◌+◌, ◌≤◌, ◌∷◌, length, None, Some, Err, OnOk, OnErr};
 ghost use Rattle.rv_machine.specs.States.{state_number};
 ghost use Rattle.rv_machine.specs.Watching.{CanNote, AreNoted};
 ghost use Rattle.rv_pages.specs.Memory.{page_numbers};
 ghost use Rattle.sha2.specs.Sha256.{sha256};
 ghost use Rattle.state_image.specs.Image.{image};
+ghost use Rattle.state_image.specs.ImageForm.{first_wrong, first_unmapped};
 ghost use Rattle.state_image.specs.Line.{line};
 ghost use Rattle.unit_undo.specs.Entry.{Entry, undone};
 ghost use Rattle.unit_undo.specs.Leading.{led_back};
@@ -142,6 +143,9 @@ impl KnownState {
     /// Makes this state the one of an image with a digest. After a refusal it is as before.
     pub fn decode(&mut self, bytes: &[u8], digest: &[u8; 32]) -> Result<(), ImageFault>
         requires { digest.now ≡ sha256 bytes.now }
+        ensures not_image { (at : ℕ) → (result ≡ Err (ImageFault.NotImage at)) ↔ (first_wrong bytes.now ≡ Some at) }
+        ensures other_pages { (page : ℕ) → (result ≡ Err (ImageFault.OtherPages page)) ↔ ((first_wrong bytes.now ≡ None)
+            × (first_unmapped bytes.now (page_numbers self.old.memory) ≡ Some page)) }
         ensures decoded { OnOk result (IsDecoded self.old self.new bytes.now) }
         ensures refused { OnErr result ((self.new ≡ self.old) × IsNoImage self.old bytes.now) }
         ensures pages { page_numbers self.new.memory ≡ page_numbers self.old.memory }

@@ -15,4 +15,4 @@ pub use crate::decoding::decode_image;
 pub use crate::encoding::{append_image, encode_image, max_image};
 pub use crate::fault::ImageFault;
 pub use crate::image::image_digest;
-pub use crate::text::{line_front, push_digest, state_line};
+pub use crate::text::{line_front, push_digest};

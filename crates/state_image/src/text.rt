@@ -2,20 +2,10 @@
 ghost use Rattle.std.specs.Prelude.{◌≡◌, ◌+◌, ◌≤◌, ◌++◌, length, drop, codes, decimal};
 ghost use Rattle.std.specs.List.{flat_map};
 ghost use Rattle.hex.specs.Hex.{encode_lower};
-ghost use Rattle.state_image.specs.Line.{line, line_front, hex_word, status_word};
+ghost use Rattle.state_image.specs.Line.{line_front, hex_word, status_word};
 
-use crate::image::image_digest;
 use plan_types::Line;
 use rv_machine::{State, Status};
-
-/// Writes the line of the state with the number `n`, in place of what was in `text`. It takes no memory.
-pub fn state_line(n: u32, state: &State, text: &mut Line)
-    ensures text { text.new ≡ line n state.now }
-    ensures short { length text.new ≤ 420 }
-{
-    line_front(n, state, text);
-    push_digest(text, &image_digest(state));
-}
 
 /// Writes the line of the state with the number `n` but for its digest, in place of what was in `text`. It takes no memory.
 pub fn line_front(n: u32, state: &State, text: &mut Line)

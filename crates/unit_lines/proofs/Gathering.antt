@@ -1,9 +1,9 @@
--- The lines that wait, as one is added, and as all of them are made whole.
-use Rattle.std.proofs.Common.{◌≡◌, ℕ, suc, ◌+◌, ◌≤◌, ◌<◌, List, [], ◌∷◌, ◌++◌, length, take, drop, map, get_or, refl, ap, ◌∙◌, arith}
+-- The lines that wait, as one is added.
+use Rattle.std.proofs.Common.{◌≡◌, ℕ, ◌+◌, ◌≤◌, List, [], ◌∷◌, ◌++◌, length, take, drop, map, Option, None, refl, ap, sym, subst, ◌∙◌, arith}
 use Rattle.std.proofs.lemmas.List.{take_all, drop_all, take-append-le, drop-append-le, length-drop, length-append}
 use Rattle.std.proofs.lemmas.List.{map-append}
 use Rattle.std.specs.List.{AllByRecursion}
-use Rattle.std.specs.Prelude.{codes}
+use Rattle.std.specs.Prelude.{codes, IfSome}
 use Rattle.hex.specs.Hex.{encode_lower}
 use Rattle.sha2.specs.Sha256.{sha256}
 use Rattle.unit_lines.specs.declared.entry.Entry.{Entry}
@@ -35,19 +35,15 @@ one_more_waits images more entries e all start size =
     map-append (whole_line (images ++ more)) entries (e ∷ [])
     ∙ (λ i. same_lines images more entries all i ++ (e.line ++ codes " " ++ encode_lower (sha256 (last_image images more e start size i)) ++ 10 ∷ []) ∷ [])
 
-pub one_more_entry : (images more : List ℕ) (entries : List Entry) (e : Entry) → AllByRecursion (IsEntry images) entries → length e.line ≤ 355 → e.start ≡ length images → e.size ≡ length more →
-    AllByRecursion (IsEntry (images ++ more)) (entries ++ e ∷ [])
-one_more_entry images more [] e all short start size = ((short, omega (arith, start, size, length-append images more)), tt)
-one_more_entry images more (x ∷ entries) e all short start size =
-    ((all.0.0, (let inside = all.0.1 in omega (arith, inside, length-append images more))), one_more_entry images more entries e all.1 short start size)
+-- the digest that is known of an image is known of it when others come behind it
+same_digest : (images more : List ℕ) (e : Entry) → IsEntry images e → IfSome e.digest (λ digest. digest ≡ sha256 (image_in (images ++ more) e))
+same_digest images more e is = subst (λ (bytes : List ℕ). IfSome e.digest (λ digest. digest ≡ sha256 bytes)) (sym (same_image images more e is.1)) is.2
 
--- Where each line of some entries is what a call made of the entry at its place, the lines are those of all entries.
-pub maps_meet : (whole : Entry → List ℕ) (old new : List Entry) → length new ≡ length old → ((k : ℕ) (d : Entry) → k < length old → (get_or new k d).line ≡ whole (get_or old k d)) →
-    map (λ (e : Entry). e.line) new ≡ map whole old
-maps_meet whole [] [] size each = refl
-maps_meet whole [] (y ∷ new) size each = absurd (omega (arith, size))
-maps_meet whole (x ∷ old) [] size each = absurd (omega (arith, size))
-maps_meet whole (x ∷ old) (y ∷ new) size each =
-    let here : y.line ≡ whole x = each 0 x (omega arith) in
-    let rest = maps_meet whole old new (omega (arith, size)) (λ k d l. each (suc k) d (omega (arith, l))) in
-    λ i. here i ∷ rest i
+not_taken : (images : List ℕ) (e : Entry) → e.digest ≡ None → IfSome e.digest (λ digest. digest ≡ sha256 (image_in images e))
+not_taken images e none = subst (λ (d : Option (List ℕ)). IfSome d (λ digest. digest ≡ sha256 (image_in images e))) (sym none) tt
+
+pub one_more_entry : (images more : List ℕ) (entries : List Entry) (e : Entry) → AllByRecursion (IsEntry images) entries → length e.line ≤ 355 → e.start ≡ length images → e.size ≡ length more → e.digest ≡ None →
+    AllByRecursion (IsEntry (images ++ more)) (entries ++ e ∷ [])
+one_more_entry images more [] e all short start size none = ((short, omega (arith, start, size, length-append images more), not_taken (images ++ more) e none), tt)
+one_more_entry images more (x ∷ entries) e all short start size none =
+    ((all.0.0, (let inside = all.0.1 in omega (arith, inside, length-append images more)), same_digest images more x all.0), one_more_entry images more entries e all.1 short start size none)

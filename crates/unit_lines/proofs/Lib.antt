@@ -1,3 +1,4 @@
 pub mod Gathering
+pub mod Putting
 pub mod Chaining
 pub mod Gathered

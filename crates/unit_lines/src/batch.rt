@@ -1,34 +1,35 @@
 // Lines that wait, and how they are written.
-ghost use Rattle.std.specs.Prelude.{◌≡◌, ◌+◌, ◌*◌, ◌≤◌, ◌<◌, [], ◌∷◌, ◌++◌, IfOk, IsTrue, IsFalse, map};
+ghost use Rattle.std.specs.Prelude.{◌≡◌, [], ◌∷◌, ◌++◌, IfOk, IsTrue, IsFalse, map};
 ghost use Rattle.std.specs.List.{AllByRecursion};
-ghost use denote.Param.Send.{IsSync};
 ghost use Rattle.state_image.specs.Line.{line};
 ghost use Rattle.unit_lines.specs.Sending.{WritesOrBreaks};
 ghost use Rattle.unit_lines.specs.Waiting.{whole_line, IsEntry};
 
 use crate::entry::Entry;
+use crate::sharing::{Taken, lists_for, put_digests, take_digests};
 use keepers::{Sink, SinkFault};
 use plan_types::Line;
 use rv_machine::State;
 use state_image::{append_image, line_front, max_image};
 use std::alloc::{AllocError, Global};
 use std::marker::Model;
-use std::thread;
+use std::sync::atomic::AtomicUsize;
 use std::thread::Threads;
 
 /// The most bytes of images that wait at once.
 pub const BATCH_BYTES: u32 = 64 * 1024 * 1024;
 
-/// The lines of states that wait for their digests, and how many workers take these. Only `begin` takes memory: for as many
-/// entries as the unit, and for the images.
+/// The lines of states that wait for their digests. Only `begin` takes memory: for as many entries as the unit, for the images, and
+/// for the digests that each worker takes.
 #[derive(Drop)]
 pub struct LineBatch {
-    workers: u32,
     // How many entries there may be, and how many bytes of images.
     unit: u32,
     room: u32,
     entries: Vec<Entry>,
     images: Vec<u8>,
+    // The digests that each worker took last.
+    taken: Vec<Vec<Taken>>,
 }
 
 impl Model for LineBatch {
@@ -54,17 +55,17 @@ impl LineBatch {
     ) -> Result<LineBatch, AllocError>
         ensures { IfOk result (λ batch. batch ≡ []) }
     {
-        let unit = match workers > 1 && unit > 1 {
-            true => unit,
-            false => 0,
+        let (unit, workers) = match workers > 1 && unit > 1 {
+            true => (unit, workers),
+            false => (0, 0),
         };
         let room = (max_image(start) as u64 * unit as u64).min(BATCH_BYTES as u64) as u32;
         Ok(LineBatch {
-            workers,
             unit,
             room,
             entries: Vec::with_capacity(alloc, unit as usize)?,
             images: Vec::with_capacity(alloc, room as usize)?,
+            taken: lists_for(alloc, unit, workers)?,
         })
     }
 
@@ -83,7 +84,15 @@ impl LineBatch {
         let size = self.images.len() - start;
         let mut line = Line::new();
         line_front(n, state, &mut line);
-        self.entries.push(Entry { line, start, size }).unwrap();
+        let digest = None;
+        self.entries
+            .push(Entry {
+                line,
+                start,
+                size,
+                digest,
+            })
+            .unwrap();
         true
     }
 
@@ -97,11 +106,11 @@ impl LineBatch {
         ensures empty { self.new ≡ [] }
         ensures wrote { WritesOrBreaks O.told O.call_count O.fault_count self.old result out.old out.new }
     {
-        finish_all(rt, &self.images, self.workers, &mut self.entries);
-        let written = write_all(&self.entries, out);
-        self.entries.clear();
-        self.images.clear();
-        written
+        let workers = self.taken.len().min(self.entries.len());
+        let lists = &mut self.taken[..workers];
+        take_digests(rt, &self.images, &self.entries, &AtomicUsize::new(0), lists);
+        put_digests(&self.images, &mut self.entries, lists);
+        self.write_alone(out)
     }
 
     /// The same, by the caller alone.
@@ -116,69 +125,7 @@ impl LineBatch {
     }
 }
 
-// Makes all lines whole, by so many workers: each has a part of the entries, and the caller the last one. It starts all threads
-// itself, since one that is to start others may wait for a processor until the caller is done.
-#[cycle(parts)]
-fn finish_all<R: Threads + Sync>(rt: &R, images: &[u8], workers: u32, entries: &mut [Entry])
-    requires { AllByRecursion (IsEntry images.now) entries.old }
-    ensures { map (λ e. e.line) entries.new ≡ map (whole_line images.now) entries.old }
-{
-    if workers < 2 || entries.len() < 2 {
-        return finish_each(rt, images, entries);
-    }
-    let part = (entries.len() / workers as usize).max(1).min(entries.len());
-    let (front, back) = entries.split_at_mut(part);
-    finish_parts(rt, images, workers - 1, front, back);
-}
-
-// Makes the lines of a part whole in a thread, and those behind it by the other workers.
-#[cycle(parts)]
-fn finish_parts<R: Threads + Sync>(
-    rt: &R,
-    images: &[u8],
-    others: u32,
-    front: &mut [Entry],
-    back: &mut [Entry],
-)
-    requires front { AllByRecursion (IsEntry images.now) front.old }
-    requires back { AllByRecursion (IsEntry images.now) back.old }
-    ensures front { map (λ e. e.line) front.new ≡ map (whole_line images.now) front.old }
-    ensures back { map (λ e. e.line) back.new ≡ map (whole_line images.now) back.old }
-{
-    let mut first = ||
-        requires { IsSync R.row × AllByRecursion (IsEntry images.now) front.now }
-        ensures { map (λ e. e.line) front.exit.now ≡ map (whole_line images.entry.now) front.entry.now }
-    { finish_each(rt, images, front) };
-    let mut behind = ||
-        requires { IsSync R.row × AllByRecursion (IsEntry images.now) back.now }
-        ensures { map (λ e. e.line) back.exit.now ≡ map (whole_line images.entry.now) back.entry.now }
-    { finish_all(rt, images, others, back) };
-    thread::join_mut(rt, &mut first, &mut behind);
-}
-
-// Makes lines whole, one after the other.
-fn finish_each<R: Threads + Sync>(rt: &R, images: &[u8], entries: &mut [Entry])
-    requires { AllByRecursion (IsEntry images.now) entries.old }
-    ensures { map (λ e. e.line) entries.new ≡ map (whole_line images.now) entries.old }
-{
-    let finish = |_: usize, entry: &mut Entry|
-        requires { IsEntry images.now entry.now }
-        ensures { entry.exit.now.line ≡ whole_line images.entry.now entry.entry.now }
-    { entry.finish(images) };
-    thread::for_each_mut(rt, entries, 1, &finish);
-}
-
-// Writes lines that are whole.
-fn write_all<O: Sink>(entries: &[Entry], out: &mut O) -> Result<(), SinkFault>
-    ensures { WritesOrBreaks O.told O.call_count O.fault_count (map (λ e. e.line) entries.now) result out.old out.new }
-{
-    for entry in entries {
-        out.write(entry.line.bytes())?;
-    }
-    Ok(())
-}
-
-// Writes lines that are not whole yet, by the images of their states.
+// Writes lines, each in one call.
 fn write_each<O: Sink>(entries: &[Entry], images: &[u8], out: &mut O) -> Result<(), SinkFault>
     requires { AllByRecursion (IsEntry images.now) entries.now }
     ensures { WritesOrBreaks O.told O.call_count O.fault_count (map (whole_line images.now) entries.now) result out.old out.new }

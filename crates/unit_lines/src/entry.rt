@@ -1,29 +1,33 @@
 // A line that waits.
 ghost use Rattle.std.specs.Prelude.{◌≡◌, []};
+ghost use Rattle.sha2.specs.Sha256.{sha256};
 ghost use Rattle.unit_lines.specs.declared.entry.Entry.{Entry};
-ghost use Rattle.unit_lines.specs.Waiting.{whole_line, IsEntry};
+ghost use Rattle.unit_lines.specs.Waiting.{image_in, whole_line, IsEntry};
 
 use plan_types::Line;
 use sha2::{Digest, Sha256};
 use state_image::push_digest;
 
-/// The front of a line that waits for its digest, and where the image of its state lies among those of all lines that wait.
+/// The front of a line that waits for its digest, and where the image of its state lies among those of all lines that wait. The
+/// digest is there once a worker has taken it.
 #[derive(Drop)]
 pub(crate) struct Entry {
     pub line: Line,
     pub start: usize,
     pub size: usize,
+    pub digest: Option<[u8; 32]>,
 }
 
 impl Entry {
-    /// Makes the line whole.
-    pub(crate) fn finish(&mut self, images: &[u8])
-        requires { IsEntry images.now self.old }
-        ensures { self.new.line ≡ whole_line images.now self.old }
+    /// The digest of its image.
+    pub(crate) fn digest(&self, images: &[u8]) -> [u8; 32]
+        requires { IsEntry images.now self.now }
+        ensures { result ≡ sha256 (image_in images.now self.now) }
     {
-        let image = &images[self.start..self.start + self.size];
-        push_digest(&mut self.line, &Sha256::digest(image));
-        self.line.push(b"\n");
+        match self.digest {
+            Some(digest) => digest,
+            None => Sha256::digest(&images[self.start..self.start + self.size]),
+        }
     }
 
     /// Writes the line whole into a text that is empty.
@@ -32,9 +36,8 @@ impl Entry {
         requires empty { text.old ≡ [] }
         ensures { text.new ≡ whole_line images.now self.now }
     {
-        let image = &images[self.start..self.start + self.size];
         text.push(self.line.bytes());
-        push_digest(text, &Sha256::digest(image));
+        push_digest(text, &self.digest(images));
         text.push(b"\n");
     }
 }

@@ -6,6 +6,7 @@
 
 mod batch;
 mod entry;
+mod sharing;
 mod writer;
 
 pub use crate::batch::{BATCH_BYTES, LineBatch};

@@ -1,4 +1,4 @@
-use Rattle.std.proofs.Common.{◌≡◌, ◌-◌, ◌∙◌, ap, ◌++◌, ◌∷◌, [], List, ℕ, length, map, sym, subst, arith, rules}
+use Rattle.std.proofs.Common.{◌≡◌, ◌-◌, ◌∙◌, ap, ◌++◌, ◌∷◌, [], List, ℕ, length, map, None, refl, sym, subst, arith, rules}
 use Rattle.std.proofs.lemmas.List.{length-append}
 use Rattle.std.specs.List.{AllByRecursion}
 use Rattle.std.specs.Prelude.{codes}
@@ -12,13 +12,13 @@ use Rattle.unit_lines.proofs.batch.LineBatch.gather.Goals as goal
 
 pub invariant_of-self : goal.invariant_of-self
 invariant_of-self c =
-    let e : Entry = record { line = c.line_front.new.text; start = c.len-start.result; size = c.len-2.result - c.len-start.result } in
+    let e : Entry = record { line = c.line_front.new.text; start = c.len-start.result; size = c.len-2.result - c.len-start.result; digest = None } in
     let entries : c.push.new.self.items ≡ c.self.inside.entries.items ++ e ∷ [] = search rules in
     let images = c.append_image.ensures.image in
     let start : e.start ≡ length c.self.inside.images.items = omega (arith, c.len-start.ensures, c.self.inside.images.ok.0) in
     let size : e.size ≡ length (image c.args.state.now) =
     omega (arith, c.len-2.ensures, c.append_image.new.into.ok.0, ap length images, length-append c.self.inside.images.items (image c.args.state.now), start) in
-    let all = one_more_entry c.self.inside.images.items (image c.args.state.now) c.self.inside.entries.items e c.self.invariant.entries c.line_front.ensures.short start size in
+    let all = one_more_entry c.self.inside.images.items (image c.args.state.now) c.self.inside.entries.items e c.self.invariant.entries c.line_front.ensures.short start size refl in
     record {
       entries = subst (λ (bytes : List ℕ). AllByRecursion (IsEntry bytes) c.push.new.self.items) (sym images) (subst (AllByRecursion (IsEntry (c.self.inside.images.items ++ image c.args.state.now))) (sym entries) all);
       images_reserved = omega (arith, c.self.invariant.images_reserved, c.append_image.ensures.reserved);
@@ -28,7 +28,7 @@ invariant_of-self c =
 
 pub returns-clause-added : goal.returns-clause-added
 returns-clause-added c t =
-    let e : Entry = record { line = c.line_front.new.text; start = c.len-start.result; size = c.len-2.result - c.len-start.result } in
+    let e : Entry = record { line = c.line_front.new.text; start = c.len-start.result; size = c.len-2.result - c.len-start.result; digest = None } in
     let entries : c.push.new.self.items ≡ c.self.inside.entries.items ++ e ∷ [] = search rules in
     let images = c.append_image.ensures.image in
     let start : e.start ≡ length c.self.inside.images.items = omega (arith, c.len-start.ensures, c.self.inside.images.ok.0) in
