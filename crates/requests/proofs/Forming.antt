@@ -4,12 +4,8 @@ use Rattle.std.specs.Option.{option_or}
 use Rattle.requests.specs.declared.request.Command as in_memory
 use Rattle.requests.specs.Reading.{Gives, ◌>>=◌}
 use Rattle.requests.specs.Request.{Command}
-use Rattle.requests.specs.Forms.{Place, Value, Values, all_taken, Takes, finished, Form, form_taken}
+use Rattle.requests.specs.Forms.{Place, Value, Values, all_taken, Takes, TakesAll, finished, Form, form_taken}
 use Rattle.requests.specs.RequestReading.{as_command}
-
--- these places took these values, and that was all where nothing is left
-abbrev pub TakesAll : (ps : List Place) → Option (List (List ℕ)) → Values ps → Option (List (List ℕ)) → Type 0
-TakesAll ps old vs last = (old >>= all_taken ps) ≡ finished last vs
 
 pub takes_none : (last : Option (List (List ℕ))) → TakesAll [] last tt last
 takes_none None = refl

@@ -132,6 +132,10 @@ finished None x = None
 finished (Some []) x = Some x
 finished (Some (word ∷ words)) x = None
 
+-- these places took these values, and that was all where nothing is left
+abbrev pub TakesAll : (ps : List Place) → Option (List (List ℕ)) → Values ps → Option (List (List ℕ)) → Type 0
+TakesAll ps old vs last = (old >>= all_taken ps) ≡ finished last vs
+
 -- a form, and the command that its values are
 pub record Form : Type 0 where
   pub places : List Place
@@ -182,9 +186,12 @@ price_form = record {
 }
 
 -- a question by its word, and what stands at its end
+abbrev pub ask_places : List ℕ → Place → List Place
+ask_places word p = fixed (codes "ask") ∷ fixed word ∷ named ∷ named_or_none ∷ named ∷ schedule_named ∷ numbered ∷ p ∷ []
+
 abbrev pub ask_form : List ℕ → (p : Place) → (Value p → Question) → Form
 ask_form word p question = record {
-  places = fixed (codes "ask") ∷ fixed word ∷ named ∷ named_or_none ∷ named ∷ schedule_named ∷ numbered ∷ p ∷ [];
+  places = ask_places word p;
   make = λ v. ask (record {
     question = question v.1.1.1.1.1.1.1.0;
     run = record { program = v.1.1.0; journal = v.1.1.1.0; book = v.1.1.1.1.0; steps = v.1.1.1.1.1.1.0 };

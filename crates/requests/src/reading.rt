@@ -1,9 +1,9 @@
 // A command is read by its form: a line for each of its words and operands, in their order.
-ghost use Rattle.std.specs.Prelude.{◌≡◌, map, codes};
+ghost use Rattle.std.specs.Prelude.{◌≡◌, ℕ, List, Option, map, codes, option_map};
 ghost use Rattle.requests.specs.Reading.{Gives};
 ghost use Rattle.requests.specs.Request.{kind_word};
 ghost use Rattle.requests.specs.declared.question.Question.TheVariants as about;
-ghost use Rattle.requests.specs.Forms.{numbered, addressed, run_form, plan_form, periodic_form, check_form, certify_form, price_form, ask_form, find_form, assemble_form, disassemble_form, move_about_form, demo_form, form_taken, command_of};
+ghost use Rattle.requests.specs.Forms.{Place, Value, Takes, TakesAll, ask_places, numbered, addressed, run_form, plan_form, periodic_form, check_form, certify_form, price_form, ask_form, find_form, assemble_form, disassemble_form, move_about_form, demo_form, form_taken, command_of};
 ghost use Rattle.requests.specs.RequestReading.{as_command};
 
 use crate::kind::PlanKind;
@@ -142,24 +142,33 @@ fn read_price(words: &[Vec<u8>]) -> Option<Command<'_>>
     }))
 }
 
-fn read_ask_state(words: &[Vec<u8>]) -> Option<Command<'_>>
-    ensures { Gives as_command result (form_taken (ask_form (codes "state") numbered about.State) (map (λ w. w.items) words.now)) }
+// The words of a question before what it asks about: those that say which question it is, the run, and the schedule.
+fn read_asked<'a>(words: &mut Operands<'a>, word: &[u8]) -> (Run<'a>, &'a [u8])
+    ensures { (p : Place) (v : Value p) (last : Option (List (List ℕ))) → Takes p words.new v last → TakesAll (ask_places word.now p) words.old
+        (tt, (tt, (result.0.program.now, (option_map (λ name. name.now) result.0.journal, (result.0.book.now, (result.1.now, (result.0.steps, (v, tt)))))))) last }
 {
-    let mut words = Operands::of(words);
     words.word(b"ask");
-    words.word(b"state");
+    words.word(word);
     let program = words.name();
     let journal = words.name_or_dash();
     let book = words.name();
     let schedule = words.schedule_name();
     let steps = words.number();
-    let question = Question::State(words.number());
     let run = Run {
         program,
         journal,
         book,
         steps,
     };
+    (run, schedule)
+}
+
+fn read_ask_state(words: &[Vec<u8>]) -> Option<Command<'_>>
+    ensures { Gives as_command result (form_taken (ask_form (codes "state") numbered about.State) (map (λ w. w.items) words.now)) }
+{
+    let mut words = Operands::of(words);
+    let (run, schedule) = read_asked(&mut words, b"state");
+    let question = Question::State(words.number());
     words.finish(Command::Ask(Ask {
         question,
         run,
@@ -171,20 +180,8 @@ fn read_ask_last_write(words: &[Vec<u8>]) -> Option<Command<'_>>
     ensures { Gives as_command result (form_taken (ask_form (codes "last-write") addressed about.LastWrite) (map (λ w. w.items) words.now)) }
 {
     let mut words = Operands::of(words);
-    words.word(b"ask");
-    words.word(b"last-write");
-    let program = words.name();
-    let journal = words.name_or_dash();
-    let book = words.name();
-    let schedule = words.schedule_name();
-    let steps = words.number();
+    let (run, schedule) = read_asked(&mut words, b"last-write");
     let question = Question::LastWrite(words.address());
-    let run = Run {
-        program,
-        journal,
-        book,
-        steps,
-    };
     words.finish(Command::Ask(Ask {
         question,
         run,
@@ -196,20 +193,8 @@ fn read_ask_last_change(words: &[Vec<u8>]) -> Option<Command<'_>>
     ensures { Gives as_command result (form_taken (ask_form (codes "last-change") addressed about.LastChange) (map (λ w. w.items) words.now)) }
 {
     let mut words = Operands::of(words);
-    words.word(b"ask");
-    words.word(b"last-change");
-    let program = words.name();
-    let journal = words.name_or_dash();
-    let book = words.name();
-    let schedule = words.schedule_name();
-    let steps = words.number();
+    let (run, schedule) = read_asked(&mut words, b"last-change");
     let question = Question::LastChange(words.address());
-    let run = Run {
-        program,
-        journal,
-        book,
-        steps,
-    };
     words.finish(Command::Ask(Ask {
         question,
         run,

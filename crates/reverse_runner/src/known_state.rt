@@ -1,5 +1,5 @@
 // A state, and the digest of its image where it is known.
-ghost use Rattle.std.specs.Prelude.{◌≡◌, ◌↔◌, ℕ, ◌+◌, ◌≤◌, ◌∷◌, length, None, Some, Err, OnOk, OnErr};
+ghost use Rattle.std.specs.Prelude.{◌≡◌, ◌↔◌, ℕ, ◌+◌, ◌≤◌, ◌∷◌, length, IfSome, None, Some, Err, OnOk, OnErr};
 ghost use Rattle.rv_machine.specs.States.{state_number};
 ghost use Rattle.rv_machine.specs.Watching.{CanNote, AreNoted};
 ghost use Rattle.rv_pages.specs.Memory.{page_numbers};
@@ -11,7 +11,7 @@ ghost use Rattle.unit_undo.specs.Entry.{Entry, undone};
 ghost use Rattle.unit_undo.specs.Leading.{led_back};
 ghost use Rattle.unit_undo.specs.UndoState.{CanGoBack};
 ghost use Rattle.reverse_runner.specs.Acts.{IsDecoded};
-ghost use Rattle.reverse_runner.specs.KnownDigests.{IsDigestOf, IsDigestOfLast};
+ghost use Rattle.reverse_runner.specs.KnownDigests.{IsDigestOfLast};
 ghost use Rattle.reverse_runner.specs.Standing.{IsNoImage};
 
 use input_journal::Journal;
@@ -81,9 +81,9 @@ impl KnownState {
         push_digest(text, &self.digest());
     }
 
-    /// The digest where it is known.
-    pub(crate) fn known(&self) -> Option<[u8; 32]>
-        ensures { IsDigestOf result self.now }
+    /// The SHA-256 of its image where it is known.
+    pub fn known(&self) -> Option<[u8; 32]>
+        ensures { IfSome result (λ digest. digest ≡ sha256 (image self.now)) }
     {
         self.digest
     }

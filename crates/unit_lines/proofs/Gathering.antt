@@ -1,5 +1,5 @@
 -- The lines that wait, as one is added.
-use Rattle.std.proofs.Common.{◌≡◌, ℕ, ◌+◌, ◌≤◌, List, [], ◌∷◌, ◌++◌, length, take, drop, map, Option, None, refl, ap, sym, subst, ◌∙◌, arith}
+use Rattle.std.proofs.Common.{◌≡◌, ℕ, ◌+◌, ◌≤◌, List, [], ◌∷◌, ◌++◌, length, take, drop, map, refl, ap, sym, subst, ◌∙◌, arith}
 use Rattle.std.proofs.lemmas.List.{take_all, drop_all, take-append-le, drop-append-le, length-drop, length-append}
 use Rattle.std.proofs.lemmas.List.{map-append}
 use Rattle.std.specs.List.{AllByRecursion}
@@ -39,11 +39,13 @@ one_more_waits images more entries e all start size =
 same_digest : (images more : List ℕ) (e : Entry) → IsEntry images e → IfSome e.digest (λ digest. digest ≡ sha256 (image_in (images ++ more) e))
 same_digest images more e is = subst (λ (bytes : List ℕ). IfSome e.digest (λ digest. digest ≡ sha256 bytes)) (sym (same_image images more e is.1)) is.2
 
-not_taken : (images : List ℕ) (e : Entry) → e.digest ≡ None → IfSome e.digest (λ digest. digest ≡ sha256 (image_in images e))
-not_taken images e none = subst (λ (d : Option (List ℕ)). IfSome d (λ digest. digest ≡ sha256 (image_in images e))) (sym none) tt
+-- a digest that is known of the last image
+known_digest : (images more : List ℕ) (e : Entry) → e.start ≡ length images → e.size ≡ length more → IfSome e.digest (λ digest. digest ≡ sha256 more) →
+    IfSome e.digest (λ digest. digest ≡ sha256 (image_in (images ++ more) e))
+known_digest images more e start size known = subst (λ (bytes : List ℕ). IfSome e.digest (λ digest. digest ≡ sha256 bytes)) (sym (last_image images more e start size)) known
 
-pub one_more_entry : (images more : List ℕ) (entries : List Entry) (e : Entry) → AllByRecursion (IsEntry images) entries → length e.line ≤ 355 → e.start ≡ length images → e.size ≡ length more → e.digest ≡ None →
+pub one_more_entry : (images more : List ℕ) (entries : List Entry) (e : Entry) → AllByRecursion (IsEntry images) entries → length e.line ≤ 355 → e.start ≡ length images → e.size ≡ length more → IfSome e.digest (λ digest. digest ≡ sha256 more) →
     AllByRecursion (IsEntry (images ++ more)) (entries ++ e ∷ [])
-one_more_entry images more [] e all short start size none = ((short, omega (arith, start, size, length-append images more), not_taken (images ++ more) e none), tt)
-one_more_entry images more (x ∷ entries) e all short start size none =
-    ((all.0.0, (let inside = all.0.1 in omega (arith, inside, length-append images more)), same_digest images more x all.0), one_more_entry images more entries e all.1 short start size none)
+one_more_entry images more [] e all short start size known = ((short, omega (arith, start, size, length-append images more), known_digest images more e start size known), tt)
+one_more_entry images more (x ∷ entries) e all short start size known =
+    ((all.0.0, (let inside = all.0.1 in omega (arith, inside, length-append images more)), same_digest images more x all.0), one_more_entry images more entries e all.1 short start size known)

@@ -9,6 +9,7 @@ use crate::entry::Entry;
 use crate::sharing::{Taken, lists_for, put_digests, take_digests};
 use keepers::{Sink, SinkFault};
 use plan_types::Line;
+use reverse_runner::KnownState;
 use rv_machine::State;
 use state_image::{append_image, line_front, max_image};
 use std::alloc::{AllocError, Global};
@@ -69,12 +70,14 @@ impl LineBatch {
         })
     }
 
-    /// Adds the line of the state with the number `n`, without its digest yet, where there is room for it and for the longest image
-    /// that the state can have, and tells whether there was.
-    pub fn gather(&mut self, n: u32, state: &State) -> bool
+    /// Adds the line of the state with the number `n`, without its digest where that isn't known yet, if there is room for it and for
+    /// the longest image that the state can have, and tells whether there was.
+    pub fn gather(&mut self, n: u32, state: &KnownState) -> bool
         ensures added { IsTrue result → self.new ≡ self.old ++ (line n state.now ++ 10 ∷ []) ∷ [] }
         ensures full { IsFalse result → self.new ≡ self.old }
     {
+        let digest = state.known();
+        let state = state.state();
         let start = self.images.len();
         let longest = max_image(state) as usize;
         if self.entries.len() >= self.unit as usize || start + longest > self.room as usize {
@@ -84,7 +87,6 @@ impl LineBatch {
         let size = self.images.len() - start;
         let mut line = Line::new();
         line_front(n, state, &mut line);
-        let digest = None;
         self.entries
             .push(Entry {
                 line,

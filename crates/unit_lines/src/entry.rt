@@ -9,7 +9,7 @@ use sha2::{Digest, Sha256};
 use state_image::push_digest;
 
 /// The front of a line that waits for its digest, and where the image of its state lies among those of all lines that wait. The
-/// digest is there once a worker has taken it.
+/// digest is there where it was known, and once a worker has taken it.
 #[derive(Drop)]
 pub(crate) struct Entry {
     pub line: Line,

@@ -58,7 +58,7 @@ impl<'a, O: Sink> Visitor for UnitWriter<'a, O> {
     ghost fault_count = { λ w. O.fault_count w.out.now };
 
     fn state(&mut self, n: u32, state: &KnownState, _journal: &Journal) -> Result<(), VisitFault> {
-        if self.batch.gather(n, state.state()) {
+        if self.batch.gather(n, state) {
             return Ok(());
         }
         match self.write_with(n, state) {
