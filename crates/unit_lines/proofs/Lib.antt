@@ -1,3 +1,4 @@
+pub mod Pooling
 pub mod Gathering
 pub mod Putting
 pub mod Chaining

@@ -20,32 +20,32 @@ all_set P [] k y all is = tt
 all_set P (x ∷ xs) zero y all is = (is, all.1)
 all_set P (x ∷ xs) (suc k) y all is = (all.0, all_set P xs k y all.1 is)
 
-abbrev digest_of : List ℕ → Entry → List ℕ
+abbrev digest_of : List (List ℕ) → Entry → List ℕ
 digest_of images e = sha256 (image_in images e)
 
 some_is : {X : Type 0} (x y : X) → Some x ≡ Some y → x ≡ y
 some_is x y e = cc
 
 -- there is an entry at the place of a digest that a worker took
-pub place_inside : (images : List ℕ) (before after : List Entry) (t : Taken) → StaysWhole images before after → IsTaken images before t → t.place < length after
+pub place_inside : (images : List (List ℕ)) (before after : List Entry) (t : Taken) → StaysWhole images before after → IsTaken images before t → t.place < length after
 place_inside images before after t whole taken =
     let there : slice_get (digests images after) t.place ≡ Some t.digest = ap (λ (ds : List (List ℕ)). slice_get ds t.place) whole.digests ∙ taken in
     let size : length (digests images after) ≡ length after = length-map after (digest_of images) in
     omega (arith, slice_get_within (digests images after) t.place t.digest there, size)
 
 -- it is the digest of that entry's image
-its_digest : (images : List ℕ) (before after : List Entry) (t : Taken) (d : Entry) → StaysWhole images before after → IsTaken images before t → t.digest ≡ sha256 (image_in images (get_or after t.place d))
+its_digest : (images : List (List ℕ)) (before after : List Entry) (t : Taken) (d : Entry) → StaysWhole images before after → IsTaken images before t → t.digest ≡ sha256 (image_in images (get_or after t.place d))
 its_digest images before after t d whole taken =
     let there : slice_get (digests images after) t.place ≡ Some t.digest = ap (λ (ds : List (List ℕ)). slice_get ds t.place) whole.digests ∙ taken in
     let read = slice_get-map (digest_of images) after t.place ∙ ap (option_map (digest_of images)) (slice_get-get_or after t.place d (place_inside images before after t whole taken)) in
     some_is t.digest (sha256 (image_in images (get_or after t.place d))) (sym there ∙ read)
 
 -- it comes to this entry
-pub digest_comes : (images : List ℕ) (before after : List Entry) (t : Taken) (d : Entry) → StaysWhole images before after → IsTaken images before t →
-    (let e = get_or after t.place d in StaysWhole images before (slice_set after t.place (record { line = e.line; start = e.start; size = e.size; digest = Some t.digest })))
+pub digest_comes : (images : List (List ℕ)) (before after : List Entry) (t : Taken) (d : Entry) → StaysWhole images before after → IsTaken images before t →
+    (let e = get_or after t.place d in StaysWhole images before (slice_set after t.place (record { line = e.line; image = e.image; digest = Some t.digest })))
 digest_comes images before after t d whole taken =
     let e = get_or after t.place d in
-    let new : Entry = record { line = e.line; start = e.start; size = e.size; digest = Some t.digest } in
+    let new : Entry = record { line = e.line; image = e.image; digest = Some t.digest } in
     let is = all_at (IsEntry images) after t.place d whole.entries (place_inside images before after t whole taken) in
     record {
       entries = all_set (IsEntry images) after t.place new whole.entries (is.0, is.1, its_digest images before after t d whole taken);
@@ -54,5 +54,5 @@ digest_comes images before after t d whole taken =
     }
 
 -- none came
-pub none_comes : (images : List ℕ) (entries : List Entry) → AllByRecursion (IsEntry images) entries → StaysWhole images entries entries
+pub none_comes : (images : List (List ℕ)) (entries : List Entry) → AllByRecursion (IsEntry images) entries → StaysWhole images entries entries
 none_comes images entries all = record { entries = all; lines = refl; digests = refl }

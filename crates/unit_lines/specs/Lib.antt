@@ -1,3 +1,4 @@
+pub mod Pieces
 pub mod Waiting
 pub mod Sending
 pub mod Lines

@@ -6,12 +6,13 @@ ghost use Rattle.unit_lines.specs.Sending.{WritesOrBreaks};
 ghost use Rattle.unit_lines.specs.Waiting.{whole_line, IsEntry};
 
 use crate::entry::Entry;
+use crate::pool::ImagePool;
 use crate::sharing::{Taken, lists_for, put_digests, take_digests};
 use keepers::{Sink, SinkFault};
 use plan_types::Line;
 use reverse_runner::KnownState;
 use rv_machine::State;
-use state_image::{append_image, line_front, max_image};
+use state_image::{line_front, max_image};
 use std::alloc::{AllocError, Global};
 use std::marker::Model;
 use std::sync::atomic::AtomicUsize;
@@ -24,11 +25,8 @@ pub const BATCH_BYTES: u32 = 64 * 1024 * 1024;
 /// for the digests that each worker takes.
 #[derive(Drop)]
 pub struct LineBatch {
-    // How many entries there may be, and how many bytes of images.
-    unit: u32,
-    room: u32,
     entries: Vec<Entry>,
-    images: Vec<u8>,
+    images: ImagePool,
     // The digests that each worker took last.
     taken: Vec<Vec<Taken>>,
 }
@@ -46,8 +44,8 @@ impl Model for LineBatch {
 }
 
 impl LineBatch {
-    /// A batch without lines, for a run from this state in units of so many steps. Its images take at most `BATCH_BYTES`, and no
-    /// more than a whole unit of the longest. For one worker, or a unit of one step, it takes no memory and no line will wait.
+    /// A batch without lines, for a run from this state in units of so many steps. Its images take at most `BATCH_BYTES`, and what
+    /// one has as the one before it is there once. For one worker, or a unit of one step, it takes no memory and no line will wait.
     pub fn begin(
         alloc: Global,
         start: &State,
@@ -56,16 +54,13 @@ impl LineBatch {
     ) -> Result<LineBatch, AllocError>
         ensures { IfOk result (λ batch. batch ≡ []) }
     {
-        let (unit, workers) = match workers > 1 && unit > 1 {
-            true => (unit, workers),
-            false => (0, 0),
+        let (unit, workers, longest) = match workers > 1 && unit > 1 {
+            true => (unit, workers, max_image(start)),
+            false => (0, 0, 0),
         };
-        let room = (max_image(start) as u64 * unit as u64).min(BATCH_BYTES as u64) as u32;
         Ok(LineBatch {
-            unit,
-            room,
             entries: Vec::with_capacity(alloc, unit as usize)?,
-            images: Vec::with_capacity(alloc, room as usize)?,
+            images: ImagePool::begin(alloc, unit, longest)?,
             taken: lists_for(alloc, unit, workers)?,
         })
     }
@@ -78,20 +73,16 @@ impl LineBatch {
     {
         let digest = state.known();
         let state = state.state();
-        let start = self.images.len();
-        let longest = max_image(state) as usize;
-        if self.entries.len() >= self.unit as usize || start + longest > self.room as usize {
+        let image = self.images.len();
+        if self.entries.len() >= self.entries.capacity() || !self.images.add(state) {
             return false;
         }
-        append_image(state, &mut self.images);
-        let size = self.images.len() - start;
         let mut line = Line::new();
         line_front(n, state, &mut line);
         self.entries
             .push(Entry {
                 line,
-                start,
-                size,
+                image,
                 digest,
             })
             .unwrap();
@@ -128,7 +119,7 @@ impl LineBatch {
 }
 
 // Writes lines, each in one call.
-fn write_each<O: Sink>(entries: &[Entry], images: &[u8], out: &mut O) -> Result<(), SinkFault>
+fn write_each<O: Sink>(entries: &[Entry], images: &ImagePool, out: &mut O) -> Result<(), SinkFault>
     requires { AllByRecursion (IsEntry images.now) entries.now }
     ensures { WritesOrBreaks O.told O.call_count O.fault_count (map (whole_line images.now) entries.now) result out.old out.new }
 {

@@ -6,6 +6,7 @@
 
 mod batch;
 mod entry;
+mod pool;
 mod sharing;
 mod writer;
 

@@ -5,6 +5,7 @@ ghost use denote.Param.Send.{IsSync};
 ghost use Rattle.unit_lines.specs.Waiting.{IsEntry, IsTaken, AreTaken, StaysWhole};
 
 use crate::entry::Entry;
+use crate::pool::ImagePool;
 use std::alloc::{AllocError, Global};
 use std::sync::atomic::{AtomicUsize, Ordering};
 use std::thread;
@@ -37,7 +38,7 @@ pub(crate) fn lists_for(
 #[cycle(sharing)]
 pub(crate) fn take_digests<R: Threads + Sync>(
     rt: &R,
-    images: &[u8],
+    images: &ImagePool,
     entries: &[Entry],
     next: &AtomicUsize,
     lists: &mut [Vec<Taken>],
@@ -57,7 +58,7 @@ pub(crate) fn take_digests<R: Threads + Sync>(
 #[cycle(sharing)]
 fn take_beside<R: Threads + Sync>(
     rt: &R,
-    images: &[u8],
+    images: &ImagePool,
     entries: &[Entry],
     next: &AtomicUsize,
     list: &mut Vec<Taken>,
@@ -79,7 +80,7 @@ fn take_beside<R: Threads + Sync>(
 }
 
 // Takes digests one after the other, each of the next entry that no worker has begun, while there is one and room for its digest.
-fn take_each(images: &[u8], entries: &[Entry], next: &AtomicUsize, list: &mut Vec<Taken>)
+fn take_each(images: &ImagePool, entries: &[Entry], next: &AtomicUsize, list: &mut Vec<Taken>)
     requires { AllByRecursion (IsEntry images.now) entries.now }
     ensures { AreTaken images.now entries.now list.new }
 {
@@ -95,7 +96,7 @@ fn take_each(images: &[u8], entries: &[Entry], next: &AtomicUsize, list: &mut Ve
 }
 
 /// Puts the digests of all lists to their entries.
-pub(crate) fn put_digests(images: &[u8], entries: &mut [Entry], lists: &[Vec<Taken>])
+pub(crate) fn put_digests(images: &ImagePool, entries: &mut [Entry], lists: &[Vec<Taken>])
     requires entries { AllByRecursion (IsEntry images.now) entries.old }
     requires taken { AllByRecursion (AreTaken images.now entries.old) lists.now }
     ensures { StaysWhole images.now entries.old entries.new }
@@ -106,7 +107,7 @@ pub(crate) fn put_digests(images: &[u8], entries: &mut [Entry], lists: &[Vec<Tak
 }
 
 // Puts digests to their entries.
-fn put_each(images: &[u8], entries: &mut [Entry], list: &[Taken])
+fn put_each(images: &ImagePool, entries: &mut [Entry], list: &[Taken])
     requires entries { AllByRecursion (IsEntry images.now) entries.old }
     requires taken { AllByRecursion (IsTaken images.now entries.old) list.now }
     ensures { StaysWhole images.now entries.old entries.new }
