@@ -5,7 +5,7 @@ ghost use Rattle.state_image.specs.Line.{line};
 ghost use Rattle.unit_lines.specs.Sending.{WritesOrBreaks};
 ghost use Rattle.unit_lines.specs.Waiting.{whole_line, IsEntry};
 
-use crate::entry::Entry;
+use crate::entry::{Entry, LineDigest};
 use crate::pool::ImagePool;
 use crate::sharing::{Taken, lists_for, put_digests, take_digests};
 use keepers::{Sink, SinkFault};
@@ -65,27 +65,19 @@ impl LineBatch {
         })
     }
 
-    /// Adds the line of the state with the number `n`, without its digest where that isn't known yet, if there is room for it and for
-    /// the longest image that the state can have, and tells whether there was.
+    /// Adds the line of the state with the number `n`, if there is room for it, and tells whether there was. Where its digest isn't
+    /// known yet, the image waits; where that has no room, the digest is taken at once.
     pub fn gather(&mut self, n: u32, state: &KnownState) -> bool
         ensures added { IsTrue result → self.new ≡ self.old ++ (line n state.now ++ 10 ∷ []) ∷ [] }
         ensures full { IsFalse result → self.new ≡ self.old }
     {
-        let digest = state.known();
-        let state = state.state();
-        let image = self.images.len();
-        if self.entries.len() >= self.entries.capacity() || !self.images.add(state) {
+        if self.entries.len() >= self.entries.capacity() {
             return false;
         }
+        let digest = LineDigest::wait(state, &mut self.images);
         let mut line = Line::new();
-        line_front(n, state, &mut line);
-        self.entries
-            .push(Entry {
-                line,
-                image,
-                digest,
-            })
-            .unwrap();
+        line_front(n, state.state(), &mut line);
+        self.entries.push(Entry { line, digest }).unwrap();
         true
     }
 

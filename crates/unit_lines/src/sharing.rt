@@ -4,7 +4,7 @@ ghost use Rattle.std.specs.List.{AllByRecursion};
 ghost use denote.Param.Send.{IsSync};
 ghost use Rattle.unit_lines.specs.Waiting.{IsEntry, IsTaken, AreTaken, StaysWhole};
 
-use crate::entry::Entry;
+use crate::entry::{Entry, LineDigest};
 use crate::pool::ImagePool;
 use std::alloc::{AllocError, Global};
 use std::sync::atomic::{AtomicUsize, Ordering};
@@ -113,6 +113,6 @@ fn put_each(images: &ImagePool, entries: &mut [Entry], list: &[Taken])
     ensures { StaysWhole images.now entries.old entries.new }
 {
     for taken in list {
-        entries[taken.place].digest = Some(taken.digest);
+        entries[taken.place].digest = LineDigest::Known(taken.digest);
     }
 }
