@@ -1,15 +1,15 @@
 //! Tests of the libraries below, by their public functions alone: the memory, the recorded input, the machine, its images,
-//! the undo lists, the lines of a unit, the tables of least costs, the runner, the questions and the console. A crate with tests is proved a
-//! second time, so those tests stand here together, and not each in the crate of what it tests. It stands on those crates,
+//! the undo lists, the digests of a unit, the tables of least costs, the runner, the questions and the console. A crate with tests is
+//! proved a second time, so those tests stand here together, and not each in the crate of what it tests. It stands on those crates,
 //! and nothing stands on it; without tests it has no function.
 #![tactic(auto)]
 
 #[cfg(test)]
 mod console_tests;
 #[cfg(test)]
-mod image_tests;
+mod digest_tests;
 #[cfg(test)]
-mod line_tests;
+mod image_tests;
 #[cfg(test)]
 mod machine_tests;
 #[cfg(test)]

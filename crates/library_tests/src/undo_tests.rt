@@ -14,15 +14,15 @@ use std::test::Fail;
 use unit_undo::Undo;
 
 // Reads the journal two bytes at a time to 0x11fff, over the end of a page, and counts the reads at 0x12004; then exits.
-const COUNTING: [u32; 13] = [
+pub(crate) const COUNTING: [u32; 13] = [
     0x00012437, 0x00000513, 0xfff40593, 0x00200613, 0x03f00893, 0x00000073, 0x00050a63, 0x00442283,
     0x00128293, 0x00542223, 0xfddff06f, 0x05d00893, 0x00000073,
 ];
 
-const JOURNAL: &[u8] = b"RVJL\x01\0\0\0\x02\0\0\0\x02\0\0\0\x05\x06\x01\0\0\0\x07";
+pub(crate) const JOURNAL: &[u8] = b"RVJL\x01\0\0\0\x02\0\0\0\x02\0\0\0\x05\x06\x01\0\0\0\x07";
 
 // A unit of steps: the undo list leads back over all states before the last.
-fn take<L: Ledger>(
+pub(crate) fn take<L: Ledger>(
     undo: &mut Undo,
     state: &mut State,
     journal: &Journal,

@@ -35,8 +35,8 @@ use Rattle.reversal.specs.CommandAsk.{asking_state, answer_text, IsLastStep, ask
 use Rattle.reversal.specs.JobReading.{WorksBy, fault_ending, run_from}
 use Rattle.reversal.proofs.Pieces.{not_called}
 use Rattle.reversal.proofs.Answered.{place_writes, place_bytes, steps_of_deeds}
-use Rattle.reversal.proofs.Doing.{tells_nothing, raised_none, did_then, did_one, is_until_first, failed_at, damaged_at, halted_at}
-use Rattle.reversal.proofs.Silent.{uncalled, get_front, take_front}
+use Rattle.reversal.proofs.Doing.{tells_nothing, get_front, take_front, raised_none, did_then, did_one, is_until_first, failed_at, damaged_at, halted_at}
+use Rattle.reversal.proofs.Silent.{uncalled}
 use Rattle.reversal.proofs.Performing.{gets_pair}
 use Rattle.reversal.proofs.Progress.{FaultCounts}
 use Rattle.reversal.proofs.Demonstrating.{behind}

@@ -1,6 +1,7 @@
 -- What was done of a list of deeds, one after the other.
-use Rattle.std.proofs.Common.{◌≡◌, ℕ, ◌+◌, ◌<◌, ◌≤◌, List, [], ◌∷◌, ◌++◌, length, take, append-nil, append_assoc, Option, None, Some, refl, sym, ◌∙◌, ap, subst, arith, slice_get, sum_by}
+use Rattle.std.proofs.Common.{◌≡◌, ℕ, zero, suc, ◌+◌, ◌<◌, ◌≤◌, List, [], ◌∷◌, ◌++◌, length, take, append-nil, append_assoc, Option, None, Some, refl, sym, ◌∙◌, ap, subst, arith, slice_get, sum_by}
 use Rattle.std.proofs.lemmas.Grind.{flat_map-append}
+use Rattle.std.proofs.lemmas.Option.{none-some}
 use Rattle.std.proofs.lemmas.List.Sums.{sum_by-append}
 use Rattle.keepers.specs.Counts.{raised}
 use Rattle.keepers.specs.Told.{Tells, AddsPrefix}
@@ -34,6 +35,32 @@ tells_nothing x y e = let P : Option (List ℕ) → Type 0 = λ z. Tells x z (Ad
     same : (x : Option (List ℕ)) → Tells x x (Adds [])
     same None = tt
     same (Some bytes) = sym (append-nil bytes)
+
+-- these bytes were added, and then those
+pub adds_then : (x y z : Option (List ℕ)) (front some : List ℕ) → Tells x y (Adds front) → Tells y z (Adds some) → Tells x z (Adds (front ++ some))
+adds_then x y z front some =
+    tells_then x y z (Adds front) (Adds some) (Adds (front ++ some)) (λ a b c p q. q ∙ ap (λ l. l ++ some) p ∙ append_assoc a front some)
+
+-- and a part of a piece
+pub part_then : (x y z : Option (List ℕ)) (front some piece : List ℕ) → Tells x y (Adds front) → Tells y z (AddsAndPart some piece) → Tells x z (AddsAndPart (front ++ some) piece)
+part_then x y z front some piece =
+    tells_then x y z (Adds front) (AddsAndPart some piece) (AddsAndPart (front ++ some) piece)
+    (λ a b c p q. (q.0, q.1 ∙ ap (λ l. l ++ take q.0 piece) (ap (λ l. l ++ some) p ∙ append_assoc a front some)))
+
+-- with nothing before it
+pub part_first : (x y : Option (List ℕ)) (piece : List ℕ) → Tells x y (AddsPrefix piece) → Tells x y (AddsAndPart [] piece)
+part_first x y piece = tells_so x y (AddsPrefix piece) (AddsAndPart [] piece) (λ a b p. (p.0, p.1 ∙ ap (λ l. l ++ take p.0 piece) (sym (append-nil a))))
+
+-- the front of a longer list
+pub get_front : {X : Type 0} (xs ys : List X) (i : ℕ) (x : X) → slice_get xs i ≡ Some x → slice_get (xs ++ ys) i ≡ Some x
+get_front [] ys i x e = absurd (none-some x e)
+get_front (z ∷ xs) ys zero x e = e
+get_front (z ∷ xs) ys (suc i) x e = get_front xs ys i x e
+
+pub take_front : {X : Type 0} (xs ys : List X) (i : ℕ) (x : X) → slice_get xs i ≡ Some x → take i (xs ++ ys) ≡ take i xs
+take_front [] ys i x e = absurd (none-some x e)
+take_front (z ∷ xs) ys zero x e = refl
+take_front (z ∷ xs) ys (suc i) x e = ap (λ l. z ∷ l) (take_front xs ys i x e)
 
 -- counts of calls
 pub raised_then : (a b c j k : ℕ) → b ≡ raised a j → c ≡ raised b k → c ≡ raised a (j + k)
@@ -128,10 +155,7 @@ is_until ds i d whole piece a b c at next before part wrote still uncalled =
       whole = whole;
       piece = piece;
       next = next;
-      added = tells_then a.told b.told c.told (Adds front) (AddsAndPart some piece) (AddsAndPart (front ++ some) piece) (λ x y z p q. (
-        q.0,
-        q.1 ∙ ap (λ l. l ++ take q.0 piece) (ap (λ l. l ++ some) p ∙ append_assoc x front some),
-      )) before.added part;
+      added = part_then a.told b.told c.told front some piece before.added part;
       wrote = raised_then a.writes b.writes c.writes (writes_made (take i ds)) (whole + 1) before.wrote wrote;
       counted = omega (arith, before.counted, still);
       called = still_called (calls_made (take i ds)) a.calls b.calls c.calls before.called uncalled;
@@ -142,9 +166,7 @@ pub is_until_first : (ds : List Deed) (i : ℕ) (d : Deed) (piece : List ℕ) (a
     Did (take i ds) a b → Tells b.told c.told (AddsPrefix piece) → c.writes ≡ raised b.writes 1 → c.steps ≡ b.steps →
     CalledAtMost (record { puts = λ _. 0; gets = λ _. 0; frees = λ _. 0 }) b.calls c.calls → DidUntil ds i a c
 is_until_first ds i d piece a b c at next before part wrote still uncalled =
-    is_until ds i d 0 piece a b c at next before
-    (tells_so b.told c.told (AddsPrefix piece) (AddsAndPart [] piece) (λ x y p. (p.0, p.1 ∙ ap (λ l. l ++ take p.0 piece) (sym (append-nil x)))) part)
-    wrote still uncalled
+    is_until ds i d 0 piece a b c at next before (part_first b.told c.told piece part) wrote still uncalled
 
 -- the sum over one deed more
 one_more : (f : Deed → ℕ) (ds : List Deed) (i : ℕ) (d : Deed) → slice_get ds i ≡ Some d → sum_by f (take (i + 1) ds) ≡ sum_by f (take i ds) + f d

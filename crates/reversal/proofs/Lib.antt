@@ -1,5 +1,6 @@
 pub mod OnTheWay
 pub mod Doing
+pub mod LinesWritten
 pub mod Showing
 pub mod Through
 pub mod Performing

@@ -21,8 +21,6 @@ use Rattle.keepers.specs.Counts.{raised}
 use Rattle.keepers.specs.Told.{Tells}
 use Rattle.rv_machine.specs.MachineState.{MachineState}
 use Rattle.state_image.specs.Line.{line}
-use Rattle.unit_lines.specs.Lines.{lines_for}
-use Rattle.unit_lines.specs.Sending.{Writes, BreaksOff as BreaksLines}
 use Rattle.reverse_runner.specs.Performed.{states_out, GetsAll, calls_keepers}
 use Rattle.reverse_runner.specs.KeepersSeen.{Called, calls_of, one_if}
 use Rattle.reverse_runner.specs.Handed.{handed_by, handed}
@@ -31,6 +29,7 @@ use Rattle.reverse_runner.proofs.Handing.{valid_hands}
 use Rattle.reversal.specs.Output.{line_of, lines_down, Adds}
 use Rattle.reversal.specs.Moment.{Moment}
 use Rattle.reversal.specs.Deeds.{Deed, States, deed_of, CallsLevel, bytes_of, bytes_written, steps_made, Did}
+use Rattle.reversal.specs.LinesWritten.{lines_for, Writes, BreaksLines}
 use Rattle.reversal.proofs.Doing.{did_one}
 use Rattle.reversal.proofs.Showing.{Shows}
 
@@ -71,24 +70,15 @@ did_action told writes got shown journal unit steps a work tape u v x y mid new 
     (subst (λ o. T o new.told) (sym before.tells) (subst (T (told x)) (sym after.tells) lines.added))
     (after.counts ∙ lines.called ∙ ap (λ n. raised n (length pieces)) (sym before.counts)) counted called
 
--- an action whose lines break off calls no keeper, and takes no step
+-- an action whose lines break off calls no keeper
 pub broken_calls_none : {X : Type 0} (told : X → Option (List ℕ)) (writes : X → ℕ) (unit steps : ℕ) (a : Action) (work : MachineState) (tape : List MachineState) (x y : X) →
     BreaksLines told writes (lines_for (handed_by unit steps a) (states_out a work tape)) x y → calls_of a ≡ record { puts = λ _. 0; gets = λ _. 0; frees = λ _. 0 }
-broken_calls_none told writes unit steps (Forward from to keep) work tape x y h = absurd (none-some h.line h.next)
+broken_calls_none told writes unit steps (Forward from to keep) work tape x y h = absurd (none-some h.piece h.next)
 broken_calls_none told writes unit steps (Reverse from to) work tape x y h = refl
-broken_calls_none told writes unit steps (Copy n from dest) work tape x y h = absurd (none-some h.line h.next)
-broken_calls_none told writes unit steps (Move n from dest) work tape x y h = absurd (none-some h.line h.next)
+broken_calls_none told writes unit steps (Copy n from dest) work tape x y h = absurd (none-some h.piece h.next)
+broken_calls_none told writes unit steps (Move n from dest) work tape x y h = absurd (none-some h.piece h.next)
 broken_calls_none told writes unit steps EndForward work tape x y h = refl
-broken_calls_none told writes unit steps EndReverse work tape x y h = absurd (none-some h.line h.next)
-
-pub broken_steps_none : {X : Type 0} (told : X → Option (List ℕ)) (writes : X → ℕ) (unit steps : ℕ) (a : Action) (work : MachineState) (tape : List MachineState) (x y : X) →
-    BreaksLines told writes (lines_for (handed_by unit steps a) (states_out a work tape)) x y → steps_of a ≡ 0
-broken_steps_none told writes unit steps (Forward from to keep) work tape x y h = absurd (none-some h.line h.next)
-broken_steps_none told writes unit steps (Reverse from to) work tape x y h = refl
-broken_steps_none told writes unit steps (Copy n from dest) work tape x y h = absurd (none-some h.line h.next)
-broken_steps_none told writes unit steps (Move n from dest) work tape x y h = absurd (none-some h.line h.next)
-broken_steps_none told writes unit steps EndForward work tape x y h = refl
-broken_steps_none told writes unit steps EndReverse work tape x y h = absurd (none-some h.line h.next)
+broken_calls_none told writes unit steps EndReverse work tape x y h = absurd (none-some h.piece h.next)
 
 -- ---- the deeds of a whole list
 

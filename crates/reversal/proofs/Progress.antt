@@ -8,7 +8,7 @@ use Rattle.plan_types.specs.declared.action.Dest.TheVariants.{Work, Level}
 use Rattle.plan_types.specs.declared.action.Action.{Action}
 use Rattle.plan_types.specs.declared.action.Action.TheVariants.{Forward, Reverse, Copy, Move, EndForward, EndReverse}
 use Rattle.image_store.specs.Standing.{IsToldAnd}
-use Rattle.reverse_runner.specs.Acts.{Levels, Holdings, IsAsBefore, Acts}
+use Rattle.reverse_runner.specs.Acts.{Holdings, Acts}
 use Rattle.reverse_queries.specs.Performing.{IsOut}
 use Rattle.reverse_runner.specs.HoldsJust.{HoldsJust}
 use Rattle.reverse_runner.specs.Left.{Spares, MayLeave, HoldsBesides, HoldsAllBut}
@@ -26,9 +26,6 @@ use Rattle.schedule_rules.proofs.Judging.{take_one_more, kept_on_the_way}
 use Rattle.schedule_rules.proofs.Reaching.{sound_on, sound_start, leads_unique}
 use Rattle.rv_machine.specs.MachineState.{MachineState}
 use Rattle.rv_machine.specs.States.{state_number}
-use Rattle.unit_lines.specs.Lines.{lines_for}
-use Rattle.unit_lines.proofs.Chaining.{breaks_longer}
-use Rattle.unit_lines.specs.Sending.{Writes, BreaksOff as BreaksLines}
 use Rattle.reverse_runner.specs.Performed.{states_out, GetsAll, calls_keepers}
 use Rattle.reverse_runner.specs.Units.{unit_states}
 use Rattle.reverse_runner.specs.KeepersSeen.{Calls, Called, CalledAtMost, calls_of}
@@ -48,12 +45,14 @@ use Rattle.reversal.specs.Moment.{Moment, KeepersAreQuiet, NothingFails, SinkFai
 use Rattle.reversal.specs.Deeds.{Deed, States, deed_of, bytes_of, Did}
 use Rattle.reversal.specs.Going.{AreOfRun, held_at_start, GoesOver, ComesToDamage, LeadTo, SameLevels, AllLevels, SparesNext, Went}
 use Rattle.reversal.specs.Course.{AddsAndPart, DidUntil, BreaksOff}
+use Rattle.reversal.specs.LinesWritten.{lines_for, Writes, BreaksLines}
 use Rattle.reversal.specs.Table.{accept}
 use Rattle.reversal.specs.CommandRun.{performing}
 use Rattle.reversal.specs.Decision.{EndsBy}
 use Rattle.reversal.specs.JobReading.{Works, fault_ending}
 use Rattle.reversal.proofs.OnTheWay.{led_on}
 use Rattle.reversal.proofs.Doing.{did_none, did_one_more, is_until, broke_off, failed_at, damaged_at, halted_at}
+use Rattle.reversal.proofs.LinesWritten.{breaks_longer}
 use Rattle.reversal.proofs.Through.{through_none, has_length, through_more, through_still}
 use Rattle.reversal.proofs.Performing.{lines_first, IsAt, did_action, broken_calls_none, bytes_performed, steps_performed, none_named, names_levels, calls_named, calls_one, gets_pair}
 use Rattle.reversal.proofs.Showing.{shown_by, showing, Shows, it_shows, IsAbove, above_after, same_before, shows_of_run, handed_more, above_at_start}
@@ -89,8 +88,8 @@ did_before told writes shown unit steps slots list i c a d work tape x y old mid
     let part = subst (λ (ls : List (List ℕ)). BreaksLines told writes ls x y) first.1 (breaks_longer told writes (lines_for (handed_by unit steps a) (states_out a work tape)) first.0 x y breaks) in
     let pieces = map (line_of now) (handed_by unit steps a) in
     let P : Calls → Type 0 = λ m. CalledAtMost m mid.calls new.calls in
-    let T : Option (List ℕ) → Option (List ℕ) → Type 0 = λ o n. Tells o n (AddsAndPart (bytes_of (take part.whole pieces)) part.line) in
-    is_until (map (deed_of now unit steps) list) i (deed_of now unit steps a) part.whole part.line old mid new (get_map (deed_of now unit steps) list i a at) part.next
+    let T : Option (List ℕ) → Option (List ℕ) → Type 0 = λ o n. Tells o n (AddsAndPart (bytes_of (take part.whole pieces)) part.piece) in
+    is_until (map (deed_of now unit steps) list) i (deed_of now unit steps a) part.whole part.piece old mid new (get_map (deed_of now unit steps) list i a at) part.next
     (before_it shown unit steps slots list i c a d work tape old mid g above did)
     (subst (λ o. T o new.told) (sym before.tells) (subst (T (told x)) (sym after.tells) part.added))
     (after.counts ∙ part.called ∙ ap (λ n. raised n (part.whole + 1)) (sym before.counts)) still
@@ -148,29 +147,12 @@ pair_held steps slots c EndReverse d n k g pair = absurd cc
 -- an action whose lines break off puts and releases nothing
 pub broken_spares : {X : Type 0} (told : X → Option (List ℕ)) (writes : X → ℕ) (unit steps : ℕ) (a : Action) (work : MachineState) (tape : List MachineState) (x y : X) →
     BreaksLines told writes (lines_for (handed_by unit steps a) (states_out a work tape)) x y → (k : ℕ) → Spares a k
-broken_spares told writes unit steps (Forward from to keep) work tape x y h k = absurd (none-some h.line h.next)
+broken_spares told writes unit steps (Forward from to keep) work tape x y h k = absurd (none-some h.piece h.next)
 broken_spares told writes unit steps (Reverse from to) work tape x y h k = (refl, refl)
-broken_spares told writes unit steps (Copy n from dest) work tape x y h k = absurd (none-some h.line h.next)
-broken_spares told writes unit steps (Move n from dest) work tape x y h k = absurd (none-some h.line h.next)
+broken_spares told writes unit steps (Copy n from dest) work tape x y h k = absurd (none-some h.piece h.next)
+broken_spares told writes unit steps (Move n from dest) work tape x y h k = absurd (none-some h.piece h.next)
 broken_spares told writes unit steps EndForward work tape x y h k = (refl, refl)
-broken_spares told writes unit steps EndReverse work tape x y h k = absurd (none-some h.line h.next)
-
--- and where it was performed, its levels are as they were
-as_it_was : (action : Action) (old new : Levels) → ((k : ℕ) → Spares action k) → ((k : ℕ) → IsAsBefore old new k) → MayLeave action old new.told
-as_it_was action old new spares same = record {
-  spared = λ k s. (same k).1;
-  put_to = λ k writes. absurd (false≢true (sym (spares k).0 ∙ writes));
-  released = λ k n kept frees. absurd (false≢true (sym (spares k).1 ∙ frees));
-}
-
-pub broken_left : {X : Type 0} (told : X → Option (List ℕ)) (writes : X → ℕ) (unit steps : ℕ) (journal : List (List ℕ)) (a : Action) (work : MachineState) (tape : List MachineState) (x y : X) (old new : Holdings) →
-    BreaksLines told writes (lines_for (handed_by unit steps a) (states_out a work tape)) x y → Acts unit journal a old new → MayLeave a old.levels new.levels.told
-broken_left told writes unit steps journal (Forward from to keep) work tape x y old new h acts = absurd (none-some h.line h.next)
-broken_left told writes unit steps journal (Reverse from to) work tape x y old new h acts = as_it_was (Reverse from to) old.levels new.levels (broken_spares told writes unit steps (Reverse from to) work tape x y h) acts.does.2
-broken_left told writes unit steps journal (Copy n from dest) work tape x y old new h acts = absurd (none-some h.line h.next)
-broken_left told writes unit steps journal (Move n from dest) work tape x y old new h acts = absurd (none-some h.line h.next)
-broken_left told writes unit steps journal EndForward work tape x y old new h acts = as_it_was EndForward old.levels new.levels (broken_spares told writes unit steps EndForward work tape x y h) acts.does.2
-broken_left told writes unit steps journal EndReverse work tape x y old new h acts = absurd (none-some h.line h.next)
+broken_spares told writes unit steps EndReverse work tape x y h k = absurd (none-some h.piece h.next)
 
 -- ---- what the next action hands out
 

@@ -1,9 +1,8 @@
 -- What was done of a demonstration: actions that write nothing and call no keeper, and then one write.
-use Rattle.std.proofs.Common.{◌≡◌, ℕ, zero, suc, ◌+◌, inl, inr, List, [], ◌∷◌, ◌++◌, length, map, take, append-nil, None, Some, refl, sym, ◌∙◌, ap, subst, arith, slice_get, sum_by}
+use Rattle.std.proofs.Common.{◌≡◌, ℕ, ◌+◌, inl, inr, List, [], ◌∷◌, ◌++◌, length, map, take, append-nil, None, refl, sym, ◌∙◌, ap, subst, arith, sum_by}
 use Rattle.std.proofs.lemmas.List.{take_at, take-map}
 use Rattle.std.proofs.lemmas.List.Folds.{fold-map}
 use Rattle.std.proofs.lemmas.List.Sums.{sum_by-cons}
-use Rattle.std.proofs.lemmas.Option.{none-some}
 use Rattle.plan_types.specs.declared.action.Action.{Action}
 use Rattle.sha2.specs.Sha256.{sha256}
 use Rattle.level_book.specs.BookCosts.{slots_of, plain}
@@ -29,7 +28,7 @@ use Rattle.reversal.specs.CommandDemo.{demonstrating}
 use Rattle.reversal.specs.Decision.{EndsBy}
 use Rattle.reversal.specs.Demo.{demo_list, summary_text, summary}
 use Rattle.reversal.specs.DemoReading.{BreaksWithin}
-use Rattle.reversal.proofs.Doing.{tells_nothing, raised_none, did_then, did_one, is_until_first, broke_off, halted_at}
+use Rattle.reversal.proofs.Doing.{tells_nothing, get_front, take_front, raised_none, did_then, did_one, is_until_first, broke_off, halted_at}
 use Rattle.reversal.proofs.Demonstrating.{behind}
 
 -- nothing is written
@@ -62,17 +61,6 @@ did_silent list a b told writes steps calls = record {
   counted = steps ∙ ap (λ n. a.steps + n) (sym (fold-map (λ n (d : Deed). n + d.steps) silent_deed 0 list));
   called = let P : Calls → Type 0 = λ c. Called (calls_made (map silent_deed list)) a.calls c in subst P (sym calls) (not_called a.calls list);
 }
-
--- the front of a longer list
-pub get_front : {X : Type 0} (xs ys : List X) (i : ℕ) (x : X) → slice_get xs i ≡ Some x → slice_get (xs ++ ys) i ≡ Some x
-get_front [] ys i x e = absurd (none-some x e)
-get_front (z ∷ xs) ys zero x e = e
-get_front (z ∷ xs) ys (suc i) x e = get_front xs ys i x e
-
-pub take_front : {X : Type 0} (xs ys : List X) (i : ℕ) (x : X) → slice_get xs i ≡ Some x → take i (xs ++ ys) ≡ take i xs
-take_front [] ys i x e = absurd (none-some x e)
-take_front (z ∷ xs) ys zero x e = refl
-take_front (z ∷ xs) ys (suc i) x e = ap (λ l. z ∷ l) (take_front xs ys i x e)
 
 module _ (number : ℕ) (first : MachineState) (steps slots : ℕ) where
   abbrev pub silent : List Deed

@@ -28,3 +28,4 @@ pub mod DemoReading
 pub mod NoPlans
 pub mod WrittenPlans
 pub mod Contents
+pub mod LinesWritten

@@ -1,10 +1,12 @@
 // What is to be done of a call that isn't refused.
 ghost use Rattle.std.specs.Prelude.{◌≡◌, ◌≢◌, ◌⊎◌, ◌≤◌, ℕ, [], ◌∷◌, length, map, Option};
+ghost use Rattle.std.specs.List.{AllByRecursion};
 ghost use Rattle.plan_types.specs.declared.limits.TheConstants.{MOST_ACTIONS};
 ghost use Rattle.keepers.specs.Told.{Images};
 ghost use Rattle.level_book.specs.BookCosts.{slots_of};
 ghost use Rattle.level_book.specs.Valid.{Valid};
 ghost use Rattle.rv_machine.specs.MachineState.{IsMachineState};
+ghost use Rattle.unit_digests.specs.Digests.{HasPages};
 ghost use Rattle.reverse_runner.specs.KeepersSeen.{HaveRoom};
 ghost use Rattle.reverse_runner.specs.Rooms.{image_room, rooms_by, AreRoomy};
 ghost use Rattle.reverse_runner.specs.SessionState.{levels_of};
@@ -29,14 +31,14 @@ use crate::pricing::Pricing;
 use input_journal::Journal;
 use keepers::{Keeper, Sink};
 use level_book::Book;
-use plan_types::Line;
+use plan_types::{Action, Line};
 use requests::Ended;
-use reverse_runner::{RunFault, Session};
+use reverse_runner::{LineWriter, RunFault, Session};
 use rv_machine::{State, Steps};
 use std::alloc::Global;
 use std::sync::ledger::Ledger;
 use std::thread::Threads;
-use unit_lines::{LineBatch, UnitWriter};
+use unit_digests::Digesters;
 
 /// What is to be done.
 #[derive(Drop)]
@@ -140,13 +142,21 @@ impl Performance {
             mut actions,
         } = self;
         start.is_machine_state();
-        let Ok(batch) = LineBatch::begin(alloc, &start, unit, workers) else {
+        let Ok(digesters) = Digesters::begin(alloc, &start, unit, workers) else {
             return Ended::no_memory();
         };
         match Session::begin(alloc, start, journal, steps, unit, book) {
             Err(_) => Ended::no_memory(),
             Ok(mut session) => {
-                perform_all(rt, batch, &mut session, &mut actions, keepers, out, counter)
+                perform_all(
+                    rt,
+                    digesters,
+                    &mut session,
+                    &mut actions,
+                    keepers,
+                    out,
+                    counter,
+                )
             }
         }
     }
@@ -167,18 +177,18 @@ fn write_bytes<O: Sink>(bytes: &[u8], out: &mut O) -> Ended
 // Performs the actions that are still to come, a valid list, from the start.
 fn perform_all<R: Threads + Sync, K: Keeper, O: Sink, L: Ledger>(
     rt: &R,
-    mut batch: LineBatch,
+    mut digesters: Digesters,
     session: &mut Session,
     actions: &mut Actions,
     keepers: &mut Vec<K>,
     out: &mut O,
     counter: &mut Steps<L>,
 ) -> Ended
-    requires none_waits { batch ≡ [] }
     requires begun { session.old ≡ begun session.old.work session.old.journal session.old.unit session.old.situation.steps session.old.situation.slots }
     requires stands { (told : ℕ → Option Images) → AllTell (length session.old.situation.slots) told → StandsAt session.old.work session.old told }
     requires alone { (told : ℕ → Option Images) → AllEmpty (length session.old.situation.slots) told → AreAlone (levels_of session.old told) }
     requires state { IsMachineState session.old.work }
+    requires pages { AllByRecursion (HasPages session.old.work) digesters }
     requires valid { Valid session.old.situation.steps session.old.situation.slots (left_of actions.old) }
     requires few { length (left_of actions.old) ≤ MOST_ACTIONS }
     requires room { HaveRoom session.old.situation.steps session.old.situation.slots (map K.slot_count keepers.old.items) }
@@ -189,20 +199,33 @@ fn perform_all<R: Threads + Sync, K: Keeper, O: Sink, L: Ledger>(
     ensures roomy { AreRoomy (image_room session.old.work) (length session.old.situation.slots) (rooms_by K.room_bytes keepers.old.items) →
         result.status ≢ 17 }
 {
-    let mut writer = UnitWriter::new(&mut batch, out);
+    let mut writer = LineWriter::new(out);
     let mut place = 0;
     while let Some(action) = actions.next() {
         place += 1;
+        digest_lines(rt, session, &action, &mut digesters);
         match session.perform(&action, keepers, &mut writer, counter) {
             Ok(()) => {}
             Err(fault) => return fault_ending(place, fault),
         }
-        match writer.write_waiting(rt) {
-            Ok(()) => {}
-            Err(_) => return fault_ending(place, RunFault::Visitor),
-        }
     }
     Ended::done()
+}
+
+// Takes the digests of the lines of a Reverse, before it is performed.
+fn digest_lines<R: Threads + Sync>(
+    rt: &R,
+    session: &mut Session,
+    action: &Action,
+    digesters: &mut Digesters,
+)
+    requires { AllByRecursion (HasPages session.old.work) digesters.old }
+    ensures session { session.new ≡ session.old }
+    ensures pages { digesters.new ≡ digesters.old }
+{
+    if let Action::Reverse { .. } = *action {
+        session.digest_tape(rt, digesters);
+    }
 }
 
 /// How a call ends whose session refused the action at a place, or whose console the order there, for this fault.

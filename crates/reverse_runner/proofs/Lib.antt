@@ -16,3 +16,4 @@ pub mod StandingAfter
 pub mod Taping
 pub mod Undamaged
 pub mod Caused
+pub mod InOrder

@@ -8,10 +8,10 @@ use Rattle.level_book.specs.Configuration.{Configuration}
 use Rattle.schedule_rules.specs.Reached.{IsSound}
 use Rattle.rv_pages.specs.Memory.{page_numbers}
 use Rattle.unit_undo.specs.Leading.{LeadsBack, led_back, IsMadeFor}
+use Rattle.unit_digests.specs.Digests.{states_of, AreDigests}
 use Rattle.reverse_runner.specs.declared.workspace.Workspace.{Workspace}
 use Rattle.reverse_runner.specs.Acts.{TapeState, Levels, Holdings}
 use Rattle.reverse_runner.specs.KeepersSeen.{HaveRoom}
-use Rattle.reverse_runner.specs.KnownDigests.{IsDigestOfLast}
 use Rattle.reverse_runner.specs.LevelsStand.{IsLaidOut}
 use Rattle.reverse_runner.specs.Rooms.{image_room, AreShort}
 use Rattle.reverse_runner.specs.SessionState.{SamePages}
@@ -32,12 +32,13 @@ abbrev pub holdings_in : Workspace → (ℕ → Option Images) → Holdings
 holdings_in w told = record { work = w.work; tape = tape_in w; levels = levels_in w told }
 
 -- Its states map the same pages, the buffer was reserved for the image of each, and the undo list leads back from the tape. A digest
--- that is known of the first state on the tape is that of its image.
+-- that is known of a state on the tape is that of its image, and there is room for that of the first one.
 pub record IsInOrder (w : Workspace) : Type 0 where
   pub pages : SamePages w.tape w.work
   pub few : length (page_numbers w.work.memory) ≤ 4096
   pub back : LeadsBack w.undo.entries w.tape (led_back w.undo.entries w.tape)
-  pub first : IsDigestOfLast w.first (led_back w.undo.entries w.tape)
+  pub known : AreDigests w.known.items (states_of w.undo.entries w.tape)
+  pub room : 1 ≤ vec_capacity w.known
   pub buffer : 164 + 4100 * length (page_numbers w.work.memory) ≤ vec_capacity w.buffer
 
 -- A workspace stays in order: its states map the pages that they mapped, and no image that a level keeps is longer than one of the

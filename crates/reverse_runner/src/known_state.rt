@@ -1,5 +1,5 @@
 // A state, and the digest of its image where it is known.
-ghost use Rattle.std.specs.Prelude.{◌≡◌, ◌↔◌, ℕ, ◌+◌, ◌≤◌, ◌∷◌, length, IfSome, None, Some, Err, OnOk, OnErr};
+ghost use Rattle.std.specs.Prelude.{◌≡◌, ◌↔◌, ℕ, ◌+◌, ◌≤◌, ◌∷◌, length, slice_get, IfSome, None, Some, Err, OnOk, OnErr};
 ghost use Rattle.rv_machine.specs.States.{state_number};
 ghost use Rattle.rv_machine.specs.Watching.{CanNote, AreNoted};
 ghost use Rattle.rv_pages.specs.Memory.{page_numbers};
@@ -8,10 +8,9 @@ ghost use Rattle.state_image.specs.Image.{image};
 ghost use Rattle.state_image.specs.ImageForm.{first_wrong, first_unmapped};
 ghost use Rattle.state_image.specs.Line.{line};
 ghost use Rattle.unit_undo.specs.Entry.{Entry, undone};
-ghost use Rattle.unit_undo.specs.Leading.{led_back};
 ghost use Rattle.unit_undo.specs.UndoState.{CanGoBack};
+ghost use Rattle.unit_digests.specs.Digests.{states_of, AreDigests};
 ghost use Rattle.reverse_runner.specs.Acts.{IsDecoded};
-ghost use Rattle.reverse_runner.specs.KnownDigests.{IsDigestOfLast};
 ghost use Rattle.reverse_runner.specs.Standing.{IsNoImage};
 
 use input_journal::Journal;
@@ -125,19 +124,16 @@ impl KnownState {
         self.digest = other.digest;
     }
 
-    /// Undoes the step of the last entry of an undo list, and takes the entry away. `first` is the digest of the first state of
-    /// the list where it is known.
-    pub(crate) fn back(&mut self, undo: &mut Undo, first: &Option<[u8; 32]>)
+    /// Undoes the step of the last entry of an undo list, and takes the entry away. `known` has the digests that are known of the
+    /// states of the list, in the order of the run.
+    pub(crate) fn back(&mut self, undo: &mut Undo, known: &[Option<[u8; 32]>])
         requires back { CanGoBack undo.old.entries self.old }
-        requires first { IsDigestOfLast first.now (led_back undo.old.entries self.old) }
+        requires known { AreDigests known.now (states_of undo.old.entries self.old) }
         ensures back { (e : Entry) × ((undo.old ≡ record undo.new { entries = e ∷ undo.new.entries }) × (self.new ≡ undone e self.old)) }
         ensures pages { page_numbers self.new.memory ≡ page_numbers self.old.memory }
     {
         undo.back(&mut self.state);
-        self.digest = match undo.count() {
-            0 => *first,
-            _ => None,
-        };
+        self.digest = digest_at(known, undo.count());
     }
 
     /// Makes this state the one of an image with a digest. After a refusal it is as before.
@@ -158,5 +154,15 @@ impl KnownState {
             }
             Err(fault) => Err(fault),
         }
+    }
+}
+
+// The digest of the state with this number, where it is known.
+fn digest_at(known: &[Option<[u8; 32]>], number: u32) -> Option<[u8; 32]>
+    ensures { IfSome result (λ digest. slice_get known.now number ≡ Some (Some digest)) }
+{
+    match known.get(number as usize) {
+        Some(digest) => *digest,
+        None => None,
     }
 }

@@ -1,6 +1,8 @@
 // A session: a run that is gone through by the actions of a schedule.
 ghost use Rattle.std.specs.Prelude.{◌≡◌, ◌≢◌, ◌*◌, ◌<◌, ◌≤◌, ◌↔◌, ℕ, true, false, length, map, Option, Some, Err, IfOk, OnOk, OnErr, IsErrOf, IsSome, Contains};
 ghost use Rattle.std.specs.FinMap as finmap;
+ghost use Rattle.std.specs.List.{AllByRecursion};
+ghost use Rattle.unit_digests.specs.Digests.{HasPages};
 ghost use Rattle.plan_types.specs.declared.limits.TheConstants.{MOST_STEPS};
 ghost use Rattle.level_book.specs.BookCosts.{slots_of};
 ghost use Rattle.level_book.specs.Rules.{rule, levels_named};
@@ -28,6 +30,8 @@ use schedule_rules::Config;
 use std::alloc::{AllocError, Global};
 use std::marker::Model;
 use std::sync::ledger::Ledger;
+use std::thread::Threads;
+use unit_digests::Digesters;
 
 /// A run of the machine that is gone through by the actions of a schedule.
 #[derive(Drop)]
@@ -108,6 +112,16 @@ impl Session {
         ensures { result ≡ self.now.done }
     {
         self.done
+    }
+
+    /// Takes the digests of the states on the tape by workers side by side, so that their lines want none when they are handed out.
+    /// Nothing else is done: contracts don't see which digests are known.
+    pub fn digest_tape<R: Threads + Sync>(&mut self, rt: &R, digesters: &mut Digesters)
+        requires { AllByRecursion (HasPages self.old.work) digesters.old }
+        ensures session { self.new ≡ self.old }
+        ensures pages { digesters.new ≡ digesters.old }
+    {
+        self.space.digest_tape(rt, digesters);
     }
 
     /// Performs an action that may be done, over keepers with room for its images: one for each level of the book, in

@@ -1,11 +1,13 @@
 // What a session works with: its states, and the images that its levels keep.
-ghost use Rattle.std.specs.Prelude.{◌≡◌, ◌≢◌, ◌+◌, ◌*◌, ◌<◌, ◌≤◌, ◌^◌, ℕ, List, [], length, map, Err, IfOk, IfErr, OnOk, OnErr, IsSome, None, Some};
+ghost use Rattle.std.specs.Prelude.{◌≡◌, ◌≢◌, ◌+◌, ◌*◌, ◌<◌, ◌≤◌, ◌^◌, ◌∷◌, ℕ, List, [], length, map, Err, IfOk, IfErr, OnOk, OnErr, IsSome, None, Some};
 ghost use Rattle.std.specs.Vec.{vec_len, vec_capacity};
 ghost use Rattle.level_book.specs.BookCosts.{slots_of};
 ghost use Rattle.rv_machine.specs.MachineState.{MachineState, IsMachineState};
 ghost use Rattle.rv_machine.specs.States.{state_number};
 ghost use Rattle.unit_undo.specs.UndoState.{begun as begun_undo};
+ghost use Rattle.std.specs.List.{AllByRecursion};
 ghost use Rattle.unit_undo.specs.Leading.{IsMadeFor, LeadsBack, led_back, states_below};
+ghost use Rattle.unit_digests.specs.Digests.{states_of, AreDigests, HasPages};
 ghost use Rattle.state_image.specs.Image.{image};
 ghost use Rattle.image_store.specs.declared.shelf.Kept.{Kept};
 ghost use Rattle.image_store.specs.Calls.{IsNotKept, IsNotFreed};
@@ -17,7 +19,6 @@ ghost use Rattle.keepers.specs.Told.{Images};
 ghost use Rattle.reverse_runner.specs.Acts.{IsAsBefore, IsFetched, IsDecoded, Keeps, Releases};
 ghost use Rattle.reverse_runner.specs.KeepersSeen.{by_number, told_by, calls_to, Called};
 ghost use Rattle.reverse_runner.specs.Handed.{numbers_from};
-ghost use Rattle.reverse_runner.specs.KnownDigests.{IsDigestOfLast};
 ghost use Rattle.reverse_runner.specs.Performed.{GetsAll, MissesOne};
 ghost use Rattle.reverse_runner.specs.Rooms.{image_room, rooms_by, IsRoomy, SameRooms, AreShort};
 ghost use Rattle.reverse_runner.specs.SessionState.{SamePages};
@@ -37,6 +38,8 @@ use sha2::{Digest, Sha256};
 use state_image::{encode_image, max_image};
 use std::alloc::{AllocError, Global};
 use std::sync::ledger::Ledger;
+use std::thread::Threads;
+use unit_digests::Digesters;
 use unit_undo::Undo;
 
 /// The state in work, the tape, which images the levels keep, and a buffer for the bytes of one image. On the tape are the
@@ -46,8 +49,8 @@ pub(crate) struct Workspace {
     pub work: KnownState,
     pub tape: KnownState,
     pub undo: Undo,
-    // The digest of the first state on the tape, where it is known.
-    pub first: Option<[u8; 32]>,
+    // The digests that are known of the states on the tape, in the order of the run.
+    pub known: Vec<Option<[u8; 32]>>,
     pub store: Store,
     pub buffer: Vec<u8>,
 }
@@ -75,11 +78,12 @@ impl Workspace {
         let buffer = Vec::with_capacity(alloc, max_image(&start) as usize)?;
         let tape = start.clone()?;
         let undo = Undo::begin(alloc, unit, journal)?;
+        let known = Vec::with_capacity(alloc, unit as usize)?;
         Ok(Workspace {
             work: KnownState::new(start),
             tape: KnownState::new(tape),
             undo,
-            first: None,
+            known,
             store,
             buffer,
         })
@@ -91,7 +95,7 @@ impl Workspace {
         ensures pages { SamePages self.old.work self.new.work }
         ensures tape { self.new.tape ≡ self.old.tape }
         ensures undo { self.new.undo ≡ self.old.undo }
-        ensures first { self.new.first ≡ self.old.first }
+        ensures known { self.new.known ≡ self.old.known }
         ensures store { self.new.store ≡ self.old.store }
         ensures buffer { self.new.buffer ≡ self.old.buffer }
         ensures counted { steps.new ≡ steps.old + count }
@@ -109,17 +113,19 @@ impl Workspace {
         requires pages { SamePages self.old.tape self.old.work }
         requires made { IsMadeFor journal.now self.old.undo }
         requires few { count ≤ self.old.undo.unit }
+        requires room { 1 ≤ vec_capacity self.old.known }
         ensures work { self.new.work ≡ state_number self.old.work journal.now count }
         ensures pages { SamePages self.old.work self.new.work }
         ensures tape { self.new.tape ≡ self.new.work }
         ensures back { LeadsBack self.new.undo.entries self.new.tape (states_below self.old.work journal.now count) }
-        ensures first { IsDigestOfLast self.new.first (led_back self.new.undo.entries self.new.tape) }
+        ensures known { AreDigests self.new.known.items (states_of self.new.undo.entries self.new.tape) }
+        ensures room { 1 ≤ vec_capacity self.new.known }
         ensures undo { (self.new.undo.unit ≡ self.old.undo.unit) × (self.new.undo.room ≡ self.old.undo.room) }
         ensures store { self.new.store ≡ self.old.store }
         ensures buffer { self.new.buffer ≡ self.old.buffer }
         ensures counted { steps.new ≡ steps.old + count }
     {
-        self.first = self.work.known();
+        know_first(self.work.known(), &mut self.known);
         self.undo.clear();
         self.work
             .advance_watched(journal, count, steps, &mut self.undo);
@@ -135,14 +141,15 @@ impl Workspace {
     ) -> Result<(), RunFault>
         requires few { first + length self.old.undo.entries < 2 ^ 32 }
         requires back { LeadsBack self.old.undo.entries self.old.tape (led_back self.old.undo.entries self.old.tape) }
-        requires first { IsDigestOfLast self.old.first (led_back self.old.undo.entries self.old.tape) }
+        requires known { AreDigests self.old.known.items (states_of self.old.undo.entries self.old.tape) }
         ensures gets { OnOk result (GetsAll V.got journal.now (numbers_from first (length self.old.undo.entries)) (tape_in self.old).states
             visitor.old visitor.new) }
         ensures misses { OnErr result (MissesOne V.got V.missed journal.now (numbers_from first (length self.old.undo.entries))
             (tape_in self.old).states visitor.old visitor.new) }
         ensures empty { OnOk result (self.new.undo.entries ≡ []) }
         ensures back { LeadsBack self.new.undo.entries self.new.tape (led_back self.new.undo.entries self.new.tape) }
-        ensures first { IsDigestOfLast self.new.first (led_back self.new.undo.entries self.new.tape) }
+        ensures known { AreDigests self.new.known.items (states_of self.new.undo.entries self.new.tape) }
+        ensures same { self.new.known ≡ self.old.known }
         ensures undo { (self.new.undo.unit ≡ self.old.undo.unit) × (self.new.undo.room ≡ self.old.undo.room) }
         ensures pages { SamePages self.new.tape self.old.tape }
         ensures work { self.new.work ≡ self.old.work }
@@ -154,10 +161,25 @@ impl Workspace {
         ensures cause { OnErr result (Rose (V.fault_count visitor.old) (V.fault_count visitor.new)) }
     {
         while self.undo.count() > 0 {
-            self.tape.back(&mut self.undo, &self.first);
+            self.tape.back(&mut self.undo, self.known.as_slice());
             hand_out(visitor, first + self.undo.count(), &self.tape, journal)?;
         }
         Ok(())
+    }
+
+    /// Takes the digests of the states on the tape by workers side by side.
+    pub fn digest_tape<R: Threads + Sync>(&mut self, rt: &R, digesters: &mut Digesters)
+        requires fits { IsInOrder self.old }
+        requires pages { AllByRecursion (HasPages self.old.work) digesters.old }
+        ensures fits { IsInOrder self.new }
+        ensures work { self.new.work ≡ self.old.work }
+        ensures tape { self.new.tape ≡ self.old.tape }
+        ensures undo { self.new.undo ≡ self.old.undo }
+        ensures store { self.new.store ≡ self.old.store }
+        ensures buffer { self.new.buffer ≡ self.old.buffer }
+        ensures pages { digesters.new ≡ digesters.old }
+    {
+        digesters.digest(rt, self.tape.state(), &self.undo, &mut self.known);
     }
 
     /// Writes the image of the state in work into the buffer, and gives its digest.
@@ -226,7 +248,7 @@ impl Workspace {
             IsAsBefore (levels_in self.old (told_by K.told keepers.old.items)) (levels_in self.new (told_by K.told keepers.new.items)) j }
         ensures count { length self.new.store ≡ length self.old.store }
         ensures states { (self.new.work ≡ self.old.work) × (self.new.tape ≡ self.old.tape) × (self.new.buffer ≡ self.old.buffer)
-            × (self.new.undo ≡ self.old.undo) × (self.new.first ≡ self.old.first) }
+            × (self.new.undo ≡ self.old.undo) × (self.new.known ≡ self.old.known) }
         ensures called { Called (one_put level) (calls_to K.put_count K.get_count K.free_count keepers.old.items)
             (calls_to K.put_count K.get_count K.free_count keepers.new.items) }
         ensures remain { Remain K.slot_count K.fault_count keepers.old.items keepers.new.items }
@@ -272,7 +294,7 @@ impl Workspace {
         ensures short { OnOk result (vec_len self.new.buffer < 2 ^ 32) }
         ensures reserved { vec_capacity self.old.buffer ≤ vec_capacity self.new.buffer }
         ensures states { (self.new.work ≡ self.old.work) × (self.new.tape ≡ self.old.tape) × (self.new.store ≡ self.old.store)
-            × (self.new.undo ≡ self.old.undo) × (self.new.first ≡ self.old.first) }
+            × (self.new.undo ≡ self.old.undo) × (self.new.known ≡ self.old.known) }
         ensures called { Called (one_get level) (calls_to K.put_count K.get_count K.free_count keepers.old.items)
             (calls_to K.put_count K.get_count K.free_count keepers.new.items) }
         ensures remain { Remain K.slot_count K.fault_count keepers.old.items keepers.new.items }
@@ -305,7 +327,7 @@ impl Workspace {
             IsAsBefore (levels_in self.old (told_by K.told keepers.old.items)) (levels_in self.new (told_by K.told keepers.new.items)) j }
         ensures count { length self.new.store ≡ length self.old.store }
         ensures states { (self.new.work ≡ self.old.work) × (self.new.tape ≡ self.old.tape) × (self.new.buffer ≡ self.old.buffer)
-            × (self.new.undo ≡ self.old.undo) × (self.new.first ≡ self.old.first) }
+            × (self.new.undo ≡ self.old.undo) × (self.new.known ≡ self.old.known) }
         ensures called { Called (one_free level) (calls_to K.put_count K.get_count K.free_count keepers.old.items)
             (calls_to K.put_count K.get_count K.free_count keepers.new.items) }
         ensures remain { Remain K.slot_count K.fault_count keepers.old.items keepers.new.items }
@@ -322,4 +344,14 @@ impl Workspace {
             Err(fault) => Err(RunFault::on(level, fault)),
         }
     }
+}
+
+// Makes the digest of the first state on a tape, where it is known, the only one that is known.
+fn know_first(first: Option<[u8; 32]>, known: &mut Vec<Option<[u8; 32]>>)
+    requires { 1 ≤ vec_capacity known.old }
+    ensures known { known.new.items ≡ first ∷ [] }
+    ensures room { 1 ≤ vec_capacity known.new }
+{
+    known.clear();
+    known.push(first).unwrap();
 }

@@ -1,4 +1,6 @@
-use Rattle.std.proofs.Common.{◌≡◌, ℕ, ◌≤◌, [], map, drop, length, slice_get}
+use Rattle.std.proofs.Common.{◌≡◌, ℕ, ◌≤◌, map, drop, length, slice_get}
+use Rattle.std.specs.List.{AllByRecursion}
+use Rattle.unit_digests.specs.Digests.{HasPages}
 use Rattle.reverse_runner.specs.Rooms.{rooms_by, SameRooms}
 use Rattle.reverse_runner.specs.SessionState.{SamePages}
 use Rattle.reversal.specs.ActionsLeft.{left_of}
@@ -20,8 +22,8 @@ invariant-loop-action g l = record {
       (moment g.O.Sink.told g.O.Sink.call_count g.O.Sink.fault_count g.K.Keeper.told g.K.Keeper.put_count g.K.Keeper.get_count g.K.Keeper.free_count g.K.Keeper.fault_count l.writer.out.now l.keepers.items l.counter);
   rooms : SameRooms (rooms_by g.K.Keeper.room_bytes l.fn.keepers.items) (rooms_by g.K.Keeper.room_bytes l.keepers.items);
   pages : SamePages l.session.work l.fn.session.work;
+  digesters : AllByRecursion (HasPages l.session.work) l.digesters;
   room : map g.K.Keeper.slot_count l.keepers.items ≡ map g.K.Keeper.slot_count l.fn.keepers.items;
-  none_waits : l.writer.batch.now ≡ [];
   reference : l.writer.out.ghost_name ≡ l.initial.writer.out.ghost_name;
   others : (k : ℕ) → length l.fn.session.situation.slots ≤ k → slice_get l.keepers.items k ≡ slice_get l.fn.keepers.items k;
 }

@@ -15,6 +15,7 @@ use Rattle.reverse_runner.specs.declared.fault.RunFault.TheVariants.{Keeper, Dam
 use Rattle.reverse_runner.specs.Acts.{IsDecoded}
 use Rattle.reverse_runner.specs.KeepersSeen.{told_by, calls_of, calls_to, CalledAtMost}
 use Rattle.reverse_runner.specs.Touching.{IsKeeping, IsCaused, Remain}
+use Rattle.reverse_runner.proofs.InOrder.{still_in_order, same_pages, same_room}
 use Rattle.reverse_runner.proofs.Caused.{kept_by}
 use Rattle.reverse_runner.specs.Workspaces.{levels_in, holdings_in}
 use Rattle.reverse_runner.proofs.Asking.{may_get, may_give, copies_held, copies_free, damage_of, copied_to_work, copy_names_source, copy_names_target, not_named, keeping_is_on, has_keeper_still}
@@ -203,7 +204,8 @@ returns-in-Level-clause-kept g c =
 pub returns-in-Level-clause-order : goal.returns-in-Level-clause-order
 returns-in-Level-clause-order g c =
     record {
-      fits = search rules;
+      fits =
+          still_in_order c.fetch.new.self c.keep.new.self (same_pages c.keep.ensures.states.0) c.keep.ensures.states.1 c.keep.ensures.states.3 c.keep.ensures.states.4 (same_room c.keep.ensures.states.2) (still_in_order c.args.space.now c.fetch.new.self (same_pages c.fetch.ensures.states.0) c.fetch.ensures.states.1 c.fetch.ensures.states.3 c.fetch.ensures.states.4 c.fetch.ensures.reserved c.requires.ready.fits);
       pages = search rules;
       short = λ short.
           (let bound = image_room c.args.space.now.work in

@@ -10,6 +10,7 @@ use Rattle.rv_machine.specs.States.{state_number}
 use Rattle.state_image.specs.Image.{image}
 use Rattle.image_store.specs.Calls.{IsKept}
 use Rattle.reverse_runner.specs.Workspaces.{levels_in, holdings_in}
+use Rattle.reverse_runner.proofs.InOrder.{still_in_order, same_pages, same_room}
 use Rattle.reverse_runner.proofs.Asking.{forward_stored, forward_taped, store_names, not_named, has_keeper_still, may_get, stores_free}
 use Rattle.level_book.specs.Configuration.{Configuration}
 use Rattle.level_book.specs.Moves.{Goes}
@@ -84,7 +85,9 @@ returns-in_ok-keep-in-Store-clause-kept g c =
 pub returns-in_ok-keep-in-Store-clause-order : goal.returns-in_ok-keep-in-Store-clause-order
 returns-in_ok-keep-in-Store-clause-order g c =
     record {
-      fits = search rules;
+      fits =
+          still_in_order c.keep.new.self c.advance-in-Store.new.self c.advance-in-Store.ensures.pages c.advance-in-Store.ensures.tape c.advance-in-Store.ensures.undo c.advance-in-Store.ensures.known
+          (same_room c.advance-in-Store.ensures.buffer) (still_in_order c.encode-digest.new.self c.keep.new.self (same_pages c.keep.ensures.states.0) c.keep.ensures.states.1 c.keep.ensures.states.3 c.keep.ensures.states.4 (same_room c.keep.ensures.states.2) (c.encode-digest.ensures.fits));
       pages = search rules;
       short = λ short.
           (let bound = image_room c.args.space.now.work in
@@ -134,7 +137,8 @@ returns-in-Tape-clause-order g c =
         pages = ap (λ (s : MachineState). page_numbers s.memory) c.advance_on_tape.ensures.tape;
         few = omega (arith, count, fits.few);
         back = leads_there c.advance_on_tape.new.self.undo.entries c.advance_on_tape.new.self.tape _ c.advance_on_tape.ensures.back;
-        first = c.advance_on_tape.ensures.first;
+        known = c.advance_on_tape.ensures.known;
+        room = c.advance_on_tape.ensures.room;
         buffer = omega (arith, count, reserved, fits.buffer);
       };
       pages = search rules;
@@ -167,7 +171,7 @@ returns-in_err-keep-in-Store-clause-kept g c =
 pub returns-in_err-keep-in-Store-clause-order : goal.returns-in_err-keep-in-Store-clause-order
 returns-in_err-keep-in-Store-clause-order g c =
     record {
-      fits = search rules;
+      fits = still_in_order c.encode-digest.new.self c.keep.new.self (same_pages c.keep.ensures.states.0) c.keep.ensures.states.1 c.keep.ensures.states.3 c.keep.ensures.states.4 (same_room c.keep.ensures.states.2) (c.encode-digest.ensures.fits);
       pages = search rules;
       short = λ short.
           (let bound = image_room c.args.space.now.work in

@@ -8,6 +8,7 @@ use Rattle.image_store.specs.Shelves.{ShelfState}
 use Rattle.reverse_runner.specs.declared.fault.RunFault.TheVariants.{Keeper, Damaged, Memory}
 use Rattle.reverse_runner.specs.KeepersSeen.{told_by, calls_to}
 use Rattle.reverse_runner.specs.Touching.{IsKeeping, IsCaused}
+use Rattle.reverse_runner.proofs.InOrder.{still_in_order, same_pages, same_room}
 use Rattle.reverse_runner.proofs.AllCalls.{at_most, some_moved}
 use Rattle.reverse_runner.proofs.Caused.{caused_rose, caused_quiet, no_keeper}
 use Rattle.reverse_runner.specs.Workspaces.{levels_in, holdings_in}
@@ -186,7 +187,9 @@ returns-clause-kept g c =
 pub returns-clause-order : goal.returns-clause-order
 returns-clause-order g c =
     record {
-      fits = search rules;
+      fits =
+          still_in_order c.copy.new.space c.release.new.self (same_pages c.release.ensures.states.0) c.release.ensures.states.1 c.release.ensures.states.3 c.release.ensures.states.4 (same_room c.release.ensures.states.2)
+          c.copy.ensures.order.fits;
       pages = search rules;
       short = λ short. c.release.ensures.short (image_room c.args.space.now.work) (c.copy.ensures.order.short short);
     }

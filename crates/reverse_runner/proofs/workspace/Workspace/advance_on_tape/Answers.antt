@@ -1,9 +1,10 @@
 -- The undo list is cleared, and then watches the steps.
-use Rattle.std.proofs.Common.{◌∙◌, ap, sym, subst, arith}
+use Rattle.std.proofs.Common.{◌∙◌, ap, sym, subst, arith, List, Option, ℕ}
 use Rattle.rv_machine.specs.MachineState.{MachineState}
 use Rattle.unit_undo.specs.UndoState.{UndoState}
 use Rattle.unit_undo.specs.Leading.{LeadsBack, states_below, IsMadeFor}
 use Rattle.unit_undo.proofs.Leading.{can_note, noted, led}
+use Rattle.unit_digests.specs.Digests.{states_of, AreDigests}
 use Rattle.reverse_runner.proofs.Knowing.{known_on_tape}
 use Rattle.reverse_runner.proofs.workspace.Workspace.advance_on_tape.Goals as goal
 
@@ -25,9 +26,10 @@ returns-clause-undo g c =
     let so = noted c.args.self.now.work c.args.journal.now c.args.count c.clear.new.self c.advance_watched.new.watch (ap (λ (u : UndoState). u.entries) c.clear.ensures) c.advance_watched.ensures.noted in
     (so.unit ∙ ap (λ (u : UndoState). u.unit) c.clear.ensures, so.room ∙ ap (λ (u : UndoState). u.room) c.clear.ensures)
 
-pub returns-clause-first : goal.returns-clause-first
-returns-clause-first g c =
+pub returns-clause-known : goal.returns-clause-known
+returns-clause-known g c =
     let so = noted c.args.self.now.work c.args.journal.now c.args.count c.clear.new.self c.advance_watched.new.watch (ap (λ (u : UndoState). u.entries) c.clear.ensures) c.advance_watched.ensures.noted in
     let there = sym (c.copy_from.ensures ∙ c.advance_watched.ensures.states) in
     let back = subst (λ (s : MachineState). LeadsBack c.advance_watched.new.watch.entries s (states_below c.args.self.now.work c.args.journal.now c.args.count)) there so.has.back in
-    known_on_tape c.known-self.result c.args.self.now.work c.args.journal.now c.args.count _ (led c.advance_watched.new.watch.entries c.copy_from.new.self _ back) c.known-self.ensures
+    subst (λ (known : List (Option (List ℕ))). AreDigests known (states_of c.advance_watched.new.watch.entries c.copy_from.new.self)) (sym c.know_first.ensures.known)
+    (known_on_tape c.known.result c.args.self.now.work c.args.journal.now c.args.count _ (led c.advance_watched.new.watch.entries c.copy_from.new.self _ back) c.known.ensures)

@@ -1,10 +1,10 @@
-use Rattle.std.proofs.Common.{◌≡◌, ℕ, suc, ◌+◌, List, [], ◌∷◌, ◌++◌, length, sym, ap, subst, ◌∙◌, append_assoc, arith, Result, Ok, Err, OnErr}
+use Rattle.std.proofs.Common.{◌≡◌, ℕ, suc, ◌+◌, List, [], ◌∷◌, ◌++◌, length, sym, ap, subst, ◌∙◌, append_assoc, arith, Option, Result, Ok, Err, OnErr}
 use Rattle.unit_undo.specs.UndoState.{UndoState}
 use Rattle.unit_undo.specs.Leading.{led_back}
 use Rattle.unit_undo.proofs.Leading.{gone, gone_states}
 use Rattle.reverse_runner.specs.Handed.{numbers_from}
 use Rattle.reverse_runner.specs.Performed.{MissesOne}
-use Rattle.reverse_runner.specs.KnownDigests.{IsDigestOfLast}
+use Rattle.unit_digests.specs.Digests.{states_of, AreDigests}
 use Rattle.reverse_runner.proofs.Knowing.{known_behind}
 use Rattle.reverse_runner.proofs.Taping.{gets_more, misses_next}
 use Rattle.reverse_runner.proofs.workspace.Workspace.hand_back.Goals as goal
@@ -31,7 +31,8 @@ loop-self-preserved g c =
     let states_left = ap (λ xs. h.got.1 ++ xs) (sym states) ∙ h.got.4 in
     record {
       few = (let few = h.few in omega (arith, few, one));
-      known = known_behind c.loop-self.self.first c.back.new.self _ (subst (IsDigestOfLast c.loop-self.self.first) states h.known);
+      known = known_behind c.loop-self.self.known.items c.loop-self.self.undo c.back.new.undo p.0 c.loop-self.self.tape c.back.new.self p.1.0 p.1.1 h.known;
+      same = h.same;
       leads = gone c.loop-self.self.undo c.back.new.undo p.0 c.loop-self.self.tape c.back.new.self p.1.0 p.1.1 h.leads;
       got = (
         h.got.0 ++ n ∷ [],
@@ -69,11 +70,10 @@ returns-in_err-hand_out-clause-misses g c =
     (ap (λ m. h.got.0 ++ m ∷ numbers_from c.args.first (length c.back.new.undo.entries)) number ∙ numbers_left)
     (subst (λ ts. MissesOne g.V.Visitor.got g.V.Visitor.missed c.args.journal.now (h.got.0 ++ n ∷ numbers_from c.args.first (length c.back.new.undo.entries)) ts c.args.visitor.now c.hand_out.new.visitor) states_left misses))
 
-pub back-requires-clause-first : goal.back-requires-clause-first
-back-requires-clause-first g c = c.loop-self.invariant.known
+pub back-requires-clause-known : goal.back-requires-clause-known
+back-requires-clause-known g c = subst (λ (known : List (Option (List ℕ))). AreDigests known (states_of c.loop-self.self.undo.entries c.loop-self.self.tape)) (sym c.as_slice.ensures.value) c.loop-self.invariant.known
 
-pub returns-in_err-hand_out-clause-first : goal.returns-in_err-hand_out-clause-first
-returns-in_err-hand_out-clause-first g c =
+pub returns-in_err-hand_out-clause-known : goal.returns-in_err-hand_out-clause-known
+returns-in_err-hand_out-clause-known g c =
     let p = c.back.ensures.back in
-    let states = gone_states c.loop-self.self.undo c.back.new.undo p.0 c.loop-self.self.tape c.back.new.self p.1.0 p.1.1 in
-    known_behind c.loop-self.self.first c.back.new.self _ (subst (IsDigestOfLast c.loop-self.self.first) states c.loop-self.invariant.known)
+    known_behind c.loop-self.self.known.items c.loop-self.self.undo c.back.new.undo p.0 c.loop-self.self.tape c.back.new.self p.1.0 p.1.1 c.loop-self.invariant.known

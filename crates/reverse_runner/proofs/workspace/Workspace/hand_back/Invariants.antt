@@ -2,7 +2,7 @@ use Rattle.std.proofs.Common.{◌≡◌, ◌<◌, ◌+◌, ◌^◌, ◌++◌, �
 use Rattle.rv_machine.specs.MachineState.{MachineState}
 use Rattle.unit_undo.specs.Leading.{LeadsBack, led_back}
 use Rattle.reverse_runner.specs.Handed.{numbers_from}
-use Rattle.reverse_runner.specs.KnownDigests.{IsDigestOfLast}
+use Rattle.unit_digests.specs.Digests.{states_of, AreDigests}
 use Rattle.reverse_runner.specs.Performed.{GetsAll}
 use Rattle.reverse_runner.specs.SessionState.{SamePages}
 use Rattle.reverse_runner.proofs.workspace.Workspace.hand_back.Given as goal
@@ -11,7 +11,8 @@ use Rattle.reverse_runner.proofs.workspace.Workspace.hand_back.Given as goal
 abbrev pub invariant-loop-self : goal.invariant-loop-self
 invariant-loop-self g l = record {
   few : l.first + length l.self.undo.entries < 2 ^ 32;
-  known : IsDigestOfLast l.self.first (led_back l.self.undo.entries l.self.tape);
+  known : AreDigests l.self.known.items (states_of l.self.undo.entries l.self.tape);
+  same : l.self.known ≡ l.initial.self.known;
   leads : LeadsBack l.self.undo.entries l.self.tape (led_back l.self.undo.entries l.self.tape);
   got : (numbers : List ℕ) × (states : List MachineState) × GetsAll g.V.Visitor.got l.journal numbers states l.initial.visitor l.visitor
       × (numbers ++ numbers_from l.first (length l.self.undo.entries) ≡ numbers_from l.first (length l.initial.self.undo.entries))

@@ -1,0 +1,14 @@
+use Rattle.std.proofs.Common.{◌≡◌, [], ◌∷◌, ◌++◌, None, subst, sym, rules}
+use Rattle.unit_digests.specs.Digests.{AreDigests}
+use Rattle.unit_digests.proofs.Walking.{unknown_comes}
+use Rattle.unit_digests.proofs.sharing.make_room.Goals as goal
+
+pub loop-preserved : goal.loop-preserved
+loop-preserved c =
+    let pushed : c.push.new.self.items ≡ c.loop.known.items ++ None ∷ [] = search rules in
+    record {
+      count = search rules;
+      room = search rules;
+      known = λ states are. subst (λ items. AreDigests items states) (sym pushed) (unknown_comes c.loop.known.items states (c.loop.invariant.known states are));
+      reserved = search rules;
+    }

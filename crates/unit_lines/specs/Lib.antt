@@ -1,4 +1,0 @@
-pub mod Pieces
-pub mod Waiting
-pub mod Sending
-pub mod Lines

@@ -1,0 +1,56 @@
+// A walk back over an undo list, which stays as it is.
+ghost use Rattle.std.specs.Prelude.{◌≡◌, ℕ, ◌∷◌, length};
+ghost use Rattle.rv_pages.specs.Memory.{page_numbers};
+ghost use Rattle.unit_undo.specs.Entry.{Entry, undone};
+ghost use Rattle.unit_undo.specs.UndoState.{CanGoBack};
+
+use crate::saved::Saved;
+use rv_machine::State;
+use std::marker::Model;
+
+/// The entries of an undo list over which a walk hasn't gone yet. Several threads may walk back over one list, each with a state of
+/// its own.
+#[derive(Drop)]
+pub struct UndoWalk<'a> {
+    pub(crate) entries: &'a [Saved],
+    pub(crate) bytes: &'a [u8],
+}
+
+impl<'a> Model for UndoWalk<'a> {
+    ghost use Rattle.std.specs.Prelude.{List};
+    ghost use Rattle.unit_undo.specs.Entry.{Entry as AnEntry};
+    ghost use Rattle.unit_undo.specs.UndoState.{entries_code};
+
+    ghost Value = { List AnEntry };
+
+    ghost coded = { entries_code };
+
+    ghost use Rattle.unit_undo.specs.UndoFields.{entries_walked, IsWalk};
+
+    ghost view = { entries_walked };
+
+    ghost invariant = { IsWalk };
+}
+
+impl<'a> UndoWalk<'a> {
+    /// How many entries are left.
+    pub fn left(&self) -> u32
+        ensures { result ≡ length self.now }
+    {
+        self.entries.len() as u32
+    }
+
+    /// Undoes the step of the last entry that is left, and leaves the others.
+    #[inline(always)]
+    pub fn back(&mut self, state: &mut State)
+        requires { CanGoBack self.old state.old }
+        ensures back { (e : Entry) × ((self.old ≡ e ∷ self.new) × (state.new ≡ undone e state.old)) }
+        ensures pages { page_numbers state.new.memory ≡ page_numbers state.old.memory }
+    {
+        let (saved, entries) = self.entries.split_last().unwrap();
+        let (bytes, old) = self.bytes.split_at(self.bytes.len() - saved.count as usize);
+        saved.put_back(state, old);
+        self.entries = entries;
+        self.bytes = bytes;
+    }
+}
