@@ -129,6 +129,7 @@ impl Shelf {
         ensures left { OnErr result (IsNotKept self.old (K.told keeper.old) (K.told keeper.new)) }
         ensures slots { K.slot_count keeper.new ≡ K.slot_count keeper.old }
         ensures room { K.room_bytes keeper.new ≡ K.room_bytes keeper.old }
+        ensures place { K.place keeper.new ≡ K.place keeper.old }
         ensures puts { K.put_count keeper.new ≡ raised (K.put_count keeper.old) 1 }
         ensures gets { K.get_count keeper.new ≡ K.get_count keeper.old }
         ensures frees { K.free_count keeper.new ≡ K.free_count keeper.old }
@@ -174,6 +175,7 @@ impl Shelf {
         ensures reserved { vec_capacity into.old ≤ vec_capacity into.new }
         ensures slots { K.slot_count keeper.new ≡ K.slot_count keeper.old }
         ensures room { K.room_bytes keeper.new ≡ K.room_bytes keeper.old }
+        ensures place { K.place keeper.new ≡ K.place keeper.old }
         ensures gets { K.get_count keeper.new ≡ raised (K.get_count keeper.old) 1 }
         ensures puts { K.put_count keeper.new ≡ K.put_count keeper.old }
         ensures frees { K.free_count keeper.new ≡ K.free_count keeper.old }
@@ -212,6 +214,7 @@ impl Shelf {
         ensures left { OnErr result ((kept : Kept) → pair_at self.old.pairs n ≡ Some kept → IsNotFreed kept (K.told keeper.old) (K.told keeper.new)) }
         ensures slots { K.slot_count keeper.new ≡ K.slot_count keeper.old }
         ensures room { K.room_bytes keeper.new ≡ K.room_bytes keeper.old }
+        ensures place { K.place keeper.new ≡ K.place keeper.old }
         ensures frees { K.free_count keeper.new ≡ raised (K.free_count keeper.old) 1 }
         ensures puts { K.put_count keeper.new ≡ K.put_count keeper.old }
         ensures gets { K.get_count keeper.new ≡ K.get_count keeper.old }

@@ -75,6 +75,7 @@ impl Store {
         ensures left { OnErr result (IsNotKept (level_of self.old level) (K.told keeper.old) (K.told keeper.new)) }
         ensures slots { K.slot_count keeper.new ≡ K.slot_count keeper.old }
         ensures room { K.room_bytes keeper.new ≡ K.room_bytes keeper.old }
+        ensures place { K.place keeper.new ≡ K.place keeper.old }
         ensures puts { K.put_count keeper.new ≡ raised (K.put_count keeper.old) 1 }
         ensures gets { K.get_count keeper.new ≡ K.get_count keeper.old }
         ensures frees { K.free_count keeper.new ≡ K.free_count keeper.old }
@@ -112,6 +113,7 @@ impl Store {
         ensures reserved { vec_capacity into.old ≤ vec_capacity into.new }
         ensures slots { K.slot_count keeper.new ≡ K.slot_count keeper.old }
         ensures room { K.room_bytes keeper.new ≡ K.room_bytes keeper.old }
+        ensures place { K.place keeper.new ≡ K.place keeper.old }
         ensures gets { K.get_count keeper.new ≡ raised (K.get_count keeper.old) 1 }
         ensures puts { K.put_count keeper.new ≡ K.put_count keeper.old }
         ensures frees { K.free_count keeper.new ≡ K.free_count keeper.old }
@@ -144,6 +146,7 @@ impl Store {
         ensures left { OnErr result ((kept : Kept) → kept_at self.old level n ≡ Some kept → IsNotFreed kept (K.told keeper.old) (K.told keeper.new)) }
         ensures slots { K.slot_count keeper.new ≡ K.slot_count keeper.old }
         ensures room { K.room_bytes keeper.new ≡ K.room_bytes keeper.old }
+        ensures place { K.place keeper.new ≡ K.place keeper.old }
         ensures frees { K.free_count keeper.new ≡ raised (K.free_count keeper.old) 1 }
         ensures puts { K.put_count keeper.new ≡ K.put_count keeper.old }
         ensures gets { K.get_count keeper.new ≡ K.get_count keeper.old }

@@ -4,3 +4,5 @@ pub mod Known
 pub mod Listed
 pub mod Adding
 pub mod Begun
+pub mod SlotImages
+pub mod Paths

@@ -4,6 +4,7 @@ pub mod Failing
 pub mod FlipState
 pub mod InputsState
 pub mod KeeperState
+pub mod Outside
 pub mod Parts
 pub mod Places
 pub mod SinkState

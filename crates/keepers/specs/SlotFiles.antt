@@ -1,13 +1,22 @@
 -- The files in which a keeper over files keeps its images, and what a call does to the files of a disk.
-use Rattle.std.specs.Prelude.{◌≡◌, ℕ, List, ◌++◌, codes, decimal}
+use Rattle.std.specs.Prelude.{◌≡◌, ◌≢◌, ◌⊎◌, ℕ, zero, suc, List, [], ◌∷◌, ◌++◌, take, codes, decimal, Option, None, Some, Err, OnOk, OnErr}
+use Rattle.std.specs.Option.{option_map}
+use Rattle.std.specs.FinMap as finmap
+use Rattle.keepers.specs.Counts.{raised}
+use Rattle.keepers.specs.Parts.{Answer}
+use Rattle.keepers.specs.Told.{Images, Files, Tells, WhereTold, SameButNamed, bytes_in}
 use Rattle.keepers.specs.declared.file_keeper.FileKeeper.{FileKeeper}
+use Rattle.keepers.specs.declared.keeper.KeepFault.TheVariants.{Failed}
 
--- the folder of a keeper over files, and the number of its level
+-- the folder of a keeper over files, the number of its level, and the disk that it owns
 abbrev pub folder_of : {D : Type 0} → FileKeeper D → List ℕ
 folder_of k = k.folder.items
 
 abbrev pub level_of : {D : Type 0} → FileKeeper D → ℕ
 level_of k = k.level
+
+abbrev pub disk_of : {D : Type 0} → FileKeeper D → D
+disk_of k = k.disk
 
 -- the path of the file of a slot: `FOLDER/levelLEVEL-slotSLOT.img`, with both numbers in decimal digits
 abbrev pub slot_path : List ℕ → ℕ → ℕ → List ℕ
@@ -17,6 +26,45 @@ slot_path folder level slot = folder ++ codes "/level" ++ decimal level ++ codes
 abbrev pub path_of : {D : Type 0} → FileKeeper D → ℕ → List ℕ
 path_of k slot = slot_path (folder_of k) (level_of k) slot
 
--- its images are in the files in which they were
-abbrev pub StaysThere : {D : Type 0} → FileKeeper D → FileKeeper D → Type 0
-StaysThere old new = (folder_of new ≡ folder_of old) × (level_of new ≡ level_of old)
+-- an image before others, where there is one
+abbrev pub with_image : ℕ → Option (List ℕ) → List (ℕ × List ℕ) → List (ℕ × List ℕ)
+with_image slot None images = images
+with_image slot (Some image) images = (slot, image) ∷ images
+
+-- the images that the files of the first so many slots of a level hold; a slot without a file holds none
+unfoldable pub images_in_files : List ℕ → ℕ → ℕ → Files → List (ℕ × List ℕ)
+images_in_files folder level zero files = []
+images_in_files folder level (suc slot) files = with_image slot (finmap.get files (slot_path folder level slot)) (images_in_files folder level slot files)
+
+-- the same by their slots: just the image in each slot of these whose file is there
+abbrev pub level_images : List ℕ → ℕ → ℕ → Files → Images
+level_images folder level slots files = finmap.from_entries (images_in_files folder level slots files)
+
+-- what a keeper over files tells: the images in the files of its slots, where its disk tells its files
+abbrev pub images_told : {D : Type 0} → (D → Option Files) → FileKeeper D → Option Images
+images_told told k = option_map (level_images (folder_of k) (level_of k) k.slots) (told k.disk)
+
+-- What the calls of a keeper over files do to it, and to the files of its disk, where that tells them.
+
+-- a put: the whole image is in the file of this slot, and no other file changed
+pub record IsFilePut {D : Type 0} (told : D → Option Files) (slot : ℕ) (image : List ℕ) (answer : Answer) (old new : FileKeeper D) : Type 0 where
+  pub written : OnOk answer (Tells (told old.disk) (told new.disk) (λ a b. b ≡ finmap.insert a (path_of old slot) image))
+  pub others : OnErr answer (Tells (told old.disk) (told new.disk) (SameButNamed (path_of old slot)))
+  pub rest : new ≡ record old { disk = new.disk; puts = raised old.puts 1; faults = new.faults }
+  pub quiet : answer ≢ Err Failed → new.faults ≡ old.faults
+  pub counted : answer ≡ Err Failed → new.faults ≡ raised old.faults 1
+
+-- a get, which gives these bytes: they are the first of the file of this slot, and no file changed
+pub record IsFileGet {D : Type 0} (told : D → Option Files) (slot len : ℕ) (bytes : List ℕ) (answer : Answer) (old new : FileKeeper D) : Type 0 where
+  pub ok : OnOk answer (WhereTold (told old.disk) (λ files. bytes ≡ take len (bytes_in files (path_of old slot))))
+  pub rest : new ≡ record old { gets = raised old.gets 1; faults = new.faults }
+  pub quiet : answer ≢ Err Failed → new.faults ≡ old.faults
+  pub counted : answer ≡ Err Failed → new.faults ≡ raised old.faults 1
+
+-- a free: the file of this slot is gone, and no other file changed
+pub record IsFileFree {D : Type 0} (told : D → Option Files) (slot : ℕ) (answer : Answer) (old new : FileKeeper D) : Type 0 where
+  pub removed : OnOk answer (Tells (told old.disk) (told new.disk) (λ a b. b ≡ finmap.remove a (path_of old slot)))
+  pub left : OnErr answer (Tells (told old.disk) (told new.disk) (λ a b. (b ≡ a) ⊎ (b ≡ finmap.remove a (path_of old slot))))
+  pub rest : new ≡ record old { disk = new.disk; frees = raised old.frees 1; faults = new.faults }
+  pub quiet : answer ≢ Err Failed → new.faults ≡ old.faults
+  pub counted : answer ≡ Err Failed → new.faults ≡ raised old.faults 1

@@ -9,6 +9,10 @@ use Rattle.std.specs.Io.KnownBytes.{Consumes}
 abbrev pub Images : Type 0
 Images = finmap.FinMap nat_cmp (List ℕ)
 
+-- Where images are: in those files of a folder that are named by the number of a level, or in no file.
+abbrev pub Location : Type 0
+Location = Option (List ℕ × ℕ)
+
 -- inputs by their names
 abbrev pub Files : Type 0
 Files = finmap.FinMap (slice_cmp nat_cmp) (List ℕ)

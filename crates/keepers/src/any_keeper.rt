@@ -1,38 +1,34 @@
-// A keeper of any kind.
+// A keeper in memory or over files.
 ghost use Rattle.std.specs.Prelude.{◌≡◌};
 
-use crate::disk::SystemDisk;
+use crate::disk::Disk;
 use crate::file_keeper::FileKeeper;
-use crate::flip_keeper::FlipKeeper;
 use crate::keeper::{KeepFault, Keeper};
 use crate::memory_keeper::MemoryKeeper;
-use std::rt::Files;
 
-/// A keeper of any kind, so that the levels of a book may have keepers of different kinds. Its calls are its part's.
+/// A keeper in memory or over files, so that the levels of a book may have keepers of both kinds. Its calls are its part's.
 #[derive(Drop)]
-pub enum AnyKeeper<R> {
+pub enum AnyKeeper<D> {
     Memory(MemoryKeeper),
-    Flip(FlipKeeper),
-    File(FileKeeper<SystemDisk<R>>),
+    File(FileKeeper<D>),
 }
 
-impl<R: Files + AllocGlobal> AnyKeeper<R> {
+impl<D: Disk> AnyKeeper<D> {
     /// How many faults its part counts.
     pub fn faults(&self) -> u64
-        ensures { result ≡ ⟦<AnyKeeper<R> as Keeper>⟧.fault_count self.now }
+        ensures { result ≡ ⟦<AnyKeeper<D> as Keeper>⟧.fault_count self.now }
     {
         match self {
             AnyKeeper::Memory(keeper) => keeper.faults(),
-            AnyKeeper::Flip(keeper) => keeper.faults(),
             AnyKeeper::File(keeper) => keeper.faults(),
         }
     }
 }
 
-impl<R: Files + AllocGlobal> Keeper for AnyKeeper<R> {
-    ghost use Rattle.keepers.specs.AnyKeeper.{told_of, slots_of, puts_of, gets_of, frees_of, faults_of, room_of, put_of, get_of, free_of};
+impl<D: Disk> Keeper for AnyKeeper<D> {
+    ghost use Rattle.keepers.specs.AnyKeeper.{told_of, slots_of, puts_of, gets_of, frees_of, faults_of, room_of, place_of, put_of, get_of, free_of};
 
-    ghost told = { told_of };
+    ghost told = { told_of D.told };
 
     ghost slot_count = { slots_of };
 
@@ -46,16 +42,17 @@ impl<R: Files + AllocGlobal> Keeper for AnyKeeper<R> {
 
     ghost room_bytes = { room_of };
 
-    ghost put_does = { put_of };
+    ghost place = { place_of };
 
-    ghost get_does = { get_of };
+    ghost put_does = { put_of D.told };
 
-    ghost free_does = { free_of };
+    ghost get_does = { get_of D.told };
+
+    ghost free_does = { free_of D.told };
 
     fn slots(&self) -> u32 {
         match self {
             AnyKeeper::Memory(keeper) => keeper.slots(),
-            AnyKeeper::Flip(keeper) => keeper.slots(),
             AnyKeeper::File(keeper) => keeper.slots(),
         }
     }
@@ -63,7 +60,6 @@ impl<R: Files + AllocGlobal> Keeper for AnyKeeper<R> {
     fn put(&mut self, slot: u32, image: &[u8]) -> Result<(), KeepFault> {
         match self {
             AnyKeeper::Memory(keeper) => keeper.put(slot, image),
-            AnyKeeper::Flip(keeper) => keeper.put(slot, image),
             AnyKeeper::File(keeper) => keeper.put(slot, image),
         }
     }
@@ -71,7 +67,6 @@ impl<R: Files + AllocGlobal> Keeper for AnyKeeper<R> {
     fn get(&mut self, slot: u32, len: u32, into: &mut Vec<u8>) -> Result<(), KeepFault> {
         match self {
             AnyKeeper::Memory(keeper) => keeper.get(slot, len, into),
-            AnyKeeper::Flip(keeper) => keeper.get(slot, len, into),
             AnyKeeper::File(keeper) => keeper.get(slot, len, into),
         }
     }
@@ -79,7 +74,6 @@ impl<R: Files + AllocGlobal> Keeper for AnyKeeper<R> {
     fn free(&mut self, slot: u32) -> Result<(), KeepFault> {
         match self {
             AnyKeeper::Memory(keeper) => keeper.free(slot),
-            AnyKeeper::Flip(keeper) => keeper.free(slot),
             AnyKeeper::File(keeper) => keeper.free(slot),
         }
     }

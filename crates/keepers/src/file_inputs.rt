@@ -4,14 +4,13 @@ ghost use Rattle.std.specs.Vec.{vec_len, vec_capacity};
 ghost use Rattle.std.specs.FinMap as finmap;
 ghost use Rattle.keepers.specs.Told.{WhereTold, Begins, bytes_in};
 
-use crate::disk::{Disk, SystemDisk};
+use crate::disk::Disk;
 use crate::faults::input_fault;
 use crate::inputs::{InputFault, Inputs, Whole};
 use crate::names::Names;
-use std::alloc::AllocError;
+use std::alloc::{AllocError, Global};
 use std::io;
 use std::io::ErrorKind;
-use std::rt::Files;
 
 /// How many bytes a file is asked for at once.
 const PIECE_ROOM: usize = 65536;
@@ -25,24 +24,21 @@ pub struct FileInputs<D> {
     faults: u64,
 }
 
-impl<R: Files + AllocGlobal> FileInputs<SystemDisk<R>> {
-    /// Reads those of the system. It was asked for nothing, and takes no memory.
-    pub fn new(rt: R) -> Self
-        ensures asked { ⟦<FileInputs<SystemDisk<R>> as Inputs>⟧.asked result ≡ [] }
-        ensures faults { ⟦<FileInputs<SystemDisk<R>> as Inputs>⟧.fault_count result ≡ 0 }
+impl<D: Disk> FileInputs<D> {
+    /// Reads those of this disk. It was asked for nothing, and takes no memory.
+    pub fn new(disk: D, alloc: Global) -> Self
+        ensures told { ⟦<FileInputs<D> as Inputs>⟧.told result ≡ D.told disk }
+        ensures asked { ⟦<FileInputs<D> as Inputs>⟧.asked result ≡ [] }
+        ensures faults { ⟦<FileInputs<D> as Inputs>⟧.fault_count result ≡ 0 }
     {
-        let asked = Names::new(rt.alloc());
-        let piece = Vec::new(rt.alloc());
         Self {
-            disk: SystemDisk::new(rt),
-            asked,
-            piece,
+            disk,
+            asked: Names::new(alloc),
+            piece: Vec::new(alloc),
             faults: 0,
         }
     }
-}
 
-impl<D: Disk> FileInputs<D> {
     /// How often `read` failed, up to `u64::MAX`.
     pub fn faults(&self) -> u64
         ensures { result ≡ ⟦<FileInputs<D> as Inputs>⟧.fault_count self.now }

@@ -1,18 +1,18 @@
 // A keeper whose images are files.
-ghost use Rattle.std.specs.Prelude.{◌≡◌, ◌≢◌, ◌⊎◌, ℕ, ◌≤◌, take, length, IfOk, Err, OnOk, OnErr, string_bytes};
+ghost use Rattle.std.specs.Prelude.{◌≡◌, ◌≢◌, ◌⊎◌, ℕ, ◌<◌, ◌≤◌, take, length, IfOk, Err, OnOk, OnErr, string_bytes};
 ghost use Rattle.std.specs.Vec.{vec_len, vec_capacity};
+ghost use Rattle.std.specs.Option.{option_map};
 ghost use Rattle.std.specs.FinMap as finmap;
 ghost use Rattle.keepers.specs.Counts.{raised};
-ghost use Rattle.keepers.specs.SlotFiles.{folder_of, level_of, path_of};
-ghost use Rattle.keepers.specs.Told.{Tells, WhereTold, SameButNamed, bytes_in};
+ghost use Rattle.keepers.specs.SlotFiles.{folder_of, level_of, disk_of, path_of, level_images, images_told};
+ghost use Rattle.keepers.specs.Told.{Tells, WhereTold, SameButAt, SameButNamed, image_in, bytes_in};
 
-use crate::disk::{Disk, SystemDisk};
+use crate::disk::Disk;
 use crate::faults::keep_fault;
 use crate::keeper::{KeepFault, Keeper};
 use std::alloc::Global;
 use std::io;
 use std::io::ErrorKind;
-use std::rt::Files;
 
 /// Keeps the images of a level in a folder, which must be there: a file a slot, named `level` level `-slot` slot `.img`.
 ///
@@ -32,20 +32,22 @@ pub struct FileKeeper<D> {
     faults: u64,
 }
 
-impl<R: Files + AllocGlobal> FileKeeper<SystemDisk<R>> {
-    /// Keeps them in files of the system. It touches no file, and takes no memory.
-    pub fn new(rt: R, folder: Vec<u8>, level: u8, slots: u32) -> Self
+impl<D: Disk> FileKeeper<D> {
+    /// Keeps them in files of this disk. It touches no file, and takes no memory.
+    pub fn new(disk: D, alloc: Global, folder: Vec<u8>, level: u8, slots: u32) -> Self
+        ensures disk { disk_of result ≡ disk }
         ensures folder { folder_of result ≡ folder.items }
         ensures level { level_of result ≡ level }
-        ensures slots { ⟦<FileKeeper<SystemDisk<R>> as Keeper>⟧.slot_count result ≡ slots }
-        ensures puts { ⟦<FileKeeper<SystemDisk<R>> as Keeper>⟧.put_count result ≡ 0 }
-        ensures gets { ⟦<FileKeeper<SystemDisk<R>> as Keeper>⟧.get_count result ≡ 0 }
-        ensures frees { ⟦<FileKeeper<SystemDisk<R>> as Keeper>⟧.free_count result ≡ 0 }
-        ensures faults { ⟦<FileKeeper<SystemDisk<R>> as Keeper>⟧.fault_count result ≡ 0 }
+        ensures told { ⟦<FileKeeper<D> as Keeper>⟧.told result ≡ option_map (level_images folder.items level slots) (D.told disk) }
+        ensures slots { ⟦<FileKeeper<D> as Keeper>⟧.slot_count result ≡ slots }
+        ensures puts { ⟦<FileKeeper<D> as Keeper>⟧.put_count result ≡ 0 }
+        ensures gets { ⟦<FileKeeper<D> as Keeper>⟧.get_count result ≡ 0 }
+        ensures frees { ⟦<FileKeeper<D> as Keeper>⟧.free_count result ≡ 0 }
+        ensures faults { ⟦<FileKeeper<D> as Keeper>⟧.fault_count result ≡ 0 }
     {
         Self {
-            alloc: rt.alloc(),
-            disk: SystemDisk::new(rt),
+            disk,
+            alloc,
             folder,
             level,
             slots,
@@ -55,9 +57,35 @@ impl<R: Files + AllocGlobal> FileKeeper<SystemDisk<R>> {
             faults: 0,
         }
     }
-}
 
-impl<D: Disk> FileKeeper<D> {
+    /// The disk that has its files.
+    pub fn disk(&self) -> &D
+        ensures { result.now ≡ disk_of self.now }
+    {
+        &self.disk
+    }
+
+    /// How often `put` was called, up to `u64::MAX`.
+    pub fn puts(&self) -> u64
+        ensures { result ≡ ⟦<FileKeeper<D> as Keeper>⟧.put_count self.now }
+    {
+        self.puts
+    }
+
+    /// How often `get` was called, up to `u64::MAX`.
+    pub fn gets(&self) -> u64
+        ensures { result ≡ ⟦<FileKeeper<D> as Keeper>⟧.get_count self.now }
+    {
+        self.gets
+    }
+
+    /// How often `free` was called, up to `u64::MAX`.
+    pub fn frees(&self) -> u64
+        ensures { result ≡ ⟦<FileKeeper<D> as Keeper>⟧.free_count self.now }
+    {
+        self.frees
+    }
+
     /// How often a call failed, up to `u64::MAX`.
     pub fn faults(&self) -> u64
         ensures { result ≡ ⟦<FileKeeper<D> as Keeper>⟧.fault_count self.now }
@@ -120,12 +148,12 @@ impl<D: Disk> FileKeeper<D> {
     }
 }
 
-// It tells nothing of its own. What a call does to the files of the disk, where that tells, are further clauses.
+// It tells the images in the files of its slots, where the disk tells. What a call does to its files are further clauses.
 impl<D: Disk> Keeper for FileKeeper<D> {
-    ghost use Rattle.std.specs.Prelude.{None};
-    ghost use Rattle.keepers.specs.SlotFiles.{StaysThere};
+    ghost use Rattle.std.specs.Prelude.{None, Some};
+    ghost use Rattle.keepers.specs.SlotFiles.{folder_of, level_of, images_told, IsFilePut, IsFileGet, IsFileFree};
 
-    ghost told = { λ _. None };
+    ghost told = { images_told D.told };
 
     ghost slot_count = { λ k. k.slots };
 
@@ -139,17 +167,22 @@ impl<D: Disk> Keeper for FileKeeper<D> {
 
     ghost room_bytes = { λ _. None };
 
-    ghost put_does = { λ old _ _ _ new. StaysThere old new };
+    ghost place = { λ k. Some (folder_of k, level_of k) };
 
-    ghost get_does = { λ old _ _ _ _ new. StaysThere old new };
+    ghost put_does = { λ old slot image answer new. IsFilePut D.told slot image answer old new };
 
-    ghost free_does = { λ old _ _ new. StaysThere old new };
+    ghost get_does = { λ old slot len bytes answer new. IsFileGet D.told slot len bytes answer old new };
+
+    ghost free_does = { λ old slot answer new. IsFileFree D.told slot answer old new };
 
     fn slots(&self) -> u32 {
         self.slots
     }
 
     fn put(&mut self, slot: u32, image: &[u8]) -> Result<(), KeepFault>
+        requires { slot < self.old.slots }
+        ensures ok { OnOk result (Tells (images_told D.told self.old) (images_told D.told self.new) (λ old new. new ≡ finmap.insert old slot image.now)) }
+        ensures refused { OnErr result (Tells (images_told D.told self.old) (images_told D.told self.new) (SameButAt slot)) }
         ensures written { OnOk result (Tells (D.told self.old.disk) (D.told self.new.disk)
             (λ old new. new ≡ finmap.insert old (path_of self.old slot) image.now)) }
         ensures others { OnErr result (Tells (D.told self.old.disk) (D.told self.new.disk) (SameButNamed (path_of self.old slot))) }
@@ -158,6 +191,8 @@ impl<D: Disk> Keeper for FileKeeper<D> {
         ensures later { self.old.faults ≤ self.new.faults }
         ensures counted { result ≡ Err KeepFault.Failed → self.new.faults ≡ raised self.old.faults 1 }
     {
+        let slots = self.slots;
+        prove!(slot < slots);
         self.puts = self.puts.saturating_add(1);
         match self.put_file(slot, image) {
             Ok(()) => Ok(()),
@@ -166,6 +201,8 @@ impl<D: Disk> Keeper for FileKeeper<D> {
     }
 
     fn get(&mut self, slot: u32, len: u32, into: &mut Vec<u8>) -> Result<(), KeepFault>
+        requires { slot < self.old.slots }
+        ensures ok { OnOk result (WhereTold (images_told D.told self.old) (λ old. into.new.items ≡ take len (image_in old slot))) }
         ensures bytes { OnOk result (WhereTold (D.told self.old.disk) (λ files. into.new.items ≡ take len (bytes_in files (path_of self.old slot)))) }
         ensures short { OnOk result (vec_len into.new ≤ len) }
         ensures reserved { vec_capacity into.old ≤ vec_capacity into.new }
@@ -174,6 +211,8 @@ impl<D: Disk> Keeper for FileKeeper<D> {
         ensures later { self.old.faults ≤ self.new.faults }
         ensures counted { result ≡ Err KeepFault.Failed → self.new.faults ≡ raised self.old.faults 1 }
     {
+        let slots = self.slots;
+        prove!(slot < slots);
         self.gets = self.gets.saturating_add(1);
         match self.get_file(slot, len, into) {
             Ok(()) => Ok(()),
@@ -182,6 +221,9 @@ impl<D: Disk> Keeper for FileKeeper<D> {
     }
 
     fn free(&mut self, slot: u32) -> Result<(), KeepFault>
+        requires { slot < self.old.slots }
+        ensures ok { OnOk result (Tells (images_told D.told self.old) (images_told D.told self.new) (λ old new. new ≡ finmap.remove old slot)) }
+        ensures refused { OnErr result (Tells (images_told D.told self.old) (images_told D.told self.new) (λ old new. (new ≡ old) ⊎ (new ≡ finmap.remove old slot))) }
         ensures removed { OnOk result (Tells (D.told self.old.disk) (D.told self.new.disk) (λ old new. new ≡ finmap.remove old (path_of self.old slot))) }
         ensures left { OnErr result (Tells (D.told self.old.disk) (D.told self.new.disk) (λ old new. (new ≡ old)
             ⊎ (new ≡ finmap.remove old (path_of self.old slot)))) }
@@ -190,6 +232,8 @@ impl<D: Disk> Keeper for FileKeeper<D> {
         ensures later { self.old.faults ≤ self.new.faults }
         ensures counted { result ≡ Err KeepFault.Failed → self.new.faults ≡ raised self.old.faults 1 }
     {
+        let slots = self.slots;
+        prove!(slot < slots);
         self.frees = self.frees.saturating_add(1);
         match self.free_file(slot) {
             Ok(()) => Ok(()),

@@ -97,6 +97,8 @@ impl Keeper for FlipKeeper {
 
     ghost room_bytes = { λ _. None };
 
+    ghost place = { λ _. None };
+
     ghost put_does = { λ old slot image answer new. IsFlipPut slot image answer old new };
 
     ghost get_does = { λ old slot len bytes answer new. IsFlipGet slot len bytes answer old new };

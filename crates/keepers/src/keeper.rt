@@ -3,7 +3,7 @@ ghost use Rattle.std.specs.Prelude.{◌≡◌, ◌≢◌, ◌⊎◌, ℕ, ◌<�
 ghost use Rattle.std.specs.Vec.{vec_len, vec_capacity};
 ghost use Rattle.std.specs.FinMap as finmap;
 ghost use Rattle.keepers.specs.Counts.{Rose, raised};
-ghost use Rattle.keepers.specs.Told.{Images, Tells, WhereTold, image_in, SameButAt};
+ghost use Rattle.keepers.specs.Told.{Images, Location, Tells, WhereTold, image_in, SameButAt};
 
 use thiserror::Error;
 
@@ -36,6 +36,8 @@ pub trait Keeper {
     ghost fault_count: { Self → ℕ };
     /// A number of bytes for which it never asks for memory, if it has one.
     ghost room_bytes: { Self → Option ℕ };
+    /// Where its images are.
+    ghost place: { Self → Location };
     /// What a call does besides, where a keeper says more than what is said here of each: of the keeper before it, the slot,
     /// the image or the bytes that were got, what was answered, and the keeper after it.
     ghost put_does: { Self → ℕ → List ℕ → Answer → Self → Type 0 } = { λ _ _ _ _ _. Unit {0} };
@@ -57,6 +59,7 @@ pub trait Keeper {
         ensures does { put_does self.old slot image.now result self.new }
         ensures slots { slot_count self.new ≡ slot_count self.old }
         ensures room { room_bytes self.new ≡ room_bytes self.old }
+        ensures place { place self.new ≡ place self.old }
         ensures roomy { (room : ℕ) → room_bytes self.old ≡ Some room → length image.now ≤ room → result ≢ Err KeepFault.Memory }
         ensures puts { put_count self.new ≡ raised (put_count self.old) 1 }
         ensures gets { get_count self.new ≡ get_count self.old }
@@ -76,6 +79,7 @@ pub trait Keeper {
         ensures does { get_does self.old slot len into.new.items result self.new }
         ensures slots { slot_count self.new ≡ slot_count self.old }
         ensures room { room_bytes self.new ≡ room_bytes self.old }
+        ensures place { place self.new ≡ place self.old }
         ensures roomy { (room : ℕ) → room_bytes self.old ≡ Some room → len ≤ vec_capacity into.old → result ≢ Err KeepFault.Memory }
         ensures gets { get_count self.new ≡ raised (get_count self.old) 1 }
         ensures puts { put_count self.new ≡ put_count self.old }
@@ -92,6 +96,7 @@ pub trait Keeper {
         ensures does { free_does self.old slot result self.new }
         ensures slots { slot_count self.new ≡ slot_count self.old }
         ensures room { room_bytes self.new ≡ room_bytes self.old }
+        ensures place { place self.new ≡ place self.old }
         ensures roomy { (room : ℕ) → room_bytes self.old ≡ Some room → result ≢ Err KeepFault.Memory }
         ensures frees { free_count self.new ≡ raised (free_count self.old) 1 }
         ensures puts { put_count self.new ≡ put_count self.old }

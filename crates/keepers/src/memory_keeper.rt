@@ -171,6 +171,8 @@ impl Keeper for MemoryKeeper {
 
     ghost room_bytes = { λ k. k.room };
 
+    ghost place = { λ _. None };
+
     ghost put_does = { λ old slot image answer new. IsPut slot image answer old new };
 
     ghost get_does = { λ old slot len bytes answer new. IsGet slot len bytes answer old new };

@@ -2,10 +2,11 @@
 ghost use Rattle.std.specs.Prelude.{◌≡◌, ℕ, ◌≤◌, take, OnOk, OnErr};
 ghost use Rattle.std.specs.Io.KnownBytes.{Appends};
 ghost use Rattle.keepers.specs.Counts.{raised};
+ghost use Rattle.keepers.specs.Outside.{fresh, writer_of};
 
+use crate::output::Output;
 use crate::sink::{Sink, SinkFault};
 use crate::transfer::write_whole;
-use std::io::Write;
 
 /// Writes to standard output, or to any other writer, and flushes each piece.
 #[derive(Drop)]
@@ -15,18 +16,23 @@ pub struct StdoutSink<W> {
     faults: u64,
 }
 
-impl<W: Write> StdoutSink<W> {
+impl<W: Output> StdoutSink<W> {
     /// Has written nothing.
     pub fn new(out: W) -> Self
-        ensures calls { ⟦<StdoutSink<W> as Sink>⟧.call_count result ≡ 0 }
-        ensures faults { ⟦<StdoutSink<W> as Sink>⟧.fault_count result ≡ 0 }
-        ensures out { result.out ≡ out }
+        ensures { result ≡ fresh out }
     {
         Self {
             out,
             calls: 0,
             faults: 0,
         }
+    }
+
+    /// The writer.
+    pub fn writer(&self) -> &W
+        ensures { result.now ≡ writer_of self.now }
+    {
+        &self.out
     }
 
     /// How often `write` failed, up to `u64::MAX`.
@@ -37,11 +43,9 @@ impl<W: Write> StdoutSink<W> {
     }
 }
 
-// It tells nothing of its own. What a call does to the writer, where that tells, are further clauses.
-impl<W: Write> Sink for StdoutSink<W> {
-    ghost use Rattle.std.specs.Prelude.{None};
-
-    ghost told = { λ _. None };
+// It tells what the writer tells.
+impl<W: Output> Sink for StdoutSink<W> {
+    ghost told = { λ s. W.contents s.out };
 
     ghost call_count = { λ s. s.calls };
 

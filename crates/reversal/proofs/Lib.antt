@@ -1,5 +1,6 @@
 pub mod OnTheWay
 pub mod Doing
+pub mod LineFronts
 pub mod LinesWritten
 pub mod Showing
 pub mod Through
@@ -31,5 +32,7 @@ pub mod ClassPlans
 pub mod Costing
 pub mod RunLists
 pub mod DemoStart
+pub mod Collision
 pub mod Coming
 pub mod Rooms
+pub mod MarkCollision

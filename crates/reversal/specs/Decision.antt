@@ -1,8 +1,8 @@
 -- What is decided of a request by its inputs: the call is refused with one ending, or one job is to be done; and how a call ends by
 -- what was decided. A command is a row of `table_of`, and a job one of `course_of`. A table reads like the order of refusals: the first
 -- line that isn't met decides, and the last line is the job.
-use Rattle.std.specs.Prelude.{◌≡◌, ◌⊎◌, ℕ, ◌+◌, ◌*◌, ◌≤◌, ◌++◌, slice_get, List, [], ◌∷◌, length, take, Option, None, Some}
-use Rattle.keepers.specs.Told.{Files, WhereTold}
+use Rattle.std.specs.Prelude.{◌≡◌, ◌⊎◌, ℕ, ◌+◌, ◌*◌, ◌≤◌, ◌++◌, slice_get, List, [], ◌∷◌, length, map, take, Option, None, Some}
+use Rattle.keepers.specs.Told.{Files, Location, WhereTold}
 use Rattle.reverse_runner.specs.Rooms.{image_room, AreRoomy}
 use Rattle.requests.specs.declared.ended.Ended.{Ended}
 use Rattle.requests.specs.Request.{Choice, unit_count, plan, plan_periodic, certify, price, find, assemble, disassemble, move_about as move_about_command, demo, Command, run, check, Request, ask as ask_command}
@@ -97,10 +97,15 @@ abbrev pub EndsBy : Decision → Ended → Moment → Moment → Type 0
 EndsBy (refuse refusal) e old new = e ≡ refusal
 EndsBy (accept job) e old new = EndsShowing (course_of job) e old new
 
+-- there are the same keepers: each has the slots that it had, in the place where they were
+pub record StayInPlace {K : Type 0} (slots : K → ℕ) (place : K → Location) (old new : List K) : Type 0 where
+  pub slots_same : map slots new ≡ map slots old
+  pub places_same : map place new ≡ map place old
+
 -- which keepers a decision leaves as they were: all where the call is refused, and else those past the levels of the job
-abbrev pub KeepsOthers : {K : Type 0} → Decision → List K → List K → Type 0
-KeepsOthers (refuse refusal) old new = new ≡ old
-KeepsOthers (accept job) old new = (length new ≡ length old) × ((k : ℕ) → (course_of job).levels ≤ k → slice_get new k ≡ slice_get old k)
+abbrev pub KeepsOthers : {K : Type 0} → (K → ℕ) → (K → Location) → Decision → List K → List K → Type 0
+KeepsOthers slots place (refuse refusal) old new = new ≡ old
+KeepsOthers slots place (accept job) old new = StayInPlace slots place old new × ((k : ℕ) → (course_of job).levels ≤ k → slice_get new k ≡ slice_get old k)
 
 -- Keepers with these rooms have room for each image of a run that is performed or asked about. Of other jobs it says nothing: a
 -- console asks its keepers for memory as it goes, and the rest has no keepers of the call.

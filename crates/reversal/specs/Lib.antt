@@ -7,6 +7,8 @@ pub mod Table
 pub mod Fronts
 pub mod Texts
 pub mod CommandRun
+pub mod Beginning
+pub mod Collision
 pub mod CommandAsk
 pub mod CommandPlan
 pub mod CommandCheck

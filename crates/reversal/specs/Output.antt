@@ -13,6 +13,10 @@ line_of states n = line n (states n) ++ 10 ∷ []
 abbrev pub lines_down : (ℕ → MachineState) → ℕ → List ℕ
 lines_down states n = flat_map (line_of states) (countdown n)
 
+-- bytes were added with which these begin
+abbrev pub AddsFrontOf : List ℕ → List ℕ → List ℕ → Type 0
+AddsFrontOf bytes old new = (front : List ℕ) × (rest : List ℕ) × (bytes ≡ front ++ rest) × (new ≡ old ++ front)
+
 -- these bytes were added
 abbrev pub Adds : List ℕ → List ℕ → List ℕ → Type 0
 Adds bytes old new = new ≡ old ++ bytes

@@ -18,6 +18,7 @@ ghost use Rattle.reversal.specs.Moment.{Moment, moment, beside, AllTell, AllEmpt
 ghost use Rattle.reversal.specs.ActionsLeft.{left_of};
 ghost use Rattle.reversal.specs.Table.{accept};
 ghost use Rattle.reversal.specs.Decision.{EndsBy, KeepsOthers, HaveRoomsFor};
+ghost use Rattle.reversal.specs.Beginning.{Begins};
 ghost use Rattle.reversal.specs.JobReading.{performed_run, run_from, job_of, IsPerformable, CanBeDone, KeepersHaveRoom, IsUntouched, Works, fault_ending};
 
 use crate::actions::Actions;
@@ -79,6 +80,34 @@ pub struct Performance {
 }
 
 impl Job {
+    /// The run of a job begins at a state that a machine can be in, with recorded input, and a list that goes over it is valid.
+    pub fn begins(&self)
+        requires { CanBeDone self.now }
+        ensures { Begins (job_of self.now) }
+    {
+        match self {
+            Job::Perform(performance) => {
+                performance.start.is_machine_state();
+                performance.journal.is_recorded();
+            }
+            Job::Ask(asking) => {
+                asking.over.start.is_machine_state();
+                asking.over.journal.is_recorded();
+            }
+            Job::MoveAbout(moving) => {
+                moving.start.is_machine_state();
+                moving.journal.is_recorded();
+            }
+            Job::Find(_) => {}
+            Job::Write(_) => {}
+            Job::Bytes(_) => {}
+            Job::Report(_) => {}
+            Job::Plan(_) => {}
+            Job::List(_) => {}
+            Job::Demonstrate(_) => {}
+        }
+    }
+
     /// Does the job, over keepers with room for its images, and tells how it ended. Where memory runs out before the first
     /// deed, nothing was done, and so it is in any run over keepers with a room of `max_image` bytes.
     pub fn work<R: Threads + Sync, K: Keeper, O: Sink, L: Ledger>(
@@ -94,7 +123,7 @@ impl Job {
         ensures works { IsUntouched result out.old out.new keepers.old keepers.new counter.old counter.new ⊎ Works (job_of self) result
             (moment O.told O.call_count O.fault_count K.told K.put_count K.get_count K.free_count K.fault_count out.old keepers.old.items counter.old)
             (moment O.told O.call_count O.fault_count K.told K.put_count K.get_count K.free_count K.fault_count out.new keepers.new.items counter.new) }
-        ensures others { KeepsOthers (accept (job_of self)) keepers.old.items keepers.new.items }
+        ensures others { KeepsOthers K.slot_count K.place (accept (job_of self)) keepers.old.items keepers.new.items }
         ensures roomy { HaveRoomsFor (job_of self) (rooms_by K.room_bytes keepers.old.items) → result.status ≡ 17 →
             IsUntouched result out.old out.new keepers.old keepers.new counter.old counter.new }
     {
@@ -128,7 +157,7 @@ impl Performance {
         ensures works { IsUntouched result out.old out.new keepers.old keepers.new counter.old counter.new ⊎ Works (perform (performed_run self)) result
             (moment O.told O.call_count O.fault_count K.told K.put_count K.get_count K.free_count K.fault_count out.old keepers.old.items counter.old)
             (moment O.told O.call_count O.fault_count K.told K.put_count K.get_count K.free_count K.fault_count out.new keepers.new.items counter.new) }
-        ensures others { KeepsOthers (accept (perform (performed_run self))) keepers.old.items keepers.new.items }
+        ensures others { KeepsOthers K.slot_count K.place (accept (perform (performed_run self))) keepers.old.items keepers.new.items }
         ensures roomy { AreRoomy (image_room self.start) (length (slots_of self.book)) (rooms_by K.room_bytes keepers.old.items) → result.status ≡ 17 →
             IsUntouched result out.old out.new keepers.old keepers.new counter.old counter.new }
     {
@@ -195,7 +224,7 @@ fn perform_all<R: Threads + Sync, K: Keeper, O: Sink, L: Ledger>(
     ensures works { Works (perform (run_from session.old (left_of actions.old))) result
         (moment O.told O.call_count O.fault_count K.told K.put_count K.get_count K.free_count K.fault_count out.old keepers.old.items counter.old)
         (moment O.told O.call_count O.fault_count K.told K.put_count K.get_count K.free_count K.fault_count out.new keepers.new.items counter.new) }
-    ensures others { KeepsOthers (accept (perform (run_from session.old (left_of actions.old)))) keepers.old.items keepers.new.items }
+    ensures others { KeepsOthers K.slot_count K.place (accept (perform (run_from session.old (left_of actions.old)))) keepers.old.items keepers.new.items }
     ensures roomy { AreRoomy (image_room session.old.work) (length session.old.situation.slots) (rooms_by K.room_bytes keepers.old.items) →
         result.status ≢ 17 }
 {

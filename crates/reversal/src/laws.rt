@@ -1,10 +1,16 @@
 // Laws of requests and decisions. Each function does nothing; its contract is the law.
-ghost use Rattle.std.specs.Prelude.{◌≡◌, ℕ, ◌+◌, ◌≤◌, ◌++◌, List, [], ◌∷◌, Option};
+ghost use Rattle.std.specs.Prelude.{◌≡◌, ◌⊎◌, ℕ, ◌+◌, ◌≤◌, ◌++◌, List, [], ◌∷◌, take, Option, Contains};
+ghost use Rattle.keepers.specs.Told.{Tells};
 ghost use Rattle.plan_types.specs.declared.action.Action.{Action};
 ghost use Rattle.plan_types.specs.declared.limits.TheConstants.{MOST_STEPS};
 ghost use Rattle.level_book.specs.BookCosts.{BookCosts, slots_of, names_of, total_room};
 ghost use Rattle.binomials.specs.Advances.{least_advances};
 ghost use Rattle.rv_machine.specs.MachineState.{MachineState};
+ghost use Rattle.reverse_runner.specs.Handed.{handed};
+ghost use Rattle.reverse_queries.specs.Collision.{CollidesOn};
+ghost use Rattle.reverse_queries.specs.Performing.{IsOut};
+ghost use Rattle.reverse_queries.specs.Queries.{WritesIn, ChangesIn, IsLast, front_to, up_to};
+ghost use Rattle.requests.specs.declared.question.Question.TheVariants.{State, LastWrite, LastChange};
 ghost use Rattle.disk_gen.specs.Periodic.{periodic_list};
 ghost use Rattle.level_book.specs.BookFaults.{IsBookText};
 ghost use Rattle.level_book.specs.CostFold.{forward, cost};
@@ -30,9 +36,19 @@ ghost use Rattle.reversal.specs.Decision.{course_of, Decides};
 ghost use Rattle.reversal.specs.CommandPlan.{DecidesPlanRevolve, DecidesPlanMultistage, DecidesPlanDisk, DecidesPlanHrevolve, DecidesPlanPeriodic};
 ghost use Rattle.reversal.specs.Plans.{list_pieces, plan_pieces, certificate_of};
 ghost use Rattle.reversal.specs.WrittenPlans.{SaysAgain};
-ghost use Rattle.reversal.specs.Job.{Job, perform, write};
-ghost use Rattle.reversal.specs.Course.{Shown};
-ghost use Rattle.reversal.specs.Deeds.{bytes_written, steps_made};
+ghost use Rattle.reversal.specs.Job.{Run, Job, perform, ask as ask_job, move_about, write, last_of, state_of, unit_state};
+ghost use Rattle.reverse_console.specs.declared.order.Order.{Order};
+ghost use Rattle.reverse_console.specs.Marks.{MarkPlan};
+ghost use Rattle.reversal.specs.Beginning.{Begins};
+ghost use Rattle.reversal.specs.Collision.{OrdersCollide};
+ghost use Rattle.reversal.specs.CommandConsole.{AreOfOrders, SaidOfRun, WentAbout};
+ghost use Rattle.reversal.specs.CommandAsk.{asking};
+ghost use Rattle.reversal.specs.CommandRun.{performing};
+ghost use Rattle.reversal.specs.Going.{AllLevels, SparesNext, Went, IsFound, ComesTo};
+ghost use Rattle.reversal.specs.Moment.{Moment};
+ghost use Rattle.reversal.specs.Output.{line_of, lines_down, Adds, AddsFrontOf};
+ghost use Rattle.reversal.specs.Course.{Shown, Done, Stops, FailsAt, DamagedAt, Halts};
+ghost use Rattle.reversal.specs.Deeds.{Deed, States, bytes_written, steps_made};
 
 /// Words say one request at most.
 pub fn requests_are_unique()
@@ -135,4 +151,73 @@ pub fn multistage_plans_are_least()
         × IsMultistage steps b list × IsAccepted list steps b (certified.Places threshold)
         × ((other : List Action) → IsMultistage steps b other → cost list b ≤ cost other b)
         × (steps ≤ MOST_STEPS → SaysAgain steps b job list (certified.Places threshold)) }
+{}
+
+/// Over any keepers, also over files: each state that a run shows, of the actions that were done and of the next one, is the run's with
+/// its number, and a run that was done wrote the lines of the run's states; or an action took a state into work whose image is other
+/// bytes than that of the run's state with its number, and both have one SHA-256.
+pub fn runs_show_their_states_or_collide()
+    ensures shown { (run : Run) → Begins (perform run) →
+        (performed : ℕ) (states : States) (old new : Moment) (went : Went AllLevels run performed states old new) →
+        ((n : ℕ) → Contains (handed run.unit run.steps (take (performed + 1) run.list)) n → states n ≡ state_of run n)
+        ⊎ CollidesOn (unit_state run) (take performed run.list) went.through.held }
+    ensures shown_at_storage { (run : Run) → Begins (perform run) →
+        (performed : ℕ) (states : States) (old new : Moment) (went : Went SparesNext run performed states old new) →
+        ((n : ℕ) → Contains (handed run.unit run.steps (take (performed + 1) run.list)) n → states n ≡ state_of run n)
+        ⊎ CollidesOn (unit_state run) (take performed run.list) went.through.held }
+    ensures lines { (run : Run) → Begins (perform run) →
+        (shown : Shown) (old new : Moment) (done : Done (performing run) shown old new) →
+        Tells old.told new.told (Adds (lines_down (state_of run) (last_of run)))
+        ⊎ CollidesOn (unit_state run) run.list done.held.through.held }
+{}
+
+/// The same of a run that stopped: where a write or storage failed, an image was damaged or memory ran out, the bytes that were written
+/// are the beginning of the lines of the run's states; or an action took such a state into work.
+pub fn runs_write_the_beginning_of_their_lines_or_collide()
+    ensures at_a_write { (run : Run) → Begins (perform run) →
+        (shown : Shown) (performed : ℕ) (old new : Moment) (stops : Stops (performing run) shown performed old new) →
+        Tells old.told new.told (AddsFrontOf (lines_down (state_of run) (last_of run)))
+        ⊎ CollidesOn (unit_state run) (take performed run.list) stops.held.through.held }
+    ensures at_storage { (run : Run) → Begins (perform run) →
+        (shown : Shown) (performed level : ℕ) (old new : Moment) (fails : FailsAt (performing run) shown performed level old new) →
+        Tells old.told new.told (AddsFrontOf (lines_down (state_of run) (last_of run)))
+        ⊎ CollidesOn (unit_state run) (take performed run.list) fails.held.through.held }
+    ensures at_damage { (run : Run) → Begins (perform run) →
+        (shown : Shown) (performed level : ℕ) (put got : List ℕ) (old new : Moment) (damaged : DamagedAt (performing run) shown performed level put got old new) →
+        Tells old.told new.told (AddsFrontOf (lines_down (state_of run) (last_of run)))
+        ⊎ CollidesOn (unit_state run) (take performed run.list) damaged.held.through.held }
+    ensures in_memory { (run : Run) → Begins (perform run) →
+        (shown : Shown) (performed : ℕ) (old new : Moment) (halts : Halts (performing run) shown performed old new) →
+        Tells old.told new.told (AddsFrontOf (lines_down (state_of run) (last_of run)))
+        ⊎ CollidesOn (unit_state run) (take performed run.list) halts.held.through.held }
+{}
+
+/// The same of questions: the line that was written is that of the run's state, and the number is that of the last step of the run
+/// that writes or changes the word; or an action took such a state into work.
+pub fn questions_are_answered_in_the_run_or_collide()
+    ensures state { (run : Run) (place : ℕ) → Begins (ask_job (State place) run) →
+        (shown : Shown) (old new : Moment) (done : Done (asking (State place) run) shown old new) →
+        Tells old.told new.told (Adds (line_of (state_of run) place))
+        ⊎ CollidesOn (unit_state run) (front_to run.unit run.steps place run.list) done.answered.2.through.held }
+    ensures state_at_a_write { (run : Run) (place : ℕ) → Begins (ask_job (State place) run) →
+        (performed : ℕ) (state : MachineState) (old : Moment) (comes : ComesTo (IsOut run.unit run.steps place state) run performed old) →
+        (state ≡ state_of run place) ⊎ CollidesOn (unit_state run) (take performed run.list) comes.through.held }
+    ensures last_write { (run : Run) (address : ℕ) → Begins (ask_job (LastWrite address) run) →
+        (answer : Option ℕ) (old new : Moment)
+        (found : IsFound (λ states. IsLast (WritesIn states run.journal address) (last_of run) answer) run answer old new) →
+        IsLast (WritesIn (state_of run) run.journal address) (last_of run) answer
+        ⊎ CollidesOn (unit_state run) (up_to run.unit run.steps answer run.list) found.2.through.held }
+    ensures last_change { (run : Run) (address : ℕ) → Begins (ask_job (LastChange address) run) →
+        (answer : Option ℕ) (old new : Moment)
+        (found : IsFound (λ states. IsLast (ChangesIn states address) (last_of run) answer) run answer old new) →
+        IsLast (ChangesIn (state_of run) address) (last_of run) answer
+        ⊎ CollidesOn (unit_state run) (up_to run.unit run.steps answer run.list) found.2.through.held }
+{}
+
+/// The same of scripts: the answer of each order, and its text, is that of an index into the states of the run; or bytes came back of a
+/// mark that are others than the image of its state in the run, and both have one SHA-256.
+pub fn scripts_are_answered_in_the_run_or_collide()
+    ensures { (first : MachineState) (items : List (List ℕ)) (p : MarkPlan) (orders : List Order) (deeds : List Deed) (old new : Moment) →
+        Begins (move_about first items p orders) → (went : WentAbout first items p orders deeds old new) →
+        AreOfOrders p (SaidOfRun first items p.count) orders 0 deeds ⊎ OrdersCollide first p went.from orders 0 deeds went.by_marks }
 {}

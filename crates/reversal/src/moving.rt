@@ -55,7 +55,7 @@ impl Moving {
         ensures works { Works (moves self) result
             (moment O.told O.call_count O.fault_count K.told K.put_count K.get_count K.free_count K.fault_count out.old keepers.old.items counter.old)
             (moment O.told O.call_count O.fault_count K.told K.put_count K.get_count K.free_count K.fault_count out.new keepers.new.items counter.new) }
-        ensures others { KeepsOthers (accept (moves self)) keepers.old.items keepers.new.items }
+        ensures others { KeepsOthers K.slot_count K.place (accept (moves self)) keepers.old.items keepers.new.items }
     {
         let Moving {
             start,

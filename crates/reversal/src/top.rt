@@ -7,7 +7,8 @@ ghost use Rattle.requests.specs.Bounds.{numbers, IsWithin, RefusesWords, Asks};
 ghost use Rattle.requests.specs.Inputs.{inputs_of, names, FailsAtInput};
 ghost use Rattle.reversal.specs.Table.{Decision, accept, refuse};
 ghost use Rattle.reverse_runner.specs.Rooms.{rooms_by};
-ghost use Rattle.reversal.specs.Decision.{course_of, Comes, KeepsOthers, HaveRoomsFor, EndsBy, IsOfJob};
+ghost use Rattle.reversal.specs.Beginning.{Begins, BeginsBy};
+ghost use Rattle.reversal.specs.Decision.{course_of, Comes, StayInPlace, KeepsOthers, HaveRoomsFor, EndsBy, IsOfJob};
 ghost use Rattle.reversal.specs.Job.{Job as AJob};
 ghost use Rattle.reversal.specs.Moment.{moment};
 ghost use Rattle.reversal.specs.Course.{HaltsShowing};
@@ -53,20 +54,25 @@ pub fn reversal<R: Threads + Sync, I: Inputs, K: Keeper, O: Sink, L: Ledger>(
     // Unless an input can't be read or memory runs out, a decision was come to, and the call ended by it.
     ensures decided { (r : ARequest) → Asks (words_of words.now) r → result.status ≢ 3 → result.status ≢ 17 → (d : Decision)
         × Comes r (I.told inputs.old) (I.asked inputs.old) (I.asked inputs.new) (map K.slot_count keepers.old.items) d
-        × KeepsOthers d keepers.old.items keepers.new.items
+        × KeepsOthers K.slot_count K.place d keepers.old.items keepers.new.items
         × EndsBy d result
         (moment O.told O.call_count O.fault_count K.told K.put_count K.get_count K.free_count K.fault_count out.old keepers.old.items steps.old)
-        (moment O.told O.call_count O.fault_count K.told K.put_count K.get_count K.free_count K.fault_count out.new keepers.new.items steps.new) }
+        (moment O.told O.call_count O.fault_count K.told K.put_count K.get_count K.free_count K.fault_count out.new keepers.new.items steps.new)
+        × BeginsBy d }
 
     // Where memory runs out nothing was done, or a part of a job that was decided; nothing in a run over keepers with room.
     ensures memory { result.status ≡ 17 → (result ≡ no_memory) × (((out.new ≡ out.old) × (keepers.new ≡ keepers.old) × (steps.new ≡ steps.old))
         ⊎ ((r : ARequest) × Asks (words_of words.now) r × (job : AJob)
         × Comes r (I.told inputs.old) (I.asked inputs.old) (I.asked inputs.new) (map K.slot_count keepers.old.items) (accept job)
-        × KeepsOthers (accept job) keepers.old.items keepers.new.items
+        × Begins job
+        × KeepsOthers K.slot_count K.place (accept job) keepers.old.items keepers.new.items
         × HaltsShowing (course_of job)
         (moment O.told O.call_count O.fault_count K.told K.put_count K.get_count K.free_count K.fault_count out.old keepers.old.items steps.old)
         (moment O.told O.call_count O.fault_count K.told K.put_count K.get_count K.free_count K.fault_count out.new keepers.new.items steps.new)
         × (HaveRoomsFor job (rooms_by K.room_bytes keepers.old.items) → (out.new ≡ out.old) × (keepers.new ≡ keepers.old) × (steps.new ≡ steps.old)))) }
+
+    // Each keeper has the slots that it had, in the place where they were.
+    ensures stay { StayInPlace K.slot_count K.place keepers.old.items keepers.new.items }
 
     // A refusal leaves the sink, the keepers and the count of steps as they were.
     ensures untouched { (IsOfJob result.status → ⊥) → (out.new ≡ out.old) × (keepers.new ≡ keepers.old) × (steps.new ≡ steps.old) }
@@ -78,7 +84,10 @@ pub fn reversal<R: Threads + Sync, I: Inputs, K: Keeper, O: Sink, L: Ledger>(
         return refusal;
     }
     match prepared(rt, alloc, &request, inputs, keepers) {
-        Ok(job) => job.work(rt, alloc, keepers, out, steps),
+        Ok(job) => {
+            job.begins();
+            job.work(rt, alloc, keepers, out, steps)
+        }
         Err(refusal) => refusal,
     }
 }

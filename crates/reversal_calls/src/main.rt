@@ -1,7 +1,8 @@
-//! Runs whole calls that stand in files, one JSON text a line, and tells for each file how many came as they had to. A case
-//! has a name, words, inputs, what fails, and what has to come: `case.rt` reads the words, the inputs and what fails, and
-//! `came.rt` tells what came. It stands on `reversal`, whose contract says what a call promises; what a case means is tested
-//! by the cases of `data/wrong.jsonl`, which have to differ. `docs/CASES.md` says how to add one.
+//! Runs whole calls that stand in files, one JSON text a line, and tells for each file how many came as they had to, and how many of
+//! them came so over files too. A case has a name, words, inputs, what fails, and what has to come: `case.rt` reads the words, the
+//! inputs and what fails, `came.rt` tells what came, and `over_files.rt` makes the call again by the program, over disks in memory. It
+//! stands on `reversal` and `reversal_program`, whose contracts say what a call promises; what a case means is tested by the cases of
+//! `data/wrong.jsonl`, which have to differ. `docs/CASES.md` says how to add one.
 #![tactic(auto)]
 
 ghost use Rattle.std.specs.Prelude.{◌≡◌, ◌<◌};
@@ -9,13 +10,20 @@ ghost use Rattle.std.specs.Prelude.{◌≡◌, ◌<◌};
 mod bytes;
 mod came;
 mod case;
+mod case_keeper;
 mod noted;
+mod over_files;
 
-use came::{Seen, came_of};
+use came::{Seen, SeenKeeper, came_of};
 use case::{Case, case_of};
-use reversal::reversal;
+use case_keeper::CaseKeeper;
+use keepers::MemorySink;
+use noted::NotedInputs;
+use over_files::{files_case_of, hold_the_same, run_over_files, seen_of_ran};
+use reversal::{Ended, reversal};
 use rv_machine::Steps;
 use serde_json::{Map, Value};
+use std::alloc::{AllocError, Global};
 use std::marker::Brand;
 use std::sync::ledger::{Blank, Ledger};
 use std::thread::Threads;
@@ -33,46 +41,98 @@ fn run_files<T: Threads + Sync>(threads: &T, rt: &HostRuntime) -> io::Result<()>
     Ok(())
 }
 
+/// How the case of a line came.
+#[derive(Clone, Copy, PartialEq, Eq)]
+enum Outcome {
+    /// Not as it had to.
+    Failed,
+    /// As it had to. It isn't made over files.
+    Passed,
+    /// As it had to, and over files too.
+    PassedTwice,
+}
+
 // Runs the cases of a file, and tells how many came as they had to.
 fn run_file<T: Threads + Sync>(threads: &T, rt: &HostRuntime, name: &str) -> io::Result<()> {
     let text = fs::read_to_string(rt, name)?;
-    let mut passed = 0u64;
-    let mut failed = 0u64;
-    for line in text.as_str().lines() {
-        let number = passed.saturating_add(failed).saturating_add(1);
-        if run_line(threads, rt, name, number, line)? {
-            passed = passed.saturating_add(1);
-        } else {
-            failed = failed.saturating_add(1);
-        }
+    let mut outcomes = Vec::new(rt.alloc());
+    for (place, line) in text.as_str().lines().enumerate() {
+        let number = (place as u64).saturating_add(1);
+        outcomes.push(run_line(threads, rt, name, number, line)?)?;
     }
-    println!(rt; "{name} {passed} passed, {failed} failed")
+    let count = |outcome| outcomes.iter().filter(|it| **it == outcome).count();
+    let twice = count(Outcome::PassedTwice);
+    let passed = count(Outcome::Passed).saturating_add(twice);
+    let failed = count(Outcome::Failed);
+    println!(rt; "{name} {passed} passed, {failed} failed, {twice} over files too")
 }
 
-// Whether the case of a line came as it had to.
+// Makes the call of a line, and where it came as it had to, makes it over files too.
 fn run_line<T: Threads + Sync>(
     threads: &T,
     rt: &HostRuntime,
     name: &str,
     number: u64,
     line: &str,
-) -> io::Result<bool> {
+) -> io::Result<Outcome> {
     let alloc = rt.alloc();
     let Ok(value) = Value::from_str(alloc, line) else {
         println!(rt; "{name}:{number} is no JSON text")?;
-        return Ok(false);
+        return Ok(Outcome::Failed);
     };
     let Some(wanted) = value.get("comes").and_then(Value::as_object) else {
         println!(rt; "{name}:{number} does not say what has to come")?;
-        return Ok(false);
+        return Ok(Outcome::Failed);
     };
     let Ok(case) = case_of(alloc, &value) else {
         println!(rt; "{name}:{number} is no case")?;
-        return Ok(false);
+        return Ok(Outcome::Failed);
     };
-    let seen = called::<T, Brand>(threads, case, Blank::new(1));
-    let came = came_of(alloc, &seen, wanted)?;
-    all_came(rt, name, number, wanted, &came)
+    let mut called = called::<T, Brand>(threads, case, Blank::new(1));
+    let came = came_of(alloc, &seen_of(alloc, &called)?, wanted)?;
+    if !all_came(rt, name, number, wanted, &came)? {
+        return Ok(Outcome::Failed);
+    }
+    run_again(
+        threads,
+        rt,
+        name,
+        number,
+        &value,
+        wanted,
+        &mut called.keepers,
+    )
+}
+
+// Makes the call over files.
+fn run_again<T: Threads + Sync>(
+    threads: &T,
+    rt: &HostRuntime,
+    name: &str,
+    number: u64,
+    value: &Value,
+    wanted: &Map<String, Value>,
+    keepers: &mut [CaseKeeper],
+) -> io::Result<Outcome> {
+    let alloc = rt.alloc();
+    let Ok(case) = files_case_of(alloc, value) else {
+        println!(rt; "{name}:{number} is no case over files")?;
+        return Ok(Outcome::Failed);
+    };
+    let Some(case) = case else {
+        return Ok(Outcome::Passed);
+    };
+    let mut ran = run_over_files::<T, Brand>(threads, case, Blank::new(1))?;
+    let came = came_of(alloc, &seen_of_ran(alloc, &ran)?, wanted)?;
+    if !all_came(rt, name, number, wanted, &came)? {
+        println!(rt; "{name}:{number} came otherwise over files")?;
+        return Ok(Outcome::Failed);
+    }
+    if !hold_the_same(alloc, keepers, &mut ran.keepers) {
+        println!(rt; "{name}:{number} left other images in files")?;
+        return Ok(Outcome::Failed);
+    }
+    Ok(Outcome::PassedTwice)
 }
 
 // Whether each member came as it had to, and prints those that did not.
@@ -98,8 +158,37 @@ fn all_came(
     Ok(all)
 }
 
+/// A call that ended, with what it was given.
+#[derive(Drop)]
+struct MemoryRun {
+    ended: Ended,
+    inputs: NotedInputs,
+    keepers: Vec<CaseKeeper>,
+    out: MemorySink,
+}
+
+// What is seen of a call.
+fn seen_of(alloc: Global, called: &MemoryRun) -> Result<Seen<'_>, AllocError> {
+    let mut keepers = Vec::new(alloc);
+    for keeper in &called.keepers {
+        keepers.push(SeenKeeper {
+            calls: keeper.calls(),
+            held: keeper.filled(),
+            faults: keeper.faults(),
+        })?;
+    }
+    Ok(Seen {
+        ended: &called.ended,
+        written: called.out.bytes(),
+        asked: Some(called.inputs.names()),
+        input_faults: called.inputs.faults(),
+        sink_faults: called.out.faults(),
+        keepers,
+    })
+}
+
 // The one call.
-fn called<T: Threads + Sync, L: Ledger>(threads: &T, case: Case, blank: Blank) -> Seen
+fn called<T: Threads + Sync, L: Ledger>(threads: &T, case: Case, blank: Blank) -> MemoryRun
     requires name { blank.name ≡ L.name }
     requires parts { blank.parts ≡ L.parts }
     requires some { 0 < blank.parts }
@@ -121,7 +210,7 @@ fn called<T: Threads + Sync, L: Ledger>(threads: &T, case: Case, blank: Blank) -
         &mut out,
         &mut steps,
     );
-    Seen {
+    MemoryRun {
         ended,
         inputs,
         keepers,

@@ -2,7 +2,7 @@
 // file is read, names that are no file, and what stands in the place of a slot's file.
 ghost use Rattle.std.specs.Prelude.{◌≡◌, ◌<◌};
 
-use keepers::{FileInputs, FileKeeper, InputFault, Inputs, KeepFault, Keeper, Whole};
+use keepers::{FileInputs, FileKeeper, InputFault, Inputs, KeepFault, Keeper, SystemDisk, Whole};
 use std::alloc::{AllocError, Global};
 use std::fs;
 use std::os::unix::fs::symlink;
@@ -62,7 +62,7 @@ const SIZES: &[(u32, u32, Whole)] = &[
 #[test]
 fn reads_files_of_no_piece_and_of_several_up_to_their_limits(rt: HostRuntime) -> Result<(), Fail> {
     let mut into = Vec::from_slice(rt.alloc(), b"what was there before")?;
-    let mut inputs = FileInputs::new(rt.clone()?);
+    let mut inputs = FileInputs::new(SystemDisk::new(rt.clone()?), rt.alloc());
     for (size, limit, want) in SIZES {
         let file = bytes(rt.alloc(), *size)?;
         fs::write(&rt, "pieces.bin", &file)?;
@@ -80,7 +80,7 @@ fn reads_files_of_no_piece_and_of_several_up_to_their_limits(rt: HostRuntime) ->
 #[test]
 fn names_that_are_no_file_are_faults(rt: HostRuntime) -> Result<(), Fail> {
     let mut into = Vec::new(rt.alloc());
-    let mut inputs = FileInputs::new(rt.clone()?);
+    let mut inputs = FileInputs::new(SystemDisk::new(rt.clone()?), rt.alloc());
     let names = [
         b"\xff\xfe is no text, \xc3 neither".as_slice(),
         b"name.txt\xc3".as_slice(),
@@ -103,7 +103,13 @@ fn names_that_are_no_file_are_faults(rt: HostRuntime) -> Result<(), Fail> {
 fn each_slot_is_a_file_of_the_folder(rt: HostRuntime) -> Result<(), Fail> {
     fs::create_dir(&rt, "slots")?;
     let mut into = Vec::from_slice(rt.alloc(), b"slots")?;
-    let mut keeper = FileKeeper::new(rt.clone()?, into.clone()?, 1, 12);
+    let mut keeper = FileKeeper::new(
+        SystemDisk::new(rt.clone()?),
+        rt.alloc(),
+        into.clone()?,
+        1,
+        12,
+    );
     assert!(rt; puts(&mut keeper, 11, b"first and long"));
     assert!(rt; puts(&mut keeper, 11, b"second"));
     let file = fs::read(&rt, "slots/level1-slot11.img")?;
@@ -125,7 +131,13 @@ fn what_is_no_file_is_left_as_it_is(rt: HostRuntime) -> Result<(), Fail> {
     fs::write(&rt, "elsewhere.txt", "elsewhere")?;
     symlink(&rt, "../elsewhere.txt", "links/level2-slot1.img")?;
     let mut into = Vec::from_slice(rt.alloc(), b"links")?;
-    let mut keeper = FileKeeper::new(rt.clone()?, into.clone()?, 2, 2);
+    let mut keeper = FileKeeper::new(
+        SystemDisk::new(rt.clone()?),
+        rt.alloc(),
+        into.clone()?,
+        2,
+        2,
+    );
     assert!(rt; fails(&mut keeper, 0, &mut into), "a folder");
     assert!(rt; fails(&mut keeper, 1, &mut into), "a link");
     assert_eq!(rt; keeper.faults(), 6);

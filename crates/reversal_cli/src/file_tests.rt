@@ -1,10 +1,11 @@
-// Runs over images in files, and where the words place them. What a call does over objects in memory is told by the cases of
-// `reversal_calls`.
+// Runs of the program over files of the system, and where the words place them. What a call does over objects in memory is told by
+// the cases of `reversal_calls`.
 ghost use Rattle.std.specs.Prelude.{◌≡◌, ◌<◌};
 
-use keepers::{FileKeeper, Keeper, MemoryInputs, MemorySink};
+use keepers::SystemDisk;
 use plan_types::Line;
-use reversal::{Ended, KeepAt, Words, ended_text, keeper_places, reversal};
+use reversal::{KeepAt, Words, ended_text, keeper_places};
+use reversal_program::{Disks, Ran, program};
 use rv_machine::Steps;
 use std::alloc::{AllocError, Global};
 use std::fs;
@@ -17,7 +18,16 @@ use std::thread::Threads;
 const PROGRAM: &[u8] = b"\x13\x05\x70\x00\x93\x02\x10\x00\x13\x83\x22\x00\x93\x08\xd0\x05";
 
 const BOOK: &[u8] =
-    b"{\"forward\":1,\"reverse\":1,\"levels\":[{\"name\":\"RAM\",\"slots\":2,\"write\":0,\"read\":0}]}";
+    b"{\"forward\":1,\"reverse\":1,\"levels\":[{\"name\":\"RAM\",\"slots\":2,\"write\":0,\"read\":0},{\"name\":\"DISK\",\"slots\":1,\"write\":1,\"read\":1}]}";
+
+// A schedule for one step that leaves the image of state 0 on the second level.
+const LEAVING: &[u8] = b"Forward(0, 1, True, False, DISK)
+EndForward()
+Copy(0, DISK, WORK)
+Forward(0, 1, False, True, WORK)
+Reverse(1, 0, True)
+EndReverse()
+";
 
 // The numbers and the places of the states of the program, from the last to the first.
 const LINES: [&[u8]; 5] = [
@@ -28,6 +38,9 @@ const LINES: [&[u8]; 5] = [
     b"0 00010000 ",
 ];
 
+/// The program over files of the system, with a writer in memory.
+type RanOverFiles = Ran<SystemDisk<HostRuntime>, Vec<u8>>;
+
 // The words of a line, with a space between them.
 fn words_of(alloc: Global, line: &str) -> Result<Words, AllocError> {
     let mut list = Vec::new(alloc);
@@ -37,99 +50,96 @@ fn words_of(alloc: Global, line: &str) -> Result<Words, AllocError> {
     Ok(Words { list })
 }
 
-// An input under its name.
-fn named(alloc: Global, name: &[u8], bytes: &[u8]) -> Result<(Vec<u8>, Vec<u8>), AllocError> {
-    let name = Vec::from_slice(alloc, name)?;
-    Ok((name, Vec::from_slice(alloc, bytes)?))
-}
-
-// The run of four steps by Revolve's list for two slots, over one keeper.
-fn run_over<T: Threads + Sync, K: Keeper, L: Ledger>(
+// What the words make of files of the system.
+fn run_words<T: Threads + Sync, L: Ledger>(
     threads: &T,
-    alloc: Global,
-    keepers: &mut Vec<K>,
-    out: &mut MemorySink,
+    rt: &HostRuntime,
+    words: &Words,
     blank: Blank,
-) -> Result<Ended, AllocError>
+) -> Result<RanOverFiles, Fail>
     requires name { blank.name ≡ L.name }
     requires parts { blank.parts ≡ L.parts }
     requires some { 0 < blank.parts }
 {
-    let words = words_of(alloc, "--raw run program - book @revolve 4")?;
-    let files = vec![in alloc;
-        named(alloc, b"program", PROGRAM)?,
-        named(alloc, b"book", BOOK)?,
-    ]?;
-    let mut inputs = MemoryInputs::new(alloc, files);
+    let disks = Disks {
+        inputs: SystemDisk::new(rt.clone()?),
+        levels: (
+            SystemDisk::new(rt.clone()?),
+            SystemDisk::new(rt.clone()?),
+            SystemDisk::new(rt.clone()?),
+            SystemDisk::new(rt.clone()?),
+        ),
+    };
     let mut steps = Steps::<L>::new(blank);
-    Ok(reversal(
-        threads,
-        alloc,
-        &words,
-        &mut inputs,
-        keepers,
-        out,
-        &mut steps,
-    ))
+    let out = Vec::new(rt.alloc());
+    Ok(program(threads, rt.alloc(), words, disks, out, &mut steps)?)
 }
 
-// The same, with a count of steps that nobody reads.
-fn ran<T: Threads + Sync, K: Keeper>(
-    threads: &T,
-    alloc: Global,
-    keepers: &mut Vec<K>,
-    out: &mut MemorySink,
-) -> Result<Ended, AllocError> {
-    run_over::<T, K, Brand>(threads, alloc, keepers, out, Blank::new(1))
+// The same of the words of a line, with a count of steps that nobody reads.
+fn ran<T: Threads + Sync>(threads: &T, rt: &HostRuntime, line: &str) -> Result<RanOverFiles, Fail> {
+    let words = words_of(rt.alloc(), line)?;
+    run_words::<T, Brand>(threads, rt, &words, Blank::new(1))
 }
 
 #[test]
 fn a_run_over_files_writes_its_lines_and_leaves_no_file(rt: HostRuntime) -> Result<(), Fail> {
-    let alloc = rt.alloc();
     fs::create_dir(&rt, "images")?;
-    let folder = Vec::from_slice(alloc, b"images")?;
-    let mut keepers = vec![in alloc; FileKeeper::new(rt.clone()?, folder, 0, 2)]?;
-    let mut out = MemorySink::new(alloc, 4096)?;
-    let ended = ran(&rt, alloc, &mut keepers, &mut out)?;
-    assert_eq!(rt; ended.status, 0);
-    assert_eq!(rt; keepers.first().map(FileKeeper::faults), Some(0));
-    let lines = out.bytes().split(|byte| *byte == b'\n');
+    fs::write(&rt, "images.bin", PROGRAM)?;
+    fs::write(&rt, "images.json", BOOK)?;
+    let ran = ran(
+        &rt,
+        &rt,
+        "--raw --files=0:images --files=1:images run images.bin - images.json @revolve 4",
+    )?;
+    assert_eq!(rt; ran.ended.status, 0);
+    let lines = ran.out.writer().split(|byte| *byte == b'\n');
     for (line, begins) in lines.zip(LINES) {
         assert!(rt; line.starts_with(begins));
     }
     // An empty folder alone can be removed so.
     fs::remove_dir(&rt, "images")?;
+    fs::remove_file(&rt, "images.bin")?;
+    fs::remove_file(&rt, "images.json")?;
+    Ok(())
+}
+
+#[test]
+fn a_run_leaves_the_image_of_its_schedule_in_the_folder(rt: HostRuntime) -> Result<(), Fail> {
+    fs::create_dir(&rt, "kept")?;
+    fs::write(&rt, "kept.bin", PROGRAM)?;
+    fs::write(&rt, "kept.json", BOOK)?;
+    fs::write(&rt, "kept.txt", LEAVING)?;
+    let ran = ran(
+        &rt,
+        &rt,
+        "--raw --files=1:kept run kept.bin - kept.json kept.txt 1",
+    )?;
+    assert_eq!(rt; ran.ended.status, 0);
+    let image = fs::read(&rt, "kept/level1-slot0.img")?;
+    assert!(rt; !image.is_empty());
+    fs::remove_file(&rt, "kept/level1-slot0.img")?;
+    fs::remove_dir(&rt, "kept")?;
+    fs::remove_file(&rt, "kept.bin")?;
+    fs::remove_file(&rt, "kept.json")?;
+    fs::remove_file(&rt, "kept.txt")?;
     Ok(())
 }
 
 #[test]
 fn a_folder_that_is_not_there_fails_at_the_first_store(rt: HostRuntime) -> Result<(), Fail> {
-    let alloc = rt.alloc();
-    let folder = Vec::from_slice(alloc, b"nowhere")?;
-    let mut keepers = vec![in alloc; FileKeeper::new(rt.clone()?, folder, 0, 2)]?;
-    let mut out = MemorySink::new(alloc, 4096)?;
-    let ended = ran(&rt, alloc, &mut keepers, &mut out)?;
+    fs::write(&rt, "nowhere.bin", PROGRAM)?;
+    fs::write(&rt, "nowhere.json", BOOK)?;
+    let ran = ran(
+        &rt,
+        &rt,
+        "--raw --files=0:nowhere run nowhere.bin - nowhere.json @revolve 4",
+    )?;
     let mut line = Line::new();
-    ended_text(&ended, &mut line);
+    ended_text(&ran.ended, &mut line);
     assert_eq!(rt; line.bytes(), b"reversal: 12 Keeper 1 0 0".as_slice());
-    assert!(rt; out.bytes().is_empty());
-    assert_eq!(rt; keepers.first().map(FileKeeper::faults), Some(1));
-    Ok(())
-}
-
-#[test]
-fn a_level_has_its_folder_and_its_number(rt: HostRuntime) -> Result<(), Fail> {
-    let alloc = rt.alloc();
-    fs::create_dir(&rt, "img")?;
-    let words = words_of(alloc, "--files=1:img check book schedule 4")?;
-    for keeper in crate::keepers(&rt, &words)?.iter_mut() {
-        let is_put = keeper.slots() > 0 && keeper.put(0, b"image").is_ok();
-        assert!(rt; is_put);
-    }
-    let image = fs::read(&rt, "img/level1-slot0.img")?;
-    assert_eq!(rt; image.as_slice(), b"image".as_slice());
-    fs::remove_file(&rt, "img/level1-slot0.img")?;
-    fs::remove_dir(&rt, "img")?;
+    assert!(rt; ran.out.writer().is_empty());
+    fs::remove_file(&rt, "nowhere.bin")?;
+    fs::remove_file(&rt, "nowhere.json")?;
     Ok(())
 }
 

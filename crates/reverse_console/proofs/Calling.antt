@@ -2,6 +2,7 @@
 use Rattle.std.proofs.Common.{◌≡◌, ℕ, ◌<◌, ◌≤◌, true, false, List, length, Some, None, Option, Result, Ok, Err, OnOk, IfErr, refl, sym, ◌∙◌, ap, subst, arith, eq-eqb}
 use Rattle.std.specs.Option.{is_some}
 use Rattle.std.proofs.lemmas.Bool.{false≢true}
+use Rattle.keepers.specs.Told.{Location}
 use Rattle.keepers.specs.Counts.{Rose}
 use Rattle.reverse_runner.specs.KeepersSeen.{Calls, one_if, by_number}
 use Rattle.reverse_runner.specs.Touching.{one_get, Remain, OthersRemain, IsCaused, IsKeeping, IsFetching}
@@ -67,22 +68,24 @@ of_more a b le Memory h = let more = le h.0 in let some = h.1 in (h.0, omega (ar
 of_more a b le Ended h = h
 
 -- the keepers past the levels of the book are as they were
-pub stay_of : {K : Type 0} (slots faults : K → ℕ) (p : MarkPlan) (k : ℕ) (old new : List K) → k < length p.slots → Remain slots faults old new → OthersRemain k old new → KeepersStay slots faults p old new
-stay_of slots faults p k old new within remain others = record {
+pub stay_of : {K : Type 0} (slots : K → ℕ) (places : K → Location) (faults : K → ℕ) (p : MarkPlan) (k : ℕ) (old new : List K) → k < length p.slots → Remain slots places faults old new → OthersRemain k old new → KeepersStay slots places faults p old new
+stay_of slots places faults p k old new within remain others = record {
   slots_same = remain.slots_same;
+  places_same = remain.places_same;
   later = remain.later;
   others = λ j past. others j (λ e. absurd (omega (arith, within, past, e)));
 }
 
-pub stay_then : {K : Type 0} (slots faults : K → ℕ) (p : MarkPlan) (a b c : List K) → KeepersStay slots faults p a b → KeepersStay slots faults p b c → KeepersStay slots faults p a c
-stay_then slots faults p a b c first second = record {
+pub stay_then : {K : Type 0} (slots : K → ℕ) (places : K → Location) (faults : K → ℕ) (p : MarkPlan) (a b c : List K) → KeepersStay slots places faults p a b → KeepersStay slots places faults p b c → KeepersStay slots places faults p a c
+stay_then slots places faults p a b c first second = record {
   slots_same = second.slots_same ∙ first.slots_same;
+  places_same = second.places_same ∙ first.places_same;
   later = λ k. (let x = first.later k in let y = second.later k in omega (arith, x, y));
   others = λ k past. second.others k past ∙ first.others k past;
 }
 
-pub stay_still : {K : Type 0} (slots faults : K → ℕ) (p : MarkPlan) (a : List K) → KeepersStay slots faults p a a
-stay_still slots faults p a = record { slots_same = refl; later = λ k. omega arith; others = λ k past. refl }
+pub stay_still : {K : Type 0} (slots : K → ℕ) (places : K → Location) (faults : K → ℕ) (p : MarkPlan) (a : List K) → KeepersStay slots places faults p a a
+stay_still slots places faults p a = record { slots_same = refl; places_same = refl; later = λ k. omega arith; others = λ k past. refl }
 
 -- where no count changed before, a cause stays
 pub cause_then : {K : Type 0} (faults : K → ℕ) (p : MarkPlan) (a b c : List K) (fault : RunFault) → Quiet faults a b → HasCause faults p b c fault → HasCause faults p a c fault

@@ -5,7 +5,7 @@ use Rattle.std.proofs.lemmas.Result.{IfErr-at_err}
 use Rattle.std.proofs.lemmas.List.Sums.{sum_by-append, sum_by-cons}
 use Rattle.sha2.specs.Sha256.{sha256}
 use Rattle.input_journal.specs.Form.{IsRecorded}
-use Rattle.keepers.specs.Told.{Images}
+use Rattle.keepers.specs.Told.{Location, Images}
 use Rattle.rv_pages.specs.Memory.{page_numbers}
 use Rattle.rv_machine.specs.MachineState.{MachineState, IsMachineState}
 use Rattle.rv_machine.specs.States.{state_number}
@@ -71,12 +71,12 @@ got_then : (p : MarkPlan) (xs ys : List ℕ) (a b c : Calls) → Called (gets_of
 got_then p xs ys a b c first second =
     called_same (calls_then (gets_of p xs) (gets_of p ys)) (gets_of p (xs ++ ys)) a c (called_then (gets_of p xs) (gets_of p ys) a b c first second) (λ k. refl) (both_counted p xs ys) (λ k. refl)
 
-module _ {K : Type 0} (told : K → Option Images) (puts gets frees slots faults : K → ℕ) (p : MarkPlan) (journal : List (List ℕ)) where
+module _ {K : Type 0} (told : K → Option Images) (puts gets frees slots : K → ℕ) (places : K → Location) (faults : K → ℕ) (p : MarkPlan) (journal : List (List ℕ)) where
   abbrev pub Got : {T : Type 0} → ℕ → Result T RunFault → Desk → Desk → List K → List K → Type 0
-  Got most r w w' old new = Gets told puts gets frees slots faults p journal most r w w' old new
+  Got most r w w' old new = Gets told puts gets frees slots places faults p journal most r w w' old new
 
   abbrev pub Read : List ℕ → Desk → Desk → List K → List K → Type 0
-  Read marks w w' old new = Reads told puts gets frees slots faults p marks w w' old new
+  Read marks w w' old new = Reads told puts gets frees slots places faults p marks w w' old new
 
   -- a fault that is passed on
   pub gets_err : {A B : Type 0} (most : ℕ) (r : Result A RunFault) (s : Result B RunFault) (x y : RunFault) (w w' : Desk) (old new : List K) → r ≡ Err x → s ≡ Err y → y ≡ x → Got most r w w' old new → Got most s w w' old new
@@ -111,7 +111,7 @@ module _ {K : Type 0} (told : K → Option Images) (puts gets frees slots faults
     store = second.store ∙ first.store;
     told_same = λ k. second.told_same k ∙ first.told_same k;
     called = got_then p xs ys (calls_to puts gets frees a) (calls_to puts gets frees b) (calls_to puts gets frees c) first.called second.called;
-    keepers = stay_then slots faults p a b c first.keepers second.keepers;
+    keepers = stay_then slots places faults p a b c first.keepers second.keepers;
   }
 
   damage_then : (xs : List ℕ) (u v : Desk) (a b : List K) → Read xs u v a b → (k : ℕ) (put got : List ℕ) → IsMarkDamaged (source p journal v (told_by told b)) k put got → IsMarkDamaged (source p journal u (told_by told a)) k put got
@@ -191,7 +191,7 @@ module _ {K : Type 0} (told : K → Option Images) (puts gets frees slots faults
   gets_still most x w a fits = record {
     marks = [];
     few = omega arith;
-    reads = record { machine = refl; fits = fits; store = refl; told_same = λ k. refl; called = got_none p (calls_to puts gets frees a); keepers = stay_still slots faults p a };
+    reads = record { machine = refl; fits = fits; store = refl; told_same = λ k. refl; called = got_none p (calls_to puts gets frees a); keepers = stay_still slots places faults p a };
     quiet = λ j. refl;
     cause = tt;
     damaged = λ k put got e. absurd cc;
@@ -203,7 +203,7 @@ module _ {K : Type 0} (told : K → Option Images) (puts gets frees slots faults
 
   module _ (i k n : ℕ) (w v : Desk) (old new : List K) (ek : k ≡ mark_level p i) (en : n ≡ marked p i) (known : i < mark_count p) (within : k < length p.slots) (there : (j : ℕ) → j < mark_count p → mark_level p j < length w.store)
       (recorded : IsRecorded journal) (fits : Fits v) (work : v.work ≡ w.work) (store : v.store ≡ w.store) (same : (j : ℕ) → IsAsBefore (levels_in w (told_by told old)) (levels_in v (told_by told new)) j)
-      (called : Called (one_get k) (calls_to puts gets frees old) (calls_to puts gets frees new)) (remain : Remain slots faults old new) (others : OthersRemain k old new) where
+      (called : Called (one_get k) (calls_to puts gets frees old) (calls_to puts gets frees new)) (remain : Remain slots places faults old new) (others : OthersRemain k old new) where
     one_read : Read (i ∷ []) w v old new
     one_read = record {
       machine = ap (λ (s : MachineState). page_numbers s.memory) work;
@@ -211,7 +211,7 @@ module _ {K : Type 0} (told : K → Option Images) (puts gets frees slots faults
       store = store;
       told_same = λ j. (same j).1;
       called = got_one p i (calls_to puts gets frees old) (calls_to puts gets frees new) (subst (λ (x : ℕ). Called (one_get x) (calls_to puts gets frees old) (calls_to puts gets frees new)) ek called);
-      keepers = stay_of slots faults p k old new within remain others;
+      keepers = stay_of slots places faults p k old new within remain others;
     }
 
     stands_at : (first : MachineState) → IsMachineState first → SamePages w.work first → StandAt first journal p (mark_count p) w.store (told_by told old) → SourceStands first (source p journal w (told_by told old))

@@ -1,5 +1,6 @@
 pub mod Answering
 pub mod Calling
+pub mod Collision
 pub mod Coming
 pub mod Getting
 pub mod Levels

@@ -134,12 +134,12 @@ module _ (first : MachineState) (from : Source) (stands : SourceStands first fro
   first_of_seen bound last None h = λ n above below. seen_fails n (h n above below)
 
 -- a step from a state of a run is the step of the run
-changes_there : (first : MachineState) (journal : List (List ℕ)) (word n : ℕ) → Changes journal word (state_number first journal n) → ChangesWord first journal word n
+pub changes_there : (first : MachineState) (journal : List (List ℕ)) (word n : ℕ) → Changes journal word (state_number first journal n) → ChangesWord first journal word n
 changes_there first journal word n h =
     let after : state_number (state_number first journal n) journal 1 ≡ state_number first journal (n + 1) = sym (state_number-add first journal n 1) in
     subst (λ (s : MachineState). (k : ℕ) × ((k < 4) × Differ (byte_at (state_number first journal n).memory (word + k)) (byte_at s.memory (word + k)))) after h
 
-changes_back : (first : MachineState) (journal : List (List ℕ)) (word n : ℕ) → ChangesWord first journal word n → Changes journal word (state_number first journal n)
+pub changes_back : (first : MachineState) (journal : List (List ℕ)) (word n : ℕ) → ChangesWord first journal word n → Changes journal word (state_number first journal n)
 changes_back first journal word n h =
     let after : state_number (state_number first journal n) journal 1 ≡ state_number first journal (n + 1) = sym (state_number-add first journal n 1) in
     subst (λ (s : MachineState). (k : ℕ) × ((k < 4) × Differ (byte_at (state_number first journal n).memory (word + k)) (byte_at s.memory (word + k)))) (sym after) h

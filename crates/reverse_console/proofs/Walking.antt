@@ -1,6 +1,6 @@
 -- Marks that are got one after the other, from the last below a place down, while a state is sought.
 use Rattle.std.proofs.Common.{◌≡◌, ℕ, ◌+◌, ◌-◌, ◌*◌, ◌<◌, ◌≤◌, List, map, Some, None, Option, Result, Ok, refl, sym, ap, subst, arith}
-use Rattle.keepers.specs.Told.{Images}
+use Rattle.keepers.specs.Told.{Location, Images}
 use Rattle.reverse_runner.specs.KeepersSeen.{HaveRoom, told_by}
 use Rattle.reverse_runner.specs.SessionState.{SamePages}
 use Rattle.reverse_runner.specs.declared.fault.RunFault.{RunFault}
@@ -20,14 +20,14 @@ use Rattle.reverse_console.proofs.Seeing.{NoneSeen, none_on, last_on, none_below
 abbrev pub well : Result Unit RunFault
 well = Ok tt
 
-module _ {K : Type 0} (told : K → Option Images) (puts gets frees slots faults : K → ℕ) (p : MarkPlan) (journal : List (List ℕ)) where
+module _ {K : Type 0} (told : K → Option Images) (puts gets frees slots : K → ℕ) (places : K → Location) (faults : K → ℕ) (p : MarkPlan) (journal : List (List ℕ)) where
   -- where states came from at the start
   abbrev from : Desk → List K → Source
   from w old = source p journal w (told_by told old)
 
   -- the stretches so far were gone through, from the place down to the end of the next one, and none of their states does it
   pub record LastWay (sought : Sought) (place : ℕ) (w v : Desk) (old new : List K) (steps steps' end left : ℕ) : Type 0 where
-    pub got : Got told puts gets frees slots faults p journal (mark_count p - left) well w v old new
+    pub got : Got told puts gets frees slots places faults p journal (mark_count p - left) well w v old new
     pub none : NoneSeen (from w old) (Meets sought journal) end place
     pub reach : end ≤ left * stride p
     pub low : (left - 1) * stride p ≤ end
@@ -44,7 +44,7 @@ module _ {K : Type 0} (told : K → Option Images) (puts gets frees slots faults
       let there = ap (λ (i : ℕ). i * stride p) is in
       let before = ap (λ (i : ℕ). (i - 1) * stride p) is in
       record {
-        got = gets_still told puts gets frees slots faults p journal (mark_count p - left) tt w old fits;
+        got = gets_still told puts gets frees slots places faults p journal (mark_count p - left) tt w old fits;
         none = λ n at below. absurd (omega (arith, at, below));
         reach = omega (arith, reach, there);
         low = omega (arith, low, before);
@@ -55,7 +55,7 @@ module _ {K : Type 0} (told : K → Option Images) (puts gets frees slots faults
       }
 
   -- marks can still be got
-  pub ready_still : {A : Type 0} (most : ℕ) (r : Result A RunFault) (w v : Desk) (old new : List K) → Got told puts gets frees slots faults p journal most r w v old new → IsReady p w (map slots old) → IsReady p v (map slots new)
+  pub ready_still : {A : Type 0} (most : ℕ) (r : Result A RunFault) (w v : Desk) (old new : List K) → Got told puts gets frees slots places faults p journal most r w v old new → IsReady p w (map slots old) → IsReady p v (map slots new)
   ready_still most r w v old new g ready = record {
     set = subst (AreSet p (mark_count p)) (sym g.reads.store) ready.set;
     room = subst (HaveRoom (span p) p.slots) (sym g.reads.keepers.slots_same) ready.room;
@@ -64,7 +64,7 @@ module _ {K : Type 0} (told : K → Option Images) (puts gets frees slots faults
 
   -- one stretch more: its mark was got, and the machine went through it
   module _ (sought : Sought) (place : ℕ) (w v v1 v2 : Desk) (old mid new : List K) (steps steps' steps'' end left m at : ℕ) (r : Result Unit RunFault) (x : Unit)
-      (way : LastWay sought place w v old mid steps steps' end left) (some : 0 < left) (is : m ≡ left - 1) (here : at ≡ marked p m) (done : r ≡ Ok x) (one : Got told puts gets frees slots faults p journal 1 r v v1 mid new)
+      (way : LastWay sought place w v old mid steps steps' end left) (some : 0 < left) (is : m ≡ left - 1) (here : at ≡ marked p m) (done : r ≡ Ok x) (one : Got told puts gets frees slots places faults p journal 1 r v v1 mid new)
       (comes : ComesFrom (from v mid) m (marked p m) v1.work) (pages : SamePages v2.work v1.work) (store : v2.store ≡ v1.store) (fits : Fits v2) (counted : steps'' ≡ steps' + (end - at)) where
     stretch_below : at ≤ end
     stretch_below =
@@ -73,14 +73,14 @@ module _ {K : Type 0} (told : K → Option Images) (puts gets frees slots faults
         omega (arith, low, same, here)
 
     comes_first : ComesFrom (from w old) m (marked p m) v1.work
-    comes_first = comes_then told puts gets frees slots faults p journal way.got.marks w v old mid way.got.reads m (marked p m) v1.work comes
+    comes_first = comes_then told puts gets frees slots places faults p journal way.got.marks w v old mid way.got.reads m (marked p m) v1.work comes
 
-    pub gets_one_more : {A : Type 0} (y : A) → Got told puts gets frees slots faults p journal (mark_count p - m) (Ok y) w v2 old new
+    pub gets_one_more : {A : Type 0} (y : A) → Got told puts gets frees slots places faults p journal (mark_count p - m) (Ok y) w v2 old new
     gets_one_more y =
-        let both = gets_then told puts gets frees slots faults p journal (mark_count p - left) 1 well tt r w v v1 old mid new refl way.got one in
+        let both = gets_then told puts gets frees slots places faults p journal (mark_count p - left) 1 well tt r w v v1 old mid new refl way.got one in
         let known = way.known in
-        let more = gets_more told puts gets frees slots faults p journal (mark_count p - left + 1) (mark_count p - m) r w v1 old new (omega (arith, known, some, is)) both in
-        gets_ok told puts gets frees slots faults p journal (mark_count p - m) r x y w v2 old new done (gets_moved told puts gets frees slots faults p journal (mark_count p - m) r w v1 v2 old new pages store fits more)
+        let more = gets_more told puts gets frees slots places faults p journal (mark_count p - left + 1) (mark_count p - m) r w v1 old new (omega (arith, known, some, is)) both in
+        gets_ok told puts gets frees slots places faults p journal (mark_count p - m) r x y w v2 old new done (gets_moved told puts gets frees slots places faults p journal (mark_count p - m) r w v1 v2 old new pages store fits more)
 
     pub way_on : IsLast (MeetsFrom sought journal v1.work at) end None → LastWay sought place w v2 old new steps steps'' at m
     way_on none =

@@ -1,6 +1,6 @@
 -- No public clause cites this file. What holds of a workdesk and of keepers while marks are set and got.
 use Rattle.std.specs.Prelude.{◌≡◌, ◌≢◌, ℕ, ◌<◌, ◌≤◌, List, length, slice_index_or, Option, Result, Err, OnOk, IfErr}
-use Rattle.keepers.specs.Told.{Images}
+use Rattle.keepers.specs.Told.{Location, Images}
 use Rattle.level_book.specs.declared.book.Slots.TheVariants.{Count}
 use Rattle.rv_machine.specs.MachineState.{MachineState, IsMachineState}
 use Rattle.rv_machine.specs.States.{state_number}
@@ -43,22 +43,22 @@ abbrev pub source : MarkPlan → List (List ℕ) → Desk → (ℕ → Option Im
 source p journal w told = record { plan = p; journal = journal; levels = levels_in w told; machine = w.work }
 
 -- some marks were got, and nothing else was done
-pub record Reads {K : Type 0} (told : K → Option Images) (puts gets frees slots faults : K → ℕ)
+pub record Reads {K : Type 0} (told : K → Option Images) (puts gets frees slots : K → ℕ) (places : K → Location) (faults : K → ℕ)
     (p : MarkPlan) (marks : List ℕ) (w w' : Desk) (old new : List K) : Type 0 where
   pub machine : SamePages w'.work w.work
   pub fits : Fits w'
   pub store : w'.store ≡ w.store
   pub told_same : (k : ℕ) → told_by told new k ≡ told_by told old k
   pub called : Called (gets_of p marks) (calls_to puts gets frees old) (calls_to puts gets frees new)
-  pub keepers : KeepersStay slots faults p old new
+  pub keepers : KeepersStay slots places faults p old new
 
 -- What a call did that gets marks: so many at most were got. A refusal has its cause; bytes that came back damaged are those of a
 -- mark, and never are where the marks stand for a run.
-pub record Gets {K T : Type 0} (told : K → Option Images) (puts gets frees slots faults : K → ℕ)
+pub record Gets {K T : Type 0} (told : K → Option Images) (puts gets frees slots : K → ℕ) (places : K → Location) (faults : K → ℕ)
     (p : MarkPlan) (journal : List (List ℕ)) (most : ℕ) (result : Result T RunFault) (w w' : Desk) (old new : List K) : Type 0 where
   pub marks : List ℕ
   pub few : length marks ≤ most
-  pub reads : Reads told puts gets frees slots faults p marks w w' old new
+  pub reads : Reads told puts gets frees slots places faults p marks w w' old new
   pub quiet : OnOk result (Quiet faults old new)
   pub cause : IfErr result (HasCause faults p old new)
   pub damaged : (k : ℕ) (put got : List ℕ) → result ≡ Err (Damaged k put got) → IsMarkDamaged (source p journal w (told_by told old)) k put got

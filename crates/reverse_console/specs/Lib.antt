@@ -1,6 +1,7 @@
 pub mod Answer
 pub mod ConsoleState
 pub mod Causes
+pub mod Collision
 pub mod Costs
 pub mod Desks
 pub mod ConsoleFields

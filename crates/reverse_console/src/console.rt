@@ -103,6 +103,7 @@ impl Console {
 
         // The keepers have the slots that they had, and those past the levels of the book are as they were.
         ensures slots { map K.slot_count keepers.new.items ≡ map K.slot_count keepers.old.items }
+        ensures places { map K.place keepers.new.items ≡ map K.place keepers.old.items }
         ensures others { (k : ℕ) → length (slots_of book) ≤ k → slice_get keepers.new.items k ≡ slice_get keepers.old.items k }
     {
         let marks = Marks::new(book, count);
@@ -207,6 +208,7 @@ impl Console {
         // The keepers tell what they told and have the slots that they had, and those past the levels of the book are as they were.
         ensures same { (k : ℕ) → told_by K.told keepers.new.items k ≡ told_by K.told keepers.old.items k }
         ensures slots { map K.slot_count keepers.new.items ≡ map K.slot_count keepers.old.items }
+        ensures places { map K.place keepers.new.items ≡ map K.place keepers.old.items }
         ensures others { (k : ℕ) → length self.old.plan.slots ≤ k → slice_get keepers.new.items k ≡ slice_get keepers.old.items k }
     {
         if self.ended {
@@ -256,7 +258,7 @@ fn answer<K: Keeper, V: Visitor, L: Ledger>(
         × ComesFrom (source marks.now journal.now desk.old (told_by K.told keepers.old.items)) (mark_of marks.now n) n s
         × V.missed visitor.old n s journal.now visitor.new)) }
     ensures unseen { OnErr result (result ≢ Err RunFault.Visitor → visitor.new ≡ visitor.old) }
-    ensures gets { Gets K.told K.put_count K.get_count K.free_count K.slot_count K.fault_count marks.now journal.now (mark_count marks.now + 1) result
+    ensures gets { Gets K.told K.put_count K.get_count K.free_count K.slot_count K.place K.fault_count marks.now journal.now (mark_count marks.now + 1) result
         desk.old desk.new keepers.old.items keepers.new.items }
     ensures takes { OnOk result (Takes marks.now (place_said marks.now.count place.old order.now) steps.old steps.new
         (calls_to K.put_count K.get_count K.free_count keepers.old.items) (calls_to K.put_count K.get_count K.free_count keepers.new.items)) }
@@ -294,7 +296,7 @@ fn new_place<K: Keeper, L: Ledger>(
     ensures seen { IfOk result (IsAnswerSeen (source marks.now journal.now desk.old (told_by K.told keepers.old.items)) place order.now) }
     ensures said { (n : ℕ) → place_said marks.now.count place order.now ≡ Some n → (result ≡ Ok (Some n)) × (desk.new ≡ desk.old)
         × (keepers.new.items ≡ keepers.old.items) × (steps.new ≡ steps.old) }
-    ensures gets { Gets K.told K.put_count K.get_count K.free_count K.slot_count K.fault_count marks.now journal.now (mark_count marks.now) result desk.old
+    ensures gets { Gets K.told K.put_count K.get_count K.free_count K.slot_count K.place K.fault_count marks.now journal.now (mark_count marks.now) result desk.old
         desk.new keepers.old.items keepers.new.items }
     ensures counted { (steps.old ≤ steps.new) × (steps.new ≤ steps.old + marks.now.count) }
     ensures silent { result ≢ Err RunFault.Visitor }

@@ -133,7 +133,7 @@ impl Desk {
         ensures states { (self.new.work ≡ self.old.work) × (self.new.buffer ≡ self.old.buffer) }
         ensures called { Called (one_put level) (calls_to K.put_count K.get_count K.free_count keepers.old.items)
             (calls_to K.put_count K.get_count K.free_count keepers.new.items) }
-        ensures remain { Remain K.slot_count K.fault_count keepers.old.items keepers.new.items }
+        ensures remain { Remain K.slot_count K.place K.fault_count keepers.old.items keepers.new.items }
         ensures keepers { OthersRemain level keepers.old.items keepers.new.items }
         ensures caused { IsCaused K.fault_count keepers.old.items keepers.new.items result }
         ensures fault { IfErr result (IsKeeping level) }
@@ -169,7 +169,7 @@ impl Desk {
         ensures states { (self.new.work ≡ self.old.work) × (self.new.store ≡ self.old.store) }
         ensures called { Called (one_get level) (calls_to K.put_count K.get_count K.free_count keepers.old.items)
             (calls_to K.put_count K.get_count K.free_count keepers.new.items) }
-        ensures remain { Remain K.slot_count K.fault_count keepers.old.items keepers.new.items }
+        ensures remain { Remain K.slot_count K.place K.fault_count keepers.old.items keepers.new.items }
         ensures keepers { OthersRemain level keepers.old.items keepers.new.items }
         ensures caused { IsCaused K.fault_count keepers.old.items keepers.new.items result }
     {

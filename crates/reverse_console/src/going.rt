@@ -47,7 +47,7 @@ fn set_mark<K: Keeper>(
     ensures fits { Fits desk.new }
     ensures called { Called (one_put (mark_level marks.now mark)) (calls_to K.put_count K.get_count K.free_count keepers.old.items)
         (calls_to K.put_count K.get_count K.free_count keepers.new.items) }
-    ensures stay { KeepersStay K.slot_count K.fault_count marks.now keepers.old.items keepers.new.items }
+    ensures stay { KeepersStay K.slot_count K.place K.fault_count marks.now keepers.old.items keepers.new.items }
     ensures quiet { OnOk result (Quiet K.fault_count keepers.old.items keepers.new.items) }
     ensures cause { IfErr result (HasCause K.fault_count marks.now keepers.old.items keepers.new.items) }
     ensures putting { IfErr result (IsOfPutting marks.now) }
@@ -83,7 +83,7 @@ fn set_next<K: Keeper, L: Ledger>(
     ensures counted { steps.new ≡ steps.old + stride marks.now }
     ensures called { Called (one_put (mark_level marks.now mark)) (calls_to K.put_count K.get_count K.free_count keepers.old.items)
         (calls_to K.put_count K.get_count K.free_count keepers.new.items) }
-    ensures stay { KeepersStay K.slot_count K.fault_count marks.now keepers.old.items keepers.new.items }
+    ensures stay { KeepersStay K.slot_count K.place K.fault_count marks.now keepers.old.items keepers.new.items }
     ensures quiet { OnOk result (Quiet K.fault_count keepers.old.items keepers.new.items) }
     ensures cause { IfErr result (HasCause K.fault_count marks.now keepers.old.items keepers.new.items) }
     ensures putting { IfErr result (IsOfPutting marks.now) }
@@ -115,7 +115,7 @@ pub(crate) fn set_marks<K: Keeper, L: Ledger>(
         (calls_to K.put_count K.get_count K.free_count keepers.new.items)) }
     ensures called_at_most { CalledAtMost (puts_of marks.now (mark_count marks.now)) (calls_to K.put_count K.get_count K.free_count keepers.old.items)
         (calls_to K.put_count K.get_count K.free_count keepers.new.items) }
-    ensures stay { KeepersStay K.slot_count K.fault_count marks.now keepers.old.items keepers.new.items }
+    ensures stay { KeepersStay K.slot_count K.place K.fault_count marks.now keepers.old.items keepers.new.items }
     ensures quiet { OnOk result (Quiet K.fault_count keepers.old.items keepers.new.items) }
     ensures cause { IfErr result (HasCause K.fault_count marks.now keepers.old.items keepers.new.items) }
     ensures putting { IfErr result (IsOfPutting marks.now) }
@@ -140,7 +140,7 @@ pub(crate) fn recall<K: Keeper>(
     requires ready { IsReady marks.now desk.old (map K.slot_count keepers.old.items) }
     ensures comes { OnOk result (ComesFrom (source marks.now journal.now desk.old (told_by K.told keepers.old.items)) mark (marked marks.now mark)
         desk.new.work) }
-    ensures gets { Gets K.told K.put_count K.get_count K.free_count K.slot_count K.fault_count marks.now journal.now 1 result desk.old desk.new
+    ensures gets { Gets K.told K.put_count K.get_count K.free_count K.slot_count K.place K.fault_count marks.now journal.now 1 result desk.old desk.new
         keepers.old.items keepers.new.items }
     ensures called { Called (one_get (mark_level marks.now mark)) (calls_to K.put_count K.get_count K.free_count keepers.old.items)
         (calls_to K.put_count K.get_count K.free_count keepers.new.items) }
@@ -174,7 +174,7 @@ pub(crate) fn go<K: Keeper, V: Visitor, L: Ledger>(
         × (ComesFrom (source marks.now journal.now desk.old (told_by K.told keepers.old.items)) (mark_of marks.now n) n s
         × V.missed visitor.old n s journal.now visitor.new) }
     ensures unseen { result ≢ Ok tt → result ≢ Err RunFault.Visitor → visitor.new ≡ visitor.old }
-    ensures gets { Gets K.told K.put_count K.get_count K.free_count K.slot_count K.fault_count marks.now journal.now 1 result desk.old desk.new
+    ensures gets { Gets K.told K.put_count K.get_count K.free_count K.slot_count K.place K.fault_count marks.now journal.now 1 result desk.old desk.new
         keepers.old.items keepers.new.items }
     ensures called { Called (one_get (mark_level marks.now (mark_of marks.now n))) (calls_to K.put_count K.get_count K.free_count keepers.old.items)
         (calls_to K.put_count K.get_count K.free_count keepers.new.items) }

@@ -1,5 +1,14 @@
 // Laws of the marks and of scripts. Each function does nothing; its contract is the law.
-ghost use Rattle.std.specs.Prelude.{◌≤◌};
+ghost use Rattle.std.specs.Prelude.{◌≡◌, ◌⊎◌, ◌≤◌, ℕ, List, Option};
+ghost use Rattle.input_journal.specs.Form.{IsRecorded};
+ghost use Rattle.rv_machine.specs.MachineState.{MachineState, IsMachineState};
+ghost use Rattle.rv_machine.specs.States.{state_number};
+ghost use Rattle.reverse_console.specs.declared.order.Order.{Order as AnOrder};
+ghost use Rattle.reverse_console.specs.Answer.{IsAnswer};
+ghost use Rattle.reverse_console.specs.Collision.{Collides, AnswerCollides, TextCollides};
+ghost use Rattle.reverse_console.specs.ScriptAnswers.{IsTextOf, answer_text};
+ghost use Rattle.reverse_console.specs.Seen.{Source, ComesFrom, IsAnswerSeen};
+ghost use Rattle.reverse_console.specs.Standing.{KeepsMarks};
 ghost use Rattle.reverse_console.specs.Marks.{MarkPlan, capacity};
 ghost use Rattle.reverse_console.specs.MarkLaws.{IsLeastStride, AreBelow, IsGreatestMark};
 ghost use Rattle.reverse_console.specs.ScriptLaws.{OneScript, OneFault, ScriptsHaveNoFault, ScriptOrFault};
@@ -34,4 +43,18 @@ pub fn script_faults_are_unique()
 /// All bytes are a script or have a first fault.
 pub fn bytes_are_a_script_or_have_a_fault()
     ensures { ScriptOrFault }
+{}
+
+/// Over any keepers, also those that don't tell: where the digests of a run's marks are kept, a state that came from a mark is the
+/// run's with its number, an answer is that of an index into the states of the run, and its text is the line of the run's state; or
+/// bytes came back of a mark that are others than the image of its state in the run, and both have one SHA-256.
+pub fn marks_tell_the_run_or_collide()
+    ensures state { (first : MachineState) (from : Source) → IsMachineState first → IsRecorded from.journal → KeepsMarks first from →
+        (i n : ℕ) (s : MachineState) (came : ComesFrom from i n s) → (s ≡ state_number first from.journal n) ⊎ Collides first from i n s came }
+    ensures answer { (first : MachineState) (from : Source) → IsMachineState first → IsRecorded from.journal → KeepsMarks first from →
+        (place : ℕ) (order : AnOrder) (answer : Option ℕ) (seen : IsAnswerSeen from place order answer) →
+        IsAnswer first from.journal from.plan.count place order answer ⊎ AnswerCollides first from place order answer seen }
+    ensures text { (first : MachineState) (from : Source) → IsMachineState first → IsRecorded from.journal → KeepsMarks first from →
+        (answer : Option ℕ) (text : List ℕ) (says : IsTextOf from answer text) →
+        (text ≡ answer_text first from.journal answer) ⊎ TextCollides first from answer text says }
 {}

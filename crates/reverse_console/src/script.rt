@@ -58,7 +58,7 @@ fn show<K: Keeper, O: Sink, L: Ledger>(
     ensures took_until { IfErr result (λ fault. TookUntil console.old.plan (place_said console.old.plan.count console.old.place order.now) fault steps.old
         steps.new (calls_to K.put_count K.get_count K.free_count keepers.old.items) (calls_to K.put_count K.get_count K.free_count keepers.new.items)) }
     ensures same { (k : ℕ) → told_by K.told keepers.new.items k ≡ told_by K.told keepers.old.items k }
-    ensures stay { KeepersStay K.slot_count K.fault_count console.old.plan keepers.old.items keepers.new.items }
+    ensures stay { KeepersStay K.slot_count K.place K.fault_count console.old.plan keepers.old.items keepers.new.items }
     ensures quiet { OnOk result (Quiet K.fault_count keepers.old.items keepers.new.items) }
     ensures cause { IfErr result (HasCause K.fault_count console.old.plan keepers.old.items keepers.new.items) }
     ensures damaged { (k : ℕ) (put got : List ℕ) → result ≡ Err (RunFault.Damaged k put got) →
@@ -101,7 +101,7 @@ fn answer_line<K: Keeper, O: Sink, L: Ledger>(
     ensures took_until { IfErr result (λ fault. TookUntil console.old.plan (place_said console.old.plan.count console.old.place order.now) fault steps.old
         steps.new (calls_to K.put_count K.get_count K.free_count keepers.old.items) (calls_to K.put_count K.get_count K.free_count keepers.new.items)) }
     ensures same { (k : ℕ) → told_by K.told keepers.new.items k ≡ told_by K.told keepers.old.items k }
-    ensures stay { KeepersStay K.slot_count K.fault_count console.old.plan keepers.old.items keepers.new.items }
+    ensures stay { KeepersStay K.slot_count K.place K.fault_count console.old.plan keepers.old.items keepers.new.items }
     ensures quiet { OnOk result (Quiet K.fault_count keepers.old.items keepers.new.items) }
     ensures cause { IfErr result (HasCause K.fault_count console.old.plan keepers.old.items keepers.new.items) }
     ensures damaged { (k : ℕ) (put got : List ℕ) → result ≡ Err (RunFault.Damaged k put got) →
@@ -171,7 +171,7 @@ pub fn answer_all<K: Keeper, O: Sink, L: Ledger>(
 
     // The keepers tell what they told.
     ensures same { (k : ℕ) → told_by K.told keepers.new.items k ≡ told_by K.told keepers.old.items k }
-    ensures stay { KeepersStay K.slot_count K.fault_count console.old.plan keepers.old.items keepers.new.items }
+    ensures stay { KeepersStay K.slot_count K.place K.fault_count console.old.plan keepers.old.items keepers.new.items }
 {
     console.sees_its_run();
     for at in 0..orders.len() {

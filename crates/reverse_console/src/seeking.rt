@@ -118,7 +118,7 @@ pub(crate) fn last_before<K: Keeper, L: Ledger>(
     requires sought { IsSought sought.now }
     requires ready { IsReady marks.now desk.old (map K.slot_count keepers.old.items) }
     ensures seen { IfOk result (IsLastSeen (source marks.now journal.now desk.old (told_by K.told keepers.old.items)) (Meets sought.now journal.now) place) }
-    ensures gets { Gets K.told K.put_count K.get_count K.free_count K.slot_count K.fault_count marks.now journal.now (mark_count marks.now) result desk.old
+    ensures gets { Gets K.told K.put_count K.get_count K.free_count K.slot_count K.place K.fault_count marks.now journal.now (mark_count marks.now) result desk.old
         desk.new keepers.old.items keepers.new.items }
     ensures counted { (steps.old ≤ steps.new) × (steps.new ≤ steps.old + place) }
     ensures silent { result ≢ Err RunFault.Visitor }
@@ -152,7 +152,7 @@ pub(crate) fn first_after<K: Keeper, L: Ledger>(
     requires within { place ≤ marks.now.count }
     requires ready { IsReady marks.now desk.old (map K.slot_count keepers.old.items) }
     ensures seen { IfOk result (IsFirstSeen (source marks.now journal.now desk.old (told_by K.told keepers.old.items)) (HasPc address) place marks.now.count) }
-    ensures gets { Gets K.told K.put_count K.get_count K.free_count K.slot_count K.fault_count marks.now journal.now (mark_count marks.now) result desk.old
+    ensures gets { Gets K.told K.put_count K.get_count K.free_count K.slot_count K.place K.fault_count marks.now journal.now (mark_count marks.now) result desk.old
         desk.new keepers.old.items keepers.new.items }
     ensures counted { (steps.old ≤ steps.new) × (steps.new ≤ steps.old + marks.now.count) }
     ensures silent { result ≢ Err RunFault.Visitor }

@@ -1,3 +1,4 @@
+pub mod Collision
 pub mod Fitting
 pub mod Fronts
 pub mod Going

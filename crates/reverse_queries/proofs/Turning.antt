@@ -141,7 +141,7 @@ left_before unit steps c a d n h lt = (
 )
 
 -- what is on the tape is the unit that is reversed next
-on_tape : (first : MachineState) (journal : List (List ℕ)) (unit : ℕ) (tape : Option ℕ) (t : TapeState) (reverse from to : ℕ) → IsSome tape → MatchOption tape (Unit {0}) (λ n. n + 1 ≡ reverse) →
+pub on_tape : (first : MachineState) (journal : List (List ℕ)) (unit : ℕ) (tape : Option ℕ) (t : TapeState) (reverse from to : ℕ) → IsSome tape → MatchOption tape (Unit {0}) (λ n. n + 1 ≡ reverse) →
     MatchOption tape (Unit {0}) (λ n. IsUnit first journal unit n t) → from ≡ reverse → to + 1 ≡ from → t.states ≡ map (state_number first journal) (numbers_from (unit * to) unit)
 on_tape first journal unit None t reverse from to some next is here one = absurd (true≢false (sym some))
 on_tape first journal unit (Some n) t reverse from to some next is here one =

@@ -11,7 +11,7 @@ use Rattle.level_book.specs.Rules.{rule, levels_named}
 use Rattle.level_book.specs.Valid.{Leads, Valid}
 use Rattle.level_book.specs.CostFold.{steps_of, forward, is_write, is_read}
 use Rattle.keepers.specs.Counts.{raised}
-use Rattle.keepers.specs.Told.{Images}
+use Rattle.keepers.specs.Told.{Location, Images}
 use Rattle.schedule_rules.specs.Situation.{Situation}
 use Rattle.schedule_rules.specs.After.{after}
 use Rattle.schedule_rules.specs.Reached.{IsSound}
@@ -39,11 +39,12 @@ use Rattle.reverse_queries.proofs.Turning.{Turns, turns_start, turns_on, out_of_
 use Rattle.reverse_queries.specs.OnTheWay.{HaveOut}
 
 -- the first i actions of a list were performed
-pub record Way {K : Type 0} (told : K → Option Images) (puts gets frees slots faults : K → ℕ) (list : List Action) (i : ℕ) (old new : SessionState) (ks ls : List K) (before after : ℕ) : Type 0 where
+pub record Way {K : Type 0} (told : K → Option Images) (puts gets frees slots : K → ℕ) (places : K → Location) (faults : K → ℕ) (list : List Action) (i : ℕ) (old new : SessionState) (ks ls : List K) (before after : ℕ) : Type 0 where
   pub performs : PerformsAll old (take i list) new
   pub counted : after ≡ before + old.unit * forward (take i list)
   pub called : Called (calls_of_all (take i list)) (calls_to puts gets frees ks) (calls_to puts gets frees ls)
   pub room : map slots ls ≡ map slots ks
+  pub places_same : map places ls ≡ map places ks
   pub quiet : (k : ℕ) → by_number 0 faults ls k ≡ by_number 0 faults ks k
   pub others : (k : ℕ) → length old.situation.slots ≤ k → slice_get ls k ≡ slice_get ks k
   pub pages : SamePages new.work old.work
@@ -57,13 +58,14 @@ no_more a = omega arith
 none_yet : (n unit : ℕ) → n ≡ n + unit * 0
 none_yet n unit = let none = mul-zero unit in omega (arith, none)
 
-pub way_start : {K : Type 0} (told : K → Option Images) (puts gets frees slots faults : K → ℕ) (list : List Action) (old : SessionState) (ks : List K) (n : ℕ) →
-    old.situation.at ≡ start old.situation.steps old.situation.slots → old.ended ≡ false → Way told puts gets frees slots faults list 0 old old ks ks n n
-way_start told puts gets frees slots faults list old ks n at lasts = record {
+pub way_start : {K : Type 0} (told : K → Option Images) (puts gets frees slots : K → ℕ) (places : K → Location) (faults : K → ℕ) (list : List Action) (old : SessionState) (ks : List K) (n : ℕ) →
+    old.situation.at ≡ start old.situation.steps old.situation.slots → old.ended ≡ false → Way told puts gets frees slots places faults list 0 old old ks ks n n
+way_start told puts gets frees slots places faults list old ks n at lasts = record {
   performs = record { leads = refl; steps = refl; slots = refl; unit = refl; journal = refl; done = refl; lasts = lasts };
   counted = none_yet n old.unit;
   called = record { put_calls = λ k. no_more _; get_calls = λ k. no_more _; free_calls = λ k. no_more _ };
   room = refl;
+  places_same = refl;
   quiet = λ k. refl;
   others = λ k past. refl;
   pages = refl;
@@ -144,29 +146,30 @@ performs_more old mid new list i a start_ at so_far performs =
     }
 
 -- the next action breaks no rule, and there is room
-pub may_perform : {K : Type 0} (told : K → Option Images) (puts gets frees slots faults : K → ℕ) (list : List Action) (i : ℕ) (old mid : SessionState) (ks ls : List K) (before after : ℕ) (a : Action) →
+pub may_perform : {K : Type 0} (told : K → Option Images) (puts gets frees slots : K → ℕ) (places : K → Location) (faults : K → ℕ) (list : List Action) (i : ℕ) (old mid : SessionState) (ks ls : List K) (before after : ℕ) (a : Action) →
     old.situation.at ≡ start old.situation.steps old.situation.slots → Valid old.situation.steps old.situation.slots list → slice_get list i ≡ Some a →
-    Way told puts gets frees slots faults list i old mid ks ls before after → rule mid.situation.steps mid.situation.slots mid.situation.at a ≡ 0
-may_perform told puts gets frees slots faults list i old mid ks ls before after a start_ valid at way =
+    Way told puts gets frees slots places faults list i old mid ks ls before after → rule mid.situation.steps mid.situation.slots mid.situation.at a ≡ 0
+may_perform told puts gets frees slots places faults list i old mid ks ls before after a start_ valid at way =
     let performs = way.performs in
     (λ j. rule (performs.steps j) (performs.slots j) mid.situation.at a)
     ∙ kept_on_the_way old.situation.steps old.situation.slots list i mid.situation.at a valid.0 at (leads_from old (take i list) mid.situation.at start_ performs.leads) valid.1
 
-pub has_room : {K : Type 0} (told : K → Option Images) (puts gets frees slots faults : K → ℕ) (list : List Action) (i : ℕ) (old mid : SessionState) (ks ls : List K) (before after : ℕ) →
-    HaveRoom old.situation.steps old.situation.slots (map slots ks) → Way told puts gets frees slots faults list i old mid ks ls before after → HaveRoom mid.situation.steps mid.situation.slots (map slots ls)
-has_room told puts gets frees slots faults list i old mid ks ls before after room way =
+pub has_room : {K : Type 0} (told : K → Option Images) (puts gets frees slots : K → ℕ) (places : K → Location) (faults : K → ℕ) (list : List Action) (i : ℕ) (old mid : SessionState) (ks ls : List K) (before after : ℕ) →
+    HaveRoom old.situation.steps old.situation.slots (map slots ks) → Way told puts gets frees slots places faults list i old mid ks ls before after → HaveRoom mid.situation.steps mid.situation.slots (map slots ls)
+has_room told puts gets frees slots places faults list i old mid ks ls before after room way =
     let N : ℕ → Type 0 = λ n. HaveRoom n mid.situation.slots (map slots ls) in
     let S : List Slots → Type 0 = λ s. HaveRoom old.situation.steps s (map slots ls) in
     let C : List ℕ → Type 0 = λ l. HaveRoom old.situation.steps old.situation.slots l in
     subst N (sym way.performs.steps) (subst S (sym way.performs.slots) (subst C (sym way.room) room))
 
 -- what becomes of the keepers where an action was performed
-pub record Went {K : Type 0} (told : K → Option Images) (puts gets frees slots faults : K → ℕ) (mid new : SessionState) (a : Action) (ls ms : List K) (after last : ℕ) : Type 0 where
+pub record Went {K : Type 0} (told : K → Option Images) (puts gets frees slots : K → ℕ) (places : K → Location) (faults : K → ℕ) (mid new : SessionState) (a : Action) (ls ms : List K) (after last : ℕ) : Type 0 where
   pub performs : Performs mid a new
   pub acts : Acts mid.unit mid.journal a (holdings_of mid (told_by told ls)) (holdings_of new (told_by told ms))
   pub counted : last ≡ after + mid.unit * steps_of a
   pub called : Called (calls_of a) (calls_to puts gets frees ls) (calls_to puts gets frees ms)
   pub room : map slots ms ≡ map slots ls
+  pub places_same : map places ms ≡ map places ls
   pub quiet : (k : ℕ) → by_number 0 faults ms k ≡ by_number 0 faults ls k
   pub others : (k : ℕ) → (Contains (levels_named a) k → ⊥) → slice_get ms k ≡ slice_get ls k
   pub stands : (first : MachineState) → IsMachineState first → StandsAt first mid (told_by told ls) → StandsAt first new (told_by told ms)
@@ -179,10 +182,10 @@ counted_on before after last unit mid x y z one two same sum =
     let taken : mid * y ≡ unit * y = ap (λ n. n * y) same in
     omega (arith, one, two, more, taken)
 
-pub way_on : {K : Type 0} (told : K → Option Images) (puts gets frees slots faults : K → ℕ) (list : List Action) (i : ℕ) (old mid new : SessionState) (ks ls ms : List K) (before after last : ℕ) (a : Action) →
-    old.situation.at ≡ start old.situation.steps old.situation.slots → slice_get list i ≡ Some a → Way told puts gets frees slots faults list i old mid ks ls before after →
-    Went told puts gets frees slots faults mid new a ls ms after last → Way told puts gets frees slots faults list (i + 1) old new ks ms before last
-way_on told puts gets frees slots faults list i old mid new ks ls ms before after last a start_ at way went =
+pub way_on : {K : Type 0} (told : K → Option Images) (puts gets frees slots : K → ℕ) (places : K → Location) (faults : K → ℕ) (list : List Action) (i : ℕ) (old mid new : SessionState) (ks ls ms : List K) (before after last : ℕ) (a : Action) →
+    old.situation.at ≡ start old.situation.steps old.situation.slots → slice_get list i ≡ Some a → Way told puts gets frees slots places faults list i old mid ks ls before after →
+    Went told puts gets frees slots places faults mid new a ls ms after last → Way told puts gets frees slots places faults list (i + 1) old new ks ms before last
+way_on told puts gets frees slots places faults list i old mid new ks ls ms before after last a start_ at way went =
     let goes = goes_from old mid new (take i list) a way.performs went.performs in
     let steps = count_more steps_of list i a at in
     record {
@@ -190,6 +193,7 @@ way_on told puts gets frees slots faults list i old mid new ks ls ms before afte
       counted = counted_on before after last old.unit mid.unit _ _ _ way.counted went.counted way.performs.unit steps;
       called = called_more list i a _ _ _ at way.called went.called;
       room = went.room ∙ way.room;
+      places_same = went.places_same ∙ way.places_same;
       quiet = λ k. went.quiet k ∙ way.quiet k;
       others = λ k past. went.others k (past_is_unnamed old.situation.steps old.situation.slots mid.situation.at a new.situation.at k goes past) ∙ way.others k past;
       pages = acts_keep_pages mid.unit mid.journal a _ _ went.acts ∙ way.pages;
@@ -200,12 +204,12 @@ way_on told puts gets frees slots faults list i old mid new ks ls ms before afte
 
 -- ---- a refusal
 
-pub refused_in : {K : Type 0} (told : K → Option Images) (puts gets frees slots faults : K → ℕ) (list front : List Action) (i : ℕ) (old mid new : SessionState) (ks ls ms : List K) (before after last : ℕ) (a : Action) (Misses : Action → Holdings → Type 0) (fault : RunFault) →
+pub refused_in : {K : Type 0} (told : K → Option Images) (puts gets frees slots : K → ℕ) (places : K → Location) (faults : K → ℕ) (list front : List Action) (i : ℕ) (old mid new : SessionState) (ks ls ms : List K) (before after last : ℕ) (a : Action) (Misses : Action → Holdings → Type 0) (fault : RunFault) →
     slice_get list i ≡ Some a → take i front ≡ take i list → take (i + 1) front ≡ take (i + 1) list → i < length front →
-    Way told puts gets frees slots faults list i old mid ks ls before after → Gone old.unit old.situation.steps old.journal list i (holdings_of old (told_by told ks)) (holdings_of mid (told_by told ls)) mid.situation.at → SessionEnds mid new → last ≡ after →
+    Way told puts gets frees slots places faults list i old mid ks ls before after → Gone old.unit old.situation.steps old.journal list i (holdings_of old (told_by told ks)) (holdings_of mid (told_by told ls)) mid.situation.at → SessionEnds mid new → last ≡ after →
     CalledAtMost (calls_of a) (calls_to puts gets frees ls) (calls_to puts gets frees ms) → FaultFits Misses fault a (holdings_of mid (told_by told ls)) →
     RefusedIn Misses front fault old new (told_by told ks) before last (calls_to puts gets frees ks) (calls_to puts gets frees ms)
-refused_in told puts gets frees slots faults list front i old mid new ks ls ms before after last a Misses fault at here there inside way gone ends still most fits =
+refused_in told puts gets frees slots places faults list front i old mid new ks ls ms before after last a Misses fault at here there inside way gone ends still most fits =
     let within = is_within list i a at in
     let C : Configuration → Type 0 = λ x. Leads old.situation.steps old.situation.slots old.situation.at (take i list) x in
     let L : List Action → Type 0 = λ l. Leads old.situation.steps old.situation.slots old.situation.at l new.situation.at in
@@ -228,10 +232,10 @@ refused_in told puts gets frees slots faults list front i old mid new ks ls ms b
     }
 
 -- a whole valid list leads to the end
-pub at_end : {K : Type 0} (told : K → Option Images) (puts gets frees slots faults : K → ℕ) (list : List Action) (i : ℕ) (old new : SessionState) (ks ls : List K) (before after : ℕ) →
+pub at_end : {K : Type 0} (told : K → Option Images) (puts gets frees slots : K → ℕ) (places : K → Location) (faults : K → ℕ) (list : List Action) (i : ℕ) (old new : SessionState) (ks ls : List K) (before after : ℕ) →
     old.situation.at ≡ start old.situation.steps old.situation.slots → Valid old.situation.steps old.situation.slots list → length list ≤ i →
-    Way told puts gets frees slots faults list i old new ks ls before after → new.situation.at.ended ≡ true
-at_end told puts gets frees slots faults list i old new ks ls before after start_ valid all way =
+    Way told puts gets frees slots places faults list i old new ks ls before after → new.situation.at.ended ≡ true
+at_end told puts gets frees slots places faults list i old new ks ls before after start_ valid all way =
     let P : List Action → Type 0 = λ l. Leads old.situation.steps old.situation.slots (start old.situation.steps old.situation.slots) l new.situation.at in
     let leads = subst P (take_all i list all) (leads_from old (take i list) new.situation.at start_ way.performs.leads) in
     ap (λ (c : Configuration). c.ended) (leads_unique old.situation.steps old.situation.slots (start old.situation.steps old.situation.slots) list new.situation.at valid.0 leads valid.1) ∙ valid.2
@@ -249,10 +253,10 @@ on_err_always (Ok x) p = tt
 on_err_always (Err e) p = p
 
 -- the next action goes somewhere
-pub may_go : {K : Type 0} (told : K → Option Images) (puts gets frees slots faults : K → ℕ) (list : List Action) (i : ℕ) (old mid : SessionState) (ks ls : List K) (before after' : ℕ) (a : Action) →
+pub may_go : {K : Type 0} (told : K → Option Images) (puts gets frees slots : K → ℕ) (places : K → Location) (faults : K → ℕ) (list : List Action) (i : ℕ) (old mid : SessionState) (ks ls : List K) (before after' : ℕ) (a : Action) →
     old.situation.at ≡ start old.situation.steps old.situation.slots → Valid old.situation.steps old.situation.slots list → slice_get list i ≡ Some a →
-    Way told puts gets frees slots faults list i old mid ks ls before after' → Goes old.situation.steps old.situation.slots mid.situation.at a (after mid.situation.at a)
-may_go told puts gets frees slots faults list i old mid ks ls before after' a start_ valid at way =
+    Way told puts gets frees slots places faults list i old mid ks ls before after' → Goes old.situation.steps old.situation.slots mid.situation.at a (after mid.situation.at a)
+may_go told puts gets frees slots places faults list i old mid ks ls before after' a start_ valid at way =
     goes old.situation.steps old.situation.slots mid.situation.at a
     (kept_on_the_way old.situation.steps old.situation.slots list i mid.situation.at a valid.0 at (leads_from old (take i list) mid.situation.at start_ way.performs.leads) valid.1)
 
@@ -300,13 +304,14 @@ run_has first old mid told front a d start_ so_far goes stands =
 pub ok_spared : {A : Type 0} (x : A) (session : SessionState) (told : ℕ → Option Images) (rooms : ℕ → Option ℕ) → IsSpared (Ok x) session told rooms
 ok_spared x session told rooms = record { not_ended = λ e. cc; roomy = λ roomy e. cc; undamaged = λ first is stands k put got e. cc }
 
-pub ok_kept : {A K : Type 0} (slots faults : K → ℕ) (Untouched : ℕ → Type 0) (x : A) (ks ls : List K) → ((k : ℕ) → by_number 0 faults ls k ≡ by_number 0 faults ks k) → map slots ls ≡ map slots ks → ((k : ℕ) → Untouched k → slice_get ls k ≡ slice_get ks k) →
-    KeepersAfter slots faults Untouched (Ok x) ks ls
-ok_kept slots faults Untouched x ks ls quiet room others = record {
+pub ok_kept : {A K : Type 0} (slots : K → ℕ) (places : K → Location) (faults : K → ℕ) (Untouched : ℕ → Type 0) (x : A) (ks ls : List K) → ((k : ℕ) → by_number 0 faults ls k ≡ by_number 0 faults ks k) → map slots ls ≡ map slots ks → map places ls ≡ map places ks → ((k : ℕ) → Untouched k → slice_get ls k ≡ slice_get ks k) →
+    KeepersAfter slots places faults Untouched (Ok x) ks ls
+ok_kept slots places faults Untouched x ks ls quiet room there others = record {
   keeper_cause = λ k e. absurd cc;
   keepers_quiet = λ never. quiet;
   keepers_later = λ k. (let same = quiet k in omega (arith, same));
   slots = room;
+  places = there;
   others = others;
 }
 

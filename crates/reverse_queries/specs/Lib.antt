@@ -1,4 +1,5 @@
 pub mod Asked
+pub mod Collision
 pub mod Finding
 pub mod OnTheWay
 pub mod Performing

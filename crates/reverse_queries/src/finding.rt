@@ -147,7 +147,7 @@ pub(crate) fn find_last<K: Keeper, L: Ledger>(
         (calls_to K.put_count K.get_count K.free_count keepers.new.items)) }
     ensures not_visitor { result ≢ Err RunFault.Visitor }
     ensures spared { IsSpared result session.old (told_by K.told keepers.old.items) (rooms_by K.room_bytes keepers.old.items) }
-    ensures kept { KeepersAfter K.slot_count K.fault_count (λ k. length session.old.situation.slots ≤ k) result keepers.old.items keepers.new.items }
+    ensures kept { KeepersAfter K.slot_count K.place K.fault_count (λ k. length session.old.situation.slots ≤ k) result keepers.old.items keepers.new.items }
 {
     let last = session.unit() * session.config().reverse();
     let mut finder = Finder::new(question, word, last);

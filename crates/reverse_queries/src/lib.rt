@@ -6,6 +6,7 @@
 
 mod finder;
 mod finding;
+pub mod laws;
 mod picked;
 mod queries;
 

@@ -58,7 +58,7 @@ pub fn state_at<K: Keeper, V: Visitor, L: Ledger>(
         (calls_to K.put_count K.get_count K.free_count keepers.new.items)) }
     ensures spared { IsSpared result session.old (told_by K.told keepers.old.items) (rooms_by K.room_bytes keepers.old.items) }
     ensures seen { VisitorAfter V.fault_count result visitor.old visitor.new }
-    ensures kept { KeepersAfter K.slot_count K.fault_count (λ k. length session.old.situation.slots ≤ k) result keepers.old.items keepers.new.items }
+    ensures kept { KeepersAfter K.slot_count K.place K.fault_count (λ k. length session.old.situation.slots ≤ k) result keepers.old.items keepers.new.items }
 {
     let mut picked = Picked::new(place, visitor);
     for action in list {
@@ -107,7 +107,7 @@ pub fn last_write<K: Keeper, L: Ledger>(
         (calls_to K.put_count K.get_count K.free_count keepers.new.items)) }
     ensures not_visitor { result ≢ Err RunFault.Visitor }
     ensures spared { IsSpared result session.old (told_by K.told keepers.old.items) (rooms_by K.room_bytes keepers.old.items) }
-    ensures kept { KeepersAfter K.slot_count K.fault_count (λ k. length session.old.situation.slots ≤ k) result keepers.old.items keepers.new.items }
+    ensures kept { KeepersAfter K.slot_count K.place K.fault_count (λ k. length session.old.situation.slots ≤ k) result keepers.old.items keepers.new.items }
 {
     find_last(session, list, keepers, Sought::Write, word, steps)
 }
@@ -149,7 +149,7 @@ pub fn last_change<K: Keeper, L: Ledger>(
         (calls_to K.put_count K.get_count K.free_count keepers.new.items)) }
     ensures not_visitor { result ≢ Err RunFault.Visitor }
     ensures spared { IsSpared result session.old (told_by K.told keepers.old.items) (rooms_by K.room_bytes keepers.old.items) }
-    ensures kept { KeepersAfter K.slot_count K.fault_count (λ k. length session.old.situation.slots ≤ k) result keepers.old.items keepers.new.items }
+    ensures kept { KeepersAfter K.slot_count K.place K.fault_count (λ k. length session.old.situation.slots ≤ k) result keepers.old.items keepers.new.items }
 {
     find_last(session, list, keepers, Sought::Change, word, steps)
 }

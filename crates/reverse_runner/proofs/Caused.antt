@@ -1,5 +1,6 @@
 -- What the cause of a refusal says of the counts of faults of the keepers.
 use Rattle.std.proofs.Common.{◌≡◌, ◌≢◌, ℕ, List, slice_get, Result, Ok, Err, refl, subst}
+use Rattle.keepers.specs.Told.{Location}
 use Rattle.keepers.specs.Counts.{Rose}
 use Rattle.reverse_runner.specs.declared.fault.RunFault.{RunFault}
 use Rattle.reverse_runner.specs.declared.fault.RunFault.TheVariants.{Keeper, Damaged, Visitor, Memory, Ended}
@@ -20,13 +21,14 @@ caused_quiet faults ks ls (Err Ended) h never j = h j
 caused_quiet faults ks ls (Ok x) h never j = h j
 
 -- what becomes of the keepers, from what a call said of them
-pub kept_by : {K : Type 0} (slots faults : K → ℕ) (Untouched : ℕ → Type 0) (r : Result Unit RunFault) (ks ls : List K) → Remain slots faults ks ls → IsCaused faults ks ls r →
-    ((k : ℕ) → Untouched k → slice_get ls k ≡ slice_get ks k) → KeepersAfter slots faults Untouched r ks ls
-kept_by slots faults Untouched r ks ls remain caused others = record {
+pub kept_by : {K : Type 0} (slots : K → ℕ) (places : K → Location) (faults : K → ℕ) (Untouched : ℕ → Type 0) (r : Result Unit RunFault) (ks ls : List K) → Remain slots places faults ks ls → IsCaused faults ks ls r →
+    ((k : ℕ) → Untouched k → slice_get ls k ≡ slice_get ks k) → KeepersAfter slots places faults Untouched r ks ls
+kept_by slots places faults Untouched r ks ls remain caused others = record {
   keeper_cause = caused_rose faults ks ls r caused;
   keepers_quiet = caused_quiet faults ks ls r caused;
   keepers_later = remain.later;
   slots = remain.slots_same;
+  places = remain.places_same;
   others = others;
 }
 

@@ -98,7 +98,7 @@ tape_along first journal unit d e t u is was good =
     subst P (sym is) (subst Q (sym was) good)
 
 -- the state on the tape is that of the configuration
-tape_after : (first : MachineState) (journal : List (List ℕ)) (unit steps : ℕ) (slots : List Slots) (c : Configuration) (a : Action) (d : Configuration) (old new : Holdings) →
+pub tape_after : (first : MachineState) (journal : List (List ℕ)) (unit steps : ℕ) (slots : List Slots) (c : Configuration) (a : Action) (d : Configuration) (old new : Holdings) →
     Goes steps slots c a d → Acts unit journal a old new → old.work ≡ unit_states first journal unit c.work → TapeIs first journal unit c.tape old.tape → TapeIs first journal unit d.tape new.tape
 tape_after first journal unit steps slots c (Forward from to Nothing) d old new g acts here tape = tape_along first journal unit d _ new.tape _ g.2 acts.does.1 tape
 tape_after first journal unit steps slots c (Forward from to (Store k)) d old new g acts here tape = tape_along first journal unit d _ new.tape _ g.3 acts.does.1 tape

@@ -1,5 +1,6 @@
 pub mod Asking
 pub mod AllCalls
+pub mod Collision
 pub mod Getting
 pub mod Handing
 pub mod HoldingJust

@@ -6,6 +6,7 @@ use Rattle.std.proofs.Math.Seq.{map-set_same}
 use Rattle.std.proofs.lemmas.Bool.{false≢true, cases_eq, cases_lt, ne_eqb}
 use Rattle.std.proofs.lemmas.List.{get_or-set_same, get_or-set_other}
 use Rattle.std.proofs.lemmas.Option.{slice_get-get_or, slice_get_past}
+use Rattle.keepers.specs.Told.{Location}
 use Rattle.keepers.specs.Counts.{raised, Rose}
 use Rattle.image_store.specs.declared.shelf.StoreFault.{StoreFault}
 use Rattle.image_store.specs.declared.shelf.StoreFault.TheVariants as store
@@ -82,11 +83,12 @@ module _ {K : Type 0} (ks : List K) (k : ℕ) (x y : K) (within : k < length ks)
     pub free_was_called : puts y ≡ puts x → gets y ≡ gets x → frees y ≡ raised (frees x) 1 → Called (one_free k) (calls_to puts gets frees ks) (calls_to puts gets frees (set ks k y))
     free_was_called p g f = record { put_calls = uncounted puts p; get_calls = uncounted gets g; free_calls = counted frees f }
 
-  -- the slots are those that they were, and no count of faults fell
-  module _ (slots faults : K → ℕ) where
-    pub remain : slots y ≡ slots x → faults x ≤ faults y → Remain slots faults ks (set ks k y)
-    remain same later = record {
+  -- the slots and the places are those that they were, and no count of faults fell
+  module _ (slots : K → ℕ) (places : K → Location) (faults : K → ℕ) where
+    pub remain : slots y ≡ slots x → places y ≡ places x → faults x ≤ faults y → Remain slots places faults ks (set ks k y)
+    remain same there later = record {
       slots_same = map-set_same slots ks k y x (same ∙ ap slots is);
+      places_same = map-set_same places ks k y x (there ∙ ap places is);
       later = λ j. elim (cases_eq j k) [
         | inl e ↦
             let P : ℕ → Type 0 = λ i. by_number 0 faults ks i ≤ by_number 0 faults (set ks k y) i in

@@ -94,7 +94,7 @@ none_there zero m = refl
 none_there (suc n) zero = refl
 none_there (suc n) (suc m) = none_there n m
 
-none_on : (slots : List Slots) (steps k n : ℕ) → kept_at (no_pairs_on slots steps) k n ≡ None
+pub none_on : (slots : List Slots) (steps k n : ℕ) → kept_at (no_pairs_on slots steps) k n ≡ None
 none_on [] steps k n = refl
 none_on (s ∷ slots) steps zero n = none_there (steps + 1) n
 none_on (s ∷ slots) steps (suc k) n = none_on slots steps k n

@@ -1,7 +1,7 @@
 -- What a call leaves of a session's standing, of the keepers and of a visitor: relations that contracts share.
 use Rattle.std.specs.Prelude.{◌≡◌, ◌≢◌, ℕ, ◌≤◌, List, map, slice_get, Option, Result, Err, OnErr}
 use Rattle.keepers.specs.Counts.{Rose}
-use Rattle.keepers.specs.Told.{Images}
+use Rattle.keepers.specs.Told.{Location, Images}
 use Rattle.rv_machine.specs.MachineState.{MachineState, IsMachineState}
 use Rattle.reverse_runner.specs.declared.fault.RunFault.{RunFault}
 use Rattle.reverse_runner.specs.declared.fault.RunFault.TheVariants.{Keeper, Visitor}
@@ -16,12 +16,13 @@ pub record Stays (old : SessionState) (told : ℕ → Option Images) (new : Sess
   pub alone : AreAlone (levels_of old told) → AreAlone (levels_of new told')
 
 -- No count of faults of a keeper fell, and one rose where its keeper is said to have failed, and nowhere else. The keepers have the slots
--- that they had, and those of levels that aren't touched are as they were.
-pub record KeepersAfter {A K : Type 0} (slot_count fault_count : K → ℕ) (Untouched : ℕ → Type 0) (result : Result A RunFault) (old new : List K) : Type 0 where
+-- that they had, in the places where they were, and those of levels that aren't touched are as they were.
+pub record KeepersAfter {A K : Type 0} (slot_count : K → ℕ) (place : K → Location) (fault_count : K → ℕ) (Untouched : ℕ → Type 0) (result : Result A RunFault) (old new : List K) : Type 0 where
   pub keeper_cause : (k : ℕ) → result ≡ Err (Keeper k) → Rose (by_number 0 fault_count old k) (by_number 0 fault_count new k)
   pub keepers_quiet : ((k : ℕ) → result ≢ Err (Keeper k)) → (j : ℕ) → by_number 0 fault_count new j ≡ by_number 0 fault_count old j
   pub keepers_later : (k : ℕ) → by_number 0 fault_count old k ≤ by_number 0 fault_count new k
   pub slots : map slot_count new ≡ map slot_count old
+  pub places : map place new ≡ map place old
   pub others : (k : ℕ) → Untouched k → slice_get new k ≡ slice_get old k
 
 -- The count of faults of a visitor rose where it is said to have failed, and not else. By another refusal it is as it was.

@@ -1,5 +1,6 @@
 pub mod Acted
 pub mod Acts
+pub mod Collision
 pub mod After
 pub mod Handed
 pub mod HoldsJust

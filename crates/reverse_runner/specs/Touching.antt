@@ -1,5 +1,6 @@
 -- No public clause cites this file. What a call on the keeper of one level does to the keepers, and how it is refused.
 use Rattle.std.specs.Prelude.{◌≡◌, ◌≢◌, ℕ, ◌==◌, ◌≤◌, List, map, slice_get, Some, Result, Ok, Err}
+use Rattle.keepers.specs.Told.{Location}
 use Rattle.keepers.specs.Counts.{Rose}
 use Rattle.sha2.specs.Sha256.{sha256}
 use Rattle.image_store.specs.declared.shelf.Kept.{Kept}
@@ -22,9 +23,10 @@ one_get k = record { puts = λ _. 0; gets = λ j. one_if (k == j); frees = λ _.
 abbrev pub one_free : ℕ → Calls
 one_free k = record { puts = λ _. 0; gets = λ _. 0; frees = λ j. one_if (k == j) }
 
--- the keepers have the slots that they had, and no count of faults fell
-pub record Remain {K : Type 0} (slots faults : K → ℕ) (old new : List K) : Type 0 where
+-- the keepers have the slots that they had, in the places where they were, and no count of faults fell
+pub record Remain {K : Type 0} (slots : K → ℕ) (places : K → Location) (faults : K → ℕ) (old new : List K) : Type 0 where
   pub slots_same : map slots new ≡ map slots old
+  pub places_same : map places new ≡ map places old
   pub later : (k : ℕ) → by_number 0 faults old k ≤ by_number 0 faults new k
 
 -- all keepers but that of level k are as they were

@@ -47,7 +47,7 @@ pub(crate) fn act<K: Keeper, V: Visitor, L: Ledger>(
     ensures spared { IsRecorded journal.now → AreShort (image_room space.old.work) space.old.store →
         IsSafe result journal.now unit config.now.at (holdings_in space.old (told_by K.told keepers.old.items)) (length config.now.slots)
         (rooms_by K.room_bytes keepers.old.items) }
-    ensures kept { KeepersAfter K.slot_count K.fault_count (λ k. Contains (levels_named action.now) k → ⊥) result keepers.old.items keepers.new.items }
+    ensures kept { KeepersAfter K.slot_count K.place K.fault_count (λ k. Contains (levels_named action.now) k → ⊥) result keepers.old.items keepers.new.items }
     ensures rooms { SameRooms (rooms_by K.room_bytes keepers.old.items) (rooms_by K.room_bytes keepers.new.items) }
     ensures order { StaysInOrder space.old space.new }
     ensures units { (d : Configuration) → Goes config.now.steps config.now.slots config.now.at action.now d →
@@ -98,7 +98,7 @@ fn forward<K: Keeper, L: Ledger>(
     ensures spared { IsRecorded journal.now → AreShort (image_room space.old.work) space.old.store →
         IsSafe result journal.now unit config.now.at (holdings_in space.old (told_by K.told keepers.old.items)) (length config.now.slots)
         (rooms_by K.room_bytes keepers.old.items) }
-    ensures kept { KeepersAfter K.slot_count K.fault_count (λ k. Contains (levels_named (Action.Forward from to keep)) k → ⊥) result
+    ensures kept { KeepersAfter K.slot_count K.place K.fault_count (λ k. Contains (levels_named (Action.Forward from to keep)) k → ⊥) result
         keepers.old.items keepers.new.items }
     ensures rooms { SameRooms (rooms_by K.room_bytes keepers.old.items) (rooms_by K.room_bytes keepers.new.items) }
     ensures order { StaysInOrder space.old space.new }
@@ -142,7 +142,7 @@ fn copy<K: Keeper>(
     ensures spared { (unit : ℕ) (journal : List (List ℕ)) → IsRecorded journal → AreShort (image_room space.old.work) space.old.store →
         IsSafe result journal unit config.now.at (holdings_in space.old (told_by K.told keepers.old.items)) (length config.now.slots)
         (rooms_by K.room_bytes keepers.old.items) }
-    ensures kept { KeepersAfter K.slot_count K.fault_count (λ k. Contains (levels_named (Action.Copy n from dest)) k → ⊥) result
+    ensures kept { KeepersAfter K.slot_count K.place K.fault_count (λ k. Contains (levels_named (Action.Copy n from dest)) k → ⊥) result
         keepers.old.items keepers.new.items }
     ensures rooms { SameRooms (rooms_by K.room_bytes keepers.old.items) (rooms_by K.room_bytes keepers.new.items) }
     ensures order { StaysInOrder space.old space.new }
@@ -178,7 +178,7 @@ fn move_<K: Keeper>(
     ensures spared { (unit : ℕ) (journal : List (List ℕ)) → IsRecorded journal → AreShort (image_room space.old.work) space.old.store →
         IsSafe result journal unit config.now.at (holdings_in space.old (told_by K.told keepers.old.items)) (length config.now.slots)
         (rooms_by K.room_bytes keepers.old.items) }
-    ensures kept { KeepersAfter K.slot_count K.fault_count (λ k. Contains (levels_named (Action.Move n from dest)) k → ⊥) result
+    ensures kept { KeepersAfter K.slot_count K.place K.fault_count (λ k. Contains (levels_named (Action.Move n from dest)) k → ⊥) result
         keepers.old.items keepers.new.items }
     ensures rooms { SameRooms (rooms_by K.room_bytes keepers.old.items) (rooms_by K.room_bytes keepers.new.items) }
     ensures order { StaysInOrder space.old space.new }

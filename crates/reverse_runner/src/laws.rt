@@ -1,5 +1,5 @@
 // Laws of what lists hand out, and of levels. Each function does nothing; its contract is the law.
-ghost use Rattle.std.specs.Prelude.{◌≡◌, ℕ, ◌*◌, ◌<◌, true, List, length, Option, Some};
+ghost use Rattle.std.specs.Prelude.{◌≡◌, ◌⊎◌, ℕ, ◌*◌, ◌<◌, true, List, length, Option, Some};
 ghost use Rattle.std.specs.FinSet as set;
 ghost use Rattle.plan_types.specs.declared.action.Action.{Action};
 ghost use Rattle.level_book.specs.declared.book.Slots.{Slots};
@@ -13,6 +13,7 @@ ghost use Rattle.rv_machine.specs.MachineState.{MachineState, IsMachineState};
 ghost use Rattle.keepers.specs.Told.{Images};
 ghost use Rattle.image_store.specs.Standing.{IsToldAnd};
 ghost use Rattle.reverse_runner.specs.Acts.{Holdings, Acts};
+ghost use Rattle.reverse_runner.specs.Collision.{StandsByDigests, Collides};
 ghost use Rattle.reverse_runner.specs.LevelsStand.{HoldingsStandAt, AreAlone, IsLaidOut};
 ghost use Rattle.reverse_runner.specs.HoldsJust.{HoldsJust};
 ghost use Rattle.reverse_runner.specs.KeepersSeen.{is_release};
@@ -42,6 +43,17 @@ pub fn levels_follow_the_actions()
     ensures alone { (journal : List (List ℕ)) (unit steps : ℕ) (slots : List Slots) (c : Configuration) (a : Action) (d : Configuration) (old new : Holdings) →
         IsSound steps slots c → Goes steps slots c a d → Acts unit journal a old new → IsLaidOut steps slots c old.levels.store →
         AreAlone old.levels → AreAlone new.levels }
+{}
+
+/// Over any keepers, also those that don't tell: where a session stands at a configuration of a run by the digests that its levels
+/// keep, it stands so after an action at the one that the action leads to; or the action took a state into work whose image is other
+/// bytes than that of the run's state with its number, and both have one SHA-256.
+pub fn digests_follow_the_actions_or_collide()
+    ensures { (first : MachineState) (journal : List (List ℕ)) (unit steps : ℕ) (slots : List Slots) (c : Configuration) (a : Action) (d : Configuration)
+        (old new : Holdings) →
+        IsMachineState first → IsRecorded journal → IsSound steps slots c → Goes steps slots c a d → Acts unit journal a old new →
+        IsLaidOut steps slots c old.levels.store →
+        StandsByDigests first journal unit c old → StandsByDigests first journal unit d new ⊎ Collides (unit_states first journal unit) a new.work }
 {}
 
 /// Where the levels of a session stand and no keeper has another image than theirs, each keeper holds just the images of

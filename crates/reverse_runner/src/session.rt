@@ -171,7 +171,7 @@ impl Session {
         ensures pages { SamePages self.old.work self.new.work }
 
         // The keepers, of which those of levels that the action doesn't name are as they were. They have the rooms that they had.
-        ensures kept { KeepersAfter K.slot_count K.fault_count (λ k. Contains (levels_named action.now) k → ⊥) result keepers.old.items keepers.new.items }
+        ensures kept { KeepersAfter K.slot_count K.place K.fault_count (λ k. Contains (levels_named action.now) k → ⊥) result keepers.old.items keepers.new.items }
         ensures rooms { SameRooms (rooms_by K.room_bytes keepers.old.items) (rooms_by K.room_bytes keepers.new.items) }
     {
         if self.ended {

@@ -251,7 +251,7 @@ impl Workspace {
             × (self.new.undo ≡ self.old.undo) × (self.new.known ≡ self.old.known) }
         ensures called { Called (one_put level) (calls_to K.put_count K.get_count K.free_count keepers.old.items)
             (calls_to K.put_count K.get_count K.free_count keepers.new.items) }
-        ensures remain { Remain K.slot_count K.fault_count keepers.old.items keepers.new.items }
+        ensures remain { Remain K.slot_count K.place K.fault_count keepers.old.items keepers.new.items }
         ensures keepers { OthersRemain level keepers.old.items keepers.new.items }
         ensures caused { IsCaused K.fault_count keepers.old.items keepers.new.items result }
         ensures fault { IfErr result (IsKeeping level) }
@@ -297,7 +297,7 @@ impl Workspace {
             × (self.new.undo ≡ self.old.undo) × (self.new.known ≡ self.old.known) }
         ensures called { Called (one_get level) (calls_to K.put_count K.get_count K.free_count keepers.old.items)
             (calls_to K.put_count K.get_count K.free_count keepers.new.items) }
-        ensures remain { Remain K.slot_count K.fault_count keepers.old.items keepers.new.items }
+        ensures remain { Remain K.slot_count K.place K.fault_count keepers.old.items keepers.new.items }
         ensures keepers { OthersRemain level keepers.old.items keepers.new.items }
         ensures caused { IsCaused K.fault_count keepers.old.items keepers.new.items result }
     {
@@ -330,7 +330,7 @@ impl Workspace {
             × (self.new.undo ≡ self.old.undo) × (self.new.known ≡ self.old.known) }
         ensures called { Called (one_free level) (calls_to K.put_count K.get_count K.free_count keepers.old.items)
             (calls_to K.put_count K.get_count K.free_count keepers.new.items) }
-        ensures remain { Remain K.slot_count K.fault_count keepers.old.items keepers.new.items }
+        ensures remain { Remain K.slot_count K.place K.fault_count keepers.old.items keepers.new.items }
         ensures keepers { OthersRemain level keepers.old.items keepers.new.items }
         ensures caused { IsCaused K.fault_count keepers.old.items keepers.new.items result }
         ensures fault { IfErr result (IsKeeping level) }

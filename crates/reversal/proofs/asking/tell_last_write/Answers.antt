@@ -1,5 +1,4 @@
-use Rattle.std.proofs.Common.{◌≡◌, ◌∙◌, refl, length, Err, sym, ap, subst, ◌+◌, arith, inl, inr}
-use Rattle.std.proofs.lemmas.List.{length-map}
+use Rattle.std.proofs.Common.{◌≡◌, ◌∙◌, refl, Err, sym, ap, subst, ◌+◌, arith, inl, inr}
 use Rattle.reverse_runner.specs.declared.fault.RunFault.{RunFault}
 use Rattle.reverse_runner.specs.declared.fault.RunFault.TheVariants.{Visitor}
 use Rattle.reverse_runner.specs.KeepersSeen.{told_by, calls_to}
@@ -27,7 +26,7 @@ returns-in-Ok-clause-works g c =
 
 pub returns-in-Ok-clause-others : goal.returns-in-Ok-clause-others
 returns-in-Ok-clause-others g c =
-    (sym (length-map c.last_write.new.keepers.items g.K.Keeper.slot_count) ∙ ap length c.last_write.ensures.kept.slots ∙ length-map c.args.keepers.now.items g.K.Keeper.slot_count, c.last_write.ensures.kept.others)
+    (record { slots_same = c.last_write.ensures.kept.slots; places_same = c.last_write.ensures.kept.places }, c.last_write.ensures.kept.others)
 
 pub returns-in-Err-clause-works : goal.returns-in-Err-clause-works
 returns-in-Err-clause-works g c =
@@ -53,7 +52,7 @@ returns-in-Err-clause-works g c =
 
 pub returns-in-Err-clause-others : goal.returns-in-Err-clause-others
 returns-in-Err-clause-others g c =
-    (sym (length-map c.last_write.new.keepers.items g.K.Keeper.slot_count) ∙ ap length c.last_write.ensures.kept.slots ∙ length-map c.args.keepers.now.items g.K.Keeper.slot_count, c.last_write.ensures.kept.others)
+    (record { slots_same = c.last_write.ensures.kept.slots; places_same = c.last_write.ensures.kept.places }, c.last_write.ensures.kept.others)
 
 pub returns-in-Err-clause-roomy : goal.returns-in-Err-clause-roomy
 returns-in-Err-clause-roomy g c roomy e =

@@ -1,5 +1,4 @@
 use Rattle.std.proofs.Common.{◌≡◌, ◌≢◌, ◌∙◌, ◌+◌, ◌≤◌, ℕ, List, map, length, Some, Err, inl, arith, sym, ap, refl, subst, slice_get, inr}
-use Rattle.std.proofs.lemmas.List.{length-map}
 use Rattle.std.proofs.lemmas.Bool.{false≢true}
 use Rattle.std.specs.List.{AllByRecursion}
 use Rattle.rv_pages.specs.Memory.{page_numbers}
@@ -106,6 +105,7 @@ loop-action-init g c =
       pages = refl;
       digesters = c.requires.pages;
       room = refl;
+      places = refl;
       reference = refl;
       others = λ k past. refl;
     }
@@ -140,6 +140,7 @@ loop-action-preserved g c =
           (subst (λ (ps : List ℕ). AllByRecursion (λ (qs : List ℕ). qs ≡ ps) c.loop-action.digesters)
           (sym (ap (λ (t : SessionState). page_numbers t.work.memory) c.digest_lines.ensures.session) ∙ c.perform.ensures.pages) inv.digesters);
       room = c.perform.ensures.kept.slots ∙ inv.room;
+      places = c.perform.ensures.kept.places ∙ inv.places;
       reference = same_sink g.O.Sink.told g.O.Sink.call_count before.journal numbers states c.loop-action.writer c.perform.new.visitor ok.gets ∙ inv.reference;
       others = λ k past.
           c.perform.ensures.kept.others k (past_is_unnamed before.situation.steps before.situation.slots before.situation.at c.in-Some.action after.situation.at k ok.performs.goes
@@ -219,7 +220,7 @@ returns-in-Err-clause-others g c =
     let valid = subst V2 (sym (so_far_of g p).slots) (subst V1 (sym (so_far_of g p).steps) c.requires.valid) in
     let goes = may_go g.O.Sink.told g.O.Sink.call_count c.args.session.now.work before list c.loop-action.place inv.so_far.0 c.loop-action.writer.out.now (old_of g p) (mid_of g p) c.in-Some.action (there g p) (record { tells = refl; counts = refl }) (here g p)
     valid c.loop-action.writer.out.now (mid_of g p) (record { tells = refl; counts = refl }) in (
-      sym (length-map c.perform.new.keepers.items g.K.Keeper.slot_count) ∙ ap length (c.perform.ensures.kept.slots ∙ inv.room) ∙ length-map c.args.keepers.now.items g.K.Keeper.slot_count,
+      record { slots_same = c.perform.ensures.kept.slots ∙ inv.room; places_same = c.perform.ensures.kept.places ∙ inv.places },
       λ k past.
           c.perform.ensures.kept.others k (past_is_unnamed before.situation.steps before.situation.slots before.situation.at c.in-Some.action goes.0 k goes.1
           (let slots = ap length (so_far_of g p).slots in omega (arith, past, slots)))
@@ -252,7 +253,7 @@ returns-clause-works g c =
 pub returns-clause-others : goal.returns-clause-others
 returns-clause-others g c =
     let inv = c.loop-action.invariant in
-    (sym (length-map c.loop-action.keepers.items g.K.Keeper.slot_count) ∙ ap length inv.room ∙ length-map c.args.keepers.now.items g.K.Keeper.slot_count, inv.others)
+    (record { slots_same = inv.room; places_same = inv.places }, inv.others)
 
 pub returns-in-Err-clause-roomy : goal.returns-in-Err-clause-roomy
 returns-in-Err-clause-roomy g c roomy e =

@@ -24,6 +24,7 @@ invariant-loop-action g l = record {
   pages : SamePages l.session.work l.fn.session.work;
   digesters : AllByRecursion (HasPages l.session.work) l.digesters;
   room : map g.K.Keeper.slot_count l.keepers.items ≡ map g.K.Keeper.slot_count l.fn.keepers.items;
+  places : map g.K.Keeper.place l.keepers.items ≡ map g.K.Keeper.place l.fn.keepers.items;
   reference : l.writer.out.ghost_name ≡ l.initial.writer.out.ghost_name;
   others : (k : ℕ) → length l.fn.session.situation.slots ≤ k → slice_get l.keepers.items k ≡ slice_get l.fn.keepers.items k;
 }

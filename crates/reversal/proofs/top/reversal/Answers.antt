@@ -79,8 +79,12 @@ returns-in-Ok-clause-decided g c r asks n3 n17 = elim c.work.ensures.works [
     comes_of (words_of c.args.words.now) (request_of c.in-Some.request) r _ _ _ _ _ (said_job g c) asks.says (come_to g c),
     c.work.ensures.others,
     works_ends (job_of c.in-Ok.job) c.work.result _ _ works n17,
+    c.begins.ensures,
   )
 ]
+
+pub returns-in-Ok-clause-stay : goal.returns-in-Ok-clause-stay
+returns-in-Ok-clause-stay g c = c.work.ensures.others.0
 
 pub returns-in-Ok-clause-memory : goal.returns-in-Ok-clause-memory
 returns-in-Ok-clause-memory g c status = elim c.work.ensures.works [
@@ -93,6 +97,7 @@ returns-in-Ok-clause-memory g c status = elim c.work.ensures.works [
           record { says = said_job g c; within = c.in_default-refusal.ensures },
           job_of c.in-Ok.job,
           come_to g c,
+          c.begins.ensures,
           c.work.ensures.others,
           halts.1,
           λ rooms. (let none = c.work.ensures.roomy rooms status in (none.1, none.2, none.3)),
@@ -148,6 +153,7 @@ returns-in-Err-clause-decided g c r asks n3 n17 = elim c.in-Err.ensures.refused 
           (let P : _ → Type 0 = λ l. Comes (request_of c.in-Some.request) (g.I.Inputs.told c.args.inputs.now) (g.I.Inputs.asked c.args.inputs.now) (g.I.Inputs.asked c.prepared.new.inputs) (map g.K.Keeper.slot_count l) (refuse c.in-Err.refusal) in subst P c.deref-2.ensures.value refused.5),
       refl,
       refl,
+      tt,
     )
   ]
 ]

@@ -40,7 +40,7 @@ go-requires-clause-ready g c =
     let v = c.new_place.new.desk in
     let calls = calls_to g.K.Keeper.put_count g.K.Keeper.get_count g.K.Keeper.free_count in
     let said = place_said p.count c.args.place.now c.args.order.now in
-    ready_still g.K.Keeper.told g.K.Keeper.put_count g.K.Keeper.get_count g.K.Keeper.free_count g.K.Keeper.slot_count g.K.Keeper.fault_count p j (mark_count p) c.new_place.result w v old mid c.new_place.ensures.gets c.requires.ready
+    ready_still g.K.Keeper.told g.K.Keeper.put_count g.K.Keeper.get_count g.K.Keeper.free_count g.K.Keeper.slot_count g.K.Keeper.place g.K.Keeper.fault_count p j (mark_count p) c.new_place.result w v old mid c.new_place.ensures.gets c.requires.ready
 
 pub returns-in_err-found-clause-misses : goal.returns-in_err-found-clause-misses
 returns-in_err-found-clause-misses g c e =
@@ -63,8 +63,8 @@ returns-in_err-found-clause-gets g c =
     let calls = calls_to g.K.Keeper.put_count g.K.Keeper.get_count g.K.Keeper.free_count in
     let said = place_said p.count c.args.place.now c.args.order.now in
     let q = err_from_is_err_and c.from_residual.result c.from_residual.ensures.1 in
-    gets_err g.K.Keeper.told g.K.Keeper.put_count g.K.Keeper.get_count g.K.Keeper.free_count g.K.Keeper.slot_count g.K.Keeper.fault_count p j (mark_count p + 1) c.new_place.result c.from_residual.result _ _ w v old mid c.in_err-found.was q.1 q.2
-    (gets_more g.K.Keeper.told g.K.Keeper.put_count g.K.Keeper.get_count g.K.Keeper.free_count g.K.Keeper.slot_count g.K.Keeper.fault_count p j (mark_count p) (mark_count p + 1) c.new_place.result w v old mid (omega arith) c.new_place.ensures.gets)
+    gets_err g.K.Keeper.told g.K.Keeper.put_count g.K.Keeper.get_count g.K.Keeper.free_count g.K.Keeper.slot_count g.K.Keeper.place g.K.Keeper.fault_count p j (mark_count p + 1) c.new_place.result c.from_residual.result _ _ w v old mid c.in_err-found.was q.1 q.2
+    (gets_more g.K.Keeper.told g.K.Keeper.put_count g.K.Keeper.get_count g.K.Keeper.free_count g.K.Keeper.slot_count g.K.Keeper.place g.K.Keeper.fault_count p j (mark_count p) (mark_count p + 1) c.new_place.result w v old mid (omega arith) c.new_place.ensures.gets)
 
 pub returns-in_err-found-clause-took_until : goal.returns-in_err-found-clause-took_until
 returns-in_err-found-clause-took_until g c =
@@ -102,7 +102,7 @@ returns-in_err-go-in-Some-clause-misses g c e =
     let within = answer_within (source p j w (told_by g.K.Keeper.told old)) c.args.place.now c.args.order.now (Some c.in-Some.n) c.in-Some.n c.requires.order c.requires.within seen refl in
     let q = err_from_is_err_and c.from_residual-in_err-go-in-Some.result c.from_residual-in_err-go-in-Some.ensures.1 in
     let missed = c.go.ensures.missed (same_fault c.go.result c.from_residual-in_err-go-in-Some.result _ _ Visitor c.in_err-go-in-Some.was q.1 q.2 e) in
-    let comes = comes_then g.K.Keeper.told g.K.Keeper.put_count g.K.Keeper.get_count g.K.Keeper.free_count g.K.Keeper.slot_count g.K.Keeper.fault_count p j c.new_place.ensures.gets.marks w v old mid c.new_place.ensures.gets.reads (mark_of p c.in-Some.n) c.in-Some.n missed.0 missed.1.0 in
+    let comes = comes_then g.K.Keeper.told g.K.Keeper.put_count g.K.Keeper.get_count g.K.Keeper.free_count g.K.Keeper.slot_count g.K.Keeper.place g.K.Keeper.fault_count p j c.new_place.ensures.gets.marks w v old mid c.new_place.ensures.gets.reads (mark_of p c.in-Some.n) c.in-Some.n missed.0 missed.1.0 in
     (c.in-Some.n, (missed.0, (seen, comes, missed.1.1)))
 
 pub returns-in_err-go-in-Some-clause-unseen : goal.returns-in_err-go-in-Some-clause-unseen
@@ -121,7 +121,7 @@ returns-in_err-go-in-Some-clause-gets g c =
     let calls = calls_to g.K.Keeper.put_count g.K.Keeper.get_count g.K.Keeper.free_count in
     let said = place_said p.count c.args.place.now c.args.order.now in
     let q = err_from_is_err_and c.from_residual-in_err-go-in-Some.result c.from_residual-in_err-go-in-Some.ensures.1 in
-    gets_err g.K.Keeper.told g.K.Keeper.put_count g.K.Keeper.get_count g.K.Keeper.free_count g.K.Keeper.slot_count g.K.Keeper.fault_count p j (mark_count p + 1) c.go.result c.from_residual-in_err-go-in-Some.result _ _ w c.go.new.desk old c.go.new.keepers.items c.in_err-go-in-Some.was q.1 q.2 (gets_then g.K.Keeper.told g.K.Keeper.put_count g.K.Keeper.get_count g.K.Keeper.free_count g.K.Keeper.slot_count g.K.Keeper.fault_count p j (mark_count p) 1 c.new_place.result _ c.go.result w v c.go.new.desk old mid c.go.new.keepers.items c.in_ok-found.was c.new_place.ensures.gets c.go.ensures.gets)
+    gets_err g.K.Keeper.told g.K.Keeper.put_count g.K.Keeper.get_count g.K.Keeper.free_count g.K.Keeper.slot_count g.K.Keeper.place g.K.Keeper.fault_count p j (mark_count p + 1) c.go.result c.from_residual-in_err-go-in-Some.result _ _ w c.go.new.desk old c.go.new.keepers.items c.in_err-go-in-Some.was q.1 q.2 (gets_then g.K.Keeper.told g.K.Keeper.put_count g.K.Keeper.get_count g.K.Keeper.free_count g.K.Keeper.slot_count g.K.Keeper.place g.K.Keeper.fault_count p j (mark_count p) 1 c.new_place.result _ c.go.result w v c.go.new.desk old mid c.go.new.keepers.items c.in_ok-found.was c.new_place.ensures.gets c.go.ensures.gets)
 
 pub returns-in_err-go-in-Some-clause-took_until : goal.returns-in_err-go-in-Some-clause-took_until
 returns-in_err-go-in-Some-clause-took_until g c =
@@ -139,7 +139,7 @@ returns-in_err-go-in-Some-clause-took_until g c =
     let is_said : IsSaid said c.in-Some.n c.args.steps.now c.new_place.new.steps (calls old) (calls mid) = λ m e.
     let s = c.new_place.ensures.said m e in
     (same_found c.new_place.result m c.in-Some.n s.0 found, s.3, ap calls s.2) in
-    let gets = gets_then g.K.Keeper.told g.K.Keeper.put_count g.K.Keeper.get_count g.K.Keeper.free_count g.K.Keeper.slot_count g.K.Keeper.fault_count p j (mark_count p) 1 c.new_place.result _ c.go.result w v c.go.new.desk old mid c.go.new.keepers.items c.in_ok-found.was c.new_place.ensures.gets c.go.ensures.gets in
+    let gets = gets_then g.K.Keeper.told g.K.Keeper.put_count g.K.Keeper.get_count g.K.Keeper.free_count g.K.Keeper.slot_count g.K.Keeper.place g.K.Keeper.fault_count p j (mark_count p) 1 c.new_place.result _ c.go.result w v c.go.new.desk old mid c.go.new.keepers.items c.in_ok-found.was c.new_place.ensures.gets c.go.ensures.gets in
     let q = err_from_is_err_and c.from_residual-in_err-go-in-Some.result c.from_residual-in_err-go-in-Some.ensures.1 in
     let G = IsOfGetting (gets_of p gets.marks) in
     let O = IsOfGetting (one_get (mark_level p (mark_of p c.in-Some.n))) in
@@ -177,7 +177,7 @@ returns-in_ok-go-in-Some-clause-seen g c =
     let seen = subst (IsAnswerSeen (source p j w (told_by g.K.Keeper.told old)) c.args.place.now c.args.order.now) c.in-Some.is c.in_ok-found.ensures.seen in
     let within = answer_within (source p j w (told_by g.K.Keeper.told old)) c.args.place.now c.args.order.now (Some c.in-Some.n) c.in-Some.n c.requires.order c.requires.within seen refl in
     let got = c.in_ok-go-in-Some.ensures.got in
-    let comes = comes_then g.K.Keeper.told g.K.Keeper.put_count g.K.Keeper.get_count g.K.Keeper.free_count g.K.Keeper.slot_count g.K.Keeper.fault_count p j c.new_place.ensures.gets.marks w v old mid c.new_place.ensures.gets.reads (mark_of p c.in-Some.n) c.in-Some.n got.0 got.1.0 in
+    let comes = comes_then g.K.Keeper.told g.K.Keeper.put_count g.K.Keeper.get_count g.K.Keeper.free_count g.K.Keeper.slot_count g.K.Keeper.place g.K.Keeper.fault_count p j c.new_place.ensures.gets.marks w v old mid c.new_place.ensures.gets.reads (mark_of p c.in-Some.n) c.in-Some.n got.0 got.1.0 in
     (Some c.in-Some.n, (seen, (refl, refl, (got.0, (comes, got.1.1)))))
 
 pub returns-in_ok-go-in-Some-clause-within : goal.returns-in_ok-go-in-Some-clause-within
@@ -205,7 +205,7 @@ returns-in_ok-go-in-Some-clause-gets g c =
     let v = c.new_place.new.desk in
     let calls = calls_to g.K.Keeper.put_count g.K.Keeper.get_count g.K.Keeper.free_count in
     let said = place_said p.count c.args.place.now c.args.order.now in
-    gets_ok g.K.Keeper.told g.K.Keeper.put_count g.K.Keeper.get_count g.K.Keeper.free_count g.K.Keeper.slot_count g.K.Keeper.fault_count p j (mark_count p + 1) c.go.result _ true w c.go.new.desk old c.go.new.keepers.items c.in_ok-go-in-Some.was (gets_then g.K.Keeper.told g.K.Keeper.put_count g.K.Keeper.get_count g.K.Keeper.free_count g.K.Keeper.slot_count g.K.Keeper.fault_count p j (mark_count p) 1 c.new_place.result _ c.go.result w v c.go.new.desk old mid c.go.new.keepers.items c.in_ok-found.was c.new_place.ensures.gets c.go.ensures.gets)
+    gets_ok g.K.Keeper.told g.K.Keeper.put_count g.K.Keeper.get_count g.K.Keeper.free_count g.K.Keeper.slot_count g.K.Keeper.place g.K.Keeper.fault_count p j (mark_count p + 1) c.go.result _ true w c.go.new.desk old c.go.new.keepers.items c.in_ok-go-in-Some.was (gets_then g.K.Keeper.told g.K.Keeper.put_count g.K.Keeper.get_count g.K.Keeper.free_count g.K.Keeper.slot_count g.K.Keeper.place g.K.Keeper.fault_count p j (mark_count p) 1 c.new_place.result _ c.go.result w v c.go.new.desk old mid c.go.new.keepers.items c.in_ok-found.was c.new_place.ensures.gets c.go.ensures.gets)
 
 pub returns-in_ok-go-in-Some-clause-takes : goal.returns-in_ok-go-in-Some-clause-takes
 returns-in_ok-go-in-Some-clause-takes g c =
@@ -223,7 +223,7 @@ returns-in_ok-go-in-Some-clause-takes g c =
     let is_said : IsSaid said c.in-Some.n c.args.steps.now c.new_place.new.steps (calls old) (calls mid) = λ m e.
     let s = c.new_place.ensures.said m e in
     (same_found c.new_place.result m c.in-Some.n s.0 found, s.3, ap calls s.2) in
-    let gets = gets_then g.K.Keeper.told g.K.Keeper.put_count g.K.Keeper.get_count g.K.Keeper.free_count g.K.Keeper.slot_count g.K.Keeper.fault_count p j (mark_count p) 1 c.new_place.result _ c.go.result w v c.go.new.desk old mid c.go.new.keepers.items c.in_ok-found.was c.new_place.ensures.gets c.go.ensures.gets in
+    let gets = gets_then g.K.Keeper.told g.K.Keeper.put_count g.K.Keeper.get_count g.K.Keeper.free_count g.K.Keeper.slot_count g.K.Keeper.place g.K.Keeper.fault_count p j (mark_count p) 1 c.new_place.result _ c.go.result w v c.go.new.desk old mid c.go.new.keepers.items c.in_ok-found.was c.new_place.ensures.gets c.go.ensures.gets in
     takes_found p said c.in-Some.n c.args.steps.now c.new_place.new.steps c.go.new.steps (mark_count p + 1) (calls old) (calls mid) (calls c.go.new.keepers.items) gets.marks is_said within c.new_place.ensures.counted.0 c.new_place.ensures.counted.1 c.in_ok-go-in-Some.ensures.counted c.go.ensures.called gets.few (omega arith) gets.reads.called
 
 pub returns-in-None-clause-seen : goal.returns-in-None-clause-seen
@@ -249,8 +249,8 @@ returns-in-None-clause-gets g c =
     let v = c.new_place.new.desk in
     let calls = calls_to g.K.Keeper.put_count g.K.Keeper.get_count g.K.Keeper.free_count in
     let said = place_said p.count c.args.place.now c.args.order.now in
-    gets_ok g.K.Keeper.told g.K.Keeper.put_count g.K.Keeper.get_count g.K.Keeper.free_count g.K.Keeper.slot_count g.K.Keeper.fault_count p j (mark_count p + 1) c.new_place.result _ false w v old mid c.in_ok-found.was
-    (gets_more g.K.Keeper.told g.K.Keeper.put_count g.K.Keeper.get_count g.K.Keeper.free_count g.K.Keeper.slot_count g.K.Keeper.fault_count p j (mark_count p) (mark_count p + 1) c.new_place.result w v old mid (omega arith) c.new_place.ensures.gets)
+    gets_ok g.K.Keeper.told g.K.Keeper.put_count g.K.Keeper.get_count g.K.Keeper.free_count g.K.Keeper.slot_count g.K.Keeper.place g.K.Keeper.fault_count p j (mark_count p + 1) c.new_place.result _ false w v old mid c.in_ok-found.was
+    (gets_more g.K.Keeper.told g.K.Keeper.put_count g.K.Keeper.get_count g.K.Keeper.free_count g.K.Keeper.slot_count g.K.Keeper.place g.K.Keeper.fault_count p j (mark_count p) (mark_count p + 1) c.new_place.result w v old mid (omega arith) c.new_place.ensures.gets)
 
 pub returns-in-None-clause-takes : goal.returns-in-None-clause-takes
 returns-in-None-clause-takes g c =

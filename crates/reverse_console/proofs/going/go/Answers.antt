@@ -20,7 +20,7 @@ recall-requires-clause-known g c = let known = mark_of_known c.args.marks.now c.
 pub returns-in_err-recall-clause-gets : goal.returns-in_err-recall-clause-gets
 returns-in_err-recall-clause-gets g c =
     let q = err_from_is_err_and c.from_residual.result c.from_residual.ensures.1 in
-    gets_err g.K.Keeper.told g.K.Keeper.put_count g.K.Keeper.get_count g.K.Keeper.free_count g.K.Keeper.slot_count g.K.Keeper.fault_count c.args.marks.now c.args.journal.now 1 c.recall.result c.from_residual.result _ _ c.args.desk.now c.recall.new.desk c.args.keepers.now.items c.recall.new.keepers.items c.in_err-recall.was q.1 q.2 c.recall.ensures.gets
+    gets_err g.K.Keeper.told g.K.Keeper.put_count g.K.Keeper.get_count g.K.Keeper.free_count g.K.Keeper.slot_count g.K.Keeper.place g.K.Keeper.fault_count c.args.marks.now c.args.journal.now 1 c.recall.result c.from_residual.result _ _ c.args.desk.now c.recall.new.desk c.args.keepers.now.items c.recall.new.keepers.items c.in_err-recall.was q.1 q.2 c.recall.ensures.gets
 
 pub returns-in_err-recall-clause-missed : goal.returns-in_err-recall-clause-missed
 returns-in_err-recall-clause-missed g c e =
@@ -67,8 +67,8 @@ returns-in-Ok-clause-gets g c =
     let pages = sym c.advance.ensures.pages in
     let same = ap vec_capacity c.advance.ensures.buffer in
     let fits = fits_on c.recall.new.desk c.advance.new.self pages (omega (arith, same)) c.recall.ensures.gets.reads.fits in
-    gets_moved g.K.Keeper.told g.K.Keeper.put_count g.K.Keeper.get_count g.K.Keeper.free_count g.K.Keeper.slot_count g.K.Keeper.fault_count p c.args.journal.now 1 (Ok tt) c.args.desk.now c.recall.new.desk c.advance.new.self c.args.keepers.now.items c.recall.new.keepers.items pages c.advance.ensures.store fits
-    (gets_ok g.K.Keeper.told g.K.Keeper.put_count g.K.Keeper.get_count g.K.Keeper.free_count g.K.Keeper.slot_count g.K.Keeper.fault_count p c.args.journal.now 1 c.recall.result _ tt c.args.desk.now c.recall.new.desk c.args.keepers.now.items c.recall.new.keepers.items c.in_ok-recall.was c.recall.ensures.gets)
+    gets_moved g.K.Keeper.told g.K.Keeper.put_count g.K.Keeper.get_count g.K.Keeper.free_count g.K.Keeper.slot_count g.K.Keeper.place g.K.Keeper.fault_count p c.args.journal.now 1 (Ok tt) c.args.desk.now c.recall.new.desk c.advance.new.self c.args.keepers.now.items c.recall.new.keepers.items pages c.advance.ensures.store fits
+    (gets_ok g.K.Keeper.told g.K.Keeper.put_count g.K.Keeper.get_count g.K.Keeper.free_count g.K.Keeper.slot_count g.K.Keeper.place g.K.Keeper.fault_count p c.args.journal.now 1 c.recall.result _ tt c.args.desk.now c.recall.new.desk c.args.keepers.now.items c.recall.new.keepers.items c.in_ok-recall.was c.recall.ensures.gets)
 
 pub returns-in-Ok-clause-called : goal.returns-in-Ok-clause-called
 returns-in-Ok-clause-called g c =
@@ -101,8 +101,8 @@ returns-in-Err-clause-gets g c =
     let pages = sym c.advance.ensures.pages in
     let same = ap vec_capacity c.advance.ensures.buffer in
     let fits = fits_on c.recall.new.desk c.advance.new.self pages (omega (arith, same)) c.recall.ensures.gets.reads.fits in
-    gets_moved g.K.Keeper.told g.K.Keeper.put_count g.K.Keeper.get_count g.K.Keeper.free_count g.K.Keeper.slot_count g.K.Keeper.fault_count p c.args.journal.now 1 (Err Visitor) c.args.desk.now c.recall.new.desk c.advance.new.self c.args.keepers.now.items c.recall.new.keepers.items pages c.advance.ensures.store fits
-    (gets_unseen g.K.Keeper.told g.K.Keeper.put_count g.K.Keeper.get_count g.K.Keeper.free_count g.K.Keeper.slot_count g.K.Keeper.fault_count p c.args.journal.now 1 c.recall.result _ c.args.desk.now c.recall.new.desk c.args.keepers.now.items c.recall.new.keepers.items c.in_ok-recall.was c.recall.ensures.gets)
+    gets_moved g.K.Keeper.told g.K.Keeper.put_count g.K.Keeper.get_count g.K.Keeper.free_count g.K.Keeper.slot_count g.K.Keeper.place g.K.Keeper.fault_count p c.args.journal.now 1 (Err Visitor) c.args.desk.now c.recall.new.desk c.advance.new.self c.args.keepers.now.items c.recall.new.keepers.items pages c.advance.ensures.store fits
+    (gets_unseen g.K.Keeper.told g.K.Keeper.put_count g.K.Keeper.get_count g.K.Keeper.free_count g.K.Keeper.slot_count g.K.Keeper.place g.K.Keeper.fault_count p c.args.journal.now 1 c.recall.result _ c.args.desk.now c.recall.new.desk c.args.keepers.now.items c.recall.new.keepers.items c.in_ok-recall.was c.recall.ensures.gets)
 
 pub returns-in-Err-clause-called : goal.returns-in-Err-clause-called
 returns-in-Err-clause-called g c =

@@ -62,7 +62,7 @@ loop-mark-preserved g c =
       fits = c.set_next.ensures.fits;
       counted = omega (arith, so_far.counted, c.set_next.ensures.counted, step, here);
       called = puts_more p i (calls_to g.K.Keeper.put_count g.K.Keeper.get_count g.K.Keeper.free_count c.args.keepers.now.items) (calls_to g.K.Keeper.put_count g.K.Keeper.get_count g.K.Keeper.free_count c.loop-mark.keepers.items) (calls_to g.K.Keeper.put_count g.K.Keeper.get_count g.K.Keeper.free_count c.set_next.new.keepers.items) so_far.called c.set_next.ensures.called;
-      stay = stay_then g.K.Keeper.slot_count g.K.Keeper.fault_count p c.args.keepers.now.items c.loop-mark.keepers.items c.set_next.new.keepers.items so_far.stay c.set_next.ensures.stay;
+      stay = stay_then g.K.Keeper.slot_count g.K.Keeper.place g.K.Keeper.fault_count p c.args.keepers.now.items c.loop-mark.keepers.items c.set_next.new.keepers.items so_far.stay c.set_next.ensures.stay;
       quiet = λ j. done.quiet j ∙ so_far.quiet j;
       known = omega (arith, below);
     }
@@ -115,7 +115,7 @@ returns-in_err-set_next-clause-called_at_most g c =
     puts_within p (i + 1) (mark_count p) old (calls_to g.K.Keeper.put_count g.K.Keeper.get_count g.K.Keeper.free_count c.set_next.new.keepers.items) (omega (arith, below)) (puts_more p i old (calls_to g.K.Keeper.put_count g.K.Keeper.get_count g.K.Keeper.free_count c.loop-mark.keepers.items) (calls_to g.K.Keeper.put_count g.K.Keeper.get_count g.K.Keeper.free_count c.set_next.new.keepers.items) c.loop-mark.invariant.called c.set_next.ensures.called)
 
 pub returns-in_err-set_next-clause-stay : goal.returns-in_err-set_next-clause-stay
-returns-in_err-set_next-clause-stay g c = stay_then g.K.Keeper.slot_count g.K.Keeper.fault_count c.args.marks.now c.args.keepers.now.items c.loop-mark.keepers.items c.set_next.new.keepers.items c.loop-mark.invariant.stay c.set_next.ensures.stay
+returns-in_err-set_next-clause-stay g c = stay_then g.K.Keeper.slot_count g.K.Keeper.place g.K.Keeper.fault_count c.args.marks.now c.args.keepers.now.items c.loop-mark.keepers.items c.set_next.new.keepers.items c.loop-mark.invariant.stay c.set_next.ensures.stay
 
 pub returns-in_err-set_next-clause-cause : goal.returns-in_err-set_next-clause-cause
 returns-in_err-set_next-clause-cause g c =

@@ -22,7 +22,7 @@ invariant-loop-mark g l = record {
   called :
       Called (puts_of l.marks l.mark) (calls_to g.K.Keeper.put_count g.K.Keeper.get_count g.K.Keeper.free_count l.fn.keepers.items)
       (calls_to g.K.Keeper.put_count g.K.Keeper.get_count g.K.Keeper.free_count l.keepers.items);
-  stay : KeepersStay g.K.Keeper.slot_count g.K.Keeper.fault_count l.marks l.fn.keepers.items l.keepers.items;
+  stay : KeepersStay g.K.Keeper.slot_count g.K.Keeper.place g.K.Keeper.fault_count l.marks l.fn.keepers.items l.keepers.items;
   quiet : Quiet g.K.Keeper.fault_count l.fn.keepers.items l.keepers.items;
   known : l.mark ≤ mark_count l.marks;
 }

@@ -23,7 +23,7 @@ loop-at-init g c = record {
   lasts = c.requires.lasts;
   goes = record { machine = refl; plan = refl; store = refl; journal = refl };
   same = λ k. refl;
-  stay = stay_still g.K.Keeper.slot_count g.K.Keeper.fault_count c.args.console.now.plan c.args.keepers.now.items;
+  stay = stay_still g.K.Keeper.slot_count g.K.Keeper.place g.K.Keeper.fault_count c.args.console.now.plan c.args.keepers.now.items;
   quiet = λ j. refl;
   still = refl;
   written = record { answers = []; text = []; are = (refl, refl, refl); written = tells_none (g.O.Sink.told c.args.out.now) };
@@ -54,12 +54,12 @@ loop-at-preserved g c =
     let are = answered_more from (take at orders) w.answers w.text m0 m1 m2 order one.0 one.1.0 w.are here in
     let L : List Order → Type 0 = λ l. AreAnswered from l (w.answers ++ one.0 ∷ []) (w.text ++ one.1.0) m0 m2 in
     let quiet = at_ok c.answer_line.result _ c.in_default.is c.answer_line.ensures.quiet in
-    let S : MarkPlan → Type 0 = λ p. KeepersStay keeper.slot_count keeper.fault_count p c.loop-at.keepers.items c.answer_line.new.keepers.items in
+    let S : MarkPlan → Type 0 = λ p. KeepersStay keeper.slot_count keeper.place keeper.fault_count p c.loop-at.keepers.items c.answer_line.new.keepers.items in
     record {
       lasts = at_ok c.answer_line.result _ c.in_default.is c.answer_line.ensures.lasts;
       goes = goes_then old mid new so_far.goes c.answer_line.ensures.goes_on;
       same = λ k. c.answer_line.ensures.same k ∙ so_far.same k;
-      stay = stay_then keeper.slot_count keeper.fault_count old.plan c.args.keepers.now.items c.loop-at.keepers.items c.answer_line.new.keepers.items so_far.stay (subst S so_far.goes.plan c.answer_line.ensures.stay);
+      stay = stay_then keeper.slot_count keeper.place keeper.fault_count old.plan c.args.keepers.now.items c.loop-at.keepers.items c.answer_line.new.keepers.items so_far.stay (subst S so_far.goes.plan c.answer_line.ensures.stay);
       quiet = λ j. quiet j ∙ so_far.quiet j;
       still = c.answer_line.ensures.sink_quiet (λ e. both_ways c.answer_line.result Visitor c.in_default.is e) ∙ so_far.still;
       written = record {
@@ -205,8 +205,8 @@ returns-in-Err-clause-same g c k = c.answer_line.ensures.same k ∙ c.loop-at.in
 pub returns-in-Err-clause-stay : goal.returns-in-Err-clause-stay
 returns-in-Err-clause-stay g c =
     let keeper = g.K.Keeper in
-    let S : MarkPlan → Type 0 = λ p. KeepersStay keeper.slot_count keeper.fault_count p c.loop-at.keepers.items c.answer_line.new.keepers.items in
-    stay_then keeper.slot_count keeper.fault_count c.args.console.now.plan c.args.keepers.now.items c.loop-at.keepers.items c.answer_line.new.keepers.items c.loop-at.invariant.stay (subst S c.loop-at.invariant.goes.plan c.answer_line.ensures.stay)
+    let S : MarkPlan → Type 0 = λ p. KeepersStay keeper.slot_count keeper.place keeper.fault_count p c.loop-at.keepers.items c.answer_line.new.keepers.items in
+    stay_then keeper.slot_count keeper.place keeper.fault_count c.args.console.now.plan c.args.keepers.now.items c.loop-at.keepers.items c.answer_line.new.keepers.items c.loop-at.invariant.stay (subst S c.loop-at.invariant.goes.plan c.answer_line.ensures.stay)
 
 pub returns-clause-written_in_run : goal.returns-clause-written_in_run
 returns-clause-written_in_run g c first is stands =

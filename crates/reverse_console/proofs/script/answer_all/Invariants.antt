@@ -14,7 +14,7 @@ invariant-loop-at g l =
       lasts : l.console.ended ≡ false;
       goes : GoesOn l.fn.console l.console;
       same : (k : ℕ) → told_by keeper.told l.keepers.items k ≡ told_by keeper.told l.fn.keepers.items k;
-      stay : KeepersStay keeper.slot_count keeper.fault_count l.fn.console.plan l.fn.keepers.items l.keepers.items;
+      stay : KeepersStay keeper.slot_count keeper.place keeper.fault_count l.fn.console.plan l.fn.keepers.items l.keepers.items;
       quiet : Quiet keeper.fault_count l.fn.keepers.items l.keepers.items;
       still : sink.fault_count l.out ≡ sink.fault_count l.fn.out;
       written :

@@ -73,7 +73,7 @@ returns-clause-lasts g c =
     ok_second (GoesOn c.args.console.now new) (new.ended ≡ false) c.perform.result c.perform.ensures.goes_on
 
 pub returns-clause-stay : goal.returns-clause-stay
-returns-clause-stay g c = record { slots_same = c.perform.ensures.slots; later = c.perform.ensures.keepers_later; others = c.perform.ensures.others }
+returns-clause-stay g c = record { slots_same = c.perform.ensures.slots; places_same = c.perform.ensures.places; later = c.perform.ensures.keepers_later; others = c.perform.ensures.others }
 
 pub returns-clause-quiet : goal.returns-clause-quiet
 returns-clause-quiet g c = quiet_if_ok c.perform.result c.perform.ensures.keepers_quiet

@@ -26,8 +26,8 @@ returns-in_err-recall-clause-gets g c =
     let j = c.args.journal.now in
     let some = first_known p in
     let q = err_from_is_err_and c.from_residual.result c.from_residual.ensures.1 in
-    let more = gets_more g.K.Keeper.told g.K.Keeper.put_count g.K.Keeper.get_count g.K.Keeper.free_count g.K.Keeper.slot_count g.K.Keeper.fault_count p j 1 (mark_count p) c.recall.result c.args.desk.now c.recall.new.desk c.args.keepers.now.items c.recall.new.keepers.items (omega (arith, some)) c.recall.ensures.gets in
-    gets_err g.K.Keeper.told g.K.Keeper.put_count g.K.Keeper.get_count g.K.Keeper.free_count g.K.Keeper.slot_count g.K.Keeper.fault_count p j (mark_count p) c.recall.result c.from_residual.result _ _ c.args.desk.now c.recall.new.desk c.args.keepers.now.items c.recall.new.keepers.items c.in_err-recall.was q.1 q.2 more
+    let more = gets_more g.K.Keeper.told g.K.Keeper.put_count g.K.Keeper.get_count g.K.Keeper.free_count g.K.Keeper.slot_count g.K.Keeper.place g.K.Keeper.fault_count p j 1 (mark_count p) c.recall.result c.args.desk.now c.recall.new.desk c.args.keepers.now.items c.recall.new.keepers.items (omega (arith, some)) c.recall.ensures.gets in
+    gets_err g.K.Keeper.told g.K.Keeper.put_count g.K.Keeper.get_count g.K.Keeper.free_count g.K.Keeper.slot_count g.K.Keeper.place g.K.Keeper.fault_count p j (mark_count p) c.recall.result c.from_residual.result _ _ c.args.desk.now c.recall.new.desk c.args.keepers.now.items c.recall.new.keepers.items c.in_err-recall.was q.1 q.2 more
 
 pub returns-in_err-recall-clause-silent : goal.returns-in_err-recall-clause-silent
 returns-in_err-recall-clause-silent g c e =
@@ -64,9 +64,9 @@ returns-clause-gets g c =
     let same = ap vec_capacity c.advance.ensures.buffer in
     let w2 = record c.advance.new.self { work = c.seek_first.new.work } in
     let fits = fits_on v1 w2 pages (omega (arith, same)) c.recall.ensures.gets.reads.fits in
-    let more = gets_more g.K.Keeper.told g.K.Keeper.put_count g.K.Keeper.get_count g.K.Keeper.free_count g.K.Keeper.slot_count g.K.Keeper.fault_count p j 1 (mark_count p) c.recall.result w v1 old c.recall.new.keepers.items (omega (arith, some)) c.recall.ensures.gets in
-    gets_moved g.K.Keeper.told g.K.Keeper.put_count g.K.Keeper.get_count g.K.Keeper.free_count g.K.Keeper.slot_count g.K.Keeper.fault_count p j (mark_count p) (Ok c.seek_first.result) w v1 w2 old c.recall.new.keepers.items pages c.advance.ensures.store fits
-    (gets_ok g.K.Keeper.told g.K.Keeper.put_count g.K.Keeper.get_count g.K.Keeper.free_count g.K.Keeper.slot_count g.K.Keeper.fault_count p j (mark_count p) c.recall.result _ c.seek_first.result w v1 old c.recall.new.keepers.items c.in_ok-recall.was more)
+    let more = gets_more g.K.Keeper.told g.K.Keeper.put_count g.K.Keeper.get_count g.K.Keeper.free_count g.K.Keeper.slot_count g.K.Keeper.place g.K.Keeper.fault_count p j 1 (mark_count p) c.recall.result w v1 old c.recall.new.keepers.items (omega (arith, some)) c.recall.ensures.gets in
+    gets_moved g.K.Keeper.told g.K.Keeper.put_count g.K.Keeper.get_count g.K.Keeper.free_count g.K.Keeper.slot_count g.K.Keeper.place g.K.Keeper.fault_count p j (mark_count p) (Ok c.seek_first.result) w v1 w2 old c.recall.new.keepers.items pages c.advance.ensures.store fits
+    (gets_ok g.K.Keeper.told g.K.Keeper.put_count g.K.Keeper.get_count g.K.Keeper.free_count g.K.Keeper.slot_count g.K.Keeper.place g.K.Keeper.fault_count p j (mark_count p) c.recall.result _ c.seek_first.result w v1 old c.recall.new.keepers.items c.in_ok-recall.was more)
 
 pub returns-clause-counted : goal.returns-clause-counted
 returns-clause-counted g c =

@@ -49,7 +49,7 @@ loop-action-init g c =
     let all = left_at_start old.unit old.situation.steps old.situation.slots old.situation.at at in
     record {
       rooms = λ k. refl;
-      way = way_start _ _ _ _ _ _ c.args.list.now c.args.session.now c.args.keepers.now.items c.args.steps.now at c.requires.lasts;
+      way = way_start _ _ _ _ _ _ _ c.args.list.now c.args.session.now c.args.keepers.now.items c.args.steps.now at c.requires.lasts;
       asked = record {
         question_is = finder.question;
         word_is = finder.word;
@@ -77,7 +77,7 @@ perform-requires-clause-allowed g c lasts =
     let a = slice_index_or list i (Forward 0 0 Nothing) in
     let within : i < length list = omega arith in
     let at = at_place list i within in
-    may_perform _ _ _ _ _ _ list i old mid _ _ _ _ a c.requires.start c.requires.valid at so_far.way
+    may_perform _ _ _ _ _ _ _ list i old mid _ _ _ _ a c.requires.start c.requires.valid at so_far.way
 
 pub perform-requires-clause-room : goal.perform-requires-clause-room
 perform-requires-clause-room g c lasts =
@@ -89,7 +89,7 @@ perform-requires-clause-room g c lasts =
     let a = slice_index_or list i (Forward 0 0 Nothing) in
     let within : i < length list = omega arith in
     let at = at_place list i within in
-    has_room _ _ _ _ _ _ list i old mid _ _ _ _ c.requires.room so_far.way
+    has_room _ _ _ _ _ _ _ list i old mid _ _ _ _ c.requires.room so_far.way
 
 pub returns-in_err-perform-clause-refused : goal.returns-in_err-perform-clause-refused
 returns-in_err-perform-clause-refused g c =
@@ -108,7 +108,7 @@ returns-in_err-perform-clause-refused g c =
     (λ e. true≢false (sym (c.perform.ensures.ended.0 e) ∙ so_far.way.performs.lasts)) in
     let leaves = c.in_err-perform.ensures.leaves so_far.way.performs.lasts in
     if_err_at _ c.from_residual.result p.0 p.1
-    (refused_in _ _ _ _ _ _ list list i old mid c.perform.new.self _ _ c.perform.new.keepers.items _ _ _ a (λ action held. ⊥) p.0 at refl refl within so_far.way so_far.going.gone
+    (refused_in _ _ _ _ _ _ _ list list i old mid c.perform.new.self _ _ c.perform.new.keepers.items _ _ _ a (λ action held. ⊥) p.0 at refl refl within so_far.way so_far.going.gone
     c.in_err-perform.ensures.refused leaves.uncounted leaves.called_at_most fits)
 
 pub returns-in_err-perform-clause-not_visitor : goal.returns-in_err-perform-clause-not_visitor
@@ -144,7 +144,7 @@ returns-in_err-perform-clause-kept g c =
     let a = slice_index_or list i (Forward 0 0 Nothing) in
     let within : i < length list = omega arith in
     let at = at_place list i within in
-    let rule_is = may_perform _ _ _ _ _ _ list i old mid _ _ _ _ a c.requires.start c.requires.valid at so_far.way in
+    let rule_is = may_perform _ _ _ _ _ _ _ list i old mid _ _ _ _ a c.requires.start c.requires.valid at so_far.way in
     let p = err_from_is_err_and c.from_residual.result c.from_residual.ensures.1 in
     record {
       keeper_cause = λ k e.
@@ -155,6 +155,7 @@ returns-in_err-perform-clause-kept g c =
           c.perform.ensures.kept.keepers_quiet (λ k e. never k (same_fault c.from_residual.result c.perform.result _ _ (Keeper k) p.1 c.in_err-perform.was (sym p.2) e)) j ∙ so_far.way.quiet j;
       keepers_later = λ k. (let quiet = so_far.way.quiet k in let later = c.perform.ensures.kept.keepers_later k in omega (arith, quiet, later));
       slots = c.perform.ensures.kept.slots ∙ so_far.way.room;
+      places = c.perform.ensures.kept.places ∙ so_far.way.places_same;
       others = λ k past. c.perform.ensures.kept.others k (past_levels old mid (take i list) a k so_far.way.performs rule_is past) ∙ so_far.way.others k past;
     }
 
@@ -231,12 +232,13 @@ returns-in-Some-clause-performed g c =
     let ran = ran_at c.args.question c.args.word unit steps slots old.journal mid.situation.at a new.situation.at held c.loop-action.finder c.perform.new.visitor goes so_far.way.turns so_far.asked gets in
     let ends = ran.answered c.in-Some.place c.in-Some.is in
     let front = front_ends unit steps c.in-Some.place list i a at ends.0 (so_far.front c.in-Some.place ends.1) in
-    let on = way_on _ _ _ _ _ _ list i old mid new _ _ c.perform.new.keepers.items _ _ _ a c.requires.start at so_far.way (record {
+    let on = way_on _ _ _ _ _ _ _ list i old mid new _ _ c.perform.new.keepers.items _ _ _ a c.requires.start at so_far.way (record {
       performs = done.performs;
       acts = done.acted.acts;
       counted = done.acted.counted;
       called = done.acted.called;
       room = c.perform.ensures.kept.slots;
+      places_same = c.perform.ensures.kept.places;
       quiet = c.perform.ensures.kept.keepers_quiet (λ k e. not_both c.perform.result _ (Keeper k) c.in_ok-perform.was e);
       others = c.perform.ensures.kept.others;
       stands = done.stays.stands;
@@ -265,9 +267,9 @@ returns-in-Some-clause-kept g c =
     let a = slice_index_or list i (Forward 0 0 Nothing) in
     let within : i < length list = omega arith in
     let at = at_place list i within in
-    let rule_is = may_perform _ _ _ _ _ _ list i old mid _ _ _ _ a c.requires.start c.requires.valid at so_far.way in
+    let rule_is = may_perform _ _ _ _ _ _ _ list i old mid _ _ _ _ a c.requires.start c.requires.valid at so_far.way in
     let quiet = c.perform.ensures.kept.keepers_quiet (λ k e. not_both c.perform.result _ (Keeper k) c.in_ok-perform.was e) in
-    ok_kept _ _ _ _ _ _ (λ j. quiet j ∙ so_far.way.quiet j) (c.perform.ensures.kept.slots ∙ so_far.way.room)
+    ok_kept _ _ _ _ _ _ _ (λ j. quiet j ∙ so_far.way.quiet j) (c.perform.ensures.kept.slots ∙ so_far.way.room) (c.perform.ensures.kept.places ∙ so_far.way.places_same)
     (λ k past. c.perform.ensures.kept.others k (past_levels old mid (take i list) a k so_far.way.performs rule_is past) ∙ so_far.way.others k past)
 
 pub loop-action-preserved : goal.loop-action-preserved
@@ -289,12 +291,13 @@ loop-action-preserved g c =
     let held = holdings_of mid (told_by g.K.Keeper.told c.loop-action.keepers.items) in
     let gets = gets_there Got old mid (take i list) a (states_out a mid.work mid.tape.states) c.loop-action.finder c.perform.new.visitor so_far.way.performs done.gets in
     let ran = ran_at c.args.question c.args.word unit steps slots old.journal mid.situation.at a new.situation.at held c.loop-action.finder c.perform.new.visitor goes so_far.way.turns so_far.asked gets in
-    let on = way_on _ _ _ _ _ _ list i old mid new _ _ c.perform.new.keepers.items _ _ _ a c.requires.start at so_far.way (record {
+    let on = way_on _ _ _ _ _ _ _ list i old mid new _ _ c.perform.new.keepers.items _ _ _ a c.requires.start at so_far.way (record {
       performs = done.performs;
       acts = done.acted.acts;
       counted = done.acted.counted;
       called = done.acted.called;
       room = c.perform.ensures.kept.slots;
+      places_same = c.perform.ensures.kept.places;
       quiet = c.perform.ensures.kept.keepers_quiet (λ k e. not_both c.perform.result _ (Keeper k) c.in_ok-perform.was e);
       others = c.perform.ensures.kept.others;
       stands = done.stays.stands;
@@ -323,7 +326,7 @@ returns-clause-answer g c first is stands =
     let so_far = c.loop-action.invariant in
     let old = c.args.session.now in
     let list = c.args.list.now in
-    let over = at_end _ _ _ _ _ _ list c.loop-action.action-index old c.loop-action.session _ _ _ _ c.requires.start c.requires.valid (omega arith) so_far.way in
+    let over = at_end _ _ _ _ _ _ _ list c.loop-action.action-index old c.loop-action.session _ _ _ _ c.requires.start c.requires.valid (omega arith) so_far.way in
     let states = state_number first old.journal in
     found_none c.args.question states old.journal c.args.word (old.unit * old.situation.steps) _ c.loop-action.finder (left_at_end old.unit old.situation.steps c.loop-action.session.situation.at so_far.way.turns over)
     (so_far.going.unfound states (so_far.going.of_run first (is, stands)))
@@ -335,7 +338,7 @@ returns-clause-found g c =
     let list = c.args.list.now in
     let i = c.loop-action.action-index in
     let gone = so_far.going.gone in
-    let over = at_end _ _ _ _ _ _ list i old c.loop-action.session _ _ _ _ c.requires.start c.requires.valid (omega arith) so_far.way in
+    let over = at_end _ _ _ _ _ _ _ list i old c.loop-action.session _ _ _ _ c.requires.start c.requires.valid (omega arith) so_far.way in
     record {
       states = gone.states;
       through = through old.unit old.situation.steps old.journal list list i _ _ c.loop-action.session.situation.at (omega arith) (sym (take_all i list (omega arith))) gone;
@@ -361,4 +364,4 @@ pub returns-clause-spared : goal.returns-clause-spared
 returns-clause-spared g c = ok_spared _ _ _ _
 
 pub returns-clause-kept : goal.returns-clause-kept
-returns-clause-kept g c = let way = c.loop-action.invariant.way in ok_kept _ _ _ _ _ _ way.quiet way.room way.others
+returns-clause-kept g c = let way = c.loop-action.invariant.way in ok_kept _ _ _ _ _ _ _ way.quiet way.room way.places_same way.others

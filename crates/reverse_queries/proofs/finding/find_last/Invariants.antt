@@ -16,7 +16,7 @@ use Rattle.reverse_queries.proofs.finding.find_last.Given as goal
 abbrev pub invariant-loop-action : goal.invariant-loop-action
 invariant-loop-action g l = record {
   rooms : SameRooms (rooms_by g.K.Keeper.room_bytes l.fn.keepers.items) (rooms_by g.K.Keeper.room_bytes l.keepers.items);
-  way : Way g.K.Keeper.told g.K.Keeper.put_count g.K.Keeper.get_count g.K.Keeper.free_count g.K.Keeper.slot_count g.K.Keeper.fault_count l.list l.action-index l.fn.session l.session l.fn.keepers.items l.keepers.items l.fn.steps l.steps;
+  way : Way g.K.Keeper.told g.K.Keeper.put_count g.K.Keeper.get_count g.K.Keeper.free_count g.K.Keeper.slot_count g.K.Keeper.place g.K.Keeper.fault_count l.list l.action-index l.fn.session l.session l.fn.keepers.items l.keepers.items l.fn.steps l.steps;
   asked : Asked l.fn.question l.word (l.fn.session.unit * l.fn.session.situation.steps) l.finder;
   going :
       Going l.fn.question l.word l.fn.session.unit l.fn.session.situation.steps l.fn.session.journal l.list l.action-index (holdings_of l.fn.session (told_by g.K.Keeper.told l.fn.keepers.items))

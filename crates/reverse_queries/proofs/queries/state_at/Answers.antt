@@ -42,7 +42,7 @@ loop-action-init g c =
     let place = c.requires.place in
     record {
       rooms = λ k. refl;
-      way = way_start _ _ _ _ _ _ c.args.list.now old c.args.keepers.now.items c.args.steps.now c.requires.start c.requires.lasts;
+      way = way_start _ _ _ _ _ _ _ c.args.list.now old c.args.keepers.now.items c.args.steps.now c.requires.start c.requires.lasts;
       gone = gone_start old.unit old.situation.steps old.journal c.args.list.now (holdings_of old (told_by g.K.Keeper.told c.args.keepers.now.items)) old.situation.at;
       still = omega (arith, place, all);
       front = refl;
@@ -62,7 +62,7 @@ perform-requires-clause-allowed g c lasts =
     let a = slice_index_or list i (Forward 0 0 Nothing) in
     let within : i < length list = omega arith in
     let at = at_place list i within in
-    may_perform _ _ _ _ _ _ list i old mid _ _ _ _ a c.requires.start c.requires.valid at so_far.way
+    may_perform _ _ _ _ _ _ _ list i old mid _ _ _ _ a c.requires.start c.requires.valid at so_far.way
 
 pub perform-requires-clause-room : goal.perform-requires-clause-room
 perform-requires-clause-room g c lasts =
@@ -74,7 +74,7 @@ perform-requires-clause-room g c lasts =
     let a = slice_index_or list i (Forward 0 0 Nothing) in
     let within : i < length list = omega arith in
     let at = at_place list i within in
-    has_room _ _ _ _ _ _ list i old mid _ _ _ _ c.requires.room so_far.way
+    has_room _ _ _ _ _ _ _ list i old mid _ _ _ _ c.requires.room so_far.way
 
 pub returns-then-picked-clause-gets : goal.returns-then-picked-clause-gets
 returns-then-picked-clause-gets g c =
@@ -136,12 +136,13 @@ returns-then-picked-clause-performed g c =
     let shown = shown_at g.V.Visitor.got unit steps old.journal a mid.situation.at new.situation.at held c.loop-action.picked c.perform.new.visitor c.args.place c.args.visitor.now so_far.place so_far.visitor so_far.passed c.if-picked.true it in
     let front = front_ends unit steps c.args.place list i a at shown.hands so_far.front in
     let last = c.visitor-then-picked-1.given.1 (sym (it.reference ∙ so_far.reference ∙ c.new-picked.ensures.same_reference)) in
-    let on = way_on _ _ _ _ _ _ list i old mid new _ _ c.perform.new.keepers.items _ _ _ a c.requires.start at so_far.way (record {
+    let on = way_on _ _ _ _ _ _ _ list i old mid new _ _ c.perform.new.keepers.items _ _ _ a c.requires.start at so_far.way (record {
       performs = done.performs;
       acts = done.acted.acts;
       counted = done.acted.counted;
       called = done.acted.called;
       room = c.perform.ensures.kept.slots;
+      places_same = c.perform.ensures.kept.places;
       quiet = c.perform.ensures.kept.keepers_quiet (λ k e. not_both c.perform.result _ (Keeper k) c.in_ok-perform.was e);
       others = c.perform.ensures.kept.others;
       stands = done.stays.stands;
@@ -195,9 +196,9 @@ returns-then-picked-clause-kept g c =
     let a = slice_index_or list i (Forward 0 0 Nothing) in
     let within : i < length list = omega arith in
     let at = at_place list i within in
-    let rule_is = may_perform _ _ _ _ _ _ list i old mid _ _ _ _ a c.requires.start c.requires.valid at so_far.way in
+    let rule_is = may_perform _ _ _ _ _ _ _ list i old mid _ _ _ _ a c.requires.start c.requires.valid at so_far.way in
     let quiet = c.perform.ensures.kept.keepers_quiet (λ k e. not_both c.perform.result _ (Keeper k) c.in_ok-perform.was e) in
-    ok_kept _ _ _ _ _ _ (λ j. quiet j ∙ so_far.way.quiet j) (c.perform.ensures.kept.slots ∙ so_far.way.room)
+    ok_kept _ _ _ _ _ _ _ (λ j. quiet j ∙ so_far.way.quiet j) (c.perform.ensures.kept.slots ∙ so_far.way.room) (c.perform.ensures.kept.places ∙ so_far.way.places_same)
     (λ k past. c.perform.ensures.kept.others k (past_levels old mid (take i list) a k so_far.way.performs rule_is past) ∙ so_far.way.others k past)
 
 pub returns-in_err-perform-clause-kept : goal.returns-in_err-perform-clause-kept
@@ -210,7 +211,7 @@ returns-in_err-perform-clause-kept g c =
     let a = slice_index_or list i (Forward 0 0 Nothing) in
     let within : i < length list = omega arith in
     let at = at_place list i within in
-    let rule_is = may_perform _ _ _ _ _ _ list i old mid _ _ _ _ a c.requires.start c.requires.valid at so_far.way in
+    let rule_is = may_perform _ _ _ _ _ _ _ list i old mid _ _ _ _ a c.requires.start c.requires.valid at so_far.way in
     let p = err_from_is_err_and c.from_residual.result c.from_residual.ensures.1 in
     record {
       keeper_cause = λ k e.
@@ -221,6 +222,7 @@ returns-in_err-perform-clause-kept g c =
           c.perform.ensures.kept.keepers_quiet (λ k e. never k (same_fault c.from_residual.result c.perform.result _ _ (Keeper k) p.1 c.in_err-perform.was (sym p.2) e)) j ∙ so_far.way.quiet j;
       keepers_later = λ k. (let quiet = so_far.way.quiet k in let later = c.perform.ensures.kept.keepers_later k in omega (arith, quiet, later));
       slots = c.perform.ensures.kept.slots ∙ so_far.way.room;
+      places = c.perform.ensures.kept.places ∙ so_far.way.places_same;
       others = λ k past. c.perform.ensures.kept.others k (past_levels old mid (take i list) a k so_far.way.performs rule_is past) ∙ so_far.way.others k past;
     }
 
@@ -237,7 +239,7 @@ returns-in_err-perform-clause-refused g c =
     let p = err_from_is_err_and c.from_residual.result c.from_residual.ensures.1 in
     let told = told_by g.K.Keeper.told in
     let held = holdings_of mid (told c.loop-action.keepers.items) in
-    let goes = may_go _ _ _ _ _ _ list i old mid _ _ _ _ a c.requires.start c.requires.valid at so_far.way in
+    let goes = may_go _ _ _ _ _ _ _ list i old mid _ _ _ _ a c.requires.start c.requires.valid at so_far.way in
     let missed : c.perform.result ≡ Err Visitor → MissedAt g.V.Visitor.missed old.unit old.situation.steps old.journal a held c.loop-action.picked c.perform.new.visitor = λ e.
     missed_at g.V.Visitor.got g.V.Visitor.missed old.unit old.situation.steps old.situation.slots old.journal a mid.situation.at _ held c.loop-action.picked c.perform.new.visitor goes so_far.way.turns
     (misses_there (PassesOn g.V.Visitor.got) (MissesPicked g.V.Visitor.missed) old mid (take i list) a (states_out a mid.work mid.tape.states) c.loop-action.picked c.perform.new.visitor so_far.way.performs (c.perform.ensures.misses e)) in
@@ -251,7 +253,7 @@ returns-in_err-perform-clause-refused g c =
     (λ e. true≢false (sym (c.perform.ensures.ended.0 e) ∙ so_far.way.performs.lasts)) in
     let leaves = c.in_err-perform.ensures.leaves so_far.way.performs.lasts in
     if_err_at _ c.from_residual.result p.0 p.1
-    (refused_in _ _ _ _ _ _ list (front_to old.unit old.situation.steps c.args.place list) i old mid c.perform.new.self _ _ c.perform.new.keepers.items _ _ _ a Misses p.0 at takes.0 takes.1 takes.2 so_far.way so_far.gone
+    (refused_in _ _ _ _ _ _ _ list (front_to old.unit old.situation.steps c.args.place list) i old mid c.perform.new.self _ _ c.perform.new.keepers.items _ _ _ a Misses p.0 at takes.0 takes.1 takes.2 so_far.way so_far.gone
     c.in_err-perform.ensures.refused leaves.uncounted leaves.called_at_most fits)
 
 pub returns-in_err-perform-clause-spared : goal.returns-in_err-perform-clause-spared
@@ -283,7 +285,7 @@ returns-in_err-perform-clause-seen g c =
     let p = err_from_is_err_and c.from_residual.result c.from_residual.ensures.1 in
     let told = told_by g.K.Keeper.told in
     let held = holdings_of mid (told c.loop-action.keepers.items) in
-    let goes = may_go _ _ _ _ _ _ list i old mid _ _ _ _ a c.requires.start c.requires.valid at so_far.way in
+    let goes = may_go _ _ _ _ _ _ _ list i old mid _ _ _ _ a c.requires.start c.requires.valid at so_far.way in
     let missed : c.perform.result ≡ Err Visitor → MissedAt g.V.Visitor.missed old.unit old.situation.steps old.journal a held c.loop-action.picked c.perform.new.visitor = λ e.
     missed_at g.V.Visitor.got g.V.Visitor.missed old.unit old.situation.steps old.situation.slots old.journal a mid.situation.at _ held c.loop-action.picked c.perform.new.visitor goes so_far.way.turns
     (misses_there (PassesOn g.V.Visitor.got) (MissesPicked g.V.Visitor.missed) old mid (take i list) a (states_out a mid.work mid.tape.states) c.loop-action.picked c.perform.new.visitor so_far.way.performs (c.perform.ensures.misses e)) in
@@ -326,12 +328,13 @@ loop-action-preserved g c =
     let held = holdings_of mid (told c.loop-action.keepers.items) in
     let gets = gets_there (PassesOn g.V.Visitor.got) old mid (take i list) a (states_out a mid.work mid.tape.states) c.loop-action.picked c.perform.new.visitor so_far.way.performs done.gets in
     let it = picks_at g.V.Visitor.got unit steps slots old.journal a mid.situation.at new.situation.at held c.loop-action.picked c.perform.new.visitor goes so_far.way.turns gets in
-    let on = way_on _ _ _ _ _ _ list i old mid new _ _ c.perform.new.keepers.items _ _ _ a c.requires.start at so_far.way (record {
+    let on = way_on _ _ _ _ _ _ _ list i old mid new _ _ c.perform.new.keepers.items _ _ _ a c.requires.start at so_far.way (record {
       performs = done.performs;
       acts = done.acted.acts;
       counted = done.acted.counted;
       called = done.acted.called;
       room = c.perform.ensures.kept.slots;
+      places_same = c.perform.ensures.kept.places;
       quiet = c.perform.ensures.kept.keepers_quiet (λ k e. not_both c.perform.result _ (Keeper k) c.in_ok-perform.was e);
       others = c.perform.ensures.kept.others;
       stands = done.stays.stands;
@@ -357,7 +360,7 @@ pub unreachable-requires : goal.unreachable-requires
 unreachable-requires g c =
     let so_far = c.loop-action.invariant in
     let old = c.args.session.now in
-    let over = at_end _ _ _ _ _ _ c.args.list.now c.loop-action.action-index old c.loop-action.session _ _ _ _ c.requires.start c.requires.valid (omega arith) so_far.way in
+    let over = at_end _ _ _ _ _ _ _ c.args.list.now c.loop-action.action-index old c.loop-action.session _ _ _ _ c.requires.start c.requires.valid (omega arith) so_far.way in
     let none = left_at_end old.unit old.situation.steps c.loop-action.session.situation.at so_far.way.turns over in
     let still = so_far.still in
     absurd (omega (arith, none, still))

@@ -70,7 +70,7 @@ returns-in_err-digest-clause-spared g c unit journal recorded short =
 pub returns-in_err-digest-clause-kept : goal.returns-in_err-digest-clause-kept
 returns-in_err-digest-clause-kept g c =
     let caused : IsCaused g.K.Keeper.fault_count c.args.keepers.now.items c.fetch.new.keepers.items c.from_residual.result = search rules in
-    kept_by _ _ _ _ _ _ c.fetch.ensures.remain caused
+    kept_by _ _ _ _ _ _ _ c.fetch.ensures.remain caused
     (λ k free. c.fetch.ensures.keepers k (not_named (levels_named (Copy c.args.n c.args.from c.args.dest)) k c.args.from (copy_names_source c.args.n c.args.from c.args.dest) free))
 
 pub keep-requires-clause-there : goal.keep-requires-clause-there
@@ -142,7 +142,7 @@ returns-in-Work-clause-spared g c unit journal recorded short =
 pub returns-in-Work-clause-kept : goal.returns-in-Work-clause-kept
 returns-in-Work-clause-kept g c =
     let caused : IsCaused g.K.Keeper.fault_count c.args.keepers.now.items c.fetch.new.keepers.items c.decode.result = search rules in
-    kept_by _ _ _ _ _ _ c.fetch.ensures.remain caused
+    kept_by _ _ _ _ _ _ _ c.fetch.ensures.remain caused
     (λ k free. c.fetch.ensures.keepers k (not_named (levels_named (Copy c.args.n c.args.from c.args.dest)) k c.args.from (copy_names_source c.args.n c.args.from c.args.dest) free))
 
 pub returns-in-Level-clause-leaves : goal.returns-in-Level-clause-leaves
@@ -196,8 +196,8 @@ pub returns-in-Level-clause-kept : goal.returns-in-Level-clause-kept
 returns-in-Level-clause-kept g c =
     let caused : IsCaused g.K.Keeper.fault_count c.args.keepers.now.items c.keep.new.keepers.items c.keep.result = search rules in
     let names = levels_named (Copy c.args.n c.args.from c.args.dest) in
-    let remain : Remain g.K.Keeper.slot_count g.K.Keeper.fault_count c.args.keepers.now.items c.keep.new.keepers.items = search rules in
-    kept_by _ _ _ _ _ _ remain caused
+    let remain : Remain g.K.Keeper.slot_count g.K.Keeper.place g.K.Keeper.fault_count c.args.keepers.now.items c.keep.new.keepers.items = search rules in
+    kept_by _ _ _ _ _ _ _ remain caused
     (λ k free. c.keep.ensures.keepers k (not_named names k c.in-Level.to (copy_names_target c.args.n c.args.from c.in-Level.to c.args.dest c.in-Level.is) free)
     ∙ c.fetch.ensures.keepers k (not_named names k c.args.from (copy_names_source c.args.n c.args.from c.args.dest) free))
 

@@ -79,7 +79,7 @@ returns-in_ok-keep-in-Store-clause-acted g c =
 pub returns-in_ok-keep-in-Store-clause-kept : goal.returns-in_ok-keep-in-Store-clause-kept
 returns-in_ok-keep-in-Store-clause-kept g c =
     let caused : IsCaused {A = Unit} g.K.Keeper.fault_count c.args.keepers.now.items c.keep.new.keepers.items (Ok tt) = search rules in
-    kept_by _ _ _ _ _ _ c.keep.ensures.remain caused
+    kept_by _ _ _ _ _ _ _ c.keep.ensures.remain caused
     (λ k free. c.keep.ensures.keepers k (not_named (levels_named (Forward c.args.from c.args.to c.args.keep)) k c.in-Store.level (store_names c.args.from c.args.to c.in-Store.level c.args.keep c.in-Store.is) free))
 
 pub returns-in_ok-keep-in-Store-clause-order : goal.returns-in_ok-keep-in-Store-clause-order
@@ -165,7 +165,7 @@ returns-in_err-keep-in-Store-clause-leaves g c =
 pub returns-in_err-keep-in-Store-clause-kept : goal.returns-in_err-keep-in-Store-clause-kept
 returns-in_err-keep-in-Store-clause-kept g c =
     let caused : IsCaused g.K.Keeper.fault_count c.args.keepers.now.items c.keep.new.keepers.items c.from_residual.result = search rules in
-    kept_by _ _ _ _ _ _ c.keep.ensures.remain caused
+    kept_by _ _ _ _ _ _ _ c.keep.ensures.remain caused
     (λ k free. c.keep.ensures.keepers k (not_named (levels_named (Forward c.args.from c.args.to c.args.keep)) k c.in-Store.level (store_names c.args.from c.args.to c.in-Store.level c.args.keep c.in-Store.is) free))
 
 pub returns-in_err-keep-in-Store-clause-order : goal.returns-in_err-keep-in-Store-clause-order

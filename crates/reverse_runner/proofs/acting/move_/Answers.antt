@@ -179,6 +179,7 @@ returns-clause-kept g c =
       keepers_quiet = caused_quiet _ _ _ _ caused;
       keepers_later = search rules;
       slots = c.release.ensures.remain.slots_same ∙ c.copy.ensures.kept.slots;
+      places = c.release.ensures.remain.places_same ∙ c.copy.ensures.kept.places;
       others = λ k free.
           (c.release.ensures.keepers k (not_named (levels_named (Move c.args.n c.args.from c.args.dest)) k c.args.from source free)
           ∙ c.copy.ensures.kept.others k (λ h. free (move_names_copied c.args.n c.args.from c.args.dest k h)));

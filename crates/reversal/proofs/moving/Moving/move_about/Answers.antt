@@ -1,5 +1,4 @@
 use Rattle.std.proofs.Common.{◌≡◌, ℕ, ◌≤◌, List, length, map, Some, Err, refl, sym, ◌∙◌, ap, subst, slice_get}
-use Rattle.std.proofs.lemmas.List.{length-map}
 use Rattle.keepers.specs.Counts.{Rose}
 use Rattle.level_book.specs.BookCosts.{slots_of}
 use Rattle.reverse_runner.specs.KeepersSeen.{by_number, told_by, calls_to, HaveRoom}
@@ -20,10 +19,6 @@ use Rattle.reversal.specs.JobReading.{Works, moves, fault_ending}
 use Rattle.reversal.proofs.MovingAbout.{marks_refused, all_answered, order_refused}
 use Rattle.reversal.proofs.moving.Moving.move_about.Goals as goal
 
--- lists with as many slots are of one length
-same_length : {K : Type 0} (slots : K → ℕ) (old new : List K) → map slots new ≡ map slots old → length new ≡ length old
-same_length slots old new e = sym (length-map new slots) ∙ ap (λ (l : List ℕ). length l) e ∙ length-map old slots
-
 pub returns-in-Err-clause-works : goal.returns-in-Err-clause-works
 returns-in-Err-clause-works g c =
     let m = c.args.self in
@@ -38,7 +33,7 @@ returns-in-Err-clause-works g c =
     (λ never. c.begin.ensures.keepers_quiet (λ k e. never k (same_err c.begin.result fault (fault_is.Keeper k) c.in-Err.is e))))
 
 pub returns-in-Err-clause-others : goal.returns-in-Err-clause-others
-returns-in-Err-clause-others g c = (same_length g.K.Keeper.slot_count c.args.keepers.now.items c.begin.new.keepers.items c.begin.ensures.slots, c.begin.ensures.others)
+returns-in-Err-clause-others g c = (record { slots_same = c.begin.ensures.slots; places_same = c.begin.ensures.places }, c.begin.ensures.others)
 
 pub returns-in-Ok-answer_all-clause-works : goal.returns-in-Ok-answer_all-clause-works
 returns-in-Ok-answer_all-clause-works g c =
@@ -66,7 +61,7 @@ returns-in-Ok-answer_all-clause-others g c =
     let stay = c.answer_all.ensures.stay in
     let S : MarkPlan → Type 0 = λ q. (k : ℕ) → length q.slots ≤ k → slice_get c.answer_all.new.keepers.items k ≡ slice_get c.begin.new.keepers.items k in
     let others = subst S c.in-Ok.ensures.begun.0 stay.others in
-    (same_length g.K.Keeper.slot_count c.args.keepers.now.items c.answer_all.new.keepers.items (stay.slots_same ∙ c.begin.ensures.slots), λ k past. others k past ∙ c.begin.ensures.others k past)
+    (record { slots_same = stay.slots_same ∙ c.begin.ensures.slots; places_same = stay.places_same ∙ c.begin.ensures.places }, λ k past. others k past ∙ c.begin.ensures.others k past)
 
 pub returns-clause-works : goal.returns-clause-works
 returns-clause-works g c =
@@ -104,7 +99,7 @@ returns-clause-others g c =
     let stay = c.answer_all.ensures.stay in
     let S : MarkPlan → Type 0 = λ q. (k : ℕ) → length q.slots ≤ k → slice_get c.answer_all.new.keepers.items k ≡ slice_get c.begin.new.keepers.items k in
     let others = subst S c.in-Ok.ensures.begun.0 stay.others in
-    (same_length g.K.Keeper.slot_count c.args.keepers.now.items c.answer_all.new.keepers.items (stay.slots_same ∙ c.begin.ensures.slots), λ k past. others k past ∙ c.begin.ensures.others k past)
+    (record { slots_same = stay.slots_same ∙ c.begin.ensures.slots; places_same = stay.places_same ∙ c.begin.ensures.places }, λ k past. others k past ∙ c.begin.ensures.others k past)
 
 pub answer_all-requires-clause-orders : goal.answer_all-requires-clause-orders
 answer_all-requires-clause-orders g c i order there =

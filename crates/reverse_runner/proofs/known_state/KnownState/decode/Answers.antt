@@ -1,4 +1,4 @@
-use Rattle.std.proofs.Common.{◌≡◌, ◌↔◌, ℕ, None, Some, Ok, Err, subst}
+use Rattle.std.proofs.Common.{◌≡◌, ◌↔◌, None, Some, Ok, Err, subst}
 use Rattle.rv_machine.specs.MachineState.{MachineState}
 use Rattle.rv_pages.specs.Memory.{page_numbers}
 use Rattle.state_image.specs.ImageForm.{first_wrong, first_unmapped}

@@ -13,7 +13,7 @@ use Rattle.reverse_runner.proofs.workspace.Workspace.fetch.Goals as goal
 pub returns-in-Ok-clause-remain : goal.returns-in-Ok-clause-remain
 returns-in-Ok-clause-remain g c =
     let within : c.args.level < length c.args.keepers.now.items = omega (arith, c.requires.there, c.args.keepers.now.ok.0) in
-    remain c.args.keepers.now.items c.args.level c.index_mut-keeper.result.now c.fetch.new.keeper within c.index_mut-keeper.ensures.value g.K.Keeper.slot_count g.K.Keeper.fault_count c.fetch.ensures.slots c.fetch.ensures.later
+    remain c.args.keepers.now.items c.args.level c.index_mut-keeper.result.now c.fetch.new.keeper within c.index_mut-keeper.ensures.value g.K.Keeper.slot_count g.K.Keeper.place g.K.Keeper.fault_count c.fetch.ensures.slots c.fetch.ensures.place c.fetch.ensures.later
 
 pub returns-in-Ok-clause-keepers : goal.returns-in-Ok-clause-keepers
 returns-in-Ok-clause-keepers g c =
@@ -28,7 +28,7 @@ returns-in-Ok-clause-called g c =
 pub returns-in-Err-clause-remain : goal.returns-in-Err-clause-remain
 returns-in-Err-clause-remain g c =
     let within : c.args.level < length c.args.keepers.now.items = omega (arith, c.requires.there, c.args.keepers.now.ok.0) in
-    remain c.args.keepers.now.items c.args.level c.index_mut-keeper.result.now c.fetch.new.keeper within c.index_mut-keeper.ensures.value g.K.Keeper.slot_count g.K.Keeper.fault_count c.fetch.ensures.slots c.fetch.ensures.later
+    remain c.args.keepers.now.items c.args.level c.index_mut-keeper.result.now c.fetch.new.keeper within c.index_mut-keeper.ensures.value g.K.Keeper.slot_count g.K.Keeper.place g.K.Keeper.fault_count c.fetch.ensures.slots c.fetch.ensures.place c.fetch.ensures.later
 
 pub returns-in-Err-clause-keepers : goal.returns-in-Err-clause-keepers
 returns-in-Err-clause-keepers g c =

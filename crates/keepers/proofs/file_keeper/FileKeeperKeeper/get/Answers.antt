@@ -1,0 +1,8 @@
+use Rattle.std.proofs.Common.{◌≤◌, ◌^◌, arith}
+use Rattle.keepers.proofs.SlotImages.{keeper_bytes}
+use Rattle.keepers.proofs.file_keeper.FileKeeperKeeper.get.Goals as goal
+
+pub returns-in-Ok-clause-ok : goal.returns-in-Ok-clause-ok
+returns-in-Ok-clause-ok g c =
+    let few : c.args.self.now.slots ≤ 2 ^ 64 = omega arith in
+    keeper_bytes g.D.Disk.told c.args.slot c.args.self.now c.args.self.now few c.requires c.args.len c.get_file.new.into.items c.in-Ok.ensures.bytes

@@ -1,0 +1,25 @@
+-- What is seen of inputs that are files, and of a sink over a writer.
+use Rattle.std.specs.Prelude.{ℕ, List}
+use Rattle.keepers.specs.declared.file_inputs.FileInputs.{FileInputs}
+use Rattle.keepers.specs.declared.stdout_sink.StdoutSink.{StdoutSink}
+
+-- the names that inputs were asked for, and how often they failed
+abbrev pub asked_of : {D : Type 0} → FileInputs D → List (List ℕ)
+asked_of inputs = inputs.asked
+
+abbrev pub input_faults_of : {D : Type 0} → FileInputs D → ℕ
+input_faults_of inputs = inputs.faults
+
+-- the writer of a sink, how often it was written to, and how often it failed
+abbrev pub writer_of : {W : Type 0} → StdoutSink W → W
+writer_of sink = sink.out
+
+abbrev pub writes_of : {W : Type 0} → StdoutSink W → ℕ
+writes_of sink = sink.calls
+
+abbrev pub sink_faults_of : {W : Type 0} → StdoutSink W → ℕ
+sink_faults_of sink = sink.faults
+
+-- a sink over a writer that it has written nothing to
+abbrev pub fresh : {W : Type 0} → W → StdoutSink W
+fresh out = record { out = out; calls = 0; faults = 0 }

@@ -1,0 +1,250 @@
+// The call of a case made once more, by the program over disks in memory, where each level has its images in the files of a folder.
+ghost use Rattle.std.specs.Prelude.{◌≡◌, ◌<◌, ℕ, List, [], Some, IfOk, Vec};
+ghost use Rattle.std.specs.declared.alloc.Global.{Global as AGlobal};
+ghost use Rattle.std.specs.FinMap as finmap;
+ghost use Rattle.keepers.specs.AnyKeeper.{told_of};
+ghost use Rattle.keepers.specs.Outside.{asked_of, input_faults_of, fresh};
+ghost use Rattle.keepers.specs.declared.any_keeper.AnyKeeper.{AnyKeeper as AnAnyKeeper};
+ghost use Rattle.memory_disk.specs.declared.MemoryDisk.{MemoryDisk as AMemoryDisk};
+ghost use Rattle.requests.specs.Bounds.{Asks};
+ghost use Rattle.requests.specs.Request.{Request, words_of};
+ghost use Rattle.reverse_runner.specs.KeepersSeen.{told_by};
+ghost use Rattle.reversal_program.specs.Run.{IsRun};
+
+use crate::bytes::{CaseFault, bytes_of};
+use crate::came::{Seen, SeenKeeper};
+use crate::case::{parts, push, words_of};
+use crate::case_keeper::CaseKeeper;
+use keepers::{AnyKeeper, Disk, Keeper};
+use memory_disk::{DiskOp, MemoryDisk};
+use reversal::Words;
+use reversal_program::laws::levels_without_files_begin_empty;
+use reversal_program::{Disks, Ran, program};
+use rv_machine::Steps;
+use serde_json::Value;
+use std::alloc::{AllocError, Global};
+use std::io::Write;
+use std::sync::ledger::{Blank, Ledger};
+use std::thread::Threads;
+
+/// Calls of a disk that fail.
+type Failing = Vec<(DiskOp, u64)>;
+
+/// What the program is given: the words, a disk with the inputs, and which calls fail of the disk of each level.
+#[derive(Drop)]
+pub struct FilesCase {
+    pub alloc: Global,
+    pub words: Words,
+    pub inputs: MemoryDisk,
+    pub failing: (Failing, Failing, Failing, Failing),
+}
+
+/// The words that say a folder for each level.
+const FOLDERS: [&[u8]; 4] = [
+    b"--files=0:images",
+    b"--files=1:images",
+    b"--files=2:more/images",
+    b"--files=3:images",
+];
+
+/// How long the words are that say which level an option is about.
+const FRONT: usize = 10;
+
+/// How many slots of a level are compared.
+const SLOTS: u32 = 64;
+
+/// The case over files. There is none where a case gives a bit wrong, lets a write fail, or bounds slots, rooms or the sink.
+pub fn files_case_of(alloc: Global, value: &Value) -> Result<Option<FilesCase>, CaseFault> {
+    let no_fails = Value::Null;
+    let fails = value.get("fails").unwrap_or(&no_fails);
+    let is_bounded = ["slots", "keeper_room", "room"]
+        .iter()
+        .any(|member| value.get(*member).is_some());
+    if is_bounded || fails.get("flip").is_some() || fails.get("write").is_some() {
+        return Ok(None);
+    }
+    Ok(Some(FilesCase {
+        alloc,
+        words: with_folders(alloc, words_of(alloc, value)?)?,
+        inputs: inputs_of(alloc, value, fails)?,
+        failing: (
+            failing_of(alloc, 0, fails)?,
+            failing_of(alloc, 1, fails)?,
+            failing_of(alloc, 2, fails)?,
+            failing_of(alloc, 3, fails)?,
+        ),
+    }))
+}
+
+// The words, with a folder for each level of which they say none.
+fn with_folders(alloc: Global, words: Words) -> Result<Words, CaseFault> {
+    let mut list = Vec::new(alloc);
+    for folder in FOLDERS {
+        let front = folder.get(..FRONT).unwrap_or(folder);
+        if !words.list.iter().any(|word| word.starts_with(front)) {
+            push(&mut list, Vec::from_slice(alloc, folder)?)?;
+        }
+    }
+    for word in words.list {
+        push(&mut list, word)?;
+    }
+    Ok(Words { list })
+}
+
+// A disk with the inputs by their names. The read with the number `input` of `fails` fails.
+fn inputs_of(alloc: Global, value: &Value, fails: &Value) -> Result<MemoryDisk, CaseFault> {
+    let Some(members) = value.get("inputs").and_then(Value::as_object) else {
+        return Err(CaseFault::Form);
+    };
+    let mut disk = MemoryDisk::new(alloc);
+    for (name, member) in members {
+        let bytes = bytes_of(alloc, member)?;
+        if disk.replace(name.as_str(), &bytes).is_err() {
+            return Err(CaseFault::Memory);
+        }
+    }
+    let mut failing = Vec::new(alloc);
+    if let Some(call) = fails.get("input").and_then(Value::as_u64) {
+        push(&mut failing, (DiskOp::ReadWhole, call))?;
+    }
+    Ok(disk.failing(failing))
+}
+
+// The call of a level's disk that fails, where `keeper` of `fails` names one.
+fn failing_of(alloc: Global, level: u64, fails: &Value) -> Result<Failing, CaseFault> {
+    let mut failing = Vec::new(alloc);
+    if let Some([of, op, call]) = parts(fails, "keeper") {
+        let (Some(op), Some(call)) = (op_of(op), call.as_u64()) else {
+            return Err(CaseFault::Form);
+        };
+        if of.as_u64() == Some(level) {
+            push(&mut failing, (op, call))?;
+        }
+    }
+    Ok(failing)
+}
+
+// What a keeper's call asks of its disk first.
+fn op_of(value: &Value) -> Option<DiskOp> {
+    match value.as_str() {
+        Some("put") => Some(DiskOp::Replace),
+        Some("get") => Some(DiskOp::Look),
+        Some("free") => Some(DiskOp::Remove),
+        _ => None,
+    }
+}
+
+/// The one call of the program. Each level begins empty and tells that it does, so it meets the premises of the theorem over files.
+pub fn run_over_files<T: Threads + Sync, L: Ledger>(
+    threads: &T,
+    case: FilesCase,
+    blank: Blank,
+) -> Result<Ran<MemoryDisk, Vec<u8>>, AllocError>
+    requires name { blank.name ≡ L.name }
+    requires parts { blank.parts ≡ L.parts }
+    requires some { 0 < blank.parts }
+    ensures { (r : Request) → Asks (words_of case.words) r → IfOk result (λ ran. (before : List (AnAnyKeeper AMemoryDisk)) × (out : Vec ℕ AGlobal)
+        × (steps : ℕ) × (steps' : ℕ) × (out.items ≡ [])
+        × ((k : ℕ) → k < 4 → told_by (told_of ⟦<MemoryDisk as Disk>⟧.told) before k ≡ Some finmap.empty)
+        × IsRun ⟦<MemoryDisk as Disk>⟧.told ⟦<Vec<u8> as Write>⟧.contents (words_of case.words) (⟦<MemoryDisk as Disk>⟧.told case.inputs) []
+        (asked_of ran.inputs) 0 (input_faults_of ran.inputs) before ran.keepers.items (fresh out) ran.out steps steps' ran.ended) }
+{
+    levels_without_files_begin_empty::<MemoryDisk>();
+    let FilesCase {
+        alloc,
+        words,
+        inputs,
+        failing,
+    } = case;
+    let (of_zero, of_one, of_two, of_three) = failing;
+    let zero = MemoryDisk::new(alloc).failing(of_zero);
+    let one = MemoryDisk::new(alloc).failing(of_one);
+    let two = MemoryDisk::new(alloc).failing(of_two);
+    let three = MemoryDisk::new(alloc).failing(of_three);
+    let disks = Disks {
+        inputs,
+        levels: (zero, one, two, three),
+    };
+    let mut steps = Steps::<L>::new(blank);
+    let out = Vec::new(alloc);
+    program(threads, alloc, &words, disks, out, &mut steps)
+}
+
+/// What is seen of the program. The names that it asks for aren't noted.
+pub fn seen_of_ran(alloc: Global, ran: &Ran<MemoryDisk, Vec<u8>>) -> Result<Seen<'_>, AllocError> {
+    let keepers = seen_keepers(alloc, &ran.keepers)?;
+    Ok(Seen {
+        ended: &ran.ended,
+        written: ran.out.writer().as_slice(),
+        asked: None,
+        input_faults: ran.inputs.faults(),
+        sink_faults: ran.out.faults(),
+        keepers,
+    })
+}
+
+fn seen_keepers(
+    alloc: Global,
+    keepers: &[AnyKeeper<MemoryDisk>],
+) -> Result<Vec<SeenKeeper>, AllocError> {
+    let mut list = Vec::new(alloc);
+    for keeper in keepers {
+        list.push(seen_keeper(keeper))?;
+    }
+    Ok(list)
+}
+
+fn seen_keeper(keeper: &AnyKeeper<MemoryDisk>) -> SeenKeeper {
+    match keeper {
+        AnyKeeper::Memory(keeper) => SeenKeeper {
+            calls: [keeper.puts(), keeper.gets(), keeper.frees()],
+            held: Some(keeper.filled()),
+            faults: keeper.faults(),
+        },
+        AnyKeeper::File(keeper) => SeenKeeper {
+            calls: [keeper.puts(), keeper.gets(), keeper.frees()],
+            held: u32::try_from(keeper.disk().count()).ok(),
+            faults: keeper.faults(),
+        },
+    }
+}
+
+/// Whether the keepers of the program hold in each slot what those of the case hold there.
+pub fn hold_the_same(
+    alloc: Global,
+    in_memory: &mut [CaseKeeper],
+    in_files: &mut [AnyKeeper<MemoryDisk>],
+) -> bool {
+    for (one, other) in in_memory.iter_mut().zip(in_files.iter_mut()) {
+        if one.filled() != Some(0) && !have_same_images(alloc, one, other) {
+            return false;
+        }
+    }
+    true
+}
+
+fn have_same_images<A: Keeper, B: Keeper>(alloc: Global, one: &mut A, other: &mut B) -> bool {
+    let mut image = Vec::new(alloc);
+    let mut found = Vec::new(alloc);
+    for slot in 0..SLOTS {
+        if !image_at(one, slot, u32::MAX, &mut image) {
+            return false;
+        }
+        let most = u32::try_from(image.len())
+            .unwrap_or(u32::MAX)
+            .saturating_add(1);
+        if !image_at(other, slot, most, &mut found) || found != image {
+            return false;
+        }
+    }
+    true
+}
+
+// Gets the image of a slot, up to so many bytes, and says whether that was done. One call that is listed to fail may still be to
+// come, so it is tried twice.
+fn image_at<K: Keeper>(keeper: &mut K, slot: u32, most: u32, into: &mut Vec<u8>) -> bool {
+    if slot >= keeper.slots() {
+        return false;
+    }
+    keeper.get(slot, most, into).is_ok() || keeper.get(slot, most, into).is_ok()
+}

@@ -1,0 +1,50 @@
+-- What a call of the program does: what the top call of reversal does, to the objects of the program.
+use Rattle.std.specs.Prelude.{◌≡◌, ◌≢◌, ◌⊎◌, ◌↔◌, ℕ, List, ◌++◌, map, take, Option}
+use Rattle.keepers.specs.Counts.{Rose}
+use Rattle.keepers.specs.Told.{Files}
+use Rattle.keepers.specs.AnyKeeper.{told_of, slots_of, puts_of, gets_of, frees_of, faults_of, room_of, place_of}
+use Rattle.keepers.specs.Outside.{writer_of, writes_of, sink_faults_of}
+use Rattle.keepers.specs.declared.any_keeper.AnyKeeper.{AnyKeeper}
+use Rattle.keepers.specs.declared.stdout_sink.StdoutSink.{StdoutSink}
+use Rattle.reverse_runner.specs.Rooms.{rooms_by}
+use Rattle.requests.specs.declared.ended.Ended.{Ended}
+use Rattle.requests.specs.Request.{Request, Says}
+use Rattle.requests.specs.Bounds.{RefusesWords, Asks}
+use Rattle.requests.specs.Inputs.{inputs_of, names, FailsAtInput}
+use Rattle.requests.specs.Ending.{no_memory}
+use Rattle.reversal.specs.Table.{Decision, accept}
+use Rattle.reversal.specs.Beginning.{Begins, BeginsBy}
+use Rattle.reversal.specs.Decision.{course_of, Comes, StayInPlace, KeepsOthers, HaveRoomsFor, EndsBy, IsOfJob}
+use Rattle.reversal.specs.Job.{Job}
+use Rattle.reversal.specs.Moment.{Moment, moment}
+use Rattle.reversal.specs.Course.{HaltsShowing}
+
+-- what is seen of the program's objects at one moment, by what a disk tells of its files and a writer of its bytes
+abbrev pub seen : {D W : Type 0} → (D → Option Files) → (W → Option (List ℕ)) → StdoutSink W → List (AnyKeeper D) → ℕ → Moment
+seen told contents out keepers steps = moment (λ s. contents (writer_of s)) writes_of sink_faults_of (told_of told) puts_of gets_of frees_of faults_of out keepers steps
+
+-- A call by these words, over inputs that tell this, from what was there before it to what is there after it. The fields are the
+-- clauses of the top call, in their order.
+pub record IsRun {D W : Type 0} (told : D → Option Files) (contents : W → Option (List ℕ)) (words : List (List ℕ)) (given : Option Files)
+    (asked asked' : List (List ℕ)) (input_faults input_faults' : ℕ) (keepers keepers' : List (AnyKeeper D)) (out out' : StdoutSink W) (steps steps' : ℕ)
+    (ended : Ended) : Type 0 where
+  pub says : (ended.status ≡ 2) ↔ ((r : Request) → Says words r → ⊥)
+  pub unread : (e : Ended) → RefusesWords words e → (ended ≡ e) × (asked' ≡ asked) × (input_faults' ≡ input_faults)
+  pub asks : (r : Request) → Asks words r → (k : ℕ) × (asked' ≡ asked ++ take k (names (inputs_of r.command)))
+  pub input : (r : Request) → Asks words r → ended.status ≡ 3 → FailsAtInput (inputs_of r.command) given ended asked asked'
+  pub input_cause : ended.status ≡ 3 → Rose input_faults input_faults'
+  pub input_quiet : ended.status ≢ 3 → input_faults' ≡ input_faults
+  pub decided : (r : Request) → Asks words r → ended.status ≢ 3 → ended.status ≢ 17 → (d : Decision)
+      × Comes r given asked asked' (map slots_of keepers) d
+      × KeepsOthers slots_of place_of d keepers keepers'
+      × EndsBy d ended (seen told contents out keepers steps) (seen told contents out' keepers' steps')
+      × BeginsBy d
+  pub memory : ended.status ≡ 17 → (ended ≡ no_memory) × (((out' ≡ out) × (keepers' ≡ keepers) × (steps' ≡ steps))
+      ⊎ ((r : Request) × Asks words r × (job : Job)
+      × Comes r given asked asked' (map slots_of keepers) (accept job)
+      × Begins job
+      × KeepsOthers slots_of place_of (accept job) keepers keepers'
+      × HaltsShowing (course_of job) (seen told contents out keepers steps) (seen told contents out' keepers' steps')
+      × (HaveRoomsFor job (rooms_by room_of keepers) → (out' ≡ out) × (keepers' ≡ keepers) × (steps' ≡ steps))))
+  pub stay : StayInPlace slots_of place_of keepers keepers'
+  pub untouched : (IsOfJob ended.status → ⊥) → (out' ≡ out) × (keepers' ≡ keepers) × (steps' ≡ steps)

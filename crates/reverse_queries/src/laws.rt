@@ -1,0 +1,56 @@
+// Laws of lists that are gone through. Each function does nothing; its contract is the law.
+ghost use Rattle.std.specs.Prelude.{◌≡◌, ◌⊎◌, ℕ, ◌*◌, ◌≤◌, List, Option, Contains};
+ghost use Rattle.keepers.specs.Told.{Images};
+ghost use Rattle.plan_types.specs.declared.action.Action.{Action};
+ghost use Rattle.level_book.specs.declared.book.Slots.{Slots};
+ghost use Rattle.level_book.specs.Configuration.{Configuration, start};
+ghost use Rattle.level_book.specs.Valid.{Leads, Valid};
+ghost use Rattle.input_journal.specs.Form.{IsRecorded};
+ghost use Rattle.rv_machine.specs.MachineState.{MachineState, IsMachineState};
+ghost use Rattle.rv_machine.specs.States.{state_number};
+ghost use Rattle.reverse_runner.specs.Acts.{Holdings};
+ghost use Rattle.reverse_runner.specs.Collision.{StandsByDigests};
+ghost use Rattle.reverse_runner.specs.Handed.{handed};
+ghost use Rattle.reverse_runner.specs.SessionState.{holdings_of};
+ghost use Rattle.reverse_runner.specs.Standing.{begun};
+ghost use Rattle.reverse_runner.specs.Units.{unit_states};
+ghost use Rattle.reverse_queries.specs.Collision.{CollidesOn};
+ghost use Rattle.reverse_queries.specs.Queries.{WritesIn, ChangesIn, WritesWord, ChangesWord, IsLast, front_to, up_to};
+ghost use Rattle.reverse_queries.specs.OnTheWay.{GoesThrough};
+
+/// Over any keepers, also those that don't tell: where a list was gone through from the start of a run, each state that was handed
+/// out is the run's with its number, and what is held stands so by the digests that are kept; or an action took a state into work
+/// whose image is other bytes than that of the run's state with its number, and both have one SHA-256.
+pub fn lists_hand_out_the_run_or_collide()
+    ensures { (first : MachineState) (journal : List (List ℕ)) (unit steps : ℕ) (slots : List Slots) (list : List Action) (c : Configuration)
+        (told : ℕ → Option Images) (last : Holdings) (states : ℕ → MachineState) →
+        IsMachineState first → IsRecorded journal → Leads steps slots (start steps slots) list c →
+        (through : GoesThrough unit steps journal list (holdings_of (begun first journal unit steps slots) told) last states) →
+        (((n : ℕ) → Contains (handed unit steps list) n → states n ≡ state_number first journal n) × StandsByDigests first journal unit c last)
+        ⊎ CollidesOn (unit_states first journal unit) list through.held }
+{}
+
+/// The same of what is performed for an answer: where a valid list was gone through as far as it takes, the state with the place
+/// that was asked for is the run's, and the last step that writes or changes a word by the states that were handed out is that of the
+/// run; or an action took such a state into work.
+pub fn answers_are_of_the_run_or_collide()
+    ensures state { (first : MachineState) (journal : List (List ℕ)) (unit steps : ℕ) (slots : List Slots) (list : List Action)
+        (told : ℕ → Option Images) (last : Holdings) (states : ℕ → MachineState) →
+        IsMachineState first → IsRecorded journal → Valid steps slots list → (place : ℕ) → place ≤ unit * steps →
+        (through : GoesThrough unit steps journal (front_to unit steps place list) (holdings_of (begun first journal unit steps slots) told) last states) →
+        (states place ≡ state_number first journal place) ⊎ CollidesOn (unit_states first journal unit) (front_to unit steps place list) through.held }
+    ensures last_write { (first : MachineState) (journal : List (List ℕ)) (unit steps : ℕ) (slots : List Slots) (list : List Action)
+        (told : ℕ → Option Images) (last : Holdings) (states : ℕ → MachineState) →
+        IsMachineState first → IsRecorded journal → Valid steps slots list → (word : ℕ) (answer : Option ℕ) →
+        (through : GoesThrough unit steps journal (up_to unit steps answer list) (holdings_of (begun first journal unit steps slots) told) last states) →
+        IsLast (WritesIn states journal word) (unit * steps) answer →
+        IsLast (WritesWord first journal word) (unit * steps) answer
+        ⊎ CollidesOn (unit_states first journal unit) (up_to unit steps answer list) through.held }
+    ensures last_change { (first : MachineState) (journal : List (List ℕ)) (unit steps : ℕ) (slots : List Slots) (list : List Action)
+        (told : ℕ → Option Images) (last : Holdings) (states : ℕ → MachineState) →
+        IsMachineState first → IsRecorded journal → Valid steps slots list → (word : ℕ) (answer : Option ℕ) →
+        (through : GoesThrough unit steps journal (up_to unit steps answer list) (holdings_of (begun first journal unit steps slots) told) last states) →
+        IsLast (ChangesIn states word) (unit * steps) answer →
+        IsLast (ChangesWord first journal word) (unit * steps) answer
+        ⊎ CollidesOn (unit_states first journal unit) (up_to unit steps answer list) through.held }
+{}
