@@ -1,0 +1,7 @@
+pub mod Escapes
+pub mod Items
+pub mod Laws
+pub mod Numbers
+pub mod Replies
+pub mod RequestReading
+pub mod Requests

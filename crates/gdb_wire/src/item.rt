@@ -1,0 +1,23 @@
+// What comes from gdb.
+
+/// An item on the line from gdb.
+#[derive(Clone, Copy, Debug, PartialEq, Eq)]
+pub enum Item<'a> {
+    /// A packet with its checksum, and its body, which is still escaped.
+    Packet(&'a [u8]),
+    /// A packet with other digits in the place of its checksum.
+    DamagedPacket,
+    /// Ctrl-C.
+    Interrupt,
+    /// `-`: the last reply is to be sent again.
+    Resend,
+    /// `+`, or a byte that means nothing.
+    AckOrNoise,
+}
+
+/// An item at the front of bytes, and how many of them it takes.
+#[derive(Clone, Copy, Debug, PartialEq, Eq)]
+pub struct Found<'a> {
+    pub item: Item<'a>,
+    pub len: usize,
+}
