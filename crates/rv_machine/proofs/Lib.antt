@@ -6,3 +6,4 @@ pub mod Runs
 pub mod Staying
 pub mod Stores
 pub mod Writing
+pub mod Counting

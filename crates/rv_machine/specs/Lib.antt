@@ -11,3 +11,6 @@ pub mod States
 pub mod Watching
 pub mod StateFields
 pub mod StepChanges
+pub mod Output
+pub mod Memo
+pub mod CodePage

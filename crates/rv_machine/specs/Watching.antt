@@ -1,15 +1,19 @@
 -- What looks at the steps of a run, each before it is taken.
-use Rattle.std.specs.Prelude.{◌≡◌, ℕ, zero, suc, ◌<◌, cond, List, None, IfSome}
+use Rattle.std.specs.Prelude.{◌≡◌, ◌⊎◌, ℕ, zero, suc, ◌<◌, Bool, true, false, cond, List, None, IfSome}
+use Rattle.std.specs.Option.{option_and_then}
+use Rattle.rv_pages.specs.Memory.{word_at}
+use Rattle.rv_decode.specs.Rows.{decoded}
+use Rattle.rv_decode.specs.Ranges.{HasRanges}
 use Rattle.rv_machine.specs.declared.next.Next.{Next}
 use Rattle.rv_machine.specs.MachineState.{MachineState}
-use Rattle.rv_machine.specs.Effects.{NamesRegister}
 use Rattle.rv_machine.specs.States.{state_number}
-use Rattle.rv_machine.specs.StepTable.{effect_at_pc, is_running}
+use Rattle.rv_machine.specs.StepTable.{is_running}
 
--- it is the effect that the next step of a state has, which names one of the registers; a stopped state has none
+-- it is the instruction that the next step of a state carries out, with its fields in their ranges; a stopped state has none,
+-- and neither has one whose word at pc is not mapped or is illegal
 pub record IsNext (next : Next) (s : MachineState) : Type 0 where
-  pub effect : next.effect ≡ cond (is_running s.status) (effect_at_pc s) None
-  pub register : IfSome next.effect NamesRegister
+  pub inst : next.inst ≡ cond (is_running s.status) (option_and_then decoded (word_at s.memory s.pc)) None
+  pub ranges : IfSome next.inst HasRanges
 
 -- Each of the first n steps of a run was looked at before it was taken, one after the other: v is what looks as it was
 -- before the first of them, and w as it is after the last.
@@ -22,3 +26,10 @@ abbrev pub CanNote : {W : Type 0} → (W → MachineState → List (List ℕ) �
     MachineState → List (List ℕ) → ℕ → W → Type 0
 CanNote {W} can_note noted first journal n v =
     (k : ℕ) (w : W) → k < n → AreNoted noted first journal k v w → can_note w (state_number first journal k) journal
+
+-- A run goes on in a state that runs, and in which nobody stops it. It ends in every other one.
+abbrev pub GoesOn : (MachineState → List (List ℕ) → Bool) → List (List ℕ) → MachineState → Type 0
+GoesOn stops journal s = (is_running s.status ≡ true) × (stops s journal ≡ false)
+
+abbrev pub Ends : (MachineState → List (List ℕ) → Bool) → List (List ℕ) → MachineState → Type 0
+Ends stops journal s = (is_running s.status ≡ false) ⊎ (stops s journal ≡ true)

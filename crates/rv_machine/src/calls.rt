@@ -1,12 +1,13 @@
 // What a system call makes of a state.
-ghost use Rattle.std.specs.Prelude.{◌≡◌, ◌+◌, ◌<◌, ◌≤◌, ◌^◌, [], length, slice_get};
-ghost use Rattle.std.specs.Option.{option_map_or};
+ghost use Rattle.std.specs.Prelude.{◌≡◌, ◌+◌, ◌<◌, ◌≤◌, ◌^◌, if◌then◌else◌, [], length, slice_get, Some};
 ghost use Rattle.input_journal.specs.Form.{IsShort};
-ghost use Rattle.rv_pages.specs.Memory.{page_numbers};
+ghost use Rattle.rv_pages.specs.Memory.{bytes_at, page_numbers};
 ghost use Rattle.rv_machine.specs.StateChanges.{addresses};
-ghost use Rattle.rv_machine.specs.SystemCalls.{bytes_read, moved, read_from, sent, exited, called, written_by_call};
+ghost use Rattle.rv_machine.specs.SystemCalls.{are_mapped, bytes_read, moved, read_from, sent, exited, called, written_by_call};
+ghost use Rattle.rv_machine.specs.Output.{output_of_call};
 
 use crate::changes::put;
+use crate::span::Span;
 use crate::state::State;
 use crate::status::Status;
 use input_journal::Journal;
@@ -112,14 +113,28 @@ fn exit(state: &mut State)
     state.status = Status::Exited((state.x[A0] % 256) as u8);
 }
 
-/// Where a call writes, and how many bytes, if it is a read that stores some.
-pub(crate) fn part_written(state: &State, journal: &Journal) -> Option<(u32, u32)>
-    ensures { written_by_call state.now journal.now ≡ option_map_or (λ part. addresses part.0 part.1) result [] }
+/// Where a call writes, if the bytes there are mapped: no address, if it is no read of recorded input.
+pub(crate) fn span_read(state: &State, journal: &Journal) -> Span
+    ensures { written_by_call state.now journal.now
+        ≡ (if are_mapped state.now.memory result.at result.count then addresses result.at result.count else []) }
 {
     if state.x[A7] != READ || state.item >= journal.count() {
-        return None;
+        return Span::NONE;
     }
-    let at = state.x[A1];
-    let count = next_bytes(state, journal.item(state.item)).len() as u32;
-    state.pages.are_mapped(at, count).then_some((at, count))
+    Span {
+        at: state.x[A1],
+        count: next_bytes(state, journal.item(state.item)).len() as u32,
+    }
+}
+
+/// Where the bytes stand that a call writes to the output: no address, if it is no write of mapped bytes.
+pub(crate) fn span_sent(state: &State) -> Span
+    ensures { bytes_at state.now.memory result.at result.count ≡ Some (output_of_call state.now) }
+{
+    let (at, count) = (state.x[A1], state.x[A2]);
+    if state.x[A7] == WRITE && state.pages.are_mapped(at, count) {
+        Span { at, count }
+    } else {
+        Span::NONE
+    }
 }

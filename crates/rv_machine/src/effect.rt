@@ -1,8 +1,7 @@
 // What an instruction does to a state.
-ghost use Rattle.std.specs.Prelude.{◌≡◌, ℕ, ◌+◌, ◌<◌, slice_index};
+ghost use Rattle.std.specs.Prelude.{◌≡◌, ◌+◌, ◌<◌, slice_index};
 ghost use Rattle.rv_pages.specs.Memory.{wrapped};
 ghost use Rattle.rv_decode.specs.Ranges.{HasRanges};
-ghost use Rattle.rv_decode.specs.Words.{IsOperation};
 ghost use Rattle.rv_machine.specs.Numbers.{signed_lt, shifted_right_signed as shifted_right_signed_of};
 ghost use Rattle.rv_machine.specs.Effects.{effect_of as effect_table, NamesRegister};
 
@@ -77,7 +76,33 @@ pub(crate) fn effect_of(inst: Inst, pc: u32, x: &[u32; 32]) -> Effect
         Fence { .. } => Nothing,
         Ecall => Call,
         Ebreak => Break,
-        _ => operation(inst, x),
+        Addi { rd, rs1, imm } => Put(rd, get(x, rs1).wrapping_add(imm)),
+        Slti { rd, rs1, imm } => Put(rd, is_less(get(x, rs1), imm) as u32),
+        Sltiu { rd, rs1, imm } => Put(rd, (get(x, rs1) < imm) as u32),
+        Xori { rd, rs1, imm } => Put(rd, get(x, rs1) ^ imm),
+        Ori { rd, rs1, imm } => Put(rd, get(x, rs1) | imm),
+        Andi { rd, rs1, imm } => Put(rd, get(x, rs1) & imm),
+        Slli { rd, rs1, imm } => Put(rd, get(x, rs1) << imm),
+        Srli { rd, rs1, imm } => Put(rd, get(x, rs1) >> imm),
+        Srai { rd, rs1, imm } => Put(rd, shifted_right_signed(get(x, rs1), imm)),
+        Add { rd, rs1, rs2 } => Put(rd, get(x, rs1).wrapping_add(get(x, rs2))),
+        Sub { rd, rs1, rs2 } => Put(rd, get(x, rs1).wrapping_sub(get(x, rs2))),
+        Sll { rd, rs1, rs2 } => Put(rd, get(x, rs1) << (get(x, rs2) % 32)),
+        Slt { rd, rs1, rs2 } => Put(rd, is_less(get(x, rs1), get(x, rs2)) as u32),
+        Sltu { rd, rs1, rs2 } => Put(rd, (get(x, rs1) < get(x, rs2)) as u32),
+        Xor { rd, rs1, rs2 } => Put(rd, get(x, rs1) ^ get(x, rs2)),
+        Srl { rd, rs1, rs2 } => Put(rd, get(x, rs1) >> (get(x, rs2) % 32)),
+        Sra { rd, rs1, rs2 } => Put(rd, shifted_right_signed(get(x, rs1), get(x, rs2) % 32)),
+        Or { rd, rs1, rs2 } => Put(rd, get(x, rs1) | get(x, rs2)),
+        And { rd, rs1, rs2 } => Put(rd, get(x, rs1) & get(x, rs2)),
+        Mul { rd, rs1, rs2 } => Put(rd, get(x, rs1).wrapping_mul(get(x, rs2))),
+        Mulh { rd, rs1, rs2 } => Put(rd, high_signed(get(x, rs1), get(x, rs2))),
+        Mulhsu { rd, rs1, rs2 } => Put(rd, high_signed_unsigned(get(x, rs1), get(x, rs2))),
+        Mulhu { rd, rs1, rs2 } => Put(rd, high_unsigned(get(x, rs1), get(x, rs2))),
+        Div { rd, rs1, rs2 } => Put(rd, quotient_signed(get(x, rs1), get(x, rs2))),
+        Divu { rd, rs1, rs2 } => Put(rd, quotient_unsigned(get(x, rs1), get(x, rs2))),
+        Rem { rd, rs1, rs2 } => Put(rd, remainder_signed(get(x, rs1), get(x, rs2))),
+        Remu { rd, rs1, rs2 } => Put(rd, remainder_unsigned(get(x, rs1), get(x, rs2))),
     }
 }
 
@@ -113,44 +138,4 @@ fn shifted_right_signed(a: u32, places: u32) -> u32
     ensures { result ≡ shifted_right_signed_of a places }
 {
     (a.cast_signed() >> places).cast_unsigned()
-}
-
-// The effect of an instruction that computes on registers, or on a register and an immediate.
-#[inline(always)]
-fn operation(inst: Inst, x: &[u32; 32]) -> Effect
-    requires ranges { HasRanges inst }
-    requires kind { IsOperation inst }
-    ensures table { (pc : ℕ) → result ≡ effect_table (λ n. slice_index x.now n) pc inst }
-    ensures register { NamesRegister result }
-{
-    match inst {
-        Addi { rd, rs1, imm } => Put(rd, get(x, rs1).wrapping_add(imm)),
-        Slti { rd, rs1, imm } => Put(rd, is_less(get(x, rs1), imm) as u32),
-        Sltiu { rd, rs1, imm } => Put(rd, (get(x, rs1) < imm) as u32),
-        Xori { rd, rs1, imm } => Put(rd, get(x, rs1) ^ imm),
-        Ori { rd, rs1, imm } => Put(rd, get(x, rs1) | imm),
-        Andi { rd, rs1, imm } => Put(rd, get(x, rs1) & imm),
-        Slli { rd, rs1, imm } => Put(rd, get(x, rs1) << imm),
-        Srli { rd, rs1, imm } => Put(rd, get(x, rs1) >> imm),
-        Srai { rd, rs1, imm } => Put(rd, shifted_right_signed(get(x, rs1), imm)),
-        Add { rd, rs1, rs2 } => Put(rd, get(x, rs1).wrapping_add(get(x, rs2))),
-        Sub { rd, rs1, rs2 } => Put(rd, get(x, rs1).wrapping_sub(get(x, rs2))),
-        Sll { rd, rs1, rs2 } => Put(rd, get(x, rs1) << (get(x, rs2) % 32)),
-        Slt { rd, rs1, rs2 } => Put(rd, is_less(get(x, rs1), get(x, rs2)) as u32),
-        Sltu { rd, rs1, rs2 } => Put(rd, (get(x, rs1) < get(x, rs2)) as u32),
-        Xor { rd, rs1, rs2 } => Put(rd, get(x, rs1) ^ get(x, rs2)),
-        Srl { rd, rs1, rs2 } => Put(rd, get(x, rs1) >> (get(x, rs2) % 32)),
-        Sra { rd, rs1, rs2 } => Put(rd, shifted_right_signed(get(x, rs1), get(x, rs2) % 32)),
-        Or { rd, rs1, rs2 } => Put(rd, get(x, rs1) | get(x, rs2)),
-        And { rd, rs1, rs2 } => Put(rd, get(x, rs1) & get(x, rs2)),
-        Mul { rd, rs1, rs2 } => Put(rd, get(x, rs1).wrapping_mul(get(x, rs2))),
-        Mulh { rd, rs1, rs2 } => Put(rd, high_signed(get(x, rs1), get(x, rs2))),
-        Mulhsu { rd, rs1, rs2 } => Put(rd, high_signed_unsigned(get(x, rs1), get(x, rs2))),
-        Mulhu { rd, rs1, rs2 } => Put(rd, high_unsigned(get(x, rs1), get(x, rs2))),
-        Div { rd, rs1, rs2 } => Put(rd, quotient_signed(get(x, rs1), get(x, rs2))),
-        Divu { rd, rs1, rs2 } => Put(rd, quotient_unsigned(get(x, rs1), get(x, rs2))),
-        Rem { rd, rs1, rs2 } => Put(rd, remainder_signed(get(x, rs1), get(x, rs2))),
-        Remu { rd, rs1, rs2 } => Put(rd, remainder_unsigned(get(x, rs1), get(x, rs2))),
-        _ => unreachable!(),
-    }
 }

@@ -1,8 +1,9 @@
 // Laws of products and quotients, and of the states of a run. Each function does nothing; its contract is the law.
-ghost use Rattle.std.specs.Prelude.{ℕ, ◌^◌, ◌<◌, List};
+ghost use Rattle.std.specs.Prelude.{◌≡◌, ℕ, ◌+◌, ◌%◌, ◌^◌, ◌<◌, List, length};
 ghost use Rattle.input_journal.specs.Form.{IsRecorded};
 ghost use Rattle.rv_machine.specs.MachineState.{MachineState, IsMachineState};
 ghost use Rattle.rv_machine.specs.ProductLaws.{AreProducts, AreQuotients};
+ghost use Rattle.rv_machine.specs.Output.{outputs};
 ghost use Rattle.rv_machine.specs.States.{state_number};
 ghost use Rattle.rv_machine.specs.StepChanges.{IsStep};
 ghost use Rattle.rv_machine.specs.StepTable.{next, register_changed, written};
@@ -29,4 +30,10 @@ pub fn runs_stay_in_machine_states()
 /// unmaps nothing, and writes at most four bytes beside those that it reads of the recorded input.
 pub fn steps_change_what_they_name()
     ensures { (s : MachineState) (journal : List (List ℕ)) → IsStep s (next s journal) (register_changed s) (written s journal) journal }
+{}
+
+/// A run counts the bytes that it writes, modulo 2 ^ 64.
+pub fn runs_count_their_output()
+    ensures { (first : MachineState) (journal : List (List ℕ)) (n : ℕ) → first.written < 2 ^ 64 →
+        (state_number first journal n).written ≡ (first.written + length (outputs first journal n)) % 2 ^ 64 }
 {}

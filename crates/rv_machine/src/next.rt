@@ -1,26 +1,31 @@
 // What the next step of a state does, and what it may change.
-ghost use Rattle.std.specs.Prelude.{◌≡◌, ◌<◌, cond, [], is_some, Some, None, IfSome};
-ghost use Rattle.std.specs.Option.{option_map_or};
-ghost use Rattle.rv_pages.specs.Memory.{number_at};
+ghost use Rattle.std.specs.Prelude.{◌≡◌, ◌<◌, cond, if◌then◌else◌, [], Some, None, IfSome};
+ghost use Rattle.rv_pages.specs.Memory.{bytes_at, page_numbers};
 ghost use Rattle.rv_machine.specs.Effects.{bytes_of, NamesRegister};
 ghost use Rattle.rv_machine.specs.StateChanges.{addresses};
-ghost use Rattle.rv_machine.specs.StepTable.{effect_at_pc, register_of, register_changed, written_by, written};
+ghost use Rattle.rv_machine.specs.StepTable.{effect_at_pc, is_running, register_of, register_changed, written_by, written};
+ghost use Rattle.rv_machine.specs.SystemCalls.{are_mapped};
+ghost use Rattle.rv_machine.specs.Output.{output};
+ghost use Rattle.rv_machine.specs.CodePage.{IsFound};
 ghost use Rattle.rv_machine.specs.Watching.{IsNext};
 
-use crate::calls::{ANSWER, part_written};
+use crate::calls::{ANSWER, span_read, span_sent};
+use crate::code_page::CodePage;
 use crate::effect::Effect::{self, Call, Jump, Load, Put, Store};
 use crate::effect::Width::{self, Byte, Half, Word};
 use crate::effect::effect_of;
+use crate::memo::Memo;
+use crate::span::Span;
 use crate::state::State;
 use crate::status::Status;
 use input_journal::Journal;
-use rv_decode::decode;
+use rv_decode::{Inst, decode};
 
-/// What the next step of a state does: the effect of an instruction. There is none where the state is stopped, or the step
-/// traps for want of one.
+/// What the next step of a state does: an instruction. There is none where the state is stopped, or the step traps for want of
+/// one.
 #[derive(Clone, Copy)]
 pub struct Next {
-    effect: Option<Effect>,
+    pub(crate) inst: Option<Inst>,
 }
 
 impl Next {
@@ -28,30 +33,68 @@ impl Next {
     pub fn of(state: &State) -> Next
         ensures { IsNext result state.now }
     {
-        if state.status != Status::Running {
-            return Next::none();
-        }
-        match effect_at(state) {
-            Some(effect) => Next::happens(effect),
-            None => Next::none(),
+        let inst = match (state.status, state.pages.load32(state.pc)) {
+            (Status::Running, Some(word)) => decode(word),
+            _ => None,
+        };
+        Next { inst }
+    }
+
+    // The same, from a page that was found and by what was decoded before. It is for loops over steps.
+    #[inline(always)]
+    pub(crate) fn by(state: &State, code: &mut CodePage, memo: &mut Memo) -> Next
+        requires { IsFound (page_numbers state.now.memory) code.old }
+        ensures next { IsNext result state.now }
+        ensures found { IsFound (page_numbers state.now.memory) code.new }
+    {
+        let Status::Running = state.status else {
+            return Next { inst: None };
+        };
+        match code.fetch(&state.pages, state.pc) {
+            Some(word) => Next {
+                inst: memo.decode(state.pc, word),
+            },
+            None => Next { inst: None },
         }
     }
 
-    // No effect.
+    // The effect of the step.
     #[inline(always)]
-    pub(crate) fn none() -> Next
-        ensures { result.effect ≡ None }
+    pub(crate) fn effect(&self, state: &State) -> Option<Effect>
+        requires { IsNext self.now state.now }
+        ensures effect { result ≡ cond (is_running state.now.status) (effect_at_pc state.now) None }
+        ensures register { IfSome result NamesRegister }
     {
-        Next { effect: None }
+        match self.inst {
+            Some(inst) => Some(effect_of(inst, state.pc, &state.x)),
+            None => None,
+        }
     }
 
-    // This effect.
+    /// Where the step writes, if all the bytes there are mapped, and else it writes nowhere. It doesn't look whether they are,
+    /// which `changes` does.
     #[inline(always)]
-    pub(crate) fn happens(effect: Effect) -> Next
-        ensures { result.effect ≡ Some effect }
+    pub fn aim(&self, state: &State, journal: &Journal) -> Span
+        requires { IsNext self.now state.now }
+        ensures { written state.now journal.now
+            ≡ (if are_mapped state.now.memory result.at result.count then addresses result.at result.count else []) }
     {
-        Next {
-            effect: Some(effect),
+        match self.effect(state) {
+            Some(Store(at, width, _)) => span_stored(at, width),
+            Some(Call) => span_read(state, journal),
+            _ => Span::NONE,
+        }
+    }
+
+    /// Where the bytes stand that the step writes to the program's output.
+    #[inline(always)]
+    pub fn output(&self, state: &State) -> Span
+        requires { IsNext self.now state.now }
+        ensures { bytes_at state.now.memory result.at result.count ≡ Some (output state.now) }
+    {
+        match self.effect(state) {
+            Some(Call) => span_sent(state),
+            _ => Span::NONE,
         }
     }
 
@@ -63,7 +106,7 @@ impl Next {
         ensures few { result.register < 32 }
         ensures bytes { addresses result.at result.count ≡ written state.now journal.now }
     {
-        match self.effect {
+        match self.effect(state) {
             Some(effect) => changes_by(state, journal, effect),
             None => Changes::none(),
         }
@@ -95,29 +138,19 @@ impl Changes {
         }
     }
 
-    // A register, and so many bytes from an address on, if they are written.
+    // A register, and so many bytes from an address on, if all of them are mapped.
     #[inline(always)]
-    pub(crate) fn of(register: u8, part: Option<(u32, u32)>) -> Changes
+    pub(crate) fn of(register: u8, state: &State, span: Span) -> Changes
         ensures register { result.register ≡ register }
-        ensures bytes { addresses result.at result.count ≡ option_map_or (λ p. addresses p.0 p.1) part [] }
+        ensures bytes { addresses result.at result.count ≡ (if are_mapped state.now.memory span.at span.count then addresses span.at span.count else []) }
     {
-        let (at, count) = part.unwrap_or((0, 0));
+        let all = state.pages.are_mapped(span.at, span.count);
         Changes {
             register,
-            at,
-            count,
+            at: span.at,
+            count: if all { span.count } else { 0 },
         }
     }
-}
-
-// The effect of the word at pc, if it is mapped and an instruction.
-fn effect_at(state: &State) -> Option<Effect>
-    ensures effect { result ≡ effect_at_pc state.now }
-    ensures register { IfSome result NamesRegister }
-{
-    let word = state.pages.load32(state.pc)?;
-    let inst = decode(word)?;
-    Some(effect_of(inst, state.pc, &state.x))
 }
 
 // Which register an effect may change, and which bytes it writes.
@@ -129,23 +162,26 @@ fn changes_by(state: &State, journal: &Journal, effect: Effect) -> Changes
     ensures bytes { addresses result.at result.count ≡ written_by state.now journal.now (Some effect) }
 {
     match effect {
-        Put(rd, _) | Jump(rd, _) | Load(rd, _, _, _) => Changes::of(rd, None),
-        Store(at, width, _) => Changes::of(0, part_stored(state, at, width)),
-        Call => Changes::of(ANSWER, part_written(state, journal)),
+        Put(rd, _) | Jump(rd, _) | Load(rd, _, _, _) => Changes {
+            register: rd,
+            at: 0,
+            count: 0,
+        },
+        Store(at, width, _) => Changes::of(0, state, span_stored(at, width)),
+        Call => Changes::of(ANSWER, state, span_read(state, journal)),
         _ => Changes::none(),
     }
 }
 
-// Where a store writes, and how many bytes, if it does not trap.
+// Where a store writes, if it does not trap.
 #[inline(always)]
-fn part_stored(state: &State, at: u32, width: Width) -> Option<(u32, u32)>
-    ensures { cond (is_some (number_at state.now.memory at (bytes_of width))) (addresses at (bytes_of width)) [] ≡ option_map_or
-        (λ part. addresses part.0 part.1) result [] }
+fn span_stored(at: u32, width: Width) -> Span
+    ensures { result ≡ record { at = at; count = bytes_of width } }
 {
     let count = match width {
         Byte => 1,
         Half => 2,
         Word => 4,
     };
-    state.pages.are_mapped(at, count).then_some((at, count))
+    Span { at, count }
 }

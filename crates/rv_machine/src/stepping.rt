@@ -1,21 +1,23 @@
 // One step of the machine.
-ghost use Rattle.std.specs.Prelude.{◌≡◌, ◌+◌, ◌≤◌, ◌<◌, ◌↔◌, Any, IsTrue, Some};
-ghost use Rattle.rv_pages.specs.Memory.{word_at, page_numbers};
-ghost use Rattle.rv_decode.specs.Rows.{decoded};
+ghost use Rattle.std.specs.Prelude.{◌≡◌, ◌+◌, ◌≤◌, ◌<◌, ◌↔◌, ℕ, Any, IsTrue, List, None, Some, cond, not};
+ghost use Rattle.rv_pages.specs.Memory.{bytes_at, page_numbers};
 ghost use Rattle.rv_machine.specs.StateChanges.{addresses};
 ghost use Rattle.rv_machine.specs.States.{state_number};
-ghost use Rattle.rv_machine.specs.StepTable.{next, said, register_changed, written};
-ghost use Rattle.rv_machine.specs.Watching.{AreNoted, CanNote};
+ghost use Rattle.rv_machine.specs.StepTable.{next, effect_at_pc, is_running, register_changed, written};
+ghost use Rattle.rv_machine.specs.Output.{output};
+ghost use Rattle.rv_machine.specs.Watching.{AreNoted, CanNote, Ends, GoesOn, IsNext};
 
-use crate::effect::effect_of;
+use crate::changes::trap;
+use crate::code_page::CodePage;
 use crate::happening::happen;
+use crate::memo::Memo;
 use crate::next::{Changes, Next};
+use crate::span::Span;
 use crate::state::State;
 use crate::status::Status;
 use crate::steps::Steps;
-use crate::watch::{Nobody, Watch};
+use crate::watch::{Nobody, Stop, Watch};
 use input_journal::Journal;
-use rv_decode::decode;
 use std::sync::ledger::Ledger;
 
 // The causes of traps: the word at pc is not mapped, or is illegal.
@@ -57,64 +59,109 @@ pub fn advance_watched<L: Ledger, W: Watch>(
     ensures noted { AreNoted W.noted state.old journal.now count watch.old watch.new }
 {
     steps.add(count);
-    go_on(state, journal, count, watch);
+    go_on(state, journal, count, &mut steps.memo, watch);
 }
 
 // Goes so many states on. All steps that are watched alike are taken in this loop alone: a compiler puts what a step does
 // in place only where one call of it stands in the whole program, and a call at each step costs a tenth of it.
 #[inline(never)]
-fn go_on<W: Watch>(state: &mut State, journal: &Journal, count: u32, watch: &mut W)
+fn go_on<W: Watch>(state: &mut State, journal: &Journal, count: u32, memo: &mut Memo, watch: &mut W)
     requires { CanNote W.can_note W.noted state.old journal.now count watch.old }
     ensures states { state.new ≡ state_number state.old journal.now count }
     ensures mapped { page_numbers state.new.memory ≡ page_numbers state.old.memory }
     ensures noted { AreNoted W.noted state.old journal.now count watch.old watch.new }
 {
+    let mut code = CodePage::none();
     for _ in 0..count {
-        go_to_next(state, journal, watch);
+        let next = Next::by(state, &mut code, memo);
+        watch.note(state, journal, &next);
+        take(state, journal, next);
     }
 }
 
-// Makes a state the next one, after the watch has looked at the step.
+/// Takes steps until the state is stopped, or `stop` says so of it, and at most so many. It tells how many it took.
+pub fn advance_until<L: Ledger, S: Stop>(
+    state: &mut State,
+    journal: &Journal,
+    count: u32,
+    steps: &mut Steps<L>,
+    stop: &S,
+) -> u32
+    ensures within { result ≤ count }
+    ensures states { state.new ≡ state_number state.old journal.now result }
+    ensures counted { steps.new ≡ steps.old + result }
+    ensures mapped { page_numbers state.new.memory ≡ page_numbers state.old.memory }
+    ensures before { (k : ℕ) → k < result → GoesOn (S.stops stop.now) journal.now (state_number state.old journal.now k) }
+    ensures end { result < count → Ends (S.stops stop.now) journal.now state.new }
+{
+    let taken = go_until(state, journal, count, &mut steps.memo, stop);
+    steps.add(taken);
+    taken
+}
+
+// Goes so many states on, or until the run is to be stopped.
+#[inline(never)]
+fn go_until<S: Stop>(
+    state: &mut State,
+    journal: &Journal,
+    count: u32,
+    memo: &mut Memo,
+    stop: &S,
+) -> u32
+    ensures within { result ≤ count }
+    ensures states { state.new ≡ state_number state.old journal.now result }
+    ensures mapped { page_numbers state.new.memory ≡ page_numbers state.old.memory }
+    ensures before { (k : ℕ) → k < result → GoesOn (S.stops stop.now) journal.now (state_number state.old journal.now k) }
+    ensures end { result < count → Ends (S.stops stop.now) journal.now state.new }
+{
+    let mut code = CodePage::none();
+    for done in 0..count {
+        let next = Next::by(state, &mut code, memo);
+        if is_stopped(state) || stop.stops(state, journal, &next) {
+            return done;
+        }
+        take(state, journal, next);
+    }
+    count
+}
+
+// Whether a state doesn't run.
 #[inline(always)]
-fn go_to_next<W: Watch>(state: &mut State, journal: &Journal, watch: &mut W)
-    requires { W.can_note watch.old state.old journal.now }
+fn is_stopped(state: &State) -> bool
+    ensures { not result ≡ is_running state.now.status }
+{
+    match state.status {
+        Status::Running => false,
+        _ => true,
+    }
+}
+
+// Takes the next step of a state, which is known.
+#[inline(always)]
+fn take(state: &mut State, journal: &Journal, step: Next)
+    requires { IsNext step state.old }
     ensures next { state.new ≡ next state.old journal.now }
     ensures mapped { page_numbers state.new.memory ≡ page_numbers state.old.memory }
-    ensures noted { W.noted watch.old state.old journal.now watch.new }
 {
-    let Status::Running = state.status else {
-        watch.note(state, journal, &Next::none());
-        return;
-    };
-    match state.pages.load32(state.pc) {
-        Some(word) => execute(state, journal, word, watch),
-        None => {
-            watch.note(state, journal, &Next::none());
-            state.status = Status::Trapped(UNMAPPED);
-        }
+    match step.effect(state) {
+        Some(effect) => happen(state, journal, effect),
+        None => take_without_effect(state),
     }
 }
 
-// What the word at pc does, with the recorded input, after the watch has looked at the step.
-#[inline(always)]
-fn execute<W: Watch>(state: &mut State, journal: &Journal, word: u32, watch: &mut W)
-    requires word { word_at state.old.memory state.old.pc ≡ Some word }
-    requires runs { state.old.status ≡ Status.Running }
-    requires can { W.can_note watch.old state.old journal.now }
-    ensures state { state.new ≡ said state.old journal.now (decoded word) }
+// Takes a step that has no effect: a stopped state stays as it is, and in another the word at pc is not mapped, or is illegal.
+#[inline(never)]
+fn take_without_effect(state: &mut State)
+    requires { cond (is_running state.old.status) (effect_at_pc state.old) None ≡ None }
+    ensures next { (journal : List (List ℕ)) → state.new ≡ next state.old journal }
     ensures mapped { page_numbers state.new.memory ≡ page_numbers state.old.memory }
-    ensures noted { W.noted watch.old state.old journal.now watch.new }
 {
-    match decode(word) {
-        Some(inst) => {
-            let effect = effect_of(inst, state.pc, &state.x);
-            watch.note(state, journal, &Next::happens(effect));
-            happen(state, journal, effect);
-        }
-        None => {
-            watch.note(state, journal, &Next::none());
-            state.status = Status::Trapped(ILLEGAL);
-        }
+    if is_stopped(state) {
+        return;
+    }
+    match state.pages.load32(state.pc) {
+        Some(_) => trap(state, ILLEGAL),
+        None => trap(state, UNMAPPED),
     }
 }
 
@@ -135,6 +182,14 @@ pub fn next_changes(state: &State, journal: &Journal) -> Changes
     ensures bytes { addresses result.at result.count ≡ written state.now journal.now }
 {
     Next::of(state).changes(state, journal)
+}
+
+/// Where the bytes stand that the next step writes to the program's output: they are mapped there, one after the other. There
+/// are none, if it writes nothing.
+pub fn next_output(state: &State) -> Span
+    ensures { bytes_at state.now.memory result.at result.count ≡ Some (output state.now) }
+{
+    Next::of(state).output(state)
 }
 
 // Whether one of so many addresses from `at` on, modulo 2 ^ 32, is one of the four from `word` on: the first of the four

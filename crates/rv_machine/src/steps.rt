@@ -1,14 +1,18 @@
 // A count of the steps of all machines that share it.
 ghost use Rattle.std.specs.Prelude.{◌≡◌, ◌+◌, ◌<◌};
 
+use crate::memo::Memo;
 use std::marker::Model;
 use std::sync::ledger::{Blank, Book, Ledger, Share};
 
-/// How many steps were taken. It takes no memory, and only `step` and `advance` change it.
+/// How many steps were taken. It takes no memory, and only what takes steps changes it. Beside the count, which is in no code, it
+/// keeps what was decoded last, so that it has some 12 KB.
 #[derive(Drop)]
 pub struct Steps<L: Ledger> {
     book: Book<L>,
     share: Share<L>,
+    // What the machines decoded.
+    pub(crate) memo: Memo,
 }
 
 impl<L: Ledger> Model for Steps<L> {
@@ -30,7 +34,11 @@ impl<L: Ledger> Steps<L> {
         ensures { result ≡ 0 }
     {
         let (book, share) = blank.open::<L>();
-        Steps { book, share }
+        Steps {
+            book,
+            share,
+            memo: Memo::new(),
+        }
     }
 
     pub(crate) fn add(&mut self, count: u32)

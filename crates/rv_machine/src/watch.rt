@@ -1,5 +1,5 @@
 // What looks at the steps of a machine.
-ghost use Rattle.std.specs.Prelude.{ℕ, List};
+ghost use Rattle.std.specs.Prelude.{◌≡◌, ℕ, Bool, List};
 ghost use Rattle.rv_machine.specs.MachineState.{MachineState};
 ghost use Rattle.rv_machine.specs.Watching.{IsNext};
 
@@ -19,6 +19,17 @@ pub trait Watch {
         requires can { can_note self.old state.now journal.now }
         requires next { IsNext next.now state.now }
         ensures { noted self.old state.now journal.now self.new };
+}
+
+/// Says in which states a run is to be stopped, of those that run. It looks at each before its step is taken.
+pub trait Stop {
+    /// Whether a run with this recorded input is to be stopped in a state.
+    ghost stops: { Self → MachineState → List (List ℕ) → Bool };
+
+    /// Whether the run is to be stopped in this state.
+    fn stops(&self, state: &State, journal: &Journal, next: &Next) -> bool
+        requires { IsNext next.now state.now }
+        ensures { result ≡ stops self.now state.now journal.now };
 }
 
 // Looks at nothing.

@@ -129,6 +129,23 @@ impl Pages {
         Some(u32::from_le_bytes(word))
     }
 
+    /// The word at an address that is aligned to words, in the page with this index. It doesn't look for the page.
+    #[inline(always)]
+    pub fn load32_in(&self, index: u32, at: u32) -> u32
+        requires page { IsPlaceOf (page_numbers self.now) (at / 4096) (Some index) }
+        requires aligned { at % 4 ≡ 0 }
+        ensures { word_at self.now at ≡ Some result }
+    {
+        let start = index as usize * PAGE + (at % SIZE) as usize;
+        let word = [
+            self.bytes[start],
+            self.bytes[start + 1],
+            self.bytes[start + 2],
+            self.bytes[start + 3],
+        ];
+        u32::from_le_bytes(word)
+    }
+
     // A half and a word that lie in two pages.
     #[inline(never)]
     fn split_half(&self, at: u32) -> Option<u16>

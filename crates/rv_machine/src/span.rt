@@ -1,0 +1,15 @@
+// Runs of addresses.
+
+/// So many addresses from one on, one after the other, modulo 2 ^ 32.
+#[derive(Clone, Copy, Debug, PartialEq, Eq)]
+pub struct Span {
+    /// The first address.
+    pub at: u32,
+    /// How many there are.
+    pub count: u32,
+}
+
+impl Span {
+    // No address.
+    pub(crate) const NONE: Span = Span { at: 0, count: 0 };
+}
