@@ -1,0 +1,9 @@
+pub mod Numbers
+pub mod Immediates
+pub mod Computing
+pub mod Bitwise
+pub mod Accessing
+pub mod Stepping
+pub mod Agreement
+pub mod Rows
+pub mod Whole
