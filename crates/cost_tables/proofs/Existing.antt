@@ -1,9 +1,9 @@
 -- There are greatest tables, in whole rows.
-use Rattle.std.proofs.Common.{◌≡◌, ℕ, zero, suc, ◌+◌, ◌-◌, ◌*◌, ◌<◌, ◌≤◌, List, [], map, length, get_or, slice_index_or, refl, sym, ap, ◌∙◌, subst, arith}
+use Rattle.std.proofs.Common.{◌≡◌, ℕ, suc, ◌+◌, ◌-◌, ◌*◌, ◌<◌, ◌≤◌, List, [], map, length, get_or, slice_index_or, refl, sym, ap, ◌∙◌, subst, arith}
 use Rattle.std.specs.List.{range_with_len}
 use Rattle.std.proofs.lemmas.List.FromFn.{length-map-range_with_len, get_or-map-range_with_len}
 use Rattle.level_book.specs.declared.book.Slots.TheVariants.{Count}
-use Rattle.level_book.specs.BookCosts.{BookCosts, slots_of, room, IsWithinLimits}
+use Rattle.level_book.specs.BookCosts.{BookCosts, slots_of, room}
 use Rattle.level_book.specs.UnderTable.{Entry, number, Tables, IsAtMost, IsUnderTable, IsGreatest, sum_of, write_cost, read_cost}
 use Rattle.cost_tables.specs.TableRows.{TableRows, AreFor, tables_in, entry_at}
 use Rattle.cost_tables.specs.Shapes.{AreShaped}

@@ -1,5 +1,6 @@
 // The rows of one level's tables.
-ghost use Rattle.std.specs.Prelude.{◌≡◌, ℕ, suc, ◌+◌, ◌-◌, ◌*◌, ◌^◌, ◌<◌, ◌≤◌, min, length, All, IfOk, OnOk, slice_index, slice_index_or};
+ghost use Rattle.std.specs.Prelude.{◌≡◌, ℕ, suc, ◌+◌, ◌-◌, ◌*◌, ◌/◌, ◌^◌, ◌<◌, ◌≤◌, min, length, All, IfOk, OnOk, slice_index, slice_index_or};
+ghost use Rattle.cost_tables.specs.declared.rows.TheConstants.{MOST_ROWS, FILLED_ROWS};
 ghost use Rattle.cost_tables.specs.Entries.{fresh_in, held_in, least_after};
 ghost use Rattle.cost_tables.specs.Rows.{split_in, partial_in, cut_of, IsRow, IsNextRow, IsMore, IsPiece, AreRows, AreStarted, AreFew, IsMostlyStarted};
 
@@ -183,8 +184,8 @@ fn push_rows(
 // How many of the rows that are still to come are shared next.
 fn shared_rows(filled: usize, left: usize) -> usize
     requires { 1 ≤ left }
+    ensures number { result ≡ min (min (filled / FILLED_ROWS + 1) MOST_ROWS) left }
     ensures some { 1 ≤ result }
-    ensures within { result ≤ left }
     ensures share { AreFew filled result }
 {
     (filled / FILLED_ROWS + 1).min(MOST_ROWS).min(left)

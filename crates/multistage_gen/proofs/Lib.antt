@@ -1,3 +1,4 @@
+pub mod Ascending
 pub mod Counts
 pub mod Named
 pub mod Weighed

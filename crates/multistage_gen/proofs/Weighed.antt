@@ -52,18 +52,18 @@ count_within xs i x within is =
 -- ---- what holds of each
 
 module _ (P : Stretches → Type 0) where
-  all_insert : (xs : List Stretches) (i : ℕ) (y : Stretches) → AllByRecursion P xs → P y → AllByRecursion P (insert xs i y)
+  pub all_insert : (xs : List Stretches) (i : ℕ) (y : Stretches) → AllByRecursion P xs → P y → AllByRecursion P (insert xs i y)
   all_insert [] zero y all is = (is, tt)
   all_insert [] (suc i) y all is = (is, tt)
   all_insert (x ∷ xs) zero y all is = (is, all)
   all_insert (x ∷ xs) (suc i) y all is = (all.0, all_insert xs i y all.1 is)
 
-  all_put : (xs : List Stretches) (i : ℕ) (y : Stretches) → AllByRecursion P xs → P y → AllByRecursion P (put xs i y)
+  pub all_put : (xs : List Stretches) (i : ℕ) (y : Stretches) → AllByRecursion P xs → P y → AllByRecursion P (put xs i y)
   all_put [] i y all is = tt
   all_put (x ∷ xs) zero y all is = (is, all.1)
   all_put (x ∷ xs) (suc i) y all is = (all.0, all_put xs i y all.1 is)
 
-  all_front : (xs ys : List Stretches) → AllByRecursion P (xs ++ ys) → AllByRecursion P xs
+  pub all_front : (xs ys : List Stretches) → AllByRecursion P (xs ++ ys) → AllByRecursion P xs
   all_front [] ys all = tt
   all_front (x ∷ xs) ys all = (all.0, all_front xs ys all.1)
 
@@ -71,7 +71,7 @@ module _ (P : Stretches → Type 0) where
   all_back [] ys all = all
   all_back (x ∷ xs) ys all = all_back xs ys all.1
 
-  all_get : (xs : List Stretches) (i : ℕ) (d : Stretches) → i < length xs → AllByRecursion P xs → P (get_or xs i d)
+  pub all_get : (xs : List Stretches) (i : ℕ) (d : Stretches) → i < length xs → AllByRecursion P xs → P (get_or xs i d)
   all_get [] i d h all = absurd (omega (arith, h))
   all_get (x ∷ xs) zero d h all = all.0
   all_get (x ∷ xs) (suc i) d h all = all_get xs i d (omega (arith, h)) all.1

@@ -1,6 +1,6 @@
 -- No public clause cites this file. The traffic of the places of a list of Revolve, by the numbers of its stretches: a stretch of l
 -- steps that has c slots is begun on place p with a write there, and held there until its last read.
-use Rattle.std.specs.Prelude.{◌≡◌, ℕ, zero, suc, ◌+◌, ◌-◌, ◌*◌, ◌<◌, ◌≤◌, ◌==◌, cond, nat_le, List, length, slice_index_or}
+use Rattle.std.specs.Prelude.{◌≡◌, ℕ, zero, suc, ◌+◌, ◌-◌, ◌*◌, ◌<◌, ◌≤◌, ◌==◌, cond, nat_le, List, [], ◌∷◌, length, slice_index_or}
 use Rattle.std.specs.List.{sum_by, AllByRecursion}
 use Rattle.binomials.specs.Advances.{split}
 use Rattle.binomials.specs.Laws.{IsStretch}
@@ -50,6 +50,11 @@ pub record IsOf (least c : ℕ) (s : Stretches) : Type 0 where
 
 abbrev pub AreOf : ℕ → ℕ → List Stretches → Type 0
 AreOf least c stretches = AllByRecursion (IsOf least c) stretches
+
+-- each has more steps than all before it, so no two have as many
+abbrev pub AreAscending : List Stretches → Type 0
+AreAscending [] = Unit {0}
+AreAscending (s ∷ rest) = AllByRecursion (λ t. s.steps < t.steps) rest × AreAscending rest
 
 -- the traffic of a place on which these stretches are begun with c slots, and the stretches that are begun above it
 pub record IsCountedOn (c : ℕ) (begun : List Stretches) (t : PlaceTraffic) (above : List Stretches) : Type 0 where

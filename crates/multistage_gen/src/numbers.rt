@@ -1,11 +1,12 @@
 // The traffic of the places of a list of Revolve, by the numbers of its stretches, without the list.
-ghost use Rattle.std.specs.Prelude.{◌≡◌, ℕ, ◌+◌, ◌*◌, ◌≤◌, [], length, IfOk, OnOk};
+ghost use Rattle.std.specs.Prelude.{◌≡◌, ℕ, ◌+◌, ◌*◌, ◌<◌, ◌≤◌, [], length, take, drop, IfOk, OnOk};
+ghost use Rattle.std.specs.List.{AllByRecursion};
 ghost use Rattle.plan_types.specs.declared.limits.TheConstants.{MOST_STEPS};
 ghost use Rattle.revolve_gen.specs.Plans.{HasPlan};
 ghost use Rattle.revolve_gen.specs.Stack.{written, read};
 ghost use Rattle.revolve_gen.specs.Written.{revolve};
 ghost use Rattle.multistage_gen.specs.Traffic.{IsTraffic};
-ghost use Rattle.multistage_gen.specs.Numbers.{weigh, steps_of, count_of, IsOf, AreOf, IsCountedOn, AreCounted};
+ghost use Rattle.multistage_gen.specs.Numbers.{weigh, steps_of, count_of, IsOf, AreOf, IsCountedOn, AreCounted, AreAscending};
 
 use crate::traffic::PlaceTraffic;
 use binomials::split;
@@ -45,7 +46,8 @@ pub(crate) fn revolve_places(
 // The stretch of all steps, where there are two or more.
 fn whole(alloc: Global, steps: u32) -> Result<Vec<Stretches>, AllocError>
     requires { steps ≤ MOST_STEPS }
-    ensures { IfOk result (λ stretches. (slots : ℕ) → HasPlan steps slots → AreCounted steps slots slots [] stretches.items) }
+    ensures counted { IfOk result (λ stretches. (slots : ℕ) → HasPlan steps slots → AreCounted steps slots slots [] stretches.items) }
+    ensures ascending { IfOk result (λ stretches. AreAscending stretches.items) }
 {
     let mut stretches = Vec::new(alloc);
     if steps > 1 {
@@ -64,7 +66,9 @@ fn count_place(
 ) -> Result<(PlaceTraffic, Vec<Stretches>), AllocError>
     requires begun { AreOf 2 free stretches.items }
     requires short { steps_of stretches.items ≤ MOST_STEPS }
-    ensures { IfOk result (λ r. IsCountedOn free stretches.items r.0 r.1.items) }
+    requires ascending { AreAscending stretches.items }
+    ensures counted { IfOk result (λ r. IsCountedOn free stretches.items r.0 r.1.items) }
+    ensures ascending { IfOk result (λ r. AreAscending r.1.items) }
 {
     let writes = count_of(&stretches);
     let mut visits = 0;
@@ -96,10 +100,12 @@ fn count_of(stretches: &[Stretches]) -> u64
 // Begins so many stretches of so many steps. One step alone is not begun on a place.
 fn begin_above(above: &mut Vec<Stretches>, steps: u32, count: u32) -> Result<(), AllocError>
     requires few { count_of above.old.items + count ≤ MOST_STEPS }
+    requires ascending { AreAscending above.old.items }
     ensures weighed { OnOk result ((weight : ℕ → ℕ) → weight 1 ≡ 0 → 1 ≤ steps →
         weigh weight above.new.items ≡ weigh weight above.old.items + count * weight steps) }
     ensures short { OnOk result (steps_of above.new.items ≤ steps_of above.old.items + count * steps) }
     ensures all { OnOk result ((c : ℕ) → AreOf 2 c above.old.items → IsOf 1 c (record { steps = steps; count = count }) → AreOf 2 c above.new.items) }
+    ensures ascending { OnOk result (AreAscending above.new.items) }
 {
     if steps > 1 {
         add(above, steps, count)?;
@@ -107,12 +113,14 @@ fn begin_above(above: &mut Vec<Stretches>, steps: u32, count: u32) -> Result<(),
     Ok(())
 }
 
-// Adds so many stretches of so many steps to some that are sorted by their steps.
+// Adds so many stretches of so many steps to some that are sorted by their steps. Those of as many steps are counted together.
 fn add(stretches: &mut Vec<Stretches>, steps: u32, count: u32) -> Result<(), AllocError>
     requires few { count_of stretches.old.items + count ≤ MOST_STEPS }
+    requires ascending { AreAscending stretches.old.items }
     ensures weighed { OnOk result ((weight : ℕ → ℕ) → weigh weight stretches.new.items ≡ weigh weight stretches.old.items + count * weight steps) }
     ensures all { OnOk result ((least c : ℕ) → AreOf least c stretches.old.items → IsOf least c (record { steps = steps; count = count }) →
         AreOf least c stretches.new.items) }
+    ensures ascending { OnOk result (AreAscending stretches.new.items) }
 {
     let behind = first_above(stretches, steps);
     if behind > 0 && stretches[behind - 1].steps == steps {
@@ -123,9 +131,12 @@ fn add(stretches: &mut Vec<Stretches>, steps: u32, count: u32) -> Result<(), All
     Ok(())
 }
 
-// The index of the first that have more steps, where these are sorted.
+// The index of the first that have more steps.
 fn first_above(stretches: &[Stretches], steps: u32) -> usize
-    ensures { result ≤ length stretches.now }
+    requires { AreAscending stretches.now }
+    ensures within { result ≤ length stretches.now }
+    ensures before { AllByRecursion (λ s. s.steps ≤ steps) (take result stretches.now) }
+    ensures behind { AllByRecursion (λ s. steps < s.steps) (drop result stretches.now) }
 {
     let mut index = stretches.len();
     while index > 0 && stretches[index - 1].steps > steps {

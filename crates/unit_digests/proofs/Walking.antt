@@ -9,7 +9,8 @@ use Rattle.unit_undo.specs.Entry.{Entry, undone}
 use Rattle.unit_undo.specs.Leading.{led_back}
 use Rattle.unit_undo.proofs.Leading.{walked_states}
 use Rattle.unit_digests.specs.declared.sharing.Taken.{Taken}
-use Rattle.unit_digests.specs.Digests.{AreDigests, IsTaken}
+use Rattle.unit_digests.specs.Digests.{AreDigests}
+use Rattle.unit_digests.specs.Dealing.{IsTaken}
 
 -- The state was one of these, and those to which the entries lead back are behind it. So it is after one step more.
 pub passed_more : (all front : List MachineState) (old new : List Entry) (e : Entry) (s t : MachineState) → all ≡ front ++ s ∷ led_back old s → old ≡ e ∷ new → t ≡ undone e s →

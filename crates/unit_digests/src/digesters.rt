@@ -1,16 +1,19 @@
 // Workers that take digests.
-ghost use Rattle.std.specs.Prelude.{◌≡◌, ◌≤◌, IfOk};
+ghost use Rattle.std.specs.Prelude.{◌≡◌, ◌⊎◌, ℕ, ◌+◌, ◌*◌, ◌≤◌, ◌<◌, IfOk, length};
 ghost use Rattle.std.specs.Vec.{vec_capacity};
 ghost use Rattle.std.specs.List.{AllByRecursion};
+ghost use Rattle.rv_pages.specs.Memory.{page_numbers};
 ghost use Rattle.unit_undo.specs.Leading.{LeadsBack, led_back};
-ghost use Rattle.unit_digests.specs.Digests.{states_of, AreDigests, HasPages};
+ghost use Rattle.unit_digests.specs.declared.digesters.TheConstants.{STATE_BYTES};
+ghost use Rattle.unit_digests.specs.Digests.{states_of, AreDigests, IsKnown, HasPages};
 
-use crate::sharing::{Digester, least_unknown, make_room, put_digests, take_digests};
+use crate::sharing::{Deal, Digester, least_unknown, make_room, put_digests, take_digests};
+use plan_types::{Gate, NoGate};
 use rv_machine::State;
 use state_image::max_image;
 use std::alloc::{AllocError, Global};
 use std::marker::Model;
-use std::sync::atomic::AtomicUsize;
+use std::mem;
 use std::thread::Threads;
 use unit_undo::Undo;
 
@@ -28,9 +31,11 @@ impl Model for Digesters {
 
     ghost Value = { List (List ℕ) };
 
-    ghost use Rattle.unit_digests.specs.Digests.{pages_mapped};
+    ghost use Rattle.unit_digests.specs.Dealing.{pages_mapped, IsTeam};
 
     ghost view = { pages_mapped };
+
+    ghost invariant = { IsTeam };
 }
 
 impl Digesters {
@@ -42,22 +47,23 @@ impl Digesters {
         unit: u32,
         workers: u32,
     ) -> Result<Digesters, AllocError>
-        ensures { IfOk result (λ digesters. AllByRecursion (HasPages start.now) digesters) }
+        ensures pages { IfOk result (λ digesters. AllByRecursion (HasPages start.now) digesters) }
+        ensures few { IfOk result (λ digesters. length digesters ≤ workers) }
+        ensures bytes { IfOk result (λ digesters. length digesters * (164 + 4100 * length (page_numbers start.now.memory)) ≤ STATE_BYTES) }
+        ensures none { (unit ≤ 1) ⊎ (workers ≤ 1) → IfOk result (λ digesters. length digesters ≡ 0) }
+        ensures most { 2 ≤ unit → 2 ≤ workers → IfOk result (λ digesters. (n : ℕ) → n ≤ workers →
+            n * (164 + 4100 * length (page_numbers start.now.memory)) ≤ STATE_BYTES → n ≤ length digesters) }
     {
-        let fitting = STATE_BYTES / max_image(start);
-        let count = match unit > 1 && workers > 1 {
-            true => workers.min(fitting),
-            false => 0,
-        };
+        let count = digester_count(start, unit, workers);
         let mut all = Vec::with_capacity(alloc, count as usize)?;
         for _ in 0..count {
-            all.push(Digester::begin(alloc, start, unit, count)?)?;
+            all.push(Digester::begin(alloc, start, count)?)?;
         }
         Ok(Digesters { all })
     }
 
     /// Takes the digests of the states that an undo list leads back over from the state after them, as far as there is room for
-    /// them and none is known. Where a thread can't be made, the others take its part.
+    /// them. Where a thread can't be made, the caller takes its part.
     pub fn digest<R: Threads + Sync>(
         &mut self,
         rt: &R,
@@ -69,16 +75,61 @@ impl Digesters {
         requires pages { AllByRecursion (HasPages after.now) self.old }
         requires known { AreDigests known.old.items (states_of undo.now.entries after.now) }
         ensures known { AreDigests known.new.items (states_of undo.now.entries after.now) }
+        ensures still { (n : ℕ) → IsKnown known.old.items n → IsKnown known.new.items n }
+        ensures all { 1 ≤ length self.old → (n : ℕ) → n < length undo.now.entries → n < vec_capacity known.old → IsKnown known.new.items n }
+        ensures pages { self.new ≡ self.old }
+        ensures reserved { vec_capacity known.old ≤ vec_capacity known.new }
+    {
+        self.digest_with(rt, &NoGate, after, undo, known);
+    }
+
+    /// The same, where each worker passes a gate before each digest, with its number counted from 0.
+    pub fn digest_with<R: Threads + Sync, G: Gate + Sync>(
+        &mut self,
+        rt: &R,
+        gate: &G,
+        after: &State,
+        undo: &Undo,
+        known: &mut Vec<Option<[u8; 32]>>,
+    )
+        requires back { LeadsBack undo.now.entries after.now (led_back undo.now.entries after.now) }
+        requires pages { AllByRecursion (HasPages after.now) self.old }
+        requires known { AreDigests known.old.items (states_of undo.now.entries after.now) }
+        ensures known { AreDigests known.new.items (states_of undo.now.entries after.now) }
+        ensures still { (n : ℕ) → IsKnown known.old.items n → IsKnown known.new.items n }
+        ensures all { 1 ≤ length self.old → (n : ℕ) → n < length undo.now.entries → n < vec_capacity known.old → IsKnown known.new.items n }
         ensures pages { self.new ≡ self.old }
         ensures reserved { vec_capacity known.old ≤ vec_capacity known.new }
     {
         if self.all.is_empty() {
             return;
         }
+        undo.is_short();
         let count = undo.count();
         make_room(count, known);
-        let least = least_unknown(known.as_slice());
-        take_digests(rt, after, undo, least, &AtomicUsize::new(0), &mut self.all);
+        let deal = Deal {
+            least: least_unknown(known.as_slice()),
+            end: known.len().min(count as usize) as u32,
+            workers: self.all.len() as u32,
+        };
+        let none = Vec::new(*self.all.allocator());
+        let digesters = mem::replace(&mut self.all, none);
+        self.all = take_digests(rt, gate, after, undo, deal, digesters);
         put_digests(&self.all, known);
+    }
+}
+
+// How many workers there are.
+fn digester_count(start: &State, unit: u32, workers: u32) -> u32
+    ensures few { result ≤ workers }
+    ensures bytes { result * (164 + 4100 * length (page_numbers start.now.memory)) ≤ STATE_BYTES }
+    ensures none { (unit ≤ 1) ⊎ (workers ≤ 1) → result ≡ 0 }
+    ensures most { 2 ≤ unit → 2 ≤ workers → (n : ℕ) → n ≤ workers →
+        n * (164 + 4100 * length (page_numbers start.now.memory)) ≤ STATE_BYTES → n ≤ result }
+{
+    if unit > 1 && workers > 1 {
+        workers.min(STATE_BYTES / max_image(start))
+    } else {
+        0
     }
 }

@@ -1,27 +1,38 @@
-// The digests of a unit's states, taken side by side. A worker takes that of the next state that none has begun, so one that starts
-// late or is held up takes fewer.
-ghost use Rattle.std.specs.Prelude.{◌≡◌, ◌≤◌, ◌<◌, ◌∷◌, ◌++◌, List, IfOk, length, map};
-ghost use Rattle.std.specs.Vec.{vec_capacity};
+// The digests of a unit's states, taken side by side. The states are dealt out beforehand, and each worker is handed over to its
+// thread and comes back with its digests, so that no worker sees what another one changes.
+ghost use Rattle.std.specs.Prelude.{◌≡◌, ℕ, ◌+◌, ◌*◌, min, ◌≤◌, ◌<◌, [], ◌∷◌, ◌++◌, List, Some, IfOk, length, map, slice_get};
+ghost use Rattle.std.specs.Vec.{vec_len, vec_capacity};
 ghost use Rattle.std.specs.List.{AllByRecursion};
 ghost use denote.Param.Send.{IsSync};
 ghost use Rattle.rv_pages.specs.Memory.{page_numbers};
 ghost use Rattle.rv_machine.specs.MachineState.{MachineState};
+ghost use Rattle.unit_undo.specs.declared.undo.TheConstants.{MOST_ENTRIES};
 ghost use Rattle.unit_undo.specs.Leading.{LeadsBack, led_back};
-ghost use Rattle.unit_digests.specs.Digests.{states_of, mapped, AreDigests, IsTaken, HasTaken, HasPages};
+ghost use Rattle.unit_digests.specs.Digests.{states_of, AreDigests, IsKnown, HasPages};
+ghost use Rattle.unit_digests.specs.Dealing.{mapped, IsTaken, HasTaken, HasShare, HasRoom, part_of, IsDealtOut};
 
+use plan_types::Gate;
 use rv_machine::State;
 use state_image::image_digest;
 use std::alloc::{AllocError, Global};
-use std::sync::atomic::{AtomicUsize, Ordering};
 use std::thread;
 use std::thread::Threads;
-use unit_undo::{Undo, UndoWalk};
+use unit_undo::{MOST_ENTRIES, Undo, UndoWalk};
 
 /// A digest that a worker took, and the number of its state.
 #[derive(Clone, Copy, Drop)]
 pub(crate) struct Taken {
     pub number: u32,
     pub digest: [u8; 32],
+}
+
+/// Which states are dealt out, those with the numbers from `least` on and below `end`, and to how many workers. From the last of
+/// them back each worker has its turn after the one before it.
+#[derive(Clone, Copy)]
+pub(crate) struct Deal {
+    pub least: u32,
+    pub end: u32,
+    pub workers: u32,
 }
 
 /// A worker: a state with which it goes back, and the digests that it took last.
@@ -32,48 +43,55 @@ pub(crate) struct Digester {
 }
 
 impl Digester {
-    /// One of so many workers, with room for twice its part of the digests of a unit.
-    pub(crate) fn begin(
-        alloc: Global,
-        start: &State,
-        unit: u32,
-        workers: u32,
-    ) -> Result<Digester, AllocError>
+    /// One of so many workers, with room for its part of the digests of any unit.
+    pub(crate) fn begin(alloc: Global, start: &State, workers: u32) -> Result<Digester, AllocError>
         requires { 1 ≤ workers }
-        ensures { IfOk result (λ digester. mapped digester ≡ page_numbers start.now.memory) }
+        ensures pages { IfOk result (λ digester. mapped digester ≡ page_numbers start.now.memory) }
+        ensures room { IfOk result (HasRoom (part_of workers)) }
     {
-        let room = 2 * (unit / workers) as usize + 2;
+        let room = (MOST_ENTRIES / workers) as usize + 1;
         Ok(Digester {
             state: start.clone()?,
             taken: Vec::with_capacity(alloc, room)?,
         })
     }
 
-    // Takes digests one after the other, each of the last state that no worker has begun, while there is one with this number or
-    // a higher one, and room for its digest.
-    fn take_each(&mut self, after: &State, undo: &Undo, least: u32, next: &AtomicUsize)
+    // Takes the digests of the states that are dealt to the worker with this number, and goes back from one to the next.
+    fn take_each<G: Gate>(
+        mut self,
+        gate: &G,
+        after: &State,
+        undo: &Undo,
+        deal: Deal,
+        number: u32,
+    ) -> Digester
         requires back { LeadsBack undo.now.entries after.now (led_back undo.now.entries after.now) }
-        requires pages { HasPages after.now (mapped self.old) }
-        ensures taken { HasTaken (states_of undo.now.entries after.now) self.new }
-        ensures pages { mapped self.new ≡ mapped self.old }
+        requires pages { HasPages after.now (mapped self) }
+        requires within { deal.end ≤ length undo.now.entries }
+        requires short { deal.end ≤ MOST_ENTRIES }
+        requires workers { 1 ≤ deal.workers }
+        requires room { HasRoom (part_of deal.workers) self }
+        ensures share { HasShare (states_of undo.now.entries after.now) deal number result }
+        ensures pages { mapped result ≡ mapped self }
+        ensures reserved { vec_capacity self.taken ≤ vec_capacity result.taken }
     {
         self.taken.clear();
         self.state.copy_from(after);
-        let count = undo.count();
         let mut walk = undo.walk();
-        for _ in 0..self.taken.capacity() {
-            let gone = next.fetch_add(1, Ordering::Relaxed);
-            if gone >= count as usize {
-                return;
-            }
-            let number = count - 1 - gone as u32;
-            if number < least || number >= walk.left() {
-                return;
-            }
-            go_back(&mut walk, &mut self.state, number);
+        let mut end = deal.end.saturating_sub(number);
+        while end > deal.least {
+            gate.enter(number);
+            go_back(&mut walk, &mut self.state, end - 1);
             let digest = image_digest(&self.state);
-            self.taken.push(Taken { number, digest }).unwrap();
+            self.taken
+                .push(Taken {
+                    number: end - 1,
+                    digest,
+                })
+                .unwrap();
+            end = end.saturating_sub(deal.workers);
         }
+        self
     }
 }
 
@@ -91,65 +109,80 @@ fn go_back(walk: &mut UndoWalk<'_>, state: &mut State, left: u32)
     }
 }
 
-/// Takes digests by all these workers: each has a thread, but the last, which is the caller. It starts all threads itself, since one
+/// Takes digests by all these workers: each has a thread, but the first, which is the caller. It starts all threads itself, since one
 /// that is to start others may wait for a processor until the caller is done.
 #[cycle(sharing)]
-pub(crate) fn take_digests<R: Threads + Sync>(
+pub(crate) fn take_digests<R: Threads + Sync, G: Gate + Sync>(
     rt: &R,
+    gate: &G,
     after: &State,
     undo: &Undo,
-    least: u32,
-    next: &AtomicUsize,
-    digesters: &mut [Digester],
-)
+    deal: Deal,
+    mut digesters: Vec<Digester>,
+) -> Vec<Digester>
     requires back { LeadsBack undo.now.entries after.now (led_back undo.now.entries after.now) }
-    requires pages { AllByRecursion (HasPages after.now) (map mapped digesters.old) }
-    ensures taken { AllByRecursion (HasTaken (states_of undo.now.entries after.now)) digesters.new }
-    ensures pages { map mapped digesters.new ≡ map mapped digesters.old }
+    requires dealt { IsDealtOut undo.now.entries after.now deal (vec_len digesters) digesters.items }
+    ensures shares { (i : ℕ) (d : _) → slice_get result.items i ≡ Some d → HasShare (states_of undo.now.entries after.now) deal i d }
+    ensures pages { map mapped result.items ≡ map mapped digesters.items }
+    ensures rooms { (room : ℕ) → AllByRecursion (HasRoom room) digesters.items → AllByRecursion (HasRoom room) result.items }
+    ensures reserved { vec_capacity digesters ≤ vec_capacity result }
 {
-    if let Some((digester, others)) = digesters.split_first_mut() {
-        match others.is_empty() {
-            true => digester.take_each(after, undo, least, next),
-            false => take_beside(rt, after, undo, least, next, digester, others),
-        }
+    let Some(last) = digesters.pop() else {
+        return digesters;
+    };
+    if !digesters.is_empty() {
+        return take_beside(rt, gate, after, undo, deal, last, digesters);
     }
+    let last = last.take_each(gate, after, undo, deal, 0);
+    digesters.push(last).unwrap();
+    digesters
 }
 
-// Takes digests by one worker in a thread, and by the others.
+// Takes digests by the last worker in a thread, and by the others.
 #[cycle(sharing)]
-fn take_beside<R: Threads + Sync>(
+fn take_beside<R: Threads + Sync, G: Gate + Sync>(
     rt: &R,
+    gate: &G,
     after: &State,
     undo: &Undo,
-    least: u32,
-    next: &AtomicUsize,
-    digester: &mut Digester,
-    others: &mut [Digester],
-)
+    deal: Deal,
+    last: Digester,
+    others: Vec<Digester>,
+) -> Vec<Digester>
     requires back { LeadsBack undo.now.entries after.now (led_back undo.now.entries after.now) }
-    requires mapped { HasPages after.now (mapped digester.old) }
-    requires pages { AllByRecursion (HasPages after.now) (map mapped others.old) }
-    ensures taken { HasTaken (states_of undo.now.entries after.now) digester.new }
-    ensures mapped { mapped digester.new ≡ mapped digester.old }
-    ensures others { AllByRecursion (HasTaken (states_of undo.now.entries after.now)) others.new }
-    ensures pages { map mapped others.new ≡ map mapped others.old }
+    requires last { IsDealtOut undo.now.entries after.now deal (vec_len others + 1) (last ∷ []) }
+    requires others { IsDealtOut undo.now.entries after.now deal (vec_len others) others.items }
+    requires reserved { vec_len others < vec_capacity others }
+    ensures shares { (i : ℕ) (d : _) → slice_get result.items i ≡ Some d → HasShare (states_of undo.now.entries after.now) deal i d }
+    ensures pages { map mapped result.items ≡ map mapped (others.items ++ last ∷ []) }
+    ensures rooms { (room : ℕ) → AllByRecursion (HasRoom room) (others.items ++ last ∷ []) → AllByRecursion (HasRoom room) result.items }
+    ensures reserved { vec_capacity others ≤ vec_capacity result }
 {
-    let mut first = ||
-        requires { LeadsBack undo.now.entries after.now (led_back undo.now.entries after.now) × HasPages after.now (mapped digester.now) }
-        ensures { HasTaken (states_of undo.entry.now.entries after.entry.now) digester.exit.now × (mapped digester.exit.now ≡ mapped digester.entry.now) }
-    { digester.take_each(after, undo, least, next) };
-    let mut behind = ||
-        requires { IsSync R.row × LeadsBack undo.now.entries after.now (led_back undo.now.entries after.now)
-            × AllByRecursion (HasPages after.now) (map mapped others.now) }
-        ensures { AllByRecursion (HasTaken (states_of undo.entry.now.entries after.entry.now)) others.exit.now
-            × (map mapped others.exit.now ≡ map mapped others.entry.now) }
-    { take_digests(rt, after, undo, least, next, others) };
-    thread::join_mut(rt, &mut first, &mut behind);
+    let number = others.len() as u32;
+    let first = move || -> Digester
+        requires { LeadsBack undo.now.entries after.now (led_back undo.now.entries after.now)
+            × IsDealtOut undo.now.entries after.now deal (number + 1) (last ∷ []) }
+        ensures { HasShare (states_of undo.entry.now.entries after.entry.now) deal number result × (mapped result ≡ mapped last)
+            × (vec_capacity last.taken ≤ vec_capacity result.taken) }
+    { last.take_each(gate, after, undo, deal, number) };
+    let behind = move || -> Vec<Digester>
+        requires { IsSync R.row × IsSync G.row × LeadsBack undo.now.entries after.now (led_back undo.now.entries after.now)
+            × IsDealtOut undo.now.entries after.now deal (vec_len others) others.items }
+        ensures { ((i : ℕ) (d : _) → slice_get result.items i ≡ Some d → HasShare (states_of undo.entry.now.entries after.entry.now) deal i d)
+            × (map mapped result.items ≡ map mapped others.items)
+            × ((room : ℕ) → AllByRecursion (HasRoom room) others.items → AllByRecursion (HasRoom room) result.items)
+            × (vec_capacity others ≤ vec_capacity result) }
+    { take_digests(rt, gate, after, undo, deal, others) };
+    let (last, mut digesters) = thread::join(rt, first, behind);
+    digesters.push(last).unwrap();
+    digesters
 }
 
 /// Makes room for so many digests, of which none is known but those that are there.
 pub(crate) fn make_room(count: u32, known: &mut Vec<Option<[u8; 32]>>)
     ensures known { (states : List MachineState) → AreDigests known.old.items states → AreDigests known.new.items states }
+    ensures still { (n : ℕ) → IsKnown known.old.items n → IsKnown known.new.items n }
+    ensures room { min count (vec_capacity known.old) ≤ vec_len known.new }
     ensures reserved { vec_capacity known.old ≤ vec_capacity known.new }
 {
     for _ in known.len()..known.capacity().min(count as usize) {
@@ -158,7 +191,10 @@ pub(crate) fn make_room(count: u32, known: &mut Vec<Option<[u8; 32]>>)
 }
 
 /// The number of the first state whose digest may be unknown: of a unit only the first state's may be known beforehand.
-pub(crate) fn least_unknown(known: &[Option<[u8; 32]>]) -> u32 {
+pub(crate) fn least_unknown(known: &[Option<[u8; 32]>]) -> u32
+    ensures below { (n : ℕ) → n < result → IsKnown known.now n }
+    ensures first { IsKnown known.now 0 → 1 ≤ result }
+{
     match known.first() {
         Some(Some(_)) => 1,
         _ => 0,
@@ -169,6 +205,10 @@ pub(crate) fn least_unknown(known: &[Option<[u8; 32]>]) -> u32 {
 pub(crate) fn put_digests(digesters: &[Digester], known: &mut Vec<Option<[u8; 32]>>)
     ensures known { (states : List MachineState) → AreDigests known.old.items states → AllByRecursion (HasTaken states) digesters.now →
         AreDigests known.new.items states }
+    ensures still { (n : ℕ) → IsKnown known.old.items n → IsKnown known.new.items n }
+    ensures put { (i k : ℕ) (d : _) (t : _) → slice_get digesters.now i ≡ Some d → slice_get d.taken.items k ≡ Some t →
+        t.number < vec_len known.old → IsKnown known.new.items t.number }
+    ensures len { vec_len known.new ≡ vec_len known.old }
     ensures reserved { vec_capacity known.old ≤ vec_capacity known.new }
 {
     for digester in digesters {
@@ -180,6 +220,9 @@ pub(crate) fn put_digests(digesters: &[Digester], known: &mut Vec<Option<[u8; 32
 fn put_each(taken: &[Taken], known: &mut Vec<Option<[u8; 32]>>)
     ensures known { (states : List MachineState) → AreDigests known.old.items states → AllByRecursion (IsTaken states) taken.now →
         AreDigests known.new.items states }
+    ensures still { (n : ℕ) → IsKnown known.old.items n → IsKnown known.new.items n }
+    ensures put { (k : ℕ) (t : _) → slice_get taken.now k ≡ Some t → t.number < vec_len known.old → IsKnown known.new.items t.number }
+    ensures len { vec_len known.new ≡ vec_len known.old }
     ensures reserved { vec_capacity known.old ≤ vec_capacity known.new }
 {
     for digest in taken {

@@ -1,5 +1,6 @@
-use Rattle.std.proofs.Common.{◌≡◌, [], ◌∷◌, ◌++◌, None, subst, sym, rules}
-use Rattle.unit_digests.specs.Digests.{AreDigests}
+use Rattle.std.proofs.Common.{◌≡◌, [], ◌∷◌, ◌++◌, None, Some, subst, sym, rules}
+use Rattle.unit_digests.specs.Digests.{AreDigests, IsKnown}
+use Rattle.unit_digests.proofs.Dealing.{get_front}
 use Rattle.unit_digests.proofs.Walking.{unknown_comes}
 use Rattle.unit_digests.proofs.sharing.make_room.Goals as goal
 
@@ -10,5 +11,6 @@ loop-preserved c =
       count = search rules;
       room = search rules;
       known = λ states are. subst (λ items. AreDigests items states) (sym pushed) (unknown_comes c.loop.known.items states (c.loop.invariant.known states are));
+      still = λ n is. subst (λ items. IsKnown items n) (sym pushed) (let before = c.loop.invariant.still n is in (before.0, get_front c.loop.known.items (None ∷ []) n (Some before.0) before.1));
       reserved = search rules;
     }

@@ -1,7 +1,13 @@
-use Rattle.std.proofs.Common.{map}
+use Rattle.std.proofs.Common.{◌≡◌, map}
 use Rattle.std.specs.List.{AllByRecursion}
-use Rattle.unit_digests.specs.Digests.{mapped, HasPages}
+use Rattle.std.specs.Vec.{vec_len}
+use Rattle.unit_digests.specs.Digests.{HasPages}
+use Rattle.unit_digests.specs.Dealing.{mapped, part_of, HasRoom}
 use Rattle.unit_digests.proofs.digesters.Digesters.begin.Given as goal
 
 abbrev pub invariant-loop : goal.invariant-loop
-invariant-loop l = AllByRecursion (HasPages l.start) (map mapped l.all.items)
+invariant-loop l = record {
+  count : vec_len l.all ≡ l.counter;
+  pages : AllByRecursion (HasPages l.start) (map mapped l.all.items);
+  room : AllByRecursion (HasRoom (part_of l.count)) l.all.items;
+}

@@ -1,16 +1,25 @@
-use Rattle.std.proofs.Common.{◌≡◌, ◌≤◌, ◌++◌, List}
+use Rattle.std.proofs.Common.{◌≡◌, ℕ, ◌+◌, ◌*◌, ◌<◌, ◌≤◌, ◌++◌, List, length}
+use Rattle.std.specs.List.{AllByRecursion}
 use Rattle.std.specs.Vec.{vec_len, vec_capacity}
 use Rattle.rv_machine.specs.MachineState.{MachineState}
 use Rattle.unit_undo.specs.Leading.{LeadsBack, led_back}
-use Rattle.unit_digests.specs.Digests.{states_of, mapped, HasTaken}
+use Rattle.unit_digests.specs.Digests.{states_of}
+use Rattle.unit_digests.specs.Dealing.{mapped, HasTaken, IsDealt, HasNumber}
 use Rattle.unit_digests.proofs.sharing.Digester.take_each.Given as goal
 
-abbrev pub invariant-loop : goal.invariant-loop
-invariant-loop l = record {
+-- of the states that are dealt to the worker those from `end` on were taken; where there are more, the next is the one before `end`
+abbrev pub invariant-loop-end : goal.invariant-loop-end
+invariant-loop-end g l = record {
   leads : LeadsBack l.walk l.self.state (led_back l.walk l.self.state);
   passed : (front : List MachineState) × (led_back l.undo.entries l.after ≡ front ++ led_back l.walk l.self.state);
-  taken : HasTaken (states_of l.undo.entries l.after) l.self;
-  count : vec_len l.self.taken ≡ l.counter;
-  room : l.end ≤ vec_capacity l.self.taken;
+  left : l.end ≤ length l.walk;
+  right : HasTaken (states_of l.undo.entries l.after) l.self;
+  dealt : AllByRecursion (λ t. IsDealt l.deal l.number t.number) l.self.taken.items;
+  whole : (n : ℕ) → IsDealt l.deal l.number n → l.end ≤ n → HasNumber l.self.taken.items n;
+  turn : 0 < l.end → l.end + l.number + vec_len l.self.taken * l.deal.workers ≡ l.deal.end;
   pages : mapped l.self ≡ mapped l.fn.self;
+  reserved : vec_capacity l.fn.self.taken ≤ vec_capacity l.self.taken;
 }
+
+abbrev pub decreases-loop-end : goal.decreases-loop-end
+decreases-loop-end g l = l.end
