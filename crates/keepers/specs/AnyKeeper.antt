@@ -43,17 +43,17 @@ module _ {D : Type 0} where
   place_of (File k) = Some (folder_of k, level_of k)
 
   -- a call does to it what it does to its part, which stays of its kind
-  abbrev pub put_of : (D → Option Files) → AnyKeeper D → ℕ → List ℕ → Answer → AnyKeeper D → Type 0
-  put_of told (Memory a) slot image answer (Memory b) = IsPut slot image answer a b
-  put_of told (File a) slot image answer (File b) = IsFilePut told slot image answer a b
-  put_of told a slot image answer b = ⊥
+  abbrev pub put_of : (D → Option Files) → (D → List ℕ → Type 0) → AnyKeeper D → ℕ → List ℕ → Answer → AnyKeeper D → Type 0
+  put_of told may_fail (Memory a) slot image answer (Memory b) = IsPut slot image answer a b
+  put_of told may_fail (File a) slot image answer (File b) = IsFilePut told may_fail slot image answer a b
+  put_of told may_fail a slot image answer b = ⊥
 
-  abbrev pub get_of : (D → Option Files) → AnyKeeper D → ℕ → ℕ → List ℕ → Answer → AnyKeeper D → Type 0
-  get_of told (Memory a) slot len bytes answer (Memory b) = IsGet slot len bytes answer a b
-  get_of told (File a) slot len bytes answer (File b) = IsFileGet told slot len bytes answer a b
-  get_of told a slot len bytes answer b = ⊥
+  abbrev pub get_of : (D → Option Files) → (D → List ℕ → Type 0) → AnyKeeper D → ℕ → ℕ → List ℕ → Answer → AnyKeeper D → Type 0
+  get_of told may_fail (Memory a) slot len bytes answer (Memory b) = IsGet slot len bytes answer a b
+  get_of told may_fail (File a) slot len bytes answer (File b) = IsFileGet told may_fail slot len bytes answer a b
+  get_of told may_fail a slot len bytes answer b = ⊥
 
-  abbrev pub free_of : (D → Option Files) → AnyKeeper D → ℕ → Answer → AnyKeeper D → Type 0
-  free_of told (Memory a) slot answer (Memory b) = IsFree slot answer a b
-  free_of told (File a) slot answer (File b) = IsFileFree told slot answer a b
-  free_of told a slot answer b = ⊥
+  abbrev pub free_of : (D → Option Files) → (D → List ℕ → Type 0) → AnyKeeper D → ℕ → Answer → AnyKeeper D → Type 0
+  free_of told may_fail (Memory a) slot answer (Memory b) = IsFree slot answer a b
+  free_of told may_fail (File a) slot answer (File b) = IsFileFree told may_fail slot answer a b
+  free_of told may_fail a slot answer b = ⊥

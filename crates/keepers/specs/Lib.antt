@@ -1,5 +1,6 @@
 pub mod AnyKeeper
 pub mod Counts
+pub mod DiskFaults
 pub mod Failing
 pub mod FlipState
 pub mod InputsState

@@ -1,5 +1,8 @@
 -- What is seen of inputs that are files, and of a sink over a writer.
-use Rattle.std.specs.Prelude.{ℕ, List}
+use Rattle.std.specs.Prelude.{◌⊎◌, ℕ, List, Option}
+use Rattle.std.specs.Str.{IsUtf8}
+use Rattle.keepers.specs.DiskFaults.{IsAbsent}
+use Rattle.keepers.specs.Told.{Files}
 use Rattle.keepers.specs.declared.file_inputs.FileInputs.{FileInputs}
 use Rattle.keepers.specs.declared.stdout_sink.StdoutSink.{StdoutSink}
 
@@ -9,6 +12,10 @@ asked_of inputs = inputs.asked
 
 abbrev pub input_faults_of : {D : Type 0} → FileInputs D → ℕ
 input_faults_of inputs = inputs.faults
+
+-- where a read of a name may fail: the disk may fail there, no such file is there, or the name isn't UTF-8
+abbrev pub MayFailAt : {D : Type 0} → (D → Option Files) → (D → List ℕ → Type 0) → FileInputs D → List ℕ → Type 0
+MayFailAt told may_fail inputs name = may_fail inputs.disk name ⊎ IsAbsent (told inputs.disk) name ⊎ (IsUtf8 name → ⊥)
 
 -- the writer of a sink, how often it was written to, and how often it failed
 abbrev pub writer_of : {W : Type 0} → StdoutSink W → W

@@ -3,6 +3,7 @@ use Rattle.std.specs.Prelude.{◌≡◌, ◌≢◌, ◌⊎◌, ℕ, zero, suc, L
 use Rattle.std.specs.Option.{option_map}
 use Rattle.std.specs.FinMap as finmap
 use Rattle.keepers.specs.Counts.{raised}
+use Rattle.keepers.specs.DiskFaults.{NamesNoFolder}
 use Rattle.keepers.specs.Parts.{Answer}
 use Rattle.keepers.specs.Told.{Images, Files, Tells, WhereTold, SameButNamed, bytes_in}
 use Rattle.keepers.specs.declared.file_keeper.FileKeeper.{FileKeeper}
@@ -44,27 +45,34 @@ level_images folder level slots files = finmap.from_entries (images_in_files fol
 abbrev pub images_told : {D : Type 0} → (D → Option Files) → FileKeeper D → Option Images
 images_told told k = option_map (level_images (folder_of k) (level_of k) k.slots) (told k.disk)
 
+-- where a call on a slot may fail: the disk may fail at the slot's file, or the keeper has no folder
+abbrev pub MayFail : {D : Type 0} → (D → List ℕ → Type 0) → FileKeeper D → ℕ → Type 0
+MayFail may_fail k slot = may_fail k.disk (path_of k slot) ⊎ NamesNoFolder (folder_of k)
+
 -- What the calls of a keeper over files do to it, and to the files of its disk, where that tells them.
 
 -- a put: the whole image is in the file of this slot, and no other file changed
-pub record IsFilePut {D : Type 0} (told : D → Option Files) (slot : ℕ) (image : List ℕ) (answer : Answer) (old new : FileKeeper D) : Type 0 where
+pub record IsFilePut {D : Type 0} (told : D → Option Files) (may_fail : D → List ℕ → Type 0) (slot : ℕ) (image : List ℕ) (answer : Answer) (old new : FileKeeper D) : Type 0 where
   pub written : OnOk answer (Tells (told old.disk) (told new.disk) (λ a b. b ≡ finmap.insert a (path_of old slot) image))
   pub others : OnErr answer (Tells (told old.disk) (told new.disk) (SameButNamed (path_of old slot)))
   pub rest : new ≡ record old { disk = new.disk; puts = raised old.puts 1; faults = new.faults }
   pub quiet : answer ≢ Err Failed → new.faults ≡ old.faults
   pub counted : answer ≡ Err Failed → new.faults ≡ raised old.faults 1
+  pub cause : answer ≡ Err Failed → MayFail may_fail old slot
 
 -- a get, which gives these bytes: they are the first of the file of this slot, and no file changed
-pub record IsFileGet {D : Type 0} (told : D → Option Files) (slot len : ℕ) (bytes : List ℕ) (answer : Answer) (old new : FileKeeper D) : Type 0 where
+pub record IsFileGet {D : Type 0} (told : D → Option Files) (may_fail : D → List ℕ → Type 0) (slot len : ℕ) (bytes : List ℕ) (answer : Answer) (old new : FileKeeper D) : Type 0 where
   pub ok : OnOk answer (WhereTold (told old.disk) (λ files. bytes ≡ take len (bytes_in files (path_of old slot))))
   pub rest : new ≡ record old { gets = raised old.gets 1; faults = new.faults }
   pub quiet : answer ≢ Err Failed → new.faults ≡ old.faults
   pub counted : answer ≡ Err Failed → new.faults ≡ raised old.faults 1
+  pub cause : answer ≡ Err Failed → MayFail may_fail old slot
 
 -- a free: the file of this slot is gone, and no other file changed
-pub record IsFileFree {D : Type 0} (told : D → Option Files) (slot : ℕ) (answer : Answer) (old new : FileKeeper D) : Type 0 where
+pub record IsFileFree {D : Type 0} (told : D → Option Files) (may_fail : D → List ℕ → Type 0) (slot : ℕ) (answer : Answer) (old new : FileKeeper D) : Type 0 where
   pub removed : OnOk answer (Tells (told old.disk) (told new.disk) (λ a b. b ≡ finmap.remove a (path_of old slot)))
   pub left : OnErr answer (Tells (told old.disk) (told new.disk) (λ a b. (b ≡ a) ⊎ (b ≡ finmap.remove a (path_of old slot))))
   pub rest : new ≡ record old { disk = new.disk; frees = raised old.frees 1; faults = new.faults }
   pub quiet : answer ≢ Err Failed → new.faults ≡ old.faults
   pub counted : answer ≡ Err Failed → new.faults ≡ raised old.faults 1
+  pub cause : answer ≡ Err Failed → MayFail may_fail old slot

@@ -44,11 +44,11 @@ impl<D: Disk> Keeper for AnyKeeper<D> {
 
     ghost place = { place_of };
 
-    ghost put_does = { put_of D.told };
+    ghost put_does = { put_of D.told D.may_fail };
 
-    ghost get_does = { get_of D.told };
+    ghost get_does = { get_of D.told D.may_fail };
 
-    ghost free_does = { free_of D.told };
+    ghost free_does = { free_of D.told D.may_fail };
 
     fn slots(&self) -> u32 {
         match self {

@@ -1,7 +1,8 @@
 // The files of a system, by their paths.
-ghost use Rattle.std.specs.Prelude.{◌≡◌, ◌⊎◌, ℕ, ◌<◌, ◌≤◌, length, take, Option, Some, Ok, is_some, IfOk, IsSomeAnd, OnOk, OnErr};
+ghost use Rattle.std.specs.Prelude.{◌≡◌, ◌⊎◌, ℕ, ◌<◌, ◌≤◌, List, length, take, Option, Some, Ok, is_some, IfOk, IsSomeAnd, OnOk, OnErr};
 ghost use Rattle.std.specs.Vec.{vec_len, vec_capacity};
 ghost use Rattle.std.specs.FinMap as finmap;
+ghost use Rattle.keepers.specs.DiskFaults.{FailsOnlyWhere, IsAbsent};
 ghost use Rattle.keepers.specs.Told.{Files, Tells, WhereTold, SameButNamed, Begins, bytes_in};
 
 use crate::inputs::Whole;
@@ -15,15 +16,19 @@ use std::{fs, io};
 pub trait Disk {
     /// The files, where it tells.
     ghost told: { Self → Option Files };
+    /// Whether a call on the file at a path may fail, other than for want of memory.
+    ghost may_fail: { Self → List ℕ → Type 0 };
 
     /// Whether a file stands at a path. What stands there and is none, as a folder or a symbolic link, is an error.
     fn is_there(&self, path: &str) -> io::Result<bool>
-        ensures { IfOk result (λ there. WhereTold (told self.now) (λ files. there ≡ is_some (finmap.get files path.now))) };
+        ensures there { IfOk result (λ there. WhereTold (told self.now) (λ files. there ≡ is_some (finmap.get files path.now))) }
+        ensures cause { FailsOnlyWhere result (may_fail self.now path.now) };
 
     /// Reads a file into a room, until the room is full or the file is at its end, and says how many bytes it read.
     fn read_first(&self, path: &str, room: &mut [u8]) -> io::Result<usize>
         ensures fits { IfOk result (λ count. count ≤ length room.old) }
-        ensures bytes { IfOk result (λ count. WhereTold (told self.now) (λ files. take count room.new ≡ take (length room.old) (bytes_in files path.now))) };
+        ensures bytes { IfOk result (λ count. WhereTold (told self.now) (λ files. take count room.new ≡ take (length room.old) (bytes_in files path.now))) }
+        ensures cause { FailsOnlyWhere result (may_fail self.now path.now ⊎ IsAbsent (told self.now) path.now) };
 
     /// Reads a file into `into`, in place of what was there, a piece at a time. A file of more than `limit` bytes is not
     /// read to its end.
@@ -39,17 +44,20 @@ pub trait Disk {
         ensures longer { result ≡ Ok Whole.Longer → WhereTold (told self.now) (λ files. IsSomeAnd (finmap.get files path.now) (λ bytes. limit < length bytes)) }
         ensures begun { WhereTold (told self.now) (λ files. Begins into.new.items (bytes_in files path.now)) }
         ensures within { vec_len into.new ≤ limit }
-        ensures reserved { vec_capacity into.old ≤ vec_capacity into.new };
+        ensures reserved { vec_capacity into.old ≤ vec_capacity into.new }
+        ensures cause { FailsOnlyWhere result (may_fail self.now path.now ⊎ IsAbsent (told self.now) path.now) };
 
     /// Makes a file anew, in place of one that was there. After a refusal there may be any bytes in it, or none of it.
     fn replace(&mut self, path: &str, bytes: &[u8]) -> io::Result<()>
         ensures ok { OnOk result (Tells (told self.old) (told self.new) (λ old new. new ≡ finmap.insert old path.now bytes.now)) }
-        ensures refused { OnErr result (Tells (told self.old) (told self.new) (SameButNamed path.now)) };
+        ensures refused { OnErr result (Tells (told self.old) (told self.new) (SameButNamed path.now)) }
+        ensures cause { FailsOnlyWhere result (may_fail self.old path.now) };
 
     /// Removes a file, where there is one. After a refusal it is there, or it isn't.
     fn remove(&mut self, path: &str) -> io::Result<()>
         ensures ok { OnOk result (Tells (told self.old) (told self.new) (λ old new. new ≡ finmap.remove old path.now)) }
-        ensures refused { OnErr result (Tells (told self.old) (told self.new) (λ old new. (new ≡ old) ⊎ (new ≡ finmap.remove old path.now))) };
+        ensures refused { OnErr result (Tells (told self.old) (told self.new) (λ old new. (new ≡ old) ⊎ (new ≡ finmap.remove old path.now))) }
+        ensures cause { FailsOnlyWhere result (may_fail self.old path.now) };
 }
 
 /// The files of the system that a handle gives. It tells nothing of them, so that each call does here what `Disk` says of it
@@ -70,6 +78,8 @@ impl<R: Files> Disk for SystemDisk<R> {
     ghost use Rattle.std.specs.Prelude.{None};
 
     ghost told = { λ _. None };
+
+    ghost may_fail = { λ _ _. Unit {0} };
 
     fn is_there(&self, path: &str) -> io::Result<bool> {
         match fs::symlink_metadata(&self.rt, path) {

@@ -1,7 +1,10 @@
 // Inputs that are files.
-ghost use Rattle.std.specs.Prelude.{◌≡◌, ℕ, ◌<◌, ◌≤◌, [], length, Ok, Some, IsSomeAnd, OnOk};
+ghost use Rattle.std.specs.Prelude.{◌≡◌, ◌≢◌, ◌⊎◌, ℕ, ◌<◌, ◌≤◌, [], ◌∷◌, ◌++◌, length, Ok, Some, Err, IsSomeAnd, OnOk};
 ghost use Rattle.std.specs.Vec.{vec_len, vec_capacity};
 ghost use Rattle.std.specs.FinMap as finmap;
+ghost use Rattle.keepers.specs.Counts.{raised};
+ghost use Rattle.keepers.specs.DiskFaults.{FailsOnlyWhere};
+ghost use Rattle.keepers.specs.Outside.{MayFailAt};
 ghost use Rattle.keepers.specs.Told.{WhereTold, Begins, bytes_in};
 
 use crate::disk::Disk;
@@ -66,6 +69,7 @@ impl<D: Disk> FileInputs<D> {
         ensures within { vec_len into.new ≤ limit }
         ensures reserved { vec_capacity into.old ≤ vec_capacity into.new }
         ensures rest { self.new ≡ record self.old { piece = self.new.piece } }
+        ensures cause { FailsOnlyWhere result (MayFailAt D.told D.may_fail self.old name.now) }
     {
         into.clear();
         let Ok(path) = str::from_utf8(name) else {
@@ -83,7 +87,21 @@ impl<D: Disk> Inputs for FileInputs<D> {
 
     ghost fault_count = { λ s. s.faults };
 
-    fn read(&mut self, name: &[u8], limit: u32, into: &mut Vec<u8>) -> Result<Whole, InputFault> {
+    fn read(&mut self, name: &[u8], limit: u32, into: &mut Vec<u8>) -> Result<Whole, InputFault>
+        ensures all { result ≡ Ok Whole.All → WhereTold (D.told self.old.disk) (λ files. finmap.get files name.now ≡ Some into.new.items) }
+        ensures longer { result ≡ Ok Whole.Longer →
+            WhereTold (D.told self.old.disk) (λ files. IsSomeAnd (finmap.get files name.now) (λ bytes. limit < length bytes)) }
+        ensures begun { WhereTold (D.told self.old.disk) (λ files. Begins into.new.items (bytes_in files name.now)) }
+        ensures within { vec_len into.new ≤ limit }
+        ensures reserved { vec_capacity into.old ≤ vec_capacity into.new }
+        ensures same { self.new.disk ≡ self.old.disk }
+        ensures asks { result ≢ Err InputFault.Memory → self.new.asked ≡ self.old.asked ++ name.now ∷ [] }
+        ensures may_ask { result ≡ Err InputFault.Memory → (self.new.asked ≡ self.old.asked) ⊎ (self.new.asked ≡ self.old.asked ++ name.now ∷ []) }
+        ensures quiet { result ≢ Err InputFault.Failed → self.new.faults ≡ self.old.faults }
+        ensures later { self.old.faults ≤ self.new.faults }
+        ensures counted { result ≡ Err InputFault.Failed → self.new.faults ≡ raised self.old.faults 1 }
+        ensures cause { result ≡ Err InputFault.Failed → MayFailAt D.told D.may_fail self.old name.now }
+    {
         into.clear();
         if self.asked.push(name).is_err() || self.reserve_piece().is_err() {
             return Err(InputFault::Memory);

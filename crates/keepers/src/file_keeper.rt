@@ -4,7 +4,8 @@ ghost use Rattle.std.specs.Vec.{vec_len, vec_capacity};
 ghost use Rattle.std.specs.Option.{option_map};
 ghost use Rattle.std.specs.FinMap as finmap;
 ghost use Rattle.keepers.specs.Counts.{raised};
-ghost use Rattle.keepers.specs.SlotFiles.{folder_of, level_of, disk_of, path_of, level_images, images_told};
+ghost use Rattle.keepers.specs.DiskFaults.{FailsOnlyWhere, NamesNoFolder};
+ghost use Rattle.keepers.specs.SlotFiles.{folder_of, level_of, disk_of, path_of, level_images, images_told, MayFail};
 ghost use Rattle.keepers.specs.Told.{Tells, WhereTold, SameButAt, SameButNamed, image_in, bytes_in};
 
 use crate::disk::Disk;
@@ -95,7 +96,8 @@ impl<D: Disk> FileKeeper<D> {
 
     // The path of a slot's file.
     fn path(&self, slot: u32) -> io::Result<String>
-        ensures { IfOk result (λ path. string_bytes path ≡ path_of self.now slot) }
+        ensures path { IfOk result (λ path. string_bytes path ≡ path_of self.now slot) }
+        ensures cause { FailsOnlyWhere result (NamesNoFolder (folder_of self.now)) }
     {
         let Ok(folder) = str::from_utf8(self.folder.as_slice()) else {
             return Err(io::Error::from(ErrorKind::InvalidInput));
@@ -114,6 +116,7 @@ impl<D: Disk> FileKeeper<D> {
             (λ old new. new ≡ finmap.insert old (path_of self.old slot) image.now)) }
         ensures others { OnErr result (Tells (D.told self.old.disk) (D.told self.new.disk) (SameButNamed (path_of self.old slot))) }
         ensures rest { self.new ≡ record self.old { disk = self.new.disk } }
+        ensures cause { FailsOnlyWhere result (MayFail D.may_fail self.old slot) }
     {
         let path = self.path(slot)?;
         self.disk.replace(path.as_str(), image)
@@ -124,6 +127,7 @@ impl<D: Disk> FileKeeper<D> {
         ensures bytes { OnOk result (WhereTold (D.told self.now.disk) (λ files. into.new.items ≡ take len (bytes_in files (path_of self.now slot)))) }
         ensures short { OnOk result (vec_len into.new ≤ len) }
         ensures reserved { vec_capacity into.old ≤ vec_capacity into.new }
+        ensures cause { FailsOnlyWhere result (MayFail D.may_fail self.now slot) }
     {
         into.clear();
         let path = self.path(slot)?;
@@ -142,6 +146,7 @@ impl<D: Disk> FileKeeper<D> {
         ensures left { OnErr result (Tells (D.told self.old.disk) (D.told self.new.disk) (λ old new. (new ≡ old)
             ⊎ (new ≡ finmap.remove old (path_of self.old slot)))) }
         ensures rest { self.new ≡ record self.old { disk = self.new.disk } }
+        ensures cause { FailsOnlyWhere result (MayFail D.may_fail self.old slot) }
     {
         let path = self.path(slot)?;
         self.disk.remove(path.as_str())
@@ -151,7 +156,7 @@ impl<D: Disk> FileKeeper<D> {
 // It tells the images in the files of its slots, where the disk tells. What a call does to its files are further clauses.
 impl<D: Disk> Keeper for FileKeeper<D> {
     ghost use Rattle.std.specs.Prelude.{None, Some};
-    ghost use Rattle.keepers.specs.SlotFiles.{folder_of, level_of, images_told, IsFilePut, IsFileGet, IsFileFree};
+    ghost use Rattle.keepers.specs.SlotFiles.{folder_of, level_of, images_told, MayFail, IsFilePut, IsFileGet, IsFileFree};
 
     ghost told = { images_told D.told };
 
@@ -169,11 +174,11 @@ impl<D: Disk> Keeper for FileKeeper<D> {
 
     ghost place = { λ k. Some (folder_of k, level_of k) };
 
-    ghost put_does = { λ old slot image answer new. IsFilePut D.told slot image answer old new };
+    ghost put_does = { λ old slot image answer new. IsFilePut D.told D.may_fail slot image answer old new };
 
-    ghost get_does = { λ old slot len bytes answer new. IsFileGet D.told slot len bytes answer old new };
+    ghost get_does = { λ old slot len bytes answer new. IsFileGet D.told D.may_fail slot len bytes answer old new };
 
-    ghost free_does = { λ old slot answer new. IsFileFree D.told slot answer old new };
+    ghost free_does = { λ old slot answer new. IsFileFree D.told D.may_fail slot answer old new };
 
     fn slots(&self) -> u32 {
         self.slots
@@ -190,6 +195,7 @@ impl<D: Disk> Keeper for FileKeeper<D> {
         ensures quiet { result ≢ Err KeepFault.Failed → self.new.faults ≡ self.old.faults }
         ensures later { self.old.faults ≤ self.new.faults }
         ensures counted { result ≡ Err KeepFault.Failed → self.new.faults ≡ raised self.old.faults 1 }
+        ensures cause { result ≡ Err KeepFault.Failed → MayFail D.may_fail self.old slot }
     {
         let slots = self.slots;
         prove!(slot < slots);
@@ -210,6 +216,7 @@ impl<D: Disk> Keeper for FileKeeper<D> {
         ensures quiet { result ≢ Err KeepFault.Failed → self.new.faults ≡ self.old.faults }
         ensures later { self.old.faults ≤ self.new.faults }
         ensures counted { result ≡ Err KeepFault.Failed → self.new.faults ≡ raised self.old.faults 1 }
+        ensures cause { result ≡ Err KeepFault.Failed → MayFail D.may_fail self.old slot }
     {
         let slots = self.slots;
         prove!(slot < slots);
@@ -231,6 +238,7 @@ impl<D: Disk> Keeper for FileKeeper<D> {
         ensures quiet { result ≢ Err KeepFault.Failed → self.new.faults ≡ self.old.faults }
         ensures later { self.old.faults ≤ self.new.faults }
         ensures counted { result ≡ Err KeepFault.Failed → self.new.faults ≡ raised self.old.faults 1 }
+        ensures cause { result ≡ Err KeepFault.Failed → MayFail D.may_fail self.old slot }
     {
         let slots = self.slots;
         prove!(slot < slots);

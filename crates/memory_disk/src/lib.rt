@@ -2,8 +2,9 @@
 //! cases of whole calls stand on it.
 #![tactic(auto)]
 
-ghost use Rattle.std.specs.Prelude.{◌≡◌, [], ◌∷◌, None, Some, MatchOption, OnOk, OnErr};
+ghost use Rattle.std.specs.Prelude.{◌≡◌, ◌≢◌, ℕ, List, [], ◌∷◌, None, Some, MatchOption, OnOk, OnErr};
 ghost use Rattle.std.specs.FinMap as finmap;
+ghost use Rattle.keepers.specs.DiskFaults.{FailsOnlyWhere};
 ghost use Rattle.memory_disk.specs.Changes.{after_change, files_after};
 
 use keepers::{Disk, Whole};
@@ -47,7 +48,8 @@ pub struct MemoryDisk {
 impl MemoryDisk {
     /// Has no file, and takes no memory.
     pub fn new(alloc: Global) -> Self
-        ensures { ⟦<MemoryDisk as Disk>⟧.told result ≡ Some finmap.empty }
+        ensures told { ⟦<MemoryDisk as Disk>⟧.told result ≡ Some finmap.empty }
+        ensures quiet { (path : List ℕ) → ⟦<MemoryDisk as Disk>⟧.may_fail result path → ⊥ }
     {
         Self {
             alloc,
@@ -62,7 +64,8 @@ impl MemoryDisk {
 
     /// Lets the listed calls fail, which then change nothing. The calls of each kind are counted from 1.
     pub fn failing(self, list: Vec<(DiskOp, u64)>) -> Self
-        ensures { ⟦<MemoryDisk as Disk>⟧.told result ≡ ⟦<MemoryDisk as Disk>⟧.told self }
+        ensures told { ⟦<MemoryDisk as Disk>⟧.told result ≡ ⟦<MemoryDisk as Disk>⟧.told self }
+        ensures quiet { (path : List ℕ) → list.items ≡ [] → ⟦<MemoryDisk as Disk>⟧.may_fail result path → ⊥ }
     {
         Self {
             failing: list,
@@ -83,7 +86,9 @@ impl MemoryDisk {
     }
 
     // Counts a call, which fails where it is listed.
-    fn call(&self, op: DiskOp) -> io::Result<()> {
+    fn call(&self, op: DiskOp) -> io::Result<()>
+        ensures { FailsOnlyWhere result (self.now.failing.items ≢ []) }
+    {
         let counter = match op {
             DiskOp::ReadWhole => &self.reads,
             DiskOp::Look => &self.looks,
@@ -115,6 +120,7 @@ impl MemoryDisk {
     fn add(&mut self, name: &[u8], bytes: Option<Vec<u8>>) -> io::Result<()>
         ensures ok { OnOk result (files_after self.new.changes.items ≡ after_change name.now bytes (files_after self.old.changes.items)) }
         ensures err { OnErr result (files_after self.new.changes.items ≡ files_after self.old.changes.items) }
+        ensures memory { FailsOnlyWhere result ⊥ }
     {
         let name = Vec::from_slice(self.alloc, name)?;
         if self.changes.insert(0, Change { name, bytes }).is_err() {
@@ -125,10 +131,12 @@ impl MemoryDisk {
 }
 
 impl Disk for MemoryDisk {
-    ghost use Rattle.std.specs.Prelude.{Some};
+    ghost use Rattle.std.specs.Prelude.{◌≢◌, [], Some};
     ghost use Rattle.memory_disk.specs.Changes.{files_after};
 
     ghost told = { λ d. Some (files_after d.changes.items) };
+
+    ghost may_fail = { λ d _. d.failing.items ≢ [] };
 
     fn is_there(&self, path: &str) -> io::Result<bool> {
         self.call(DiskOp::Look)?;

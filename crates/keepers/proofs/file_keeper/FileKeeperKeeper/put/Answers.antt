@@ -14,3 +14,6 @@ returns-in-Err-clause-refused g c =
     let few : c.args.self.now.slots ≤ 2 ^ 64 = omega arith in
     let told = g.D.Disk.told in
     keeper_others told c.args.slot c.args.self.now c.put_file.new.self few c.requires (ap (images_told told) c.put_file.ensures.rest) c.in-Err.ensures.others
+
+pub returns-in-Err-clause-cause : goal.returns-in-Err-clause-cause
+returns-in-Err-clause-cause g c = (λ failed. c.in-Err.ensures.cause (λ kind. cc (c.keep_fault.ensures.memory kind, failed)))
