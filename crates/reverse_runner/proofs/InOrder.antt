@@ -26,7 +26,10 @@ still_in_order w v work tape undo known room fits =
       known =
           subst K (sym tape) (subst (λ (es : List Entry). AreDigests v.known.items (states_of es w.tape)) (sym entries)
           (subst (λ (ks : Vec (Option (List ℕ))). AreDigests ks.items (states_of w.undo.entries w.tape)) (sym known) fits.known));
-      room = (let same = ap (λ (ks : Vec (Option (List ℕ))). vec_capacity ks) known in omega (arith, same, fits.room));
+      some = (let unit = ap (λ (u : UndoState). u.unit) undo in omega (arith, unit, fits.some));
+      room = (
+          let same = ap (λ (ks : Vec (Option (List ℕ))). vec_capacity ks) known in let unit = ap (λ (u : UndoState). u.unit) undo in omega (arith, same, unit, fits.room)
+          );
       buffer = omega (arith, count, room, fits.buffer);
     }
 

@@ -1,4 +1,5 @@
--- No public clause cites this file. What a call on the keeper of one level does to the keepers, and how it is refused.
+-- No public clause cites this file. What a call on the keeper of one level does to the keepers of a session or of a console, and how it is
+-- refused.
 use Rattle.std.specs.Prelude.{◌≡◌, ◌≢◌, ℕ, ◌==◌, ◌≤◌, List, map, slice_get, Some, Result, Ok, Err}
 use Rattle.keepers.specs.Told.{Location}
 use Rattle.keepers.specs.Counts.{Rose}

@@ -32,13 +32,14 @@ abbrev pub holdings_in : Workspace → (ℕ → Option Images) → Holdings
 holdings_in w told = record { work = w.work; tape = tape_in w; levels = levels_in w told }
 
 -- Its states map the same pages, the buffer was reserved for the image of each, and the undo list leads back from the tape. A digest
--- that is known of a state on the tape is that of its image, and there is room for that of the first one.
+-- that is known of a state on the tape is that of its image, and there is room for those of a whole unit.
 pub record IsInOrder (w : Workspace) : Type 0 where
   pub pages : SamePages w.tape w.work
   pub few : length (page_numbers w.work.memory) ≤ 4096
   pub back : LeadsBack w.undo.entries w.tape (led_back w.undo.entries w.tape)
   pub known : AreDigests w.known.items (states_of w.undo.entries w.tape)
-  pub room : 1 ≤ vec_capacity w.known
+  pub some : 1 ≤ w.undo.unit
+  pub room : w.undo.unit ≤ vec_capacity w.known
   pub buffer : 164 + 4100 * length (page_numbers w.work.memory) ≤ vec_capacity w.buffer
 
 -- A workspace stays in order: its states map the pages that they mapped, and no image that a level keeps is longer than one of the

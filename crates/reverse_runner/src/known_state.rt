@@ -87,14 +87,16 @@ impl KnownState {
         self.digest
     }
 
-    /// Takes so many steps of the machine.
+    /// Takes so many steps of the machine. Without a step a digest that is known stays known.
     pub fn advance<L: Ledger>(&mut self, journal: &Journal, count: u32, steps: &mut Steps<L>)
         ensures states { self.new ≡ state_number self.old journal.now count }
         ensures counted { steps.new ≡ steps.old + count }
         ensures mapped { page_numbers self.new.memory ≡ page_numbers self.old.memory }
     {
-        self.digest = None;
-        advance(&mut self.state, journal, count, steps);
+        if count > 0 {
+            self.digest = None;
+            advance(&mut self.state, journal, count, steps);
+        }
     }
 
     /// The same, and a watch looks at each step before it is taken.

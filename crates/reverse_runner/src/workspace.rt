@@ -7,7 +7,7 @@ ghost use Rattle.rv_machine.specs.States.{state_number};
 ghost use Rattle.unit_undo.specs.UndoState.{begun as begun_undo};
 ghost use Rattle.std.specs.List.{AllByRecursion};
 ghost use Rattle.unit_undo.specs.Leading.{IsMadeFor, LeadsBack, led_back, states_below};
-ghost use Rattle.unit_digests.specs.Digests.{states_of, AreDigests, HasPages};
+ghost use Rattle.unit_digests.specs.Digests.{states_of, AreDigests, IsKnown, HasPages};
 ghost use Rattle.state_image.specs.Image.{image};
 ghost use Rattle.image_store.specs.declared.shelf.Kept.{Kept};
 ghost use Rattle.image_store.specs.Calls.{IsNotKept, IsNotFreed};
@@ -113,13 +113,13 @@ impl Workspace {
         requires pages { SamePages self.old.tape self.old.work }
         requires made { IsMadeFor journal.now self.old.undo }
         requires few { count ≤ self.old.undo.unit }
-        requires room { 1 ≤ vec_capacity self.old.known }
+        requires some { 1 ≤ vec_capacity self.old.known }
         ensures work { self.new.work ≡ state_number self.old.work journal.now count }
         ensures pages { SamePages self.old.work self.new.work }
         ensures tape { self.new.tape ≡ self.new.work }
         ensures back { LeadsBack self.new.undo.entries self.new.tape (states_below self.old.work journal.now count) }
         ensures known { AreDigests self.new.known.items (states_of self.new.undo.entries self.new.tape) }
-        ensures room { 1 ≤ vec_capacity self.new.known }
+        ensures room { vec_capacity self.old.known ≤ vec_capacity self.new.known }
         ensures undo { (self.new.undo.unit ≡ self.old.undo.unit) × (self.new.undo.room ≡ self.old.undo.room) }
         ensures store { self.new.store ≡ self.old.store }
         ensures buffer { self.new.buffer ≡ self.old.buffer }
@@ -167,11 +167,12 @@ impl Workspace {
         Ok(())
     }
 
-    /// Takes the digests of the states on the tape by workers side by side.
+    /// Takes the digests of the states on the tape by workers side by side. Where there are workers, all of them are known then.
     pub fn digest_tape<R: Threads + Sync>(&mut self, rt: &R, digesters: &mut Digesters)
         requires fits { IsInOrder self.old }
         requires pages { AllByRecursion (HasPages self.old.work) digesters.old }
         ensures fits { IsInOrder self.new }
+        ensures known { 1 ≤ length digesters.old → (n : ℕ) → n < length self.new.undo.entries → IsKnown self.new.known.items n }
         ensures work { self.new.work ≡ self.old.work }
         ensures tape { self.new.tape ≡ self.old.tape }
         ensures undo { self.new.undo ≡ self.old.undo }
@@ -179,6 +180,7 @@ impl Workspace {
         ensures buffer { self.new.buffer ≡ self.old.buffer }
         ensures pages { digesters.new ≡ digesters.old }
     {
+        self.undo.is_short();
         digesters.digest(rt, self.tape.state(), &self.undo, &mut self.known);
     }
 
@@ -350,7 +352,7 @@ impl Workspace {
 fn know_first(first: Option<[u8; 32]>, known: &mut Vec<Option<[u8; 32]>>)
     requires { 1 ≤ vec_capacity known.old }
     ensures known { known.new.items ≡ first ∷ [] }
-    ensures room { 1 ≤ vec_capacity known.new }
+    ensures room { vec_capacity known.old ≤ vec_capacity known.new }
 {
     known.clear();
     known.push(first).unwrap();

@@ -138,7 +138,8 @@ returns-in-Tape-clause-order g c =
         few = omega (arith, count, fits.few);
         back = leads_there c.advance_on_tape.new.self.undo.entries c.advance_on_tape.new.self.tape _ c.advance_on_tape.ensures.back;
         known = c.advance_on_tape.ensures.known;
-        room = c.advance_on_tape.ensures.room;
+        some = (let unit = c.advance_on_tape.ensures.undo.0 in omega (arith, unit, fits.some));
+        room = (let unit = c.advance_on_tape.ensures.undo.0 in omega (arith, unit, fits.room, c.advance_on_tape.ensures.room));
         buffer = omega (arith, count, reserved, fits.buffer);
       };
       pages = search rules;
