@@ -234,7 +234,7 @@ Refused Misses run list fault new a c = RefusedIn Misses list fault (fresh run) 
 
 -- a course that goes over the list of a run, and says nothing of the levels
 record IsAskedOver (run : Run) (course : Course) : Type 1 where
-  damage : (i k : ℕ) (put got : List ℕ) (a c : Moment) → ComesToDamage run i k put got a → course.damage i k put got a c
+  damage : (shown : Shown) (i k : ℕ) (put got : List ℕ) (a c : Moment) → ComesToDamage run i k put got a → course.damage shown i k put got a c
   wants : (d : Deed) → CallsSome d → course.may_want d
   holds : (Same : SameLevels) (shown : Shown) (i : ℕ) (a c : Moment) → course.holds Same shown i a c
   place : (n : ℕ) → n ≡ course.storage_place n
@@ -254,7 +254,7 @@ module _ (run : Run) (course : Course) (over : IsAskedOver run course) (shown : 
       let comes : ComesToDamage run i k put got a = record { held = held; states = states; through = through; next = next; there = there; holds = fits } in
       let gets = subst C (sym same) (gets_pair (λ n. run.first) run.unit run.steps next fits.number k fits.pair) in
       let quiet : NothingFails a c = record { sink = counts.sink_quiet seen; keepers = counts.keepers_quiet (λ j e. cc) } in
-      inl (shown, (shows, inr (inr (inr (i, k, put, got, ap (λ (n : ℕ). damaged n k put got) (over.place (i + 1)), damaged_at course shown i d a c broke k put got gets (over.damage i k put got a c comes) (λ tells. silent k put got refl (over.levels a tells)) (over.holds AllLevels shown i a c) quiet)))))
+      inl (shown, (shows, inr (inr (inr (i, k, put, got, ap (λ (n : ℕ). damaged n k put got) (over.place (i + 1)), damaged_at course shown i d a c broke k put got gets (over.damage shown i k put got a c comes) (λ tells. silent k put got refl (over.levels a tells)) (over.holds AllLevels shown i a c) quiet)))))
   refused_by Visitor i d broke Misses next held states same fits there through seen silent counts = absurd (seen refl)
   refused_by Memory i d broke Misses next held states same fits there through seen silent counts =
       let C : Calls → Type 0 = λ x. (k : ℕ) × (0 < x.puts k + x.gets k + x.frees k) in
@@ -265,7 +265,7 @@ module _ (run : Run) (course : Course) (over : IsAskedOver run course) (shown : 
 -- ---- a state
 
 state_over : (place : ℕ) (run : Run) → IsAskedOver run (asking_state place run)
-state_over place run = record { damage = λ i k put got a c h. h; wants = λ d h. h; holds = λ Same shown i a c. tt; place = λ n. refl; levels = λ a h. h }
+state_over place run = record { damage = λ shown i k put got a c h. h; wants = λ d h. h; holds = λ Same shown i a c. tt; place = λ n. refl; levels = λ a h. h }
 
 module _ (run : Run) (place : ℕ) where
   abbrev front : List Action
@@ -380,7 +380,7 @@ module _ (run : Run) (place : ℕ) where
 -- ---- the last step that does something
 
 last_over : (Holds : States → ℕ → Type 0) (run : Run) → IsAskedOver run (asking_last Holds run)
-last_over Holds run = record { damage = λ i k put got a c h. h; wants = λ d h. h; holds = λ Same shown i a c. tt; place = λ n. refl; levels = λ a h. h }
+last_over Holds run = record { damage = λ shown i k put got a c h. h; wants = λ d h. h; holds = λ Same shown i a c. tt; place = λ n. refl; levels = λ a h. h }
 
 module _ (run : Run) (Holds : States → ℕ → Type 0) where
   abbrev with_answer : Option ℕ → Shown

@@ -224,7 +224,7 @@ module _ (course : Course) (shown : Shown) (i : ℕ) (d : Deed) (a c : Moment) (
       record { breaks = broke.0; calls = subst C (sym broke.1) calls; held = held; fails = fails }
 
   -- an image of a level that the deed gets was damaged there
-  pub damaged_at : (level : ℕ) (put got : List ℕ) → 0 < d.calls.gets level → course.damage i level put got a c → (AllTell course.levels a.images → ⊥) → course.holds AllLevels shown i a c → NothingFails a c → DamagedAt course shown i level put got a c
+  pub damaged_at : (level : ℕ) (put got : List ℕ) → 0 < d.calls.gets level → course.damage shown i level put got a c → (AllTell course.levels a.images → ⊥) → course.holds AllLevels shown i a c → NothingFails a c → DamagedAt course shown i level put got a c
   damaged_at level put got gets damaged silent held quiet =
       let C : Deed → Type 0 = λ e. 0 < e.calls.gets level in
       record { breaks = broke.0; gets = subst C (sym broke.1) gets; damaged = damaged; silent = silent; held = held; quiet = quiet }

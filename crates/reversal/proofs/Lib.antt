@@ -24,6 +24,8 @@ pub mod Drawing
 pub mod Demonstrating
 pub mod Silent
 pub mod Seeking
+pub mod AllAnswered
+pub mod WithinSlots
 pub mod MovingAbout
 pub mod Asked
 pub mod BookTexts

@@ -29,7 +29,7 @@ asking_state place run = record {
   answers = λ shown old new. IsFound (λ states. states place ≡ shown.states place) run (Some place) old new;
   answers_partly = λ shown performed old new. ComesTo (IsOut run.unit run.steps place (shown.states place)) run performed old;
   holds = λ Same shown performed old new. Unit {0};
-  damage = λ performed level put got old new. ComesToDamage run performed level put got old;
+  damage = λ shown performed level put got old new. ComesToDamage run performed level put got old;
   may_want = CallsSome;
 }
 
@@ -60,7 +60,7 @@ asking_last Holds run = record {
   answers = λ shown old new. IsLastStep Holds run shown.answer old new;
   answers_partly = λ shown performed old new. IsLastStep Holds run shown.answer old new;
   holds = λ Same shown performed old new. Unit {0};
-  damage = λ performed level put got old new. ComesToDamage run performed level put got old;
+  damage = λ shown performed level put got old new. ComesToDamage run performed level put got old;
   may_want = CallsSome;
 }
 

@@ -1,23 +1,24 @@
 -- `console`: a run is moved about in by the orders of a script, from images that are kept at its marks.
-use Rattle.std.specs.Prelude.{◌≡◌, ◌⊎◌, ℕ, ◌+◌, ◌-◌, ◌*◌, ◌/◌, ◌<◌, ◌≤◌, max, List, [], ◌∷◌, length, Option, None, Some}
-use Rattle.keepers.specs.Told.{Images}
+use Rattle.std.specs.Prelude.{◌≡◌, ◌⊎◌, ℕ, ◌+◌, ◌-◌, ◌*◌, ◌/◌, ◌<◌, ◌≤◌, max, List, [], ◌∷◌, length, Option, Some, IsSome}
+use Rattle.keepers.specs.Told.{Images, Tells}
 use Rattle.level_book.specs.BookCosts.{BookCosts, slots_of, total_room}
 use Rattle.rv_machine.specs.MachineState.{MachineState}
-use Rattle.reverse_runner.specs.Touching.{one_get}
+use Rattle.reverse_runner.specs.KeepersSeen.{Called}
 use Rattle.reverse_console.specs.declared.order.Order.{Order}
 use Rattle.reverse_console.specs.Answer.{IsAnswer}
-use Rattle.reverse_console.specs.Costs.{puts_of, gets_of, place_said}
-use Rattle.reverse_console.specs.Marks.{MarkPlan, stride, marked, mark_count, mark_level, mark_of, mark}
+use Rattle.reverse_console.specs.Costs.{Effort, puts_of, gets_of, effort_of, BreaksAt}
+use Rattle.reverse_console.specs.Marks.{MarkPlan, marked, mark_count}
 use Rattle.reverse_console.specs.Script.{IsScript}
-use Rattle.reverse_console.specs.ScriptAnswers.{place_after, IsTextOf, answer_text}
+use Rattle.reverse_console.specs.ScriptAnswers.{place_after, IsTextOf, answer_text, AreAnswers, script_text}
 use Rattle.reverse_console.specs.ScriptFaults.{HasFirstFault}
 use Rattle.reverse_console.specs.Seen.{Source, IsAnswerSeen, IsMarkDamaged}
-use Rattle.reverse_console.specs.Standing.{KeepsMarks}
+use Rattle.reverse_console.specs.Standing.{MarksTell, KeepsMarks}
 use Rattle.requests.specs.Request.{Choice}
 use Rattle.requests.specs.Ending.{no_plan, bad_script}
 use Rattle.reversal.specs.Job.{move_about}
-use Rattle.reversal.specs.Moment.{Moment, AllTell}
-use Rattle.reversal.specs.Deeds.{Deed, writing, bytes_written, steps_made, CallsSome}
+use Rattle.reversal.specs.Moment.{Moment}
+use Rattle.reversal.specs.Output.{Adds}
+use Rattle.reversal.specs.Deeds.{Deed, writing, bytes_written, steps_made, calls_made, CallsSome}
 use Rattle.reversal.specs.Course.{Course}
 use Rattle.reversal.specs.Table.{Decision, Table, Decided, needs, reads, keeps, does}
 use Rattle.reversal.specs.Fronts.{over_book, over_program}
@@ -46,60 +47,55 @@ setting_marks p = record {
   calls = puts_of p (mark_count p);
 }
 
--- An order that says its place gets the last mark that isn't above it, and takes the steps from there.
-abbrev pub going_to : MarkPlan → ℕ → Deed
-going_to p n = record { pieces = []; steps = n - mark p n; spent = n - mark p n; calls = one_get (mark_level p (mark_of p n)) }
+-- An order's move: its marks are got, and its steps are taken.
+abbrev pub moving : MarkPlan → Effort → Deed
+moving p effort = record { pieces = []; steps = effort.steps; spent = effort.steps; calls = gets_of p effort.marks }
 
--- One that looks for its place gets some marks, and takes some steps.
-abbrev pub seeking : MarkPlan → (steps : ℕ) → (marks : List ℕ) → Deed
-seeking p steps marks = record { pieces = []; steps = steps; spent = p.count + 2 * stride p; calls = gets_of p marks }
+-- In what words deeds are those of orders: which answer the order at a place has, which text is written of an answer, and what is so of
+-- a mark at which an order broke off.
+pub record Words : Type 1 where
+  pub answer : (place : ℕ) → Order → Option ℕ → Type 0
+  pub text : Option ℕ → List ℕ → Type 0
+  pub broken : (mark : ℕ) → Type 0
 
-pub record IsSeeking (p : MarkPlan) (deed : Deed) : Type 0 where
-  pub steps : ℕ
-  pub few_steps : steps ≤ p.count + 2 * stride p
-  pub marks : List ℕ
-  pub few_marks : length marks ≤ mark_count p + 2
-  pub is : deed ≡ seeking p steps marks
+-- The order's mark couldn't be got, or one on the way to its answer: its move up to there is the last deed.
+pub record IsBrokenOff (p : MarkPlan) (words : Words) (place : ℕ) (order : Order) (deeds : List Deed) : Type 0 where
+  pub mark : ℕ
+  pub effort : Effort
+  pub at : BreaksAt (λ n. words.answer place order (Some n)) p place order mark effort
+  pub broken : words.broken mark
+  pub deeds_are : deeds ≡ moving p effort ∷ []
 
--- the move of an order, by the place that it says, if it says one
-abbrev pub IsMove : MarkPlan → Option ℕ → Deed → Type 0
-IsMove p (Some n) deed = deed ≡ going_to p n
-IsMove p None deed = IsSeeking p deed
-
--- an order at a place has an answer, and this text of it is written
-abbrev pub Says : Type 1
-Says = (place : ℕ) → Order → (answer : Option ℕ) → (text : List ℕ) → Type 0
-
--- behind its move an order's text was written, and the other orders follow at the place after its answer
-pub record IsAnswered (IsSaid : Says) (Others : ℕ → List Deed → Type 0) (place : ℕ) (order : Order) (move : Deed) (deeds : List Deed) : Type 0 where
+-- The order has an answer: behind its move the text of it was written, and the other orders follow at the place after it.
+pub record IsAnswered (p : MarkPlan) (words : Words) (Others : ℕ → List Deed → Type 0) (place : ℕ) (order : Order) (deeds : List Deed) : Type 0 where
   pub answer : Option ℕ
   pub text : List ℕ
-  pub said : IsSaid place order answer text
+  pub is : words.answer place order answer
+  pub says : words.text answer text
   pub rest : List Deed
-  pub deeds_are : deeds ≡ move ∷ writing (text ∷ []) ∷ rest
+  pub deeds_are : deeds ≡ moving p (effort_of p place order answer) ∷ writing (text ∷ []) ∷ rest
   pub others : Others (place_after place answer) rest
 
--- an order was begun by its move, and was answered, or no more was done
-pub record IsBegun (p : MarkPlan) (IsSaid : Says) (Others : ℕ → List Deed → Type 0) (place : ℕ) (order : Order) (deeds : List Deed) : Type 0 where
-  pub move : Deed
-  pub moves : IsMove p (place_said p.count place order) move
-  pub then : (deeds ≡ move ∷ []) ⊎ IsAnswered IsSaid Others place order move deeds
-
 -- These deeds are of these orders, or of the first of them, from a place on: two of each, its move, and the writing of its text. Of
--- the last one it may be the move alone.
-abbrev pub AreOfOrders : MarkPlan → Says → List Order → ℕ → List Deed → Type 0
-AreOfOrders p IsSaid [] place deeds = deeds ≡ []
-AreOfOrders p IsSaid (order ∷ orders) place deeds = (deeds ≡ []) ⊎ IsBegun p IsSaid (AreOfOrders p IsSaid orders) place order deeds
+-- the last one it may be a part of the move alone.
+abbrev pub AreOfOrders : MarkPlan → Words → List Order → ℕ → List Deed → Type 0
+AreOfOrders p words [] place deeds = deeds ≡ []
+AreOfOrders p words (order ∷ orders) place deeds =
+    (deeds ≡ []) ⊎ IsBrokenOff p words place order deeds ⊎ IsAnswered p words (AreOfOrders p words orders) place order deeds
 
 -- ---- what is said
 
 -- The answer is that of the states that came from marks by the bytes that were got, and so is the text.
-abbrev pub SaidByMarks : Source → Says
-SaidByMarks from place order answer text = IsAnswerSeen from place order answer × IsTextOf from answer text
+abbrev pub by_marks : Source → (Broken : ℕ → Type 0) → Words
+by_marks from Broken = record { answer = IsAnswerSeen from; text = IsTextOf from; broken = Broken }
 
 -- The answer is that of an index into the states of the run, and the text is the line of the state with its number, or `none`.
-abbrev pub SaidOfRun : MachineState → List (List ℕ) → (count : ℕ) → Says
-SaidOfRun first journal count place order answer text = IsAnswer first journal count place order answer × (text ≡ answer_text first journal answer)
+abbrev pub of_run : MachineState → List (List ℕ) → (count : ℕ) → Words
+of_run first journal count = record {
+  answer = IsAnswer first journal count;
+  text = λ answer text. text ≡ answer_text first journal answer;
+  broken = λ mark. Unit {0};
+}
 
 -- the source is that of the marks of a run, over keepers that tell these images
 pub record IsOfMarks (first : MachineState) (items : List (List ℕ)) (p : MarkPlan) (images : ℕ → Option Images) (from : Source) : Type 0 where
@@ -109,18 +105,26 @@ pub record IsOfMarks (first : MachineState) (items : List (List ℕ)) (p : MarkP
   pub marks : KeepsMarks first from
 
 -- These are the deeds of the orders, from state 0 on: by what was kept of the marks, which is the length and the digest of each
--- image; and where the keepers tell, in the run.
-pub record WentAbout (first : MachineState) (items : List (List ℕ)) (p : MarkPlan) (orders : List Order) (deeds : List Deed) (old new : Moment) : Type 0 where
+-- image; and where the levels of the marks tell, in the run. Behind the setting of the marks just they were done, that of an order that
+-- broke off too.
+pub record WentAbout (first : MachineState) (items : List (List ℕ)) (p : MarkPlan) (orders : List Order) (deeds : List Deed)
+    (Broken : Source → ℕ → Type 0) (old new : Moment) : Type 0 where
   pub from : Source
   pub is : IsOfMarks first items p new.images from
-  pub by_marks : AreOfOrders p (SaidByMarks from) orders 0 deeds
-  pub in_run : AllTell (length p.slots) old.images → AreOfOrders p (SaidOfRun first items p.count) orders 0 deeds
+  pub seen : AreOfOrders p (by_marks from (Broken from)) orders 0 deeds
+  pub in_run : MarksTell p old.images → AreOfOrders p (of_run first items p.count) orders 0 deeds
+  pub counted : new.steps ≡ old.steps + steps_made (setting_marks p ∷ deeds)
+  pub called : Called (calls_made (setting_marks p ∷ deeds)) old.calls new.calls
 
--- what came back of a mark on a level is damaged
-pub record IsDamagedMark (first : MachineState) (items : List (List ℕ)) (p : MarkPlan) (level : ℕ) (put got : List ℕ) (new : Moment) : Type 0 where
-  pub from : Source
-  pub is : IsOfMarks first items p new.images from
-  pub damaged : IsMarkDamaged from level put got
+-- any mark may be the one at which the last order broke off
+abbrev pub AnyMark : Source → ℕ → Type 0
+AnyMark from mark = Unit {0}
+
+-- What came back of the mark at which the last order broke off is damaged. Its move was the last deed.
+pub record IsDamagedMark (first : MachineState) (items : List (List ℕ)) (p : MarkPlan) (orders : List Order) (deeds : List Deed)
+    (performed level : ℕ) (put got : List ℕ) (old new : Moment) : Type 0 where
+  pub last : length deeds ≡ performed
+  pub went : WentAbout first items p orders deeds (λ from mark. IsMarkDamaged from mark level put got) old new
 
 -- First the marks are set, and then each order is two deeds. At an ending the place is the number of the order, and 0 for the marks.
 abbrev pub moving_about : MachineState → List (List ℕ) → MarkPlan → List Order → Course
@@ -134,7 +138,17 @@ moving_about first journal p orders = record {
   shows = λ shown old. Unit {0};
   answers = λ shown old new. length shown.orders ≡ 2 * length orders;
   answers_partly = λ shown performed old new. Unit {0};
-  holds = λ Same shown performed old new. 0 < performed → WentAbout first journal p orders shown.orders old new;
-  damage = λ performed level put got old new. IsDamagedMark first journal p level put got new;
+  holds = λ Same shown performed old new. 0 < performed → WentAbout first journal p orders shown.orders AnyMark old new;
+  damage = λ shown performed level put got old new. IsDamagedMark first journal p orders shown.orders performed level put got old new;
   may_want = CallsSome;
 }
+
+-- ---- in one sentence
+
+-- The orders were answered one by one from state 0, each from the place where the one before it led, by an index into the states of the
+-- run; and what was written is just the text of each answer: the line of the state with its number, or `none`.
+pub record WritesAnswers (first : MachineState) (items : List (List ℕ)) (p : MarkPlan) (orders : List Order) (old new : Moment) : Type 0 where
+  pub answers : List (Option ℕ)
+  pub end : ℕ
+  pub are : AreAnswers first items p.count 0 orders answers end
+  pub written : Tells old.told new.told (Adds (script_text first items answers))

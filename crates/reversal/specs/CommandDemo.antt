@@ -33,6 +33,6 @@ demonstrating number first steps slots = record {
   answers = λ shown old new. Unit {0};
   answers_partly = λ shown performed old new. Unit {0};
   holds = λ Same shown performed old new. Unit {0};
-  damage = λ performed level put got old new. ⊥;
+  damage = λ shown performed level put got old new. ⊥;
   may_want = λ deed. deed.pieces ≡ [];
 }

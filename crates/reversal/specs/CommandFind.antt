@@ -37,6 +37,6 @@ searching first journal steps workers digest = record {
   answers = λ shown old new. Found (quest_of first journal steps digest) shown.answer;
   answers_partly = λ shown performed old new. Found (quest_of first journal steps digest) shown.answer;
   holds = λ Same shown performed old new. Unit {0};
-  damage = λ performed level put got old new. ⊥;
+  damage = λ shown performed level put got old new. ⊥;
   may_want = λ deed. Unit {0};
 }

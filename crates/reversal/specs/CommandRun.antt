@@ -23,6 +23,6 @@ performing run = record {
   answers = λ shown old new. Unit {0};
   answers_partly = λ shown performed old new. Unit {0};
   holds = λ Same shown performed old new. Went Same run performed shown.states old new;
-  damage = λ performed level put got old new. ComesToDamage run performed level put got old;
+  damage = λ shown performed level put got old new. ComesToDamage run performed level put got old;
   may_want = CallsSome;
 }

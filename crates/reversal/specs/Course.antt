@@ -37,7 +37,7 @@ pub record Course : Type 1 where
   -- what is held on the levels, where so many deeds were done
   pub holds : SameLevels → Shown → (performed : ℕ) → Moment → Moment → Type 0
   -- what is damaged of what came back from a level behind so many deeds, by the digests of what was put and got
-  pub damage : (performed level : ℕ) → (put got : List ℕ) → Moment → Moment → Type 0
+  pub damage : Shown → (performed level : ℕ) → (put got : List ℕ) → Moment → Moment → Type 0
   -- which deeds may want memory
   pub may_want : Deed → Type 0
 
@@ -98,7 +98,7 @@ pub record FailsAt (course : Course) (shown : Shown) (performed level : ℕ) (ol
 pub record DamagedAt (course : Course) (shown : Shown) (performed level : ℕ) (put got : List ℕ) (old new : Moment) : Type 0 where
   pub breaks : BreaksOff (course.deeds shown) performed old new
   pub gets : 0 < breaks.next.calls.gets level
-  pub damaged : course.damage performed level put got old new
+  pub damaged : course.damage shown performed level put got old new
   pub silent : AllTell course.levels old.images → ⊥
   pub held : course.holds AllLevels shown performed old new
   pub quiet : NothingFails old new

@@ -107,11 +107,12 @@ abbrev pub KeepsOthers : {K : Type 0} → (K → ℕ) → (K → Location) → D
 KeepsOthers slots place (refuse refusal) old new = new ≡ old
 KeepsOthers slots place (accept job) old new = StayInPlace slots place old new × ((k : ℕ) → (course_of job).levels ≤ k → slice_get new k ≡ slice_get old k)
 
--- Keepers with these rooms have room for each image of a run that is performed or asked about. Of other jobs it says nothing: a
--- console asks its keepers for memory as it goes, and the rest has no keepers of the call.
+-- Keepers with these rooms have room for each image of a run that is performed, asked about or moved about in. Other jobs have no
+-- keepers of the call, and of them it says nothing.
 abbrev pub HaveRoomsFor : Job → (ℕ → Option ℕ) → Type 0
 HaveRoomsFor (perform over) rooms = AreRoomy (image_room over.first) (length over.slots) rooms
 HaveRoomsFor (ask question over) rooms = AreRoomy (image_room over.first) (length over.slots) rooms
+HaveRoomsFor (move_about first journal p orders) rooms = AreRoomy (image_room first) (length p.slots) rooms
 HaveRoomsFor job rooms = ⊥
 
 -- the statuses of a call that may have come to its job; at any other it was refused

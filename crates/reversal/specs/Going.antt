@@ -1,9 +1,11 @@
 -- How far a list was gone through over a run, what was held then, and which states were handed out.
-use Rattle.std.specs.Prelude.{◌≡◌, ℕ, ◌<◌, ◌≤◌, true, List, length, take, slice_get, Option, Some}
+use Rattle.std.specs.Prelude.{◌≡◌, ℕ, ◌<◌, ◌≤◌, true, List, length, take, slice_get, slice_index_or, Option, Some}
 use Rattle.plan_types.specs.declared.action.Action.{Action}
 use Rattle.level_book.specs.CostFold.{is_write}
 use Rattle.level_book.specs.Configuration.{Configuration, start, held_on}
 use Rattle.level_book.specs.Valid.{Leads}
+use Rattle.level_book.specs.declared.book.Slots.TheVariants.{Count}
+use Rattle.schedule_rules.specs.Reached.{IsWithin}
 use Rattle.rv_machine.specs.MachineState.{MachineState}
 use Rattle.image_store.specs.Standing.{IsToldAnd}
 use Rattle.reverse_runner.specs.HoldsJust.{HoldsJust}
@@ -92,3 +94,9 @@ pub record Went (Same : SameLevels) (run : Run) (performed : ℕ) (states : Stat
   pub released : AllEmpty (length run.slots) old.images → (c : Configuration) → LeadTo run performed c →
       (k n : ℕ) → k < length run.slots → (a : Action) → slice_get run.list performed ≡ Some a → is_release k a ≡ true → pair_read a ≡ Some (n, k) →
       IsToldAnd (new.images k) (HoldsAllBut (unit_state run) (held_on c k) n)
+
+-- At a configuration each level of a run holds no more than its slots; and where the keepers told and were empty, each tells just the
+-- images of the states that its level holds there.
+pub record IsWithinSlots (run : Run) (c : Configuration) (held : Holdings) (old : Moment) : Type 0 where
+  pub within : (k : ℕ) → k < length run.slots → IsWithin (slice_index_or run.slots k (Count 0)) (held_on c k)
+  pub just : AllEmpty (length run.slots) old.images → (k : ℕ) → k < length run.slots → IsToldAnd (held.levels.told k) (HoldsJust (unit_state run) (held_on c k))

@@ -134,6 +134,11 @@ CanBeDone (ListWords l) = 5184 ≤ vec_capacity l.piece
 CanBeDone (MoveAbout m) = CanMoveAbout m
 CanBeDone (Demonstrate d) = IsShowable d
 
+-- a run backward is done by so many workers
+abbrev pub HasWorkers : ℕ → in_memory.Job → Type 0
+HasWorkers n (Perform p) = p.workers ≡ n
+HasWorkers n _ = ⊥
+
 -- keepers with so many slots have room for what a job keeps
 abbrev pub KeepersHaveRoom : in_memory.Job → List ℕ → Type 0
 KeepersHaveRoom (Perform p) counts = HaveRoom p.steps (slots_of p.book) counts

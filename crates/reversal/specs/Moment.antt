@@ -53,6 +53,11 @@ pub record NothingFails (old new : Moment) : Type 0 where
   pub sink : new.faults ≡ old.faults
   pub keepers : KeepersAreQuiet old new
 
+-- no count of faults rose
+pub record NothingRises (old new : Moment) : Type 0 where
+  pub sink : Rose old.faults new.faults → ⊥
+  pub keepers : (k : ℕ) → Rose (old.keeper_faults k) (new.keeper_faults k) → ⊥
+
 -- the sink failed, and no keeper
 pub record SinkFails (old new : Moment) : Type 0 where
   pub sink : Rose old.faults new.faults

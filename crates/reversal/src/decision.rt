@@ -19,7 +19,7 @@ ghost use Rattle.requests.specs.Ending.{no_memory, bad_program, bad_journal, bad
 ghost use Rattle.requests.specs.Inputs.{inputs_of};
 ghost use Rattle.requests.specs.InputReading.{AreWithinLimits};
 ghost use Rattle.reversal.specs.Job.{Run as ARun, Job as AJob, perform};
-ghost use Rattle.reversal.specs.JobReading.{run_over, job_of, IsOver, CanBeDone, KeepersHaveRoom, IsRefusal, text_of};
+ghost use Rattle.reversal.specs.JobReading.{run_over, job_of, IsOver, CanBeDone, HasWorkers, KeepersHaveRoom, IsRefusal, text_of};
 ghost use Rattle.requests.specs.RequestReading.{request_of, as_backward, as_ask, as_check};
 
 use crate::actions::{Actions, Listed};
@@ -111,6 +111,7 @@ fn decide_run(
     ensures accepted { IfOk result (λ job. DecidesBytes options.now (run_command (as_backward backward.now)) (map (λ b. b.items) bytes.old) counts.now
         (accept (job_of job))) }
     ensures can_be_done { IfOk result CanBeDone }
+    ensures workers { IfOk result (HasWorkers (worker_count options.now)) }
     ensures room { IfOk result (λ job. KeepersHaveRoom job counts.now) }
     ensures refused { IfErr result (λ e. (e ≡ no_memory)
         ⊎ DecidesBytes options.now (run_command (as_backward backward.now)) (map (λ b. b.items) bytes.old) counts.now (refuse e)) }
@@ -129,6 +130,7 @@ fn decide_run(
 fn performance(over: Over, workers: u32) -> Job
     ensures job { job_of result ≡ perform (run_over over) }
     ensures can_be_done { IsOver over → CanBeDone result }
+    ensures workers { HasWorkers workers result }
     ensures room { (counts : List ℕ) → HaveRoom over.steps (slots_of over.book) counts → KeepersHaveRoom result counts }
 {
     let Over {

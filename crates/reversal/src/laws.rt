@@ -1,5 +1,5 @@
 // Laws of requests and decisions. Each function does nothing; its contract is the law.
-ghost use Rattle.std.specs.Prelude.{◌≡◌, ◌⊎◌, ℕ, ◌+◌, ◌≤◌, ◌++◌, List, [], ◌∷◌, take, Option, Contains};
+ghost use Rattle.std.specs.Prelude.{◌≡◌, ◌⊎◌, ℕ, ◌+◌, ◌≤◌, ◌++◌, List, [], ◌∷◌, length, take, Option, Contains};
 ghost use Rattle.keepers.specs.Told.{Tells};
 ghost use Rattle.plan_types.specs.declared.action.Action.{Action};
 ghost use Rattle.plan_types.specs.declared.limits.TheConstants.{MOST_STEPS};
@@ -16,7 +16,6 @@ ghost use Rattle.level_book.specs.BookFaults.{IsBookText};
 ghost use Rattle.level_book.specs.CostFold.{forward, cost};
 ghost use Rattle.level_book.specs.DiskClass.{Disk};
 ghost use Rattle.level_book.specs.NestedClass.{Nested};
-ghost use Rattle.level_book.specs.Valid.{Valid};
 ghost use Rattle.action_text.specs.ScheduleText.{IsSchedule};
 ghost use Rattle.requests.specs.Request.{Choice, Request, Says, says_raw, stack_pages, unit_count};
 ghost use Rattle.reversal.specs.Contents.{DecisionsExist};
@@ -32,7 +31,7 @@ ghost use Rattle.revolve_gen.specs.Written.{revolve_list};
 ghost use Rattle.reversal.specs.Table.{Decision, accept};
 ghost use Rattle.reversal.specs.CommandCertify.{least_line, DecidesCertify};
 ghost use Rattle.reversal.specs.Fronts.{in_units, IsStartOf, AreItemsOf, DecidesOver};
-ghost use Rattle.reversal.specs.Decision.{course_of, Decides};
+ghost use Rattle.reversal.specs.Decision.{course_of, Decides, EndsBy};
 ghost use Rattle.reversal.specs.CommandPlan.{DecidesPlanRevolve, DecidesPlanMultistage, DecidesPlanDisk, DecidesPlanHrevolve, DecidesPlanPeriodic};
 ghost use Rattle.reversal.specs.Plans.{list_pieces, plan_pieces, certificate_of};
 ghost use Rattle.reversal.specs.WrittenPlans.{SaysAgain};
@@ -41,11 +40,17 @@ ghost use Rattle.reverse_console.specs.declared.order.Order.{Order};
 ghost use Rattle.reverse_console.specs.Marks.{MarkPlan};
 ghost use Rattle.reversal.specs.Beginning.{Begins};
 ghost use Rattle.reversal.specs.Collision.{OrdersCollide};
-ghost use Rattle.reversal.specs.CommandConsole.{AreOfOrders, SaidOfRun, WentAbout};
+ghost use Rattle.reversal.specs.CommandConsole.{AreOfOrders, of_run, WentAbout, AnyMark, WritesAnswers, moving_about};
 ghost use Rattle.reversal.specs.CommandAsk.{asking};
 ghost use Rattle.reversal.specs.CommandRun.{performing};
-ghost use Rattle.reversal.specs.Going.{AllLevels, SparesNext, Went, IsFound, ComesTo};
-ghost use Rattle.reversal.specs.Moment.{Moment};
+ghost use Rattle.reversal.specs.Going.{AllLevels, SparesNext, Went, IsFound, ComesTo, GoesOver, IsWithinSlots};
+ghost use Rattle.level_book.specs.Configuration.{Configuration, start};
+ghost use Rattle.level_book.specs.Valid.{Leads, Valid};
+ghost use Rattle.reverse_runner.specs.Acts.{Holdings};
+ghost use Rattle.reversal.specs.Moment.{Moment, NothingRises, AllTell};
+ghost use Rattle.requests.specs.declared.ended.Ended.{Ended};
+ghost use Rattle.requests.specs.Ending.{done};
+ghost use Rattle.reverse_console.specs.Standing.{MarksTell};
 ghost use Rattle.reversal.specs.Output.{line_of, lines_down, Adds, AddsFrontOf};
 ghost use Rattle.reversal.specs.Course.{Shown, Done, Stops, FailsAt, DamagedAt, Halts};
 ghost use Rattle.reversal.specs.Deeds.{Deed, States, bytes_written, steps_made};
@@ -71,6 +76,18 @@ pub fn deeds_make_the_output()
     ensures bytes { (r : Request) (given : List (Option (List ℕ))) (slots : List ℕ) (job : Job) → Decides r given slots (accept job) →
         (shown : Shown) → bytes_written ((course_of job).deeds shown) ≡ (course_of job).output shown }
     ensures steps { (shown : Shown) (job : Job) → steps_made ((course_of job).deeds shown) ≡ (course_of job).steps shown }
+{}
+
+/// A script that was done over levels that tell was answered in the run, order by order, and just the answers were written.
+pub fn scripts_write_the_answers_to_their_orders()
+    ensures { (first : MachineState) (items : List (List ℕ)) (p : MarkPlan) (orders : List Order) (shown : Shown) (old new : Moment) →
+        MarksTell p old.images → Done (moving_about first items p orders) shown old new → WritesAnswers first items p orders old new }
+{}
+
+/// A job that was accepted is done, where no count of faults rises and the keepers of its levels tell: no image comes back damaged then.
+pub fn accepted_jobs_are_done()
+    ensures { (job : Job) (e : Ended) (old new : Moment) → EndsBy (accept job) e old new → AllTell (course_of job).levels old.images →
+        NothingRises old new → (e ≡ done) × ((shown : Shown) × Done (course_of job) shown old new) }
 {}
 
 /// A list that is certified is the least: where a request to certify one comes to its job, the schedule says a valid list and
@@ -153,6 +170,15 @@ pub fn multistage_plans_are_least()
         × (steps ≤ MOST_STEPS → SaysAgain steps b job list (certified.Places threshold)) }
 {}
 
+/// On the way of a run each level is within its slots, at every configuration: before each of the actions that were done, and after the
+/// last.
+pub fn runs_stay_within_their_slots()
+    ensures { (run : Run) → Begins (perform run) →
+        (actions : List Action) (held : Holdings) (states : States) (old : Moment) (through : GoesOver run actions old held states) →
+        (done : ℕ) → done ≤ length actions → (c : Configuration) → Leads run.steps run.slots (start run.steps run.slots) (take done actions) c →
+        IsWithinSlots run c (through.held done) old }
+{}
+
 /// Over any keepers, also over files: each state that a run shows, of the actions that were done and of the next one, is the run's with
 /// its number, and a run that was done wrote the lines of the run's states; or an action took a state into work whose image is other
 /// bytes than that of the run's state with its number, and both have one SHA-256.
@@ -218,6 +244,6 @@ pub fn questions_are_answered_in_the_run_or_collide()
 /// mark that are others than the image of its state in the run, and both have one SHA-256.
 pub fn scripts_are_answered_in_the_run_or_collide()
     ensures { (first : MachineState) (items : List (List ℕ)) (p : MarkPlan) (orders : List Order) (deeds : List Deed) (old new : Moment) →
-        Begins (move_about first items p orders) → (went : WentAbout first items p orders deeds old new) →
-        AreOfOrders p (SaidOfRun first items p.count) orders 0 deeds ⊎ OrdersCollide first p went.from orders 0 deeds went.by_marks }
+        Begins (move_about first items p orders) → (went : WentAbout first items p orders deeds AnyMark old new) →
+        AreOfOrders p (of_run first items p.count) orders 0 deeds ⊎ OrdersCollide first p went.from (AnyMark went.from) orders 0 deeds went.seen }
 {}

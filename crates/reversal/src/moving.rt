@@ -4,6 +4,7 @@ ghost use Rattle.std.specs.Vec.{vec_len};
 ghost use Rattle.plan_types.specs.declared.limits.TheConstants.{MOST_STEPS};
 ghost use Rattle.level_book.specs.BookCosts.{slots_of, total_room};
 ghost use Rattle.reverse_runner.specs.KeepersSeen.{HaveRoom};
+ghost use Rattle.reverse_runner.specs.Rooms.{image_room, rooms_by, AreRoomy};
 ghost use Rattle.reverse_console.specs.declared.order.Order.{Order as AnOrder};
 ghost use Rattle.reverse_console.specs.Answer.{IsOrder};
 ghost use Rattle.reverse_console.specs.Script.{IsScript};
@@ -17,7 +18,7 @@ ghost use Rattle.reversal.specs.Moment.{moment};
 ghost use Rattle.reversal.specs.Table.{accept, refuse};
 ghost use Rattle.reversal.specs.CommandConsole.{DecidesConsole};
 ghost use Rattle.reversal.specs.Decision.{KeepsOthers, DecidesBytes};
-ghost use Rattle.reversal.specs.JobReading.{moves, job_of, CanMoveAbout, CanBeDone, KeepersHaveRoom, IsRefusal, Works, text_of};
+ghost use Rattle.reversal.specs.JobReading.{moves, job_of, CanMoveAbout, CanBeDone, KeepersHaveRoom, IsRefusal, IsUntouched, Works, text_of};
 
 use crate::decision::{book_in, journal_in, keep, start_of};
 use crate::job::{Job, fault_ending};
@@ -25,6 +26,7 @@ use input_journal::Journal;
 use keepers::{Keeper, Sink};
 use level_book::Book;
 use requests::{Ended, MoveAbout, Options};
+use reverse_console::laws::the_marks_have_levels;
 use reverse_console::{Console, Order, answer_all, read_orders};
 use rv_machine::{State, Steps};
 use std::alloc::Global;
@@ -56,6 +58,8 @@ impl Moving {
             (moment O.told O.call_count O.fault_count K.told K.put_count K.get_count K.free_count K.fault_count out.old keepers.old.items counter.old)
             (moment O.told O.call_count O.fault_count K.told K.put_count K.get_count K.free_count K.fault_count out.new keepers.new.items counter.new) }
         ensures others { KeepsOthers K.slot_count K.place (accept (moves self)) keepers.old.items keepers.new.items }
+        ensures roomy { AreRoomy (image_room self.start) (length (slots_of self.book)) (rooms_by K.room_bytes keepers.old.items) → result.status ≡ 17 →
+            IsUntouched result out.old out.new keepers.old keepers.new counter.old counter.new }
     {
         let Moving {
             start,
@@ -65,6 +69,7 @@ impl Moving {
             orders,
         } = self;
         start.is_machine_state();
+        the_marks_have_levels();
         match Console::begin(alloc, start, journal, steps, book, keepers, counter) {
             Err(fault) => fault_ending(0, fault),
             Ok(mut console) => {

@@ -22,7 +22,7 @@ ghost use Rattle.requests.specs.Ending.{no_memory, no_plan};
 ghost use Rattle.requests.specs.Inputs.{inputs_of};
 ghost use Rattle.requests.specs.InputReading.{AreWithinLimits};
 ghost use Rattle.reversal.specs.ActionsLeft.{left_of};
-ghost use Rattle.reversal.specs.JobReading.{job_of, pieces_of, IsWritable, CanBeDone, KeepersHaveRoom, text_of};
+ghost use Rattle.reversal.specs.JobReading.{job_of, pieces_of, IsWritable, CanBeDone, HasWorkers, KeepersHaveRoom, text_of};
 ghost use Rattle.reversal.specs.Plans.{line_of_action, list_pieces};
 
 use crate::actions::Actions;
@@ -68,6 +68,7 @@ pub fn decide_made(
     requires inputs { (r : RunCommand) × AreWithinLimits (inputs_of (run_command (record { run = r; schedule = made }))) (map (λ b. b.items) bytes.old) }
     ensures accepted { IfOk result (λ job. DecidesOverBytes perform options.now made steps (map (λ b. b.items) bytes.old) counts.now (accept (job_of job))) }
     ensures can_be_done { IfOk result CanBeDone }
+    ensures workers { IfOk result (HasWorkers (worker_count options.now)) }
     ensures room { IfOk result (λ job. KeepersHaveRoom job counts.now) }
     ensures refused { IfErr result (λ e. (e ≡ no_memory)
         ⊎ DecidesOverBytes perform options.now made steps (map (λ b. b.items) bytes.old) counts.now (refuse e)) }
@@ -108,6 +109,7 @@ fn decide_texts(
     ensures accepted { IfOk result (λ job. DecidesOver perform options.now steps texts.entry.program.now
         (text_of texts.entry.journal) texts.entry.book.now None counts.now (accept (job_of job))) }
     ensures can_be_done { IfOk result CanBeDone }
+    ensures workers { IfOk result (HasWorkers (worker_count options.now)) }
     ensures room { IfOk result (λ job. KeepersHaveRoom job counts.now) }
     ensures refused { IfErr result (λ e. (e ≡ no_memory)
         ⊎ DecidesOver perform options.now steps texts.entry.program.now

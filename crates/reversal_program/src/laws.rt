@@ -1,6 +1,7 @@
 // What follows of what levels hold when a call begins, and when it ends.
-ghost use Rattle.std.specs.Prelude.{◌≡◌, ℕ, ◌<◌, ◌≤◌, List, Option, Some, length, slice_get};
+ghost use Rattle.std.specs.Prelude.{◌≡◌, ◌⊎◌, ℕ, ◌<◌, ◌≤◌, List, Option, Some, length, map, slice_get};
 ghost use Rattle.std.specs.FinMap as finmap;
+ghost use Rattle.keepers.specs.Counts.{Rose};
 ghost use Rattle.keepers.specs.Told.{Files};
 ghost use Rattle.keepers.specs.AnyKeeper.{told_of, slots_of, place_of};
 ghost use Rattle.keepers.specs.declared.any_keeper.AnyKeeper.{AnyKeeper as AnAnyKeeper};
@@ -9,13 +10,22 @@ ghost use Rattle.level_book.specs.Valid.{Valid};
 ghost use Rattle.reverse_runner.specs.KeepersSeen.{told_by};
 ghost use Rattle.reversal.specs.CommandRun.{performing};
 ghost use Rattle.reversal.specs.Course.{Shown, Done};
-ghost use Rattle.reversal.specs.Decision.{StayInPlace};
-ghost use Rattle.reversal.specs.Job.{Run, unit_state};
-ghost use Rattle.reversal.specs.Moment.{Moment};
+ghost use Rattle.keepers.specs.declared.stdout_sink.StdoutSink.{StdoutSink as AStdoutSink};
+ghost use Rattle.requests.specs.declared.ended.Ended.{Ended as AnEnded};
+ghost use Rattle.requests.specs.Bounds.{Asks};
+ghost use Rattle.requests.specs.Ending.{done, no_memory};
+ghost use Rattle.requests.specs.Inputs.{inputs_of, contents};
+ghost use Rattle.requests.specs.Request.{Request as ARequest};
+ghost use Rattle.reversal.specs.Decision.{course_of, Decides, StayInPlace};
+ghost use Rattle.reversal.specs.Job.{Job as AJob, Run, unit_state};
+ghost use Rattle.reversal.specs.Moment.{Moment, NothingRises, AllTell};
+ghost use Rattle.reversal.specs.Table.{accept};
 ghost use Rattle.reversal_program.specs.Beginning.{AllBegin, HaveNoFiles};
 ghost use Rattle.reversal_program.specs.Files.{LevelHoldsJust};
+ghost use Rattle.reversal_program.specs.Run.{IsRun, seen};
 
-use keepers::Disk;
+use keepers::{Disk, Output};
+use reversal::laws::{accepted_jobs_are_done, decisions_are_unique};
 
 /// Where the folders of the levels have no image of theirs, every level begins empty, and tells that it is.
 pub fn levels_without_files_begin_empty<D: Disk>()
@@ -34,3 +44,17 @@ pub fn runs_leave_the_images_of_their_schedule<D: Disk>()
         (level : ℕ) (folder : List ℕ) → level < length run.slots → slice_get folders level ≡ Some (Some folder) →
         LevelHoldsJust D.told (unit_state run) (held_on valid.0 level) folder level after }
 {}
+
+/// A request that is accepted by what its inputs tell is done, where the keepers of its levels tell and no count of faults rises; or
+/// memory runs out. So neither a refusal nor a failure is ever made up.
+pub fn accepted_requests_are_done<D: Disk, W: Output>()
+    ensures { (words : List (List ℕ)) (files : Files) (asked asked2 : List (List ℕ)) (input_faults input_faults2 : ℕ)
+        (before after : List (AnAnyKeeper D)) (out out2 : AStdoutSink W) (steps steps2 : ℕ) (ended : AnEnded) →
+        IsRun D.told W.contents words (Some files) asked asked2 input_faults input_faults2 before after out out2 steps steps2 ended →
+        (r : ARequest) → Asks words r → (job : AJob) → Decides r (contents files (inputs_of r.command)) (map slots_of before) (accept job) →
+        AllTell (course_of job).levels (told_by (told_of D.told) before) → (Rose input_faults input_faults2 → ⊥) →
+        NothingRises (seen D.told W.contents out before steps) (seen D.told W.contents out2 after steps2) → (ended ≡ done) ⊎ (ended ≡ no_memory) }
+{
+    decisions_are_unique();
+    accepted_jobs_are_done();
+}

@@ -1,80 +1,109 @@
 -- What an order takes.
-use Rattle.std.proofs.Common.{◌≡◌, ◌≢◌, ℕ, ◌+◌, ◌-◌, ◌≤◌, Bool, List, length, Some, None, Option, Result, Ok, Err, OnOk, IfOk, IfErr, refl, sym, ◌∙◌, subst, arith}
+use Rattle.std.proofs.Common.{◌≡◌, ◌≢◌, inl, inr, ℕ, ◌+◌, ◌-◌, ◌==◌, ◌<◌, ◌≤◌, Bool, if◌then◌else◌, cond, sum_by, List, [], ◌∷◌, ◌++◌, append-nil, Some, None, Option, unwrap_or, Result, Ok, Err, OnOk, IfOk, IfErr, refl, sym, ◌∙◌, ap, subst, arith, eq-eqb}
+use Rattle.std.proofs.lemmas.Bool.{ne_eqb}
+use Rattle.std.proofs.lemmas.List.Sums.{sum_by-append, sum_by-cons}
 use Rattle.std.proofs.lemmas.Result.{IfErr-at_err}
 use Rattle.keepers.specs.Told.{Images}
 use Rattle.rv_machine.specs.MachineState.{MachineState, IsMachineState}
 use Rattle.rv_machine.specs.States.{state_number}
 use Rattle.reverse_runner.specs.KeepersSeen.{Calls, Called}
-use Rattle.reverse_runner.specs.Touching.{one_get}
 use Rattle.reverse_runner.specs.declared.fault.RunFault.{RunFault}
 use Rattle.reverse_runner.specs.declared.fault.RunFault.TheVariants.{Keeper, Damaged, Visitor, Memory, Ended}
-use Rattle.reverse_console.specs.Answer.{IsGiven}
-use Rattle.reverse_console.specs.Costs.{gets_of, GotAtMost, Takes, TookInPart, TookUntil}
-use Rattle.reverse_console.specs.Refusals.{IsOfGetting}
-use Rattle.reverse_console.specs.Marks.{MarkPlan, capacity, mark, mark_of, mark_level, mark_count}
+use Rattle.reverse_console.specs.declared.order.Order.{Order}
+use Rattle.reverse_console.specs.declared.order.Order.TheVariants.{Back, Step, Goto, BackTo, RunTo, BackChange, BackWrite}
+use Rattle.reverse_console.specs.Answer.{IsFirst, IsGiven}
+use Rattle.reverse_console.specs.Costs.{Effort, both, nothing, asking, way, looking, looking_on, effort_of, gets_of, Takes, BreaksLooking, BreaksBack, BreaksAt, IsSeenAt, StopsAt, TookUntil, marks_down}
+use Rattle.reverse_console.specs.Refusals.{IsNotGot}
+use Rattle.reverse_console.specs.Marks.{MarkPlan, marked, mark_level, mark_of, mark_count, marks_below}
+use Rattle.reverse_console.proofs.Numbers.{marks_more}
 use Rattle.input_journal.specs.Form.{IsRecorded}
-use Rattle.revolve_gen.specs.Places.{level_at, IsRoomy}
 use Rattle.reverse_runner.specs.SessionState.{SamePages}
 use Rattle.reverse_console.specs.declared.desk.Desk.{Desk}
-use Rattle.reverse_console.specs.Handling.{AreSet, StandAt, source}
-use Rattle.reverse_console.proofs.Setting.{marks_there}
+use Rattle.reverse_console.specs.Handling.{StandAt, source}
 use Rattle.reverse_console.specs.Seen.{Source, ComesFrom}
 use Rattle.reverse_console.proofs.Coming.{SourceStands, comes_from_run}
-use Rattle.reverse_console.proofs.Numbers.{near_mark, mark_at_most}
 
--- where an order says its place, it is the one that was found, and nothing was done to find it
-abbrev pub IsSaid : Option ℕ → ℕ → ℕ → ℕ → Calls → Calls → Type 0
-IsSaid said n steps mid calls calls1 = (m : ℕ) → said ≡ Some m → (m ≡ n) × (mid ≡ steps) × (calls1 ≡ calls)
+-- looking back broke off at the last mark that was asked for
+last_back : (p : MarkPlan) (place mark : ℕ) (e : Effort) → BreaksBack p place mark e → (xs : List ℕ) × (e.marks ≡ xs ++ mark ∷ [])
+last_back p place mark e b =
+    let below = b.below in
+    let next : mark + 1 - 1 ≡ mark = omega arith in
+    let M : ℕ → Type 0 = λ i. marks_down (marks_below p place) i ≡ marks_down (marks_below p place) (mark + 1) ++ i ∷ [] in
+    (marks_down (marks_below p place) (mark + 1), b.marks ∙ subst M next (marks_more (marks_below p place) (mark + 1) (omega arith) (omega (arith, below))))
 
-got_few : (p : MarkPlan) (most : ℕ) (calls calls' : Calls) (marks : List ℕ) → length marks ≤ most → most ≤ mark_count p + 2 → Called (gets_of p marks) calls calls' → GotAtMost p (mark_count p + 2) calls calls'
-got_few p most calls calls' marks few le called = record { marks = marks; few = omega (arith, few, le); called = called }
+-- how a place that isn't the end is looked on from
+pub looked_on : (p : MarkPlan) (place : ℕ) (answer : Option ℕ) → place < p.count → record { marks = mark_of p place ∷ []; steps = unwrap_or answer p.count - marked p (mark_of p place) } ≡ looking_on p place answer
+looked_on p place answer before =
+    let e : Effort = record { marks = mark_of p place ∷ []; steps = unwrap_or answer p.count - marked p (mark_of p place) } in
+    sym (ap (λ (b : Bool). if b then nothing else e) (ne_eqb place p.count (λ same. absurd (omega (arith, before, same)))))
 
--- a place was found and gone to
-pub takes_found : (p : MarkPlan) (said : Option ℕ) (n steps mid steps' most : ℕ) (calls calls1 calls' : Calls) (marks : List ℕ) → IsSaid said n steps mid calls calls1 → n ≤ p.count → steps ≤ mid → mid ≤ steps + p.count →
-    steps' ≡ mid + (n - mark p n) → Called (one_get (mark_level p (mark_of p n))) calls1 calls' → length marks ≤ most → most ≤ mark_count p + 2 → Called (gets_of p marks) calls calls' → Takes p said steps steps' calls calls'
-takes_found p (Some m) n steps mid steps' most calls calls1 calls' marks is within low high counted called few le all =
-    let at = is m refl in
-    let P : ℕ → Type 0 = λ x. (steps' ≡ steps + (x - mark p x)) × Called (one_get (mark_level p (mark_of p x))) calls calls' in
-    let Q : Calls → Type 0 = λ c. Called (one_get (mark_level p (mark_of p n))) c calls' in
-    let same = at.1 in
-    subst P (sym at.0) (omega (arith, counted, same), subst Q at.2 called)
-takes_found p None n steps mid steps' most calls calls1 calls' marks is within low high counted called few le all =
-    let near = near_mark p n within in
-    let under = mark_at_most p n in
-    (omega (arith, low, counted), omega (arith, high, counted, near, under), got_few p most calls calls' marks few le all)
+-- the first behind a place, or the last where there is none, isn't before it
+pub first_behind : (P : ℕ → Type 0) (place last : ℕ) (answer : Option ℕ) → place < last → IsFirst P place last answer → place ≤ unwrap_or answer last
+first_behind P place last (Some m) before h = let above = h.1 in omega (arith, above)
+first_behind P place last None before h = omega (arith, before)
 
--- it was found, and getting its mark failed
-pub took_found : (p : MarkPlan) (said : Option ℕ) (fault : RunFault) (n steps mid steps' most : ℕ) (calls calls1 calls' : Calls) (marks : List ℕ) → IsSaid said n steps mid calls calls1 → n ≤ p.count → steps ≤ mid → mid ≤ steps + p.count →
-    steps' ≡ mid → Called (one_get (mark_level p (mark_of p n))) calls1 calls' → length marks ≤ most → most ≤ mark_count p + 2 → Called (gets_of p marks) calls calls' →
-    IsOfGetting (one_get (mark_level p (mark_of p n))) fault → IsOfGetting (gets_of p marks) fault → TookInPart p said fault steps steps' calls calls'
-took_found p (Some m) fault n steps mid steps' most calls calls1 calls' marks is within low high idle called few le all of of_all =
-    let at = is m refl in
-    let P : ℕ → Type 0 = λ x. (steps' ≡ steps) × Called (one_get (mark_level p (mark_of p x))) calls calls' × IsOfGetting (one_get (mark_level p (mark_of p x))) fault in
-    let Q : Calls → Type 0 = λ c. Called (one_get (mark_level p (mark_of p n))) c calls' in
-    subst P (sym at.0) (idle ∙ at.1, subst Q at.2 called, of)
-took_found p None fault n steps mid steps' most calls calls1 calls' marks is within low high idle called few le all of of_all =
-    (omega (arith, low, idle), omega (arith, high, idle), record { marks = marks; few = omega (arith, few, le); called = all; of = of_all })
+-- a place was looked for, and gone to
+pub takes_both : (p : MarkPlan) (e : Effort) (place : ℕ) (order : Order) (n steps mid steps' : ℕ) (calls calls' : Calls) → e ≡ looking p place order (Some n) → mid ≡ steps + e.steps → steps' ≡ mid + way p n n →
+    Called (gets_of p (e.marks ++ mark_of p n ∷ [])) calls calls' → Takes p (effort_of p place order (Some n)) steps steps' calls calls'
+takes_both p e place order n steps mid steps' calls calls' is looked gone called =
+    let T : Effort → Type 0 = λ x. Takes p (both x (record { marks = mark_of p n ∷ []; steps = way p n n })) steps steps' calls calls' in
+    subst T is (record { counted = omega (arith, looked, gone); called = called })
 
 -- none was found
-pub takes_none : (p : MarkPlan) (said : Option ℕ) (steps steps' most : ℕ) (calls calls' : Calls) (marks : List ℕ) → ((m : ℕ) → said ≡ Some m → ⊥) → steps ≤ steps' → steps' ≤ steps + p.count → length marks ≤ most → most ≤ mark_count p + 2 →
-    Called (gets_of p marks) calls calls' → Takes p said steps steps' calls calls'
-takes_none p (Some m) steps steps' most calls calls' marks never low high few le all = absurd (never m refl)
-takes_none p None steps steps' most calls calls' marks never low high few le all = (low, omega (arith, high), got_few p most calls calls' marks few le all)
+pub takes_none : (p : MarkPlan) (e : Effort) (place : ℕ) (order : Order) (steps steps' : ℕ) (calls calls' : Calls) → e ≡ looking p place order None → steps' ≡ steps + e.steps → Called (gets_of p e.marks) calls calls' →
+    Takes p (effort_of p place order None) steps steps' calls calls'
+takes_none p e place order steps steps' calls calls' is looked called =
+    let T : Effort → Type 0 = λ x. Takes p (both x nothing) steps steps' calls calls' in
+    let C : List ℕ → Type 0 = λ l. Called (gets_of p l) calls calls' in
+    subst T is (record { counted = omega (arith, looked); called = subst C (sym (append-nil e.marks)) called })
 
--- none was found, and getting a mark failed
-pub took_none : (p : MarkPlan) (said : Option ℕ) (fault : RunFault) (steps steps' most : ℕ) (calls calls' : Calls) (marks : List ℕ) → ((m : ℕ) → said ≡ Some m → ⊥) → steps ≤ steps' → steps' ≤ steps + p.count → length marks ≤ most → most ≤ mark_count p + 2 →
-    Called (gets_of p marks) calls calls' → IsOfGetting (gets_of p marks) fault → TookInPart p said fault steps steps' calls calls'
-took_none p (Some m) fault steps steps' most calls calls' marks never low high few le all of = absurd (never m refl)
-took_none p None fault steps steps' most calls calls' marks never low high few le all of = (low, omega (arith, high), record { marks = marks; few = omega (arith, few, le); called = all; of = of })
+-- a mark could not be got while the place was looked for
+pub stops_looking : (from : Source) (place : ℕ) (order : Order) (fault : RunFault) (steps steps' : ℕ) (calls calls' : Calls) (e : Effort) → steps' ≡ steps + e.steps → Called (gets_of from.plan e.marks) calls calls' →
+    (mark : ℕ) × (BreaksLooking from.plan place order mark e × IsNotGot from mark fault) → StopsAt from place order fault steps steps' calls calls'
+stops_looking from place order fault steps steps' calls calls' e counted called b =
+    record { mark = b.0; effort = e; at = inl b.1.0; not_got = b.1.1; takes = record { counted = counted; called = called } }
 
--- what an order took up to a fault of getting or of the visitor
-pub took_until : (p : MarkPlan) (said : Option ℕ) (c : Calls) (fault : RunFault) (steps steps' : ℕ) (calls calls' : Calls) → (fault ≡ Visitor → Takes p said steps steps' calls calls') → IsOfGetting c fault →
-    (fault ≢ Visitor → TookInPart p said fault steps steps' calls calls') → TookUntil p said fault steps steps' calls calls'
-took_until p said c (Keeper k) steps steps' calls calls' whole of part = part (λ e. cc)
-took_until p said c (Damaged k put got) steps steps' calls calls' whole of part = part (λ e. cc)
-took_until p said c Visitor steps steps' calls calls' whole of part = whole refl
-took_until p said c Memory steps steps' calls calls' whole of part = part (λ e. cc)
-took_until p said c Ended steps steps' calls calls' whole of part = absurd of
+-- or while it was gone to
+pub stops_going : (from : Source) (place : ℕ) (order : Order) (fault : RunFault) (n steps mid steps' : ℕ) (calls calls' : Calls) (e : Effort) → IsSeenAt from place order n → e ≡ looking from.plan place order (Some n) → mid ≡ steps + e.steps → steps' ≡ mid →
+    Called (gets_of from.plan (e.marks ++ mark_of from.plan n ∷ [])) calls calls' → IsNotGot from (mark_of from.plan n) fault → StopsAt from place order fault steps steps' calls calls'
+stops_going from place order fault n steps mid steps' calls calls' e seen is looked idle called missed = record {
+  mark = mark_of from.plan n;
+  effort = both e (asking (mark_of from.plan n));
+  at = inr (n, (seen, record { mark_is = refl; effort_is = ap (λ (x : Effort). both x (asking (mark_of from.plan n))) is }));
+  not_got = missed;
+  takes = record { counted = omega (arith, looked, idle); called = called };
+}
+
+-- the mark at which an order broke off is the last that was asked for
+pub last_asked : (IsFound : ℕ → Type 0) (p : MarkPlan) (place : ℕ) (order : Order) (mark : ℕ) (e : Effort) → BreaksAt IsFound p place order mark e → (xs : List ℕ) × (e.marks ≡ xs ++ mark ∷ [])
+last_asked IsFound p place order mark e (inr going) =
+    let b = going.1.1 in
+    let xs = (looking p place order (Some going.0)).marks in
+    (xs, ap (λ (x : Effort). x.marks) b.effort_is)
+last_asked IsFound p place (Back k) mark e (inl looking) = absurd looking
+last_asked IsFound p place (Step k) mark e (inl looking) = absurd looking
+last_asked IsFound p place (Goto k) mark e (inl looking) = absurd looking
+last_asked IsFound p place (BackTo address) mark e (inl b) = last_back p place mark e b
+last_asked IsFound p place (RunTo address) mark e (inl b) = ([], ap (λ (x : Effort). x.marks) b.effort_is)
+last_asked IsFound p place (BackChange word) mark e (inl b) = last_back p place mark e b
+last_asked IsFound p place (BackWrite word) mark e (inl b) = last_back p place mark e b
+
+-- its level is got from
+pub level_asked : (p : MarkPlan) (xs ys : List ℕ) (mark k : ℕ) → ys ≡ xs ++ mark ∷ [] → k ≡ mark_level p mark → 0 < (gets_of p ys).gets k
+level_asked p xs ys mark k is at =
+    let f : ℕ → ℕ = λ i. cond (mark_level p i == k) 1 0 in
+    let all = ap (λ (l : List ℕ). sum_by f l) is ∙ sum_by-append f xs (mark ∷ []) in
+    let count : Bool → ℕ = λ b. cond b 1 0 in
+    let one : count (mark_level p mark == k) ≡ 1 = ap count (eq-eqb (mark_level p mark) k (sym at)) in
+    omega (arith, all, one, sum_by-cons f mark [])
+
+-- what an order took up to a fault
+pub took_until : (from : Source) (place : ℕ) (order : Order) (fault : RunFault) (steps steps' : ℕ) (calls calls' : Calls) → (fault ≢ Visitor → StopsAt from place order fault steps steps' calls calls') → TookUntil from place order fault steps steps' calls calls'
+took_until from place order (Keeper k) steps steps' calls calls' stops = stops (λ e. cc)
+took_until from place order (Damaged k put got) steps steps' calls calls' stops = stops (λ e. cc)
+took_until from place order Visitor steps steps' calls calls' stops = tt
+took_until from place order Memory steps steps' calls calls' stops = stops (λ e. cc)
+took_until from place order Ended steps steps' calls calls' stops = absurd (stops (λ e. cc)).not_got
 
 -- ---- the answer over a run
 
@@ -96,21 +125,11 @@ on_ok_always (Ok x) q = q
 on_ok_always (Err e) q = tt
 
 -- a console whose marks stand for a run is a source that does
-pub source_stands : (first : MachineState) (p : MarkPlan) (journal : List (List ℕ)) (desk : Desk) (told : ℕ → Option Images) → IsMachineState first → IsRecorded journal → IsRoomy p.slots (level_at p.slots) (capacity p) → 1 ≤ capacity p →
-    AreSet p (mark_count p) desk.store → SamePages desk.work first → StandAt first journal p (mark_count p) desk.store told → SourceStands first (source p journal desk told)
-source_stands first p journal desk told is recorded roomy room laid machine levels =
-    record { is = is; recorded = recorded; machine = machine; levels = levels; there = marks_there p (mark_count p) desk.store roomy room laid }
+pub source_stands : (first : MachineState) (p : MarkPlan) (journal : List (List ℕ)) (desk : Desk) (told : ℕ → Option Images) → IsMachineState first → IsRecorded journal → SamePages desk.work first →
+    StandAt first journal p (mark_count p) desk.store told → SourceStands first (source p journal desk told)
+source_stands first p journal desk told is recorded machine levels = record { is = is; recorded = recorded; machine = machine; levels = levels }
 
 -- ---- what results say of one another
-
-pub same_found : {E : Type 0} (r : Result (Option ℕ) E) (m n : ℕ) → r ≡ Ok (Some m) → r ≡ Ok (Some n) → m ≡ n
-same_found r m n first second = cc
-
-pub never_said : {E : Type 0} (r : Result (Option ℕ) E) (m : ℕ) (e : E) → r ≡ Ok (Some m) → r ≡ Err e → ⊥
-never_said r m e first second = cc
-
-pub found_none : {E : Type 0} (r : Result (Option ℕ) E) (m : ℕ) → r ≡ Ok (Some m) → r ≡ Ok None → ⊥
-found_none r m first second = cc
 
 pub both_ways : {T E : Type 0} (r : Result T E) {x : T} (y : E) → r ≡ Ok x → r ≡ Err y → ⊥
 both_ways r y first second = cc
@@ -122,3 +141,8 @@ other_fault r x y first same other e = other cc
 -- a fault of a call is that which is passed on
 pub pass_on : {T U E : Type 0} (r : Result T E) (s : Result U E) (x y z : E) → r ≡ Err x → s ≡ Err y → y ≡ x → r ≡ Err z → s ≡ Err z
 pass_on r s x y z first second same last = cc
+
+-- an error is no answer
+pub never_done : {T E : Type 0} (P : T → Type 0) (r : Result T E) (x : E) → r ≡ Err x → IfOk r P
+never_done P (Ok v) x e = absurd cc
+never_done P (Err y) x e = tt

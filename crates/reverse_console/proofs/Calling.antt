@@ -1,16 +1,17 @@
 -- How a call of a keeper is refused, and what it leaves.
-use Rattle.std.proofs.Common.{◌≡◌, ℕ, ◌<◌, ◌≤◌, true, false, List, length, Some, None, Option, Result, Ok, Err, OnOk, IfErr, refl, sym, ◌∙◌, ap, subst, arith, eq-eqb}
+use Rattle.std.proofs.Common.{◌≡◌, ℕ, ◌<◌, true, false, List, length, Some, None, Option, Result, Ok, Err, OnOk, IfErr, refl, sym, ◌∙◌, ap, subst, arith}
 use Rattle.std.specs.Option.{is_some}
 use Rattle.std.proofs.lemmas.Bool.{false≢true}
 use Rattle.keepers.specs.Told.{Location}
 use Rattle.keepers.specs.Counts.{Rose}
-use Rattle.reverse_runner.specs.KeepersSeen.{Calls, one_if, by_number}
-use Rattle.reverse_runner.specs.Touching.{one_get, Remain, OthersRemain, IsCaused, IsKeeping, IsFetching}
+use Rattle.reverse_runner.specs.KeepersSeen.{by_number}
+use Rattle.reverse_runner.specs.Touching.{Remain, OthersRemain, IsCaused, IsKeeping, IsFetching}
 use Rattle.reverse_runner.specs.declared.fault.RunFault.{RunFault}
 use Rattle.reverse_runner.specs.declared.fault.RunFault.TheVariants.{Keeper, Damaged, Visitor, Memory, Ended}
 use Rattle.reverse_console.specs.Marks.{MarkPlan, mark_level, mark_count}
 use Rattle.reverse_console.specs.Causes.{KeepersStay, Quiet, HasCause}
-use Rattle.reverse_console.specs.Refusals.{IsOfPutting, IsOfGetting}
+use Rattle.reverse_console.specs.Refusals.{IsOfPutting, IsNotGot}
+use Rattle.reverse_console.specs.Seen.{Source, IsMarkDamaged}
 
 pub if_err_map : {T E : Type 0} (P Q : E → Type 0) (r : Result T E) → ((e : E) → P e → Q e) → IfErr r P → IfErr r Q
 if_err_map P Q (Ok x) f h = tt
@@ -47,25 +48,13 @@ of_putting p i k known at Visitor h = absurd h
 of_putting p i k known at Memory h = tt
 of_putting p i k known at Ended h = absurd h
 
--- a level is called where it is got from
-one_there : (k j : ℕ) → j ≡ k → 0 < (one_get k).gets j
-one_there k j e = let one = ap one_if (eq-eqb k j (sym e)) in omega (arith, one)
-
--- and a mark isn't got from it
-pub of_fetching : (level k : ℕ) → k ≡ level → (fault : RunFault) → IsFetching k fault → IsOfGetting (one_get level) fault
-of_fetching level k at (Keeper j) h = one_there level j (h ∙ at)
-of_fetching level k at (Damaged j put got) h = one_there level j (h ∙ at)
-of_fetching level k at Visitor h = absurd h
-of_fetching level k at Memory h = (level, one_there level level refl)
-of_fetching level k at Ended h = absurd h
-
--- what comes from some calls comes from more
-pub of_more : (a b : Calls) → ((k : ℕ) → a.gets k ≤ b.gets k) → (fault : RunFault) → IsOfGetting a fault → IsOfGetting b fault
-of_more a b le (Keeper k) h = let more = le k in omega (arith, h, more)
-of_more a b le (Damaged k put got) h = let more = le k in omega (arith, h, more)
-of_more a b le Visitor h = tt
-of_more a b le Memory h = let more = le h.0 in let some = h.1 in (h.0, omega (arith, some, more))
-of_more a b le Ended h = h
+-- a mark isn't got, where its level can't be fetched from
+pub of_fetching : (from : Source) (mark k : ℕ) → k ≡ mark_level from.plan mark → (fault : RunFault) → IsFetching k fault → ((j : ℕ) (put got : List ℕ) → fault ≡ Damaged j put got → IsMarkDamaged from mark j put got) → IsNotGot from mark fault
+of_fetching from mark k at (Keeper j) h damaged = h ∙ at
+of_fetching from mark k at (Damaged j put got) h damaged = damaged j put got refl
+of_fetching from mark k at Visitor h damaged = absurd h
+of_fetching from mark k at Memory h damaged = tt
+of_fetching from mark k at Ended h damaged = absurd h
 
 -- the keepers past the levels of the book are as they were
 pub stay_of : {K : Type 0} (slots : K → ℕ) (places : K → Location) (faults : K → ℕ) (p : MarkPlan) (k : ℕ) (old new : List K) → k < length p.slots → Remain slots places faults old new → OthersRemain k old new → KeepersStay slots places faults p old new
@@ -105,6 +94,10 @@ quiet_else faults p a b (Damaged k put got) h none = h
 quiet_else faults p a b Visitor h none = h
 quiet_else faults p a b Memory h none = h
 quiet_else faults p a b Ended h none = absurd h
+
+pub quiet_unless : {K T : Type 0} (faults : K → ℕ) (p : MarkPlan) (a b : List K) (r : Result T RunFault) → OnOk r (Quiet faults a b) → IfErr r (HasCause faults p a b) → ((k : ℕ) → r ≡ Err (Keeper k) → ⊥) → Quiet faults a b
+quiet_unless faults p a b (Ok x) quiet cause never = quiet
+quiet_unless faults p a b (Err e) quiet cause never = quiet_else faults p a b e cause (λ k same. never k (ap Err same))
 
 pub not_ended : {K : Type 0} (faults : K → ℕ) (p : MarkPlan) (a b : List K) (fault : RunFault) → HasCause faults p a b fault → fault ≡ Ended → ⊥
 not_ended faults p a b fault h e = let P : RunFault → Type 0 = HasCause faults p a b in subst P e h

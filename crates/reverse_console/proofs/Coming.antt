@@ -1,5 +1,5 @@
 -- The states that come from marks, where the marks stand for a run.
-use Rattle.std.proofs.Common.{◌≡◌, ℕ, ◌+◌, ◌-◌, ◌<◌, List, length, sym, ◌∙◌, ap, arith}
+use Rattle.std.proofs.Common.{◌≡◌, ℕ, ◌+◌, ◌-◌, ◌<◌, List, refl, sym, ◌∙◌, ap, arith}
 use Rattle.input_journal.specs.Form.{IsRecorded}
 use Rattle.keepers.specs.Told.{Images}
 use Rattle.rv_pages.specs.Memory.{page_numbers}
@@ -25,7 +25,6 @@ pub record SourceStands (first : MachineState) (from : Source) : Type 0 where
   pub recorded : IsRecorded from.journal
   pub machine : SamePages from.machine first
   pub levels : StandAt first from.journal from.plan (mark_count from.plan) from.levels.store from.levels.told
-  pub there : (i : ℕ) → i < mark_count from.plan → mark_level from.plan i < length from.levels.store
 
 -- the state with a number of the run maps the pages of the machine
 pages_of_run : (first : MachineState) (from : Source) (n : ℕ) → SourceStands first from → page_numbers (state_number first from.journal n).memory ≡ page_numbers from.machine.memory
@@ -35,7 +34,7 @@ pages_of_run first from n stands = state_number_keeps_pages first from.journal n
 pub mark_stands : (first : MachineState) (from : Source) (i : ℕ) → SourceStands first from → i < mark_count from.plan →
     (images : Images) × LevelStands (level_of from.levels.store (mark_level from.plan i)) (from.levels.told (mark_level from.plan i)) images
 mark_stands first from i stands known =
-    let level = stands.levels (mark_level from.plan i) (stands.there i known) in
+    let level = stands.levels (mark_level from.plan i) i known refl in
     (level.0, level.1.1)
 
 -- the bytes that are fetched of a mark are the image of its state
@@ -43,7 +42,7 @@ pub fetched_mark : (first : MachineState) (from : Source) (i : ℕ) (bytes : Lis
     IsFetched from.levels (mark_level from.plan i) (marked from.plan i) bytes → bytes ≡ image (state_number first from.journal (marked from.plan i))
 fetched_mark first from i bytes stands known fetched =
     let k = mark_level from.plan i in
-    fetched_is (state_number first from.journal) (marked_on from.plan (mark_count from.plan) k) from.levels k (marked from.plan i) bytes (stands.levels k (stands.there i known)) (is_marked from.plan (mark_count from.plan) i known) fetched
+    fetched_is (state_number first from.journal) (marked_on from.plan (mark_count from.plan) k) from.levels k (marked from.plan i) bytes (stands.levels k i known refl) (is_marked from.plan (mark_count from.plan) i known) fetched
 
 -- what is decoded of them is its state
 decoded_mark : (first : MachineState) (from : Source) (i : ℕ) (bytes : List ℕ) (s : MachineState) → SourceStands first from → i < mark_count from.plan →

@@ -1,8 +1,8 @@
 -- Calls that get marks, one after the other.
-use Rattle.std.proofs.Common.{◌≡◌, inl, inr, ℕ, ◌+◌, ◌-◌, ◌==◌, ◌<◌, ◌≤◌, cond, List, [], ◌∷◌, ◌++◌, length, count_by, Some, Option, Result, Ok, Err, OnOk, IfErr, refl, sym, ◌∙◌, ap, subst, arith, length-append}
+use Rattle.std.proofs.Common.{◌≡◌, ◌≢◌, inl, inr, ℕ, ◌+◌, ◌-◌, ◌==◌, ◌<◌, ◌≤◌, cond, List, [], ◌∷◌, ◌++◌, length, count_by, Some, Option, Result, Ok, Err, OnOk, IfErr, refl, sym, ◌∙◌, ap, subst, arith}
 use Rattle.std.specs.Vec.{vec_capacity}
 use Rattle.std.proofs.lemmas.Result.{IfErr-at_err}
-use Rattle.std.proofs.lemmas.List.Sums.{sum_by-append, sum_by-cons}
+use Rattle.std.proofs.lemmas.List.Sums.{sum_by-append}
 use Rattle.sha2.specs.Sha256.{sha256}
 use Rattle.input_journal.specs.Form.{IsRecorded}
 use Rattle.keepers.specs.Told.{Location, Images}
@@ -19,7 +19,7 @@ use Rattle.reverse_runner.specs.Standing.{IsNoImage}
 use Rattle.reverse_runner.specs.KeepersSeen.{Calls, Called, told_by, calls_to}
 use Rattle.reverse_runner.specs.Touching.{one_get, Remain, OthersRemain, IsCaused, IsKeeping, IsFetching, IsOther}
 use Rattle.reverse_runner.specs.declared.fault.RunFault.{RunFault}
-use Rattle.reverse_runner.specs.declared.fault.RunFault.TheVariants.{Damaged, Visitor}
+use Rattle.reverse_runner.specs.declared.fault.RunFault.TheVariants.{Damaged, Visitor, Memory}
 use Rattle.reverse_runner.proofs.AllCalls.{called_then, called_same, calls_then}
 use Rattle.reverse_queries.proofs.Ways.{same_fault}
 use Rattle.reverse_console.specs.declared.desk.Desk.{Desk}
@@ -28,11 +28,13 @@ use Rattle.reverse_console.specs.Desks.{Fits, levels_in}
 use Rattle.reverse_console.specs.Marks.{MarkPlan, marked, mark_count, mark_level, marked_on}
 use Rattle.reverse_console.specs.Causes.{Quiet, HasCause}
 use Rattle.reverse_console.specs.Handling.{StandAt, source, Reads, Gets}
-use Rattle.reverse_console.specs.Refusals.{IsOfGetting}
+use Rattle.reverse_console.specs.Refusals.{IsNotGot}
+use Rattle.reverse_runner.specs.Rooms.{image_room, rooms_by, AreRoomy, SameRooms}
+use Rattle.reverse_runner.proofs.Rooms.{still_roomy}
 use Rattle.reverse_console.specs.Seen.{ComesFrom, IsMarkDamaged}
-use Rattle.reverse_console.proofs.Calling.{if_err_map, of_fetching, of_more, stay_of, stay_then, stay_still, cause_then, fetching_cause}
+use Rattle.reverse_console.proofs.Calling.{if_err_map, of_fetching, stay_of, stay_then, stay_still, cause_then, fetching_cause}
 use Rattle.reverse_console.proofs.Coming.{SourceStands, mark_stands, fetched_mark, mark_is_image}
-use Rattle.reverse_console.proofs.Seeing.{comes_back, damage_back, got_one, got_none}
+use Rattle.reverse_console.proofs.Seeing.{comes_back, not_got_back, got_one, got_none}
 
 -- what holds at Ok holds, where there is an error
 pub ok_never : {T E : Type 0} (P : Type 0) (r : Result T E) (x : E) → r ≡ Err x → OnOk r P
@@ -58,10 +60,9 @@ fits_on w v same more fits =
 -- the levels stand as long as they are as they were
 pub stand_same : (first : MachineState) (journal : List (List ℕ)) (p : MarkPlan) (i : ℕ) (store store' : List ShelfState) (told told' : ℕ → Option Images) → store' ≡ store → ((k : ℕ) → told' k ≡ told k) →
     StandAt first journal p i store told → StandAt first journal p i store' told'
-stand_same first journal p i store store' told told' es et stands k within =
-    let inside : k < length store = subst (λ (s : List ShelfState). k < length s) es within in
+stand_same first journal p i store store' told told' es et stands k j known at =
     subst (λ (o : Option Images). LevelStandsAt (state_number first journal) (marked_on p i k) (level_of store' k) o) (sym (et k))
-    (subst (λ (s : List ShelfState). LevelStandsAt (state_number first journal) (marked_on p i k) (level_of s k) (told k)) (sym es) (stands k inside))
+    (subst (λ (s : List ShelfState). LevelStandsAt (state_number first journal) (marked_on p i k) (level_of s k) (told k)) (sym es) (stands k j known at))
 
 -- the counts of two lists of marks
 both_counted : (p : MarkPlan) (xs ys : List ℕ) (k : ℕ) → count_by (λ i. mark_level p i == k) xs + count_by (λ i. mark_level p i == k) ys ≡ count_by (λ i. mark_level p i == k) (xs ++ ys)
@@ -71,37 +72,31 @@ got_then : (p : MarkPlan) (xs ys : List ℕ) (a b c : Calls) → Called (gets_of
 got_then p xs ys a b c first second =
     called_same (calls_then (gets_of p xs) (gets_of p ys)) (gets_of p (xs ++ ys)) a c (called_then (gets_of p xs) (gets_of p ys) a b c first second) (λ k. refl) (both_counted p xs ys) (λ k. refl)
 
-module _ {K : Type 0} (told : K → Option Images) (puts gets frees slots : K → ℕ) (places : K → Location) (faults : K → ℕ) (p : MarkPlan) (journal : List (List ℕ)) where
-  abbrev pub Got : {T : Type 0} → ℕ → Result T RunFault → Desk → Desk → List K → List K → Type 0
-  Got most r w w' old new = Gets told puts gets frees slots places faults p journal most r w w' old new
+module _ {K : Type 0} (told : K → Option Images) (puts gets frees slots : K → ℕ) (places : K → Location) (faults : K → ℕ) (rooms : K → Option ℕ) (p : MarkPlan) (journal : List (List ℕ)) where
+  abbrev pub Got : {T : Type 0} → List ℕ → Result T RunFault → Desk → Desk → List K → List K → Type 0
+  Got marks r w w' old new = Gets told puts gets frees slots places faults rooms p journal marks r w w' old new
 
   abbrev pub Read : List ℕ → Desk → Desk → List K → List K → Type 0
-  Read marks w w' old new = Reads told puts gets frees slots places faults p marks w w' old new
+  Read marks w w' old new = Reads told puts gets frees slots places faults rooms p marks w w' old new
 
   -- a fault that is passed on
-  pub gets_err : {A B : Type 0} (most : ℕ) (r : Result A RunFault) (s : Result B RunFault) (x y : RunFault) (w w' : Desk) (old new : List K) → r ≡ Err x → s ≡ Err y → y ≡ x → Got most r w w' old new → Got most s w w' old new
-  gets_err most r s x y w w' old new first second same g = record {
-    marks = g.marks;
-    few = g.few;
+  pub gets_err : {A B : Type 0} (marks : List ℕ) (r : Result A RunFault) (s : Result B RunFault) (x y : RunFault) (w w' : Desk) (old new : List K) → r ≡ Err x → s ≡ Err y → y ≡ x → Got marks r w w' old new → Got marks s w w' old new
+  gets_err marks r s x y w w' old new first second same g = record {
     reads = g.reads;
     quiet = ok_never (Quiet faults old new) s y second;
     cause = err_at (HasCause faults p old new) s y second (subst (HasCause faults p old new) (sym same) (IfErr-at_err (HasCause faults p old new) first g.cause));
-    damaged = λ k put got e. g.damaged k put got (same_fault r s x y (Damaged k put got) first second same e);
     undamaged = λ one is pages stands k put got e. g.undamaged one is pages stands k put got (same_fault r s x y (Damaged k put got) first second same e);
-    of = err_at (IsOfGetting (gets_of p g.marks)) s y second (subst (IsOfGetting (gets_of p g.marks)) (sym same) (IfErr-at_err (IsOfGetting (gets_of p g.marks)) first g.of));
+    roomy = λ has e. g.roomy has (same_fault r s x y Memory first second same e);
   }
 
   -- an answer that is made of another one
-  pub gets_ok : {A B : Type 0} (most : ℕ) (r : Result A RunFault) (x : A) (y : B) (w w' : Desk) (old new : List K) → r ≡ Ok x → Got most r w w' old new → Got most (Ok y) w w' old new
-  gets_ok most r x y w w' old new is g = record {
-    marks = g.marks;
-    few = g.few;
+  pub gets_ok : {A B : Type 0} (marks : List ℕ) (r : Result A RunFault) (x : A) (y : B) (w w' : Desk) (old new : List K) → r ≡ Ok x → Got marks r w w' old new → Got marks (Ok y) w w' old new
+  gets_ok marks r x y w w' old new is g = record {
     reads = g.reads;
     quiet = at_ok r x is g.quiet;
     cause = tt;
-    damaged = λ k put got e. absurd cc;
     undamaged = λ one ms pages stands k put got e. absurd cc;
-    of = tt;
+    roomy = λ has e. absurd cc;
   }
 
   reads_then : (xs ys : List ℕ) (u v w : Desk) (a b c : List K) → Read xs u v a b → Read ys v w b c → Read (xs ++ ys) u w a c
@@ -112,12 +107,14 @@ module _ {K : Type 0} (told : K → Option Images) (puts gets frees slots : K �
     told_same = λ k. second.told_same k ∙ first.told_same k;
     called = got_then p xs ys (calls_to puts gets frees a) (calls_to puts gets frees b) (calls_to puts gets frees c) first.called second.called;
     keepers = stay_then slots places faults p a b c first.keepers second.keepers;
+    rooms_same = λ k. second.rooms_same k ∙ first.rooms_same k;
   }
 
-  damage_then : (xs : List ℕ) (u v : Desk) (a b : List K) → Read xs u v a b → (k : ℕ) (put got : List ℕ) → IsMarkDamaged (source p journal v (told_by told b)) k put got → IsMarkDamaged (source p journal u (told_by told a)) k put got
-  damage_then xs u v a b reads k put got d =
-      let P : List ShelfState → Type 0 = λ s. IsMarkDamaged (record { plan = p; journal = journal; levels = record { store = s; told = told_by told b }; machine = v.work }) k put got in
-      damage_back p journal u.store (told_by told a) (told_by told b) u.work v.work reads.told_same reads.machine k put got (subst P reads.store d)
+  -- what is missed of a mark later was missed before
+  pub not_got_then : (xs : List ℕ) (u v : Desk) (a b : List K) → Read xs u v a b → (mark : ℕ) (fault : RunFault) → IsNotGot (source p journal v (told_by told b)) mark fault → IsNotGot (source p journal u (told_by told a)) mark fault
+  not_got_then xs u v a b reads mark fault d =
+      let P : List ShelfState → Type 0 = λ s. IsNotGot (record { plan = p; journal = journal; levels = record { store = s; told = told_by told b }; machine = v.work }) mark fault in
+      not_got_back p journal u.store (told_by told a) (told_by told b) u.work v.work reads.told_same reads.machine mark fault (subst P reads.store d)
 
   -- what comes from the levels later came from them before
   pub comes_then : (xs : List ℕ) (u v : Desk) (a b : List K) → Read xs u v a b → (i n : ℕ) (s : MachineState) → ComesFrom (source p journal v (told_by told b)) i n s → ComesFrom (source p journal u (told_by told a)) i n s
@@ -125,85 +122,65 @@ module _ {K : Type 0} (told : K → Option Images) (puts gets frees slots : K �
       let P : List ShelfState → Type 0 = λ t. ComesFrom (record { plan = p; journal = journal; levels = record { store = t; told = told_by told b }; machine = v.work }) i n s in
       comes_back p journal u.store (told_by told a) (told_by told b) u.work v.work reads.told_same reads.machine i n s (subst P reads.store comes)
 
+  -- the keepers have room as before
+  pub roomy_then : (xs : List ℕ) (u v : Desk) (a b : List K) → Read xs u v a b → AreRoomy (image_room u.work) (length p.slots) (rooms_by rooms a) → AreRoomy (image_room v.work) (length p.slots) (rooms_by rooms b)
+  roomy_then xs u v a b reads has = still_roomy u.work v.work p.slots p.slots (rooms_by rooms a) (rooms_by rooms b) reads.machine refl reads.rooms_same has
+
   -- one call after another that was done
-  pub gets_then : {A B : Type 0} (m n : ℕ) (r : Result A RunFault) (x : A) (s : Result B RunFault) (u v w : Desk) (a b c : List K) → r ≡ Ok x → Got m r u v a b → Got n s v w b c → Got (m + n) s u w a c
-  gets_then m n r x s u v w a b c is first second =
+  pub gets_then : {A B : Type 0} (xs ys : List ℕ) (r : Result A RunFault) (x : A) (s : Result B RunFault) (u v w : Desk) (a b c : List K) → r ≡ Ok x → Got xs r u v a b → Got ys s v w b c → Got (xs ++ ys) s u w a c
+  gets_then xs ys r x s u v w a b c is first second =
       let quiet = at_ok r x is first.quiet in
-      let few = first.few in
-      let more = second.few in
       record {
-        marks = first.marks ++ second.marks;
-        few = omega (arith, few, more, length-append first.marks second.marks);
-        reads = reads_then first.marks second.marks u v w a b c first.reads second.reads;
+        reads = reads_then xs ys u v w a b c first.reads second.reads;
         quiet = on_ok_map s (λ q j. q j ∙ quiet j) second.quiet;
         cause = if_err_map (HasCause faults p b c) (HasCause faults p a c) s (λ fault. cause_then faults p a b c fault quiet) second.cause;
-        damaged = λ k put got e. damage_then first.marks u v a b first.reads k put got (second.damaged k put got e);
         undamaged = λ one ms pages stands. second.undamaged one ms (first.reads.machine ∙ pages) (stand_same one journal p (mark_count p) u.store v.store (told_by told a) (told_by told b) first.reads.store first.reads.told_same stands);
-        of = if_err_map (IsOfGetting (gets_of p second.marks)) (IsOfGetting (gets_of p (first.marks ++ second.marks))) s
-            (of_more (gets_of p second.marks) (gets_of p (first.marks ++ second.marks)) (λ k. let both = both_counted p first.marks second.marks k in omega (arith, both))) second.of;
+        roomy = λ has. second.roomy (roomy_then xs u v a b first.reads has);
       }
     where
       on_ok_map : {T P Q : Type 0} (r : Result T RunFault) → (P → Q) → OnOk r P → OnOk r Q
       on_ok_map (Ok x) f h = f h
       on_ok_map (Err e) f h = tt
 
-  -- no more than more
-  pub gets_more : {A : Type 0} (m n : ℕ) (r : Result A RunFault) (w w' : Desk) (a b : List K) → m ≤ n → Got m r w w' a b → Got n r w w' a b
-  gets_more m n r w w' a b le g = let few = g.few in record {
-    marks = g.marks;
-    few = omega (arith, le, few);
-    reads = g.reads;
-    quiet = g.quiet;
-    cause = g.cause;
-    damaged = g.damaged;
-    undamaged = g.undamaged;
-    of = g.of;
-  }
+  -- the marks under another name
+  pub gets_as : {A : Type 0} (xs ys : List ℕ) (r : Result A RunFault) (w w' : Desk) (a b : List K) → xs ≡ ys → Got xs r w w' a b → Got ys r w w' a b
+  gets_as xs ys r w w' a b e g = subst (λ (l : List ℕ). Got l r w w' a b) e g
 
   -- the machine goes on, and nothing else happens
-  pub gets_moved : {A : Type 0} (most : ℕ) (r : Result A RunFault) (u v w : Desk) (a b : List K) → SamePages w.work v.work → w.store ≡ v.store → Fits w → Got most r u v a b → Got most r u w a b
-  gets_moved most r u v w a b pages store fits g = let reads = g.reads in record {
-    marks = g.marks;
-    few = g.few;
-    reads = record { machine = pages ∙ reads.machine; fits = fits; store = store ∙ reads.store; told_same = reads.told_same; called = reads.called; keepers = reads.keepers };
+  pub gets_moved : {A : Type 0} (marks : List ℕ) (r : Result A RunFault) (u v w : Desk) (a b : List K) → SamePages w.work v.work → w.store ≡ v.store → Fits w → Got marks r u v a b → Got marks r u w a b
+  gets_moved marks r u v w a b pages store fits g = let reads = g.reads in record {
+    reads = record { machine = pages ∙ reads.machine; fits = fits; store = store ∙ reads.store; told_same = reads.told_same; called = reads.called; keepers = reads.keepers; rooms_same = reads.rooms_same };
     quiet = g.quiet;
     cause = g.cause;
-    damaged = g.damaged;
     undamaged = g.undamaged;
-    of = g.of;
+    roomy = g.roomy;
   }
 
   -- the visitor refused what was got
-  pub gets_unseen : {A B : Type 0} (most : ℕ) (r : Result A RunFault) (x : A) (w w' : Desk) (old new : List K) → r ≡ Ok x → Got most r w w' old new → Got {T = B} most (Err Visitor) w w' old new
-  gets_unseen most r x w w' old new is g = record {
-    marks = g.marks;
-    few = g.few;
+  pub gets_unseen : {A B : Type 0} (marks : List ℕ) (r : Result A RunFault) (x : A) (w w' : Desk) (old new : List K) → r ≡ Ok x → Got marks r w w' old new → Got {T = B} marks (Err Visitor) w w' old new
+  gets_unseen marks r x w w' old new is g = record {
     reads = g.reads;
     quiet = tt;
     cause = at_ok r x is g.quiet;
-    damaged = λ k put got e. absurd cc;
     undamaged = λ one ms pages stands k put got e. absurd cc;
-    of = tt;
+    roomy = λ has e. absurd cc;
   }
 
   -- nothing was done
-  pub gets_still : {A : Type 0} (most : ℕ) (x : A) (w : Desk) (a : List K) → Fits w → Got most (Ok x) w w a a
-  gets_still most x w a fits = record {
-    marks = [];
-    few = omega arith;
-    reads = record { machine = refl; fits = fits; store = refl; told_same = λ k. refl; called = got_none p (calls_to puts gets frees a); keepers = stay_still slots places faults p a };
+  pub gets_still : {A : Type 0} (x : A) (w : Desk) (a : List K) → Fits w → Got [] (Ok x) w w a a
+  gets_still x w a fits = record {
+    reads = record { machine = refl; fits = fits; store = refl; told_same = λ k. refl; called = got_none p (calls_to puts gets frees a); keepers = stay_still slots places faults p a; rooms_same = λ k. refl };
     quiet = λ j. refl;
     cause = tt;
-    damaged = λ k put got e. absurd cc;
     undamaged = λ one ms pages stands k put got e. absurd cc;
-    of = tt;
+    roomy = λ has e. absurd cc;
   }
 
   -- ---- one mark
 
-  module _ (i k n : ℕ) (w v : Desk) (old new : List K) (ek : k ≡ mark_level p i) (en : n ≡ marked p i) (known : i < mark_count p) (within : k < length p.slots) (there : (j : ℕ) → j < mark_count p → mark_level p j < length w.store)
+  module _ (i k n : ℕ) (w v : Desk) (old new : List K) (ek : k ≡ mark_level p i) (en : n ≡ marked p i) (known : i < mark_count p) (within : k < length p.slots)
       (recorded : IsRecorded journal) (fits : Fits v) (work : v.work ≡ w.work) (store : v.store ≡ w.store) (same : (j : ℕ) → IsAsBefore (levels_in w (told_by told old)) (levels_in v (told_by told new)) j)
-      (called : Called (one_get k) (calls_to puts gets frees old) (calls_to puts gets frees new)) (remain : Remain slots places faults old new) (others : OthersRemain k old new) where
+      (called : Called (one_get k) (calls_to puts gets frees old) (calls_to puts gets frees new)) (remain : Remain slots places faults old new) (others : OthersRemain k old new) (still : SameRooms (rooms_by rooms old) (rooms_by rooms new)) where
     one_read : Read (i ∷ []) w v old new
     one_read = record {
       machine = ap (λ (s : MachineState). page_numbers s.memory) work;
@@ -212,56 +189,61 @@ module _ {K : Type 0} (told : K → Option Images) (puts gets frees slots : K �
       told_same = λ j. (same j).1;
       called = got_one p i (calls_to puts gets frees old) (calls_to puts gets frees new) (subst (λ (x : ℕ). Called (one_get x) (calls_to puts gets frees old) (calls_to puts gets frees new)) ek called);
       keepers = stay_of slots places faults p k old new within remain others;
+      rooms_same = still;
     }
 
     stands_at : (first : MachineState) → IsMachineState first → SamePages w.work first → StandAt first journal p (mark_count p) w.store (told_by told old) → SourceStands first (source p journal w (told_by told old))
-    stands_at first is pages stands = record { is = is; recorded = recorded; machine = pages; levels = stands; there = there }
+    stands_at first is pages stands = record { is = is; recorded = recorded; machine = pages; levels = stands }
 
-    -- a fault of fetching is of getting the mark
-    of_mark : (fault : RunFault) → IsFetching k fault → IsOfGetting (gets_of p (i ∷ [])) fault
-    of_mark fault h =
-        of_more (one_get (mark_level p i)) (gets_of p (i ∷ [])) (λ j. let f : ℕ → ℕ = λ m. cond (mark_level p m == j) 1 0 in omega (arith, sum_by-cons f i [])) fault
-        (of_fetching (mark_level p i) k ek fault h)
+    -- other bytes came back than those that were put
+    pub others_damaged : (r : Result (List ℕ) RunFault) → ((j : ℕ) (put got : List ℕ) → r ≡ Err (Damaged j put got) → (j ≡ k) × IsOther (levels_in w (told_by told old)) k n put got) →
+        (j : ℕ) (put got : List ℕ) → r ≡ Err (Damaged j put got) → IsMarkDamaged (source p journal w (told_by told old)) i j put got
+    others_damaged r damaged j put got e =
+        let d = damaged j put got e in
+        let o = d.1 in
+        record {
+          known = known;
+          level = d.0 ∙ ek;
+          kept = o.kept;
+          held = subst (λ (m : ℕ). kept_at w.store j m ≡ Some o.kept) en (subst (λ (l : ℕ). kept_at w.store l n ≡ Some o.kept) (sym d.0) o.held);
+          bytes = o.bytes;
+          told = subst (λ (l : ℕ). IsGot o.kept (told_by told old l) o.bytes) (sym d.0) o.told;
+          put_digest = o.put_digest;
+          got_digest = o.got_digest;
+          wrong = inl o.other;
+        }
 
     -- the mark could not be fetched
-    pub gets_unfetched : {A B : Type 0} (r : Result B RunFault) (s : Result A RunFault) (x y : RunFault) → r ≡ Err x → s ≡ Err y → y ≡ x → IsCaused faults old new r → IfErr r (IsFetching k) →
-        ((j : ℕ) (put got : List ℕ) → r ≡ Err (Damaged j put got) → (j ≡ k) × IsOther (levels_in w (told_by told old)) k n put got) →
-        ((images : Images) → LevelStands (level_of w.store k) (told_by told old k) images → IfErr r (IsKeeping k)) → Got 1 s w v old new
-    gets_unfetched r s x y first second same_one caused fetching damaged sound = record {
-      marks = i ∷ [];
-      few = omega arith;
+    pub gets_unfetched : {A : Type 0} (r : Result (List ℕ) RunFault) (s : Result A RunFault) (x y : RunFault) → r ≡ Err x → s ≡ Err y → y ≡ x → IsCaused faults old new r → IfErr r (IsFetching k) →
+        ((images : Images) → LevelStands (level_of w.store k) (told_by told old k) images → IfErr r (IsKeeping k)) → (AreRoomy (image_room w.work) (length p.slots) (rooms_by rooms old) → r ≢ Err Memory) → Got (i ∷ []) s w v old new
+    gets_unfetched r s x y first second same_one caused fetching sound roomy = record {
       reads = one_read;
       quiet = ok_never (Quiet faults old new) s y second;
       cause = err_at (HasCause faults p old new) s y second (subst (HasCause faults p old new) (sym same_one) (IfErr-at_err (HasCause faults p old new) first (fetching_cause faults p k old new r within caused fetching)));
-      damaged = λ j put got e.
-          let d = damaged j put got (same_fault r s x y (Damaged j put got) first second same_one e) in
-          let o = d.1 in
-          record {
-            mark = i;
-            known = known;
-            level = d.0 ∙ ek;
-            kept = o.kept;
-            held = subst (λ (m : ℕ). kept_at w.store j m ≡ Some o.kept) en (subst (λ (l : ℕ). kept_at w.store l n ≡ Some o.kept) (sym d.0) o.held);
-            bytes = o.bytes;
-            told = subst (λ (l : ℕ). IsGot o.kept (told_by told old l) o.bytes) (sym d.0) o.told;
-            put_digest = o.put_digest;
-            got_digest = o.got_digest;
-            wrong = inl o.other;
-          };
       undamaged = λ one is pages stands j put got e.
           let at = mark_stands one (source p journal w (told_by told old)) i (stands_at one is pages stands) known in
           let level = subst (λ (l : ℕ). LevelStands (level_of w.store l) (told_by told old l) at.0) (sym ek) at.1 in
           IfErr-at_err (IsKeeping k) (same_fault r s x y (Damaged j put got) first second same_one e) (sound at.0 level);
-      of = err_at (IsOfGetting (gets_of p (i ∷ []))) s y second (subst (IsOfGetting (gets_of p (i ∷ []))) (sym same_one) (of_mark x (IfErr-at_err (IsFetching k) first fetching)));
+      roomy = λ has e. roomy has (same_fault r s x y Memory first second same_one e);
     }
+
+    pub not_fetched : {A : Type 0} (r : Result (List ℕ) RunFault) (s : Result A RunFault) (x y : RunFault) → r ≡ Err x → s ≡ Err y → y ≡ x → IfErr r (IsFetching k) →
+        ((j : ℕ) (put got : List ℕ) → r ≡ Err (Damaged j put got) → (j ≡ k) × IsOther (levels_in w (told_by told old)) k n put got) → IfErr s (IsNotGot (source p journal w (told_by told old)) i)
+    not_fetched r s x y first second same_one fetching damaged =
+        let from = source p journal w (told_by told old) in
+        err_at (IsNotGot from i) s y second
+        (subst (IsNotGot from i) (sym same_one) (of_fetching from i k ek x (IfErr-at_err (IsFetching k) first fetching) (λ j put got e. others_damaged r damaged j put got (first ∙ ap Err e))))
 
     -- it was fetched, and decoded or not
     module _ (u : Desk) (s : Result Unit RunFault) (quiet : Quiet faults old new) (fetched : IsFetched (levels_in w (told_by told old)) k n v.buffer.items) (pages : SamePages u.work v.work) (kept : u.store ≡ v.store) (fits_u : Fits u)
         (damaged : IfErr s (λ fault. (fault ≡ Damaged k (sha256 v.buffer.items) (sha256 v.buffer.items)) × IsNoImage v.work v.buffer.items)) where
+      abbrev WasNoImage : RunFault → Type 0
+      WasNoImage fault = (fault ≡ Damaged k (sha256 v.buffer.items) (sha256 v.buffer.items)) × IsNoImage v.work v.buffer.items
+
       fetched_there : IsFetched (levels_in w (told_by told old)) (mark_level p i) (marked p i) v.buffer.items
       fetched_there = subst (λ (m : ℕ). IsFetched (levels_in w (told_by told old)) (mark_level p i) m v.buffer.items) en (subst (λ (l : ℕ). IsFetched (levels_in w (told_by told old)) l n v.buffer.items) ek fetched)
 
-      decode_cause : (fault : RunFault) → (fault ≡ Damaged k (sha256 v.buffer.items) (sha256 v.buffer.items)) × IsNoImage v.work v.buffer.items → HasCause faults p old new fault
+      decode_cause : (fault : RunFault) → WasNoImage fault → HasCause faults p old new fault
       decode_cause fault d = subst (HasCause faults p old new) (sym d.0) quiet
 
       pub comes_decoded : OnOk s (IsDecoded v.work u.work v.buffer.items) → OnOk s (ComesFrom (source p journal w (told_by told old)) i (marked p i) u.work)
@@ -281,10 +263,27 @@ module _ {K : Type 0} (told : K → Option Images) (puts gets frees slots : K �
                 there = ap (state_number u.work journal) none;
               }
 
-      pub gets_decoded : Got 1 s w u old new
+      -- the bytes are no image
+      no_image_got : (fault : RunFault) → WasNoImage fault → IsNotGot (source p journal w (told_by told old)) i fault
+      no_image_got fault d =
+          let f = fetched_there in
+          subst (IsNotGot (source p journal w (told_by told old)) i) (sym d.0) (record {
+            known = known;
+            level = ek;
+            kept = f.0;
+            held = subst (λ (l : ℕ). kept_at w.store l (marked p i) ≡ Some f.0) (sym ek) f.1;
+            bytes = v.buffer.items;
+            told = subst (λ (l : ℕ). IsGot f.0 (told_by told old l) v.buffer.items) (sym ek) f.2;
+            put_digest = f.4;
+            got_digest = refl;
+            wrong = inr (subst (λ (m : MachineState). IsNoImage m v.buffer.items) work d.1);
+          })
+
+      pub not_decoded : IfErr s (IsNotGot (source p journal w (told_by told old)) i)
+      not_decoded = if_err_map WasNoImage (IsNotGot (source p journal w (told_by told old)) i) s no_image_got damaged
+
+      pub gets_decoded : Got (i ∷ []) s w u old new
       gets_decoded = record {
-        marks = i ∷ [];
-        few = omega arith;
         reads = record {
           machine = pages ∙ one_read.machine;
           fits = fits_u;
@@ -292,46 +291,22 @@ module _ {K : Type 0} (told : K → Option Images) (puts gets frees slots : K �
           told_same = one_read.told_same;
           called = one_read.called;
           keepers = one_read.keepers;
+          rooms_same = still;
         };
         quiet = on_ok_always s quiet;
-        cause = if_err_map (λ fault. (fault ≡ Damaged k (sha256 v.buffer.items) (sha256 v.buffer.items)) × IsNoImage v.work v.buffer.items) (HasCause faults p old new) s decode_cause damaged;
-        damaged = λ j put got e.
-            let d = IfErr-at_err (λ fault. (fault ≡ Damaged k (sha256 v.buffer.items) (sha256 v.buffer.items)) × IsNoImage v.work v.buffer.items) e damaged in
-            let level : j ≡ k = same_level j k put got (sha256 v.buffer.items) (sha256 v.buffer.items) d.0 in
-            let digest : put ≡ sha256 v.buffer.items = same_put j k put got (sha256 v.buffer.items) (sha256 v.buffer.items) d.0 in
-            let other : got ≡ sha256 v.buffer.items = same_got j k put got (sha256 v.buffer.items) (sha256 v.buffer.items) d.0 in
-            let f = fetched_there in
-            record {
-              mark = i;
-              known = known;
-              level = level ∙ ek;
-              kept = f.0;
-              held = subst (λ (l : ℕ). kept_at w.store l (marked p i) ≡ Some f.0) (sym (level ∙ ek)) f.1;
-              bytes = v.buffer.items;
-              told = subst (λ (l : ℕ). IsGot f.0 (told_by told old l) v.buffer.items) (sym (level ∙ ek)) f.2;
-              put_digest = digest ∙ f.4;
-              got_digest = other;
-              wrong = inr (subst (λ (m : MachineState). IsNoImage m v.buffer.items) work d.1);
-            };
+        cause = if_err_map WasNoImage (HasCause faults p old new) s decode_cause damaged;
         undamaged = λ one is same_pages stands j put got e.
             let from = source p journal w (told_by told old) in
             let at = stands_at one is same_pages stands in
-            let d = IfErr-at_err (λ fault. (fault ≡ Damaged k (sha256 v.buffer.items) (sha256 v.buffer.items)) × IsNoImage v.work v.buffer.items) e damaged in
+            let d = IfErr-at_err WasNoImage e damaged in
             let state = mark_is_image one from i at in
             d.1 (state_number one journal (marked p i)) state.0 (state.1 ∙ sym (ap (λ (t : MachineState). page_numbers t.memory) work)) (sym (fetched_mark one from i v.buffer.items at known fetched_there));
-        of = if_err_map (λ fault. (fault ≡ Damaged k (sha256 v.buffer.items) (sha256 v.buffer.items)) × IsNoImage v.work v.buffer.items) (IsOfGetting (gets_of p (i ∷ []))) s
-            (λ fault d. subst (IsOfGetting (gets_of p (i ∷ []))) (sym d.0) (of_mark (Damaged k (sha256 v.buffer.items) (sha256 v.buffer.items)) refl)) damaged;
+        roomy = λ has e. let d = IfErr-at_err WasNoImage e damaged in never d.0;
       }
         where
           on_ok_always : {T P : Type 0} (r : Result T RunFault) → P → OnOk r P
           on_ok_always (Ok x) q = q
           on_ok_always (Err e) q = tt
 
-          same_level : (j l : ℕ) (put got put' got' : List ℕ) → Damaged j put got ≡ Damaged l put' got' → j ≡ l
-          same_level j l put got put' got' e = cc
-
-          same_put : (j l : ℕ) (put got put' got' : List ℕ) → Damaged j put got ≡ Damaged l put' got' → put ≡ put'
-          same_put j l put got put' got' e = cc
-
-          same_got : (j l : ℕ) (put got put' got' : List ℕ) → Damaged j put got ≡ Damaged l put' got' → got ≡ got'
-          same_got j l put got put' got' e = cc
+          never : {j : ℕ} {put got : List ℕ} → Memory ≡ Damaged j put got → ⊥
+          never e = cc

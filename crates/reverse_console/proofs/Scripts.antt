@@ -1,5 +1,5 @@
 -- Orders that are answered one after the other.
-use Rattle.std.proofs.Common.{◌≡◌, ◌≢◌, ℕ, ◌<◌, Bool, true, false, true≢false, List, [], ◌∷◌, ◌++◌, length, take, Option, Some, None, Result, Ok, Err, IfOk, IfErr, OnOk, OnErr, IsErrOf, refl, sym, ◌∙◌, ap, subst, append_assoc, append-nil}
+use Rattle.std.proofs.Common.{◌≡◌, ◌≢◌, inl, inr, ℕ, ◌<◌, Bool, true, false, true≢false, List, [], ◌∷◌, ◌++◌, length, take, Option, Some, None, Result, Ok, Err, IfOk, IfErr, OnOk, OnErr, IsErrOf, refl, sym, ◌∙◌, ap, subst, append_assoc, append-nil}
 use Rattle.keepers.specs.Counts.{Rose, raised}
 use Rattle.keepers.specs.Told.{Images, Tells, AddsPrefix}
 use Rattle.rv_machine.specs.MachineState.{MachineState}
@@ -11,17 +11,18 @@ use Rattle.reverse_runner.specs.declared.line_writer.LineWriter.{LineWriter}
 use Rattle.reverse_runner.specs.declared.fault.RunFault.{RunFault}
 use Rattle.reverse_runner.specs.declared.fault.RunFault.TheVariants.{Keeper, Damaged, Visitor, Memory, Ended}
 use Rattle.reverse_console.specs.declared.order.Order.{Order}
-use Rattle.reverse_console.specs.Answer.{IsAnswer, IsGiven}
+use Rattle.reverse_console.specs.Answer.{IsAnswer, IsGiven, found_at}
 use Rattle.reverse_console.specs.Causes.{Quiet, HasCause}
 use Rattle.reverse_console.specs.ConsoleState.{ConsoleState, GoesOn, source_of}
-use Rattle.reverse_console.specs.Costs.{place_said, Takes}
+use Rattle.reverse_runner.specs.KeepersSeen.{Calls}
+use Rattle.reverse_console.specs.Costs.{Effort, effort_of, Takes, BreaksAt, IsSeenAt, StopsAt, TookUntil}
 use Rattle.reverse_console.specs.Handling.{StandAt}
 use Rattle.reverse_console.specs.Marks.{MarkPlan, mark_count, mark_of}
-use Rattle.reverse_console.specs.Seen.{Source, ComesFrom, IsAnswerSeen, IsMarkDamaged}
+use Rattle.reverse_console.specs.Seen.{Source, ComesFrom, IsAnswerSeen}
 use Rattle.reverse_console.specs.Standing.{Stands}
-use Rattle.reverse_console.specs.ScriptAnswers.{place_after, Moment, IsTextOf, IsShown, IsAnswered, AreAnswered, BreaksOff, writes_at, AreAnswers, answer_text, script_text, BreaksOffIn}
+use Rattle.reverse_console.specs.ScriptAnswers.{place_after, Moment, IsTextOf, IsShown, IsAnswered, AreAnswered, BreaksOff, AreAnswers, answer_text, script_text, BreaksOffIn}
 use Rattle.reverse_console.proofs.Getting.{stand_same}
-use Rattle.reverse_console.proofs.Seeing.{comes_back, damage_back, answer_back}
+use Rattle.reverse_console.proofs.Seeing.{comes_back, not_got_back, answer_back}
 
 -- ---- what is written
 
@@ -65,6 +66,11 @@ shown_of told calls from (Some n) found place place' w v h =
     (got.0, (h.0, got.2, (line n s ++ 10 ∷ [], ((s, (h.2.1.0, refl)), got.1))), h.1)
 shown_of {X} told calls from None found place place' w v h =
     (ap (λ (x : LineWriter X). x.out.ghost_name) h.2, (h.0, ap (λ (x : LineWriter X). calls x.out.now) h.2, ap (λ (x : LineWriter X). told x.out.now) h.2), h.1)
+
+-- the answer by what was found
+pub found_is : (from : Source) (answer : Option ℕ) (found : Bool) (place place' writes writes' : ℕ) (before after : Option (List ℕ)) → IsShown from answer found writes writes' before after → place' ≡ place_after place answer → found_at found place' ≡ answer
+found_is from (Some n) found place place' writes writes' before after h at = ap (λ (b : Bool). found_at b place') h.0 ∙ ap Some at
+found_is from None found place place' writes writes' before after h at = ap (λ (b : Bool). found_at b place') h.0
 
 -- what was written where a place was found, and where none was
 pub record Shows (from : Source) (answer : Option ℕ) (writes writes' : ℕ) (before after : Option (List ℕ)) : Type 0 where
@@ -155,24 +161,25 @@ answered_more from (o ∷ orders) answers text old mid new order answer piece ar
 }
 
 -- where the sink failed, and where it didn't
-pub breaks_of : (from : Source) (place : ℕ) (order : Order) (fault : RunFault) (text : List ℕ) (writes writes' : ℕ) (a b c : Option (List ℕ)) → Tells a b (λ x y. y ≡ x ++ text) →
-    (fault ≡ Visitor → (answer : Option ℕ) × ((piece : List ℕ) × (IsAnswerSeen from place order answer × IsTextOf from answer piece × (writes' ≡ raised writes 1) × Tells b c (AddsPrefix piece)))) →
-    ((fault ≡ Visitor → ⊥) → (c ≡ b) × (writes' ≡ writes)) → BreaksOff from place order fault text a c × (writes' ≡ writes_at fault writes)
-breaks_of from place order (Keeper k) text writes writes' a b c h missed same =
+pub breaks_of : (from : Source) (order : Order) (fault : RunFault) (text : List ℕ) (old new : Moment) (a b c : Option (List ℕ)) → Tells a b (λ x y. y ≡ x ++ text) →
+    (fault ≡ Visitor →
+    (answer : Option ℕ)
+    × ((piece : List ℕ)
+    × (IsAnswerSeen from old.place order answer × IsTextOf from answer piece × (new.writes ≡ raised old.writes 1) × Tells b c (AddsPrefix piece) × Takes from.plan (effort_of from.plan old.place order answer) old.steps new.steps old.calls new.calls))) →
+    (fault ≢ Visitor → (c ≡ b) × (new.writes ≡ old.writes)) → fault ≢ Ended → TookUntil from old.place order fault old.steps new.steps old.calls new.calls → BreaksOff from order fault text old new a c
+breaks_of from order (Keeper k) text old new a b c h missed same lasts took =
     let s = same (λ e. cc) in
-    (subst (λ (o : Option (List ℕ)). Tells a o (λ x y. y ≡ x ++ text)) (sym s.0) h, s.1)
-breaks_of from place order (Damaged k put got) text writes writes' a b c h missed same =
+    record { stops = took; none = s.1; written = subst (λ (o : Option (List ℕ)). Tells a o (λ x y. y ≡ x ++ text)) (sym s.0) h }
+breaks_of from order (Damaged k put got) text old new a b c h missed same lasts took =
     let s = same (λ e. cc) in
-    (subst (λ (o : Option (List ℕ)). Tells a o (λ x y. y ≡ x ++ text)) (sym s.0) h, s.1)
-breaks_of from place order Visitor text writes writes' a b c h missed same =
+    record { stops = took; none = s.1; written = subst (λ (o : Option (List ℕ)). Tells a o (λ x y. y ≡ x ++ text)) (sym s.0) h }
+breaks_of from order Visitor text old new a b c h missed same lasts took =
     let m = missed refl in
-    ((m.0, (m.1.0, (m.1.1.0, m.1.1.1, tells_part text m.1.0 a b c h m.1.1.3))), m.1.1.2)
-breaks_of from place order Memory text writes writes' a b c h missed same =
+    record { answer = m.0; piece = m.1.0; seen = m.1.1.0; says = m.1.1.1; takes = m.1.1.4; wrote = m.1.1.2; part = tells_part text m.1.0 a b c h m.1.1.3 }
+breaks_of from order Memory text old new a b c h missed same lasts took =
     let s = same (λ e. cc) in
-    (subst (λ (o : Option (List ℕ)). Tells a o (λ x y. y ≡ x ++ text)) (sym s.0) h, s.1)
-breaks_of from place order Ended text writes writes' a b c h missed same =
-    let s = same (λ e. cc) in
-    (subst (λ (o : Option (List ℕ)). Tells a o (λ x y. y ≡ x ++ text)) (sym s.0) h, s.1)
+    record { stops = took; none = s.1; written = subst (λ (o : Option (List ℕ)). Tells a o (λ x y. y ≡ x ++ text)) (sym s.0) h }
+breaks_of from order Ended text old new a b c h missed same lasts took = absurd (lasts refl)
 
 -- ---- a console that went on
 
@@ -202,16 +209,39 @@ module _ (old new : ConsoleState) (told told' : ℕ → Option Images) (goes : G
   pub text_there : (answer : Option ℕ) (text : List ℕ) → IsTextOf (source_of new told') answer text → IsTextOf (source_of old told) answer text
   text_there answer text h = text_by answer text (subst (λ (s : Source). IsTextOf s answer text) later_is h)
 
-  pub damage_there : (k : ℕ) (put got : List ℕ) → IsMarkDamaged (source_of new told') k put got → IsMarkDamaged (source_of old told) k put got
-  damage_there k put got h =
-      damage_back old.plan old.journal old.store told told' old.work new.work same goes.machine k put got (subst (λ (s : Source). IsMarkDamaged s k put got) later_is h)
+  at_there : (place : ℕ) (order : Order) (mark : ℕ) (effort : Effort) → BreaksAt (IsSeenAt later place order) old.plan place order mark effort → BreaksAt (IsSeenAt (source_of old told) place order) old.plan place order mark effort
+  at_there place order mark effort (inl looking) = inl looking
+  at_there place order mark effort (inr going) = inr (going.0, (answer_back old.plan old.journal old.store told told' old.work new.work same goes.machine place order (Some going.0) going.1.0, going.1.1))
+
+  stops_by : (place : ℕ) (order : Order) (fault : RunFault) (steps steps' : ℕ) (calls calls' : Calls) → StopsAt later place order fault steps steps' calls calls' → StopsAt (source_of old told) place order fault steps steps' calls calls'
+  stops_by place order fault steps steps' calls calls' s = record {
+    mark = s.mark;
+    effort = s.effort;
+    at = at_there place order s.mark s.effort s.at;
+    not_got = not_got_back old.plan old.journal old.store told told' old.work new.work same goes.machine s.mark fault s.not_got;
+    takes = s.takes;
+  }
+
+  took_by : (place : ℕ) (order : Order) (fault : RunFault) (steps steps' : ℕ) (calls calls' : Calls) → TookUntil later place order fault steps steps' calls calls' → TookUntil (source_of old told) place order fault steps steps' calls calls'
+  took_by place order (Keeper k) steps steps' calls calls' s = stops_by place order (Keeper k) steps steps' calls calls' s
+  took_by place order (Damaged k put got) steps steps' calls calls' s = stops_by place order (Damaged k put got) steps steps' calls calls' s
+  took_by place order Visitor steps steps' calls calls' s = tt
+  took_by place order Memory steps steps' calls calls' s = stops_by place order Memory steps steps' calls calls' s
+  took_by place order Ended steps steps' calls calls' s = s
+
+  pub took_there : (place : ℕ) (order : Order) (fault : RunFault) (steps steps' : ℕ) (calls calls' : Calls) → TookUntil (source_of new told') place order fault steps steps' calls calls' → TookUntil (source_of old told) place order fault steps steps' calls calls'
+  took_there place order fault steps steps' calls calls' h =
+      took_by place order fault steps steps' calls calls' (subst (λ (s : Source). TookUntil s place order fault steps steps' calls calls') later_is h)
+
+  pub takes_there : (place : ℕ) (order : Order) (answer : Option ℕ) (steps steps' : ℕ) (calls calls' : Calls) → Takes new.plan (effort_of new.plan place order answer) steps steps' calls calls' → Takes old.plan (effort_of old.plan place order answer) steps steps' calls calls'
+  takes_there place order answer steps steps' calls calls' h = subst (λ (p : MarkPlan). Takes p (effort_of p place order answer) steps steps' calls calls') goes.plan h
 
   pub answered_there : (order : Order) (answer : Option ℕ) (text : List ℕ) (a b : Moment) → IsAnswered (source_of new told') order answer text a b → IsAnswered (source_of old told) order answer text a b
   answered_there order answer text a b one = record {
     seen = seen_there a.place order answer one.seen;
     place = one.place;
     says = text_there answer text one.says;
-    takes = subst (λ (p : MarkPlan). Takes p (place_said p.count a.place order) a.steps b.steps a.calls b.calls) goes.plan one.takes;
+    takes = takes_there a.place order answer a.steps b.steps a.calls b.calls one.takes;
     wrote = one.wrote;
   }
 
@@ -254,13 +284,13 @@ module _ (first : MachineState) (from : Source) (states : (i n : ℕ) (s : Machi
             ∙ sym (ap (script_text first from.journal) are.answers_are),
       )
 
-  pub breaks_in_run : (place : ℕ) (order : Order) (fault : RunFault) (text : List ℕ) (answers : List (Option ℕ)) (a c : Option (List ℕ)) → text ≡ script_text first from.journal answers →
-      BreaksOff from place order fault text a c → BreaksOffIn first from.journal from.plan.count place order fault answers a c
-  breaks_in_run place order (Keeper k) text answers a c is h = subst (λ (t : List ℕ). Tells a c (λ x y. y ≡ x ++ t)) is h
-  breaks_in_run place order (Damaged k put got) text answers a c is h = subst (λ (t : List ℕ). Tells a c (λ x y. y ≡ x ++ t)) is h
-  breaks_in_run place order Visitor text answers a c is h =
-      let T : List ℕ → Type 0 = λ t. Tells a c (λ x y. AddsPrefix h.1.0 (x ++ t) y) in
+  pub breaks_in_run : (order : Order) (fault : RunFault) (text : List ℕ) (old new : Moment) (answers : List (Option ℕ)) (a c : Option (List ℕ)) → text ≡ script_text first from.journal answers →
+      BreaksOff from order fault text old new a c → BreaksOffIn first from.journal from.plan.count old.place order fault answers a c
+  breaks_in_run order (Keeper k) text old new answers a c is h = subst (λ (t : List ℕ). Tells a c (λ x y. y ≡ x ++ t)) is h.written
+  breaks_in_run order (Damaged k put got) text old new answers a c is h = subst (λ (t : List ℕ). Tells a c (λ x y. y ≡ x ++ t)) is h.written
+  breaks_in_run order Visitor text old new answers a c is h =
+      let T : List ℕ → Type 0 = λ t. Tells a c (λ x y. AddsPrefix h.piece (x ++ t) y) in
       let Q : List ℕ → Type 0 = λ t. Tells a c (λ x y. AddsPrefix t (x ++ script_text first from.journal answers) y) in
-      (h.0, (sees place order h.0 h.1.1.0, subst Q (text_in_run h.0 h.1.0 h.1.1.1) (subst T is h.1.1.2)))
-  breaks_in_run place order Memory text answers a c is h = subst (λ (t : List ℕ). Tells a c (λ x y. y ≡ x ++ t)) is h
-  breaks_in_run place order Ended text answers a c is h = subst (λ (t : List ℕ). Tells a c (λ x y. y ≡ x ++ t)) is h
+      (h.answer, (sees old.place order h.answer h.seen, subst Q (text_in_run h.answer h.piece h.says) (subst T is h.part)))
+  breaks_in_run order Memory text old new answers a c is h = subst (λ (t : List ℕ). Tells a c (λ x y. y ≡ x ++ t)) is h.written
+  breaks_in_run order Ended text old new answers a c is h = subst (λ (t : List ℕ). Tells a c (λ x y. y ≡ x ++ t)) is h.written

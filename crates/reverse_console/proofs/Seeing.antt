@@ -1,5 +1,5 @@
 -- What is seen of the states that come from marks.
-use Rattle.std.proofs.Common.{◌≡◌, ◌≢◌, ◌⊎◌, inl, inr, ℕ, ◌+◌, ◌-◌, ◌==◌, ◌<◌, ◌≤◌, min, cond, List, [], ◌∷◌, count_by, Some, None, Option, refl, sym, ◌∙◌, ap, subst, arith}
+use Rattle.std.proofs.Common.{◌≡◌, ◌≢◌, ◌⊎◌, inl, inr, ℕ, ◌+◌, ◌-◌, ◌==◌, ◌<◌, ◌≤◌, min, cond, List, [], ◌∷◌, Some, None, Option, refl, sym, ◌∙◌, ap, subst, arith}
 use Rattle.std.proofs.lemmas.Bool.{cases_lt}
 use Rattle.std.proofs.lemmas.Option.{same_Some}
 use Rattle.std.proofs.lemmas.List.Sums.{sum_by-cons}
@@ -13,7 +13,7 @@ use Rattle.reverse_runner.specs.Standing.{IsNoImage}
 use Rattle.reverse_runner.specs.SessionState.{SamePages}
 use Rattle.reverse_runner.specs.KeepersSeen.{Calls, Called}
 use Rattle.reverse_runner.specs.Touching.{one_get}
-use Rattle.reverse_runner.proofs.AllCalls.{called_then, called_same, calls_then}
+use Rattle.reverse_runner.proofs.AllCalls.{called_same}
 use Rattle.reverse_queries.specs.Queries.{IsLast, ChangesWord, WritesWord, Differ}
 use Rattle.rv_pages.specs.Memory.{byte_at}
 use Rattle.reverse_console.specs.declared.order.Order.{Order}
@@ -23,6 +23,9 @@ use Rattle.reverse_console.specs.Answer.{IsAnswer, IsFirst, IsAt, IsOrder}
 use Rattle.reverse_console.specs.Costs.{gets_of}
 use Rattle.reverse_console.specs.Marks.{MarkPlan, marked, mark_level}
 use Rattle.reverse_console.specs.Seeking.{Meets, MeetsFrom}
+use Rattle.reverse_runner.specs.declared.fault.RunFault.{RunFault}
+use Rattle.reverse_runner.specs.declared.fault.RunFault.TheVariants.{Keeper, Damaged, Visitor, Memory, Ended}
+use Rattle.reverse_console.specs.Refusals.{IsNotGot}
 use Rattle.reverse_console.specs.Seen.{Source, ComesFrom, IsSeen, IsLastSeen, IsFirstSeen, HasPc, Changes, Writes, IsAnswerSeen, IsMarkDamaged}
 use Rattle.reverse_console.proofs.Coming.{SourceStands, comes_from_run}
 
@@ -77,11 +80,10 @@ module _ (plan : MarkPlan) (journal : List (List ℕ)) (store : List ShelfState)
   wrong_back put got bytes (inl ne) = inl ne
   wrong_back put got bytes (inr none) = inr (λ s is here. none s is (here ∙ sym pages))
 
-  pub damage_back : (k : ℕ) (put got : List ℕ) → IsMarkDamaged new k put got → IsMarkDamaged old k put got
-  damage_back k put got d =
+  pub damage_back : (mark k : ℕ) (put got : List ℕ) → IsMarkDamaged new mark k put got → IsMarkDamaged old mark k put got
+  damage_back mark k put got d =
       let P : Option Images → Type 0 = λ o. IsGot d.kept o d.bytes in
       record {
-        mark = d.mark;
         known = d.known;
         level = d.level;
         kept = d.kept;
@@ -92,6 +94,13 @@ module _ (plan : MarkPlan) (journal : List (List ℕ)) (store : List ShelfState)
         got_digest = d.got_digest;
         wrong = wrong_back put got d.bytes d.wrong;
       }
+
+  pub not_got_back : (mark : ℕ) (fault : RunFault) → IsNotGot new mark fault → IsNotGot old mark fault
+  not_got_back mark (Keeper k) h = h
+  not_got_back mark (Damaged k put got) h = damage_back mark k put got h
+  not_got_back mark Visitor h = h
+  not_got_back mark Memory h = h
+  not_got_back mark Ended h = h
 
   seen_back : (P : MachineState → Type 0) (n : ℕ) → IsSeen new P n → IsSeen old P n
   seen_back P n (i, (s, h)) = (i, (s, (comes_back i n s h.0, h.1)))
@@ -221,24 +230,10 @@ first_on from address i place last work None comes h =
 
 -- ---- calls
 
-one_more : (p : MarkPlan) (i : ℕ) (list : List ℕ) (k : ℕ) → count_by (λ j. mark_level p j == k) list + count_by (λ j. mark_level p j == k) (i ∷ []) ≡ count_by (λ j. mark_level p j == k) (i ∷ list)
-one_more p i list k =
-    let f : ℕ → ℕ = λ j. cond (mark_level p j == k) 1 0 in
-    omega (arith, sum_by-cons f i list, sum_by-cons f i [])
-
 -- one mark was got
 pub got_one : (p : MarkPlan) (i : ℕ) (a b : Calls) → Called (one_get (mark_level p i)) a b → Called (gets_of p (i ∷ [])) a b
 got_one p i a b called =
     called_same (one_get (mark_level p i)) (gets_of p (i ∷ [])) a b called (λ k. refl) (λ k. let f : ℕ → ℕ = λ j. cond (mark_level p j == k) 1 0 in omega (arith, sum_by-cons f i [])) (λ k. refl)
-
-pub one_got : (p : MarkPlan) (i : ℕ) (a b : Calls) → Called (gets_of p (i ∷ [])) a b → Called (one_get (mark_level p i)) a b
-one_got p i a b called =
-    called_same (gets_of p (i ∷ [])) (one_get (mark_level p i)) a b called (λ k. refl) (λ k. let f : ℕ → ℕ = λ j. cond (mark_level p j == k) 1 0 in omega (arith, sum_by-cons f i [])) (λ k. refl)
-
--- some marks were got, and then one more
-pub got_more : (p : MarkPlan) (list : List ℕ) (i : ℕ) (a b c : Calls) → Called (gets_of p list) a b → Called (gets_of p (i ∷ [])) b c → Called (gets_of p (i ∷ list)) a c
-got_more p list i a b c first second =
-    called_same (calls_then (gets_of p list) (gets_of p (i ∷ []))) (gets_of p (i ∷ list)) a c (called_then (gets_of p list) (gets_of p (i ∷ [])) a b c first second) (λ k. refl) (one_more p i list) (λ k. refl)
 
 pub got_none : (p : MarkPlan) (a : Calls) → Called (gets_of p []) a a
 got_none p a = record { put_calls = λ k. omega arith; get_calls = λ k. omega arith; free_calls = λ k. omega arith }

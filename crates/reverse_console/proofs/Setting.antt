@@ -30,7 +30,7 @@ use Rattle.reverse_runner.proofs.LevelsAfter.{laid_gains, stands_gains}
 use Rattle.reverse_runner.proofs.RoomLeft.{has_place, is_new, is_there, begun_is_laid_out, begun_stands}
 use Rattle.reverse_console.specs.Marks.{MarkPlan, span, capacity, marked, mark_count, mark_level, marked_on}
 use Rattle.reverse_console.specs.Handling.{AreSet, AreKept, StandAt}
-use Rattle.reverse_console.specs.Standing.{IsMarkKept}
+use Rattle.reverse_console.specs.Standing.{MarksTell, IsMarkKept}
 use Rattle.reverse_console.proofs.Numbers.{marked_rises, stride_some, mark_has_room, marked_below}
 
 tied : (q n : ℕ) → q ≡ n → eq_by_cmp nat_cmp q n ≡ true
@@ -224,14 +224,13 @@ module _ (p : MarkPlan) (i : ℕ) (old new : Levels) (bytes : List ℕ) (below :
   }
 
   -- and the levels that stood stand
-  pub stand_more : (first : MachineState) (journal : List (List ℕ)) → bytes ≡ image (state_number first journal (marked p i)) → StandAt first journal p i old.store old.told → StandAt first journal p (i + 1) new.store new.told
-  stand_more first journal good stands k within =
-      let inside : k < length old.store = omega (arith, within, count) in
+  pub stand_more : (first : MachineState) (journal : List (List ℕ)) → mark_level p i < length old.store → bytes ≡ image (state_number first journal (marked p i)) → StandAt first journal p i old.store old.told →
+      StandAt first journal p (i + 1) new.store new.told
+  stand_more first journal there good stands k mark known at =
       elim (cases_eq k (mark_level p i)) [
         | inl e ↦
             let L = mark_level p i in
-            let there = subst (λ (j : ℕ). j < length old.store) e inside in
-            let gained = stands_gains (state_number first journal) (span p) p.slots L (marked_on p i L) (level_of old.store L) (level_of new.store L) (old.told L) (new.told L) (marked p i) bytes (laid.each L there, stands L there) below (next_is_new p i L) good keeps in
+            let gained = stands_gains (state_number first journal) (span p) p.slots L (marked_on p i L) (level_of old.store L) (level_of new.store L) (old.told L) (new.told L) (marked p i) bytes (laid.each L there, stands L mark known (at ∙ e)) below (next_is_new p i L) good keeps in
             let here = subst (λ (x : Numbers). LevelStandsAt (state_number first journal) x (level_of new.store L) (new.told L)) (sym (on_its_level p i L refl)) gained.1 in
             subst (λ (j : ℕ). LevelStandsAt (state_number first journal) (marked_on p (i + 1) j) (level_of new.store j) (new.told j)) (sym e) here
         | inr ne ↦
@@ -239,7 +238,7 @@ module _ (p : MarkPlan) (i : ℕ) (old new : Levels) (bytes : List ℕ) (below :
             let before = others k ne in
             subst (λ (o : Option Images). LevelStandsAt (state_number first journal) (marked_on p (i + 1) k) (level_of new.store k) o) (sym before.1)
             (subst (λ (x : ShelfState). LevelStandsAt (state_number first journal) (marked_on p (i + 1) k) x (old.told k)) (sym before.0)
-            (subst (λ (x : Numbers). LevelStandsAt (state_number first journal) x (level_of old.store k) (old.told k)) (sym same) (stands k inside)))
+            (subst (λ (x : Numbers). LevelStandsAt (state_number first journal) x (level_of old.store k) (old.told k)) (sym same) (stands k mark known at)))
       ]
 
   -- what is kept of the new mark
@@ -284,7 +283,7 @@ module _ (p : MarkPlan) (i : ℕ) (old new : Levels) (bytes : List ℕ) (below :
     | inr ne ↦ (let below : j < i = omega (arith, lt, ne) in kept_still first journal j below (kept j below))
   ]
 
--- at the start no mark is set, and over keepers that tell that stands
+-- at the start no mark is set, and where the levels of the marks tell that stands
 nothing_held : (steps : ℕ) (slots : List Slots) (k : ℕ) → k < length slots → held_on (start steps slots) k ≡ set.empty
 nothing_held steps slots k within = get_or-map (λ (_ : Slots). set.empty {R = nat_cmp}) slots k (Count 0) set.empty within
 
@@ -309,10 +308,14 @@ one_step_units first journal numbers level told stands = (
   ),
 )
 
-pub none_stand : (first : MachineState) (journal : List (List ℕ)) (p : MarkPlan) (told : ℕ → Option Images) → ((k : ℕ) → k < length p.slots → IsSome (told k)) → StandAt first journal p 0 (no_pairs_on p.slots (span p)) told
-none_stand first journal p told tells k within =
-    let stands = begun_stands first journal 1 (span p) p.slots (record { states = []; after = first }) told tells in
+pub none_stand : (first : MachineState) (journal : List (List ℕ)) (p : MarkPlan) (told : ℕ → Option Images) → IsRoomy p.slots (level_at p.slots) (capacity p) → 1 ≤ capacity p → MarksTell p told →
+    StandAt first journal p 0 (no_pairs_on p.slots (span p)) told
+none_stand first journal p told roomy room tells k mark known at =
+    let some : IsSome (told k) = subst (λ (j : ℕ). IsSome (told j)) at (tells mark known) in
+    let stands = begun_stands first journal 1 (span p) p.slots (record { states = []; after = first }) (λ j. told k) (λ j lt. some) in
     let levels = (begun_is_laid_out (span p) p.slots).levels in
+    let there = roomy.known mark (mark_has_room p mark room known) in
+    let within : k < length (no_pairs_on p.slots (span p)) = omega (arith, there, levels, at) in
     let level = level_of (no_pairs_on p.slots (span p)) k in
     let units = subst (λ (x : Numbers). LevelStandsAt (unit_states first journal 1) x level (told k)) (nothing_held (span p) p.slots k (omega (arith, within, levels))) (stands.levels k within) in
     one_step_units first journal set.empty level (told k) units
@@ -374,8 +377,8 @@ module _ (p : MarkPlan) (i k n : ℕ) (store store' after : List ShelfState) (to
   pub set_after : AreSet p (i + 1) after
   set_after = set_more p i before after_it bytes below (count ∙ ap length es) keeps_there others_there laid
 
-  pub stand_after : (first : MachineState) (journal : List (List ℕ)) → bytes ≡ image (state_number first journal (marked p i)) → StandAt first journal p i store told → StandAt first journal p (i + 1) after told'
-  stand_after first journal good stands = stand_more p i before after_it bytes below (count ∙ ap length es) keeps_there others_there laid first journal good stands
+  pub stand_after : (first : MachineState) (journal : List (List ℕ)) → mark_level p i < length store → bytes ≡ image (state_number first journal (marked p i)) → StandAt first journal p i store told → StandAt first journal p (i + 1) after told'
+  stand_after first journal there good stands = stand_more p i before after_it bytes below (count ∙ ap length es) keeps_there others_there laid first journal there good stands
 
   number_there : n < length (level_of store' k).pairs → marked p i < length (level_of store (mark_level p i)).pairs
   number_there number =

@@ -1,6 +1,7 @@
 -- How a console is kept.
 use Rattle.std.specs.Prelude.{◌≤◌}
 use Rattle.reverse_console.specs.declared.console.Console.TheInside.{Inside}
+use Rattle.reverse_runner.specs.Rooms.{image_room, AreShort}
 use Rattle.reverse_console.specs.ConsoleState.{ConsoleState}
 use Rattle.reverse_console.specs.Marks.{mark_count}
 use Rattle.reverse_console.specs.Handling.{AreSet}
@@ -16,8 +17,9 @@ console_state c = record {
   ended = c.ended;
 }
 
--- all marks are set, and the place is one of the run
+-- all marks are set, with images of this machine, and the place is one of the run
 pub record IsConsole (c : Inside) : Type 0 where
   pub fits : Fits c.desk
   pub set : AreSet c.marks (mark_count c.marks) c.desk.store
   pub within : c.place ≤ c.marks.count
+  pub short : AreShort (image_room c.desk.work) c.desk.store

@@ -15,7 +15,7 @@ use Rattle.reverse_console.specs.Seen.{Source}
 pub record ConsoleState : Type 0 where
   -- where its marks stand
   pub plan : MarkPlan
-  -- a state of the machine: that which it went to last
+  -- a state of the machine: the one at which the last order left off, which isn't that of the place where this order had no answer
   pub work : MachineState
   -- which images the levels keep
   pub store : List ShelfState
@@ -34,7 +34,7 @@ levels_of c told = record { store = c.store; told = told }
 abbrev pub source_of : ConsoleState → (ℕ → Option Images) → Source
 source_of c told = record { plan = c.plan; journal = c.journal; levels = levels_of c told; machine = c.work }
 
--- the same console at another place, with another state in work of the same machine
+-- the same console, perhaps at another place, with any state in work of the same machine
 pub record GoesOn (old new : ConsoleState) : Type 0 where
   pub machine : SamePages new.work old.work
   pub plan : new.plan ≡ old.plan

@@ -1,14 +1,15 @@
--- What an order takes: machine steps, and images that are got.
-use Rattle.std.specs.Prelude.{◌≡◌, ℕ, ◌+◌, ◌-◌, ◌*◌, ◌==◌, ◌≤◌, min, List, length, count_by, Option, None, Some}
+-- What an order takes: marks that are got, one after the other, and steps of the machine.
+use Rattle.std.specs.Prelude.{◌≡◌, ◌⊎◌, ℕ, ◌+◌, ◌-◌, ◌==◌, ◌<◌, min, if◌then◌else◌, List, [], ◌∷◌, ◌++◌, reverse, count_by, unwrap_or, Option, None, Some}
+use Rattle.std.specs.List.{range_with_len}
 use Rattle.reverse_runner.specs.KeepersSeen.{Calls, Called}
-use Rattle.reverse_runner.specs.Touching.{one_get}
 use Rattle.reverse_runner.specs.declared.fault.RunFault.{RunFault}
 use Rattle.reverse_runner.specs.declared.fault.RunFault.TheVariants.{Visitor, Ended}
 use Rattle.revolve_gen.specs.Places.{places_on}
 use Rattle.reverse_console.specs.declared.order.Order.{Order}
-use Rattle.reverse_console.specs.declared.order.Order.TheVariants.{Back, Step, Goto}
-use Rattle.reverse_console.specs.Marks.{MarkPlan, mark_level, mark_of, mark, mark_count, stride}
-use Rattle.reverse_console.specs.Refusals.{IsOfGetting}
+use Rattle.reverse_console.specs.declared.order.Order.TheVariants.{BackTo, RunTo, BackChange, BackWrite}
+use Rattle.reverse_console.specs.Marks.{MarkPlan, marked, mark_level, mark_of, mark, marks_below}
+use Rattle.reverse_console.specs.Refusals.{IsNotGot}
+use Rattle.reverse_console.specs.Seen.{Source, IsAnswerSeen}
 
 -- each of the first i marks is put on its level
 abbrev pub puts_of : MarkPlan → ℕ → Calls
@@ -18,42 +19,108 @@ puts_of p i = record { puts = λ k. places_on (mark_level p) k i; gets = λ _. 0
 abbrev pub gets_of : MarkPlan → List ℕ → Calls
 gets_of p marks = record { puts = λ _. 0; gets = λ k. count_by (λ i. mark_level p i == k) marks; frees = λ _. 0 }
 
--- the new place of an order that says it itself; the others look for it in the states of the run
-abbrev pub place_said : ℕ → ℕ → Order → Option ℕ
-place_said count place (Back k) = Some (place - k)
-place_said count place (Step k) = Some (min (place + k) count)
-place_said count place (Goto k) = Some k
-place_said count place _ = None
-
--- so many marks at most were got, and no other call was made
-pub record GotAtMost (p : MarkPlan) (most : ℕ) (calls calls' : Calls) : Type 0 where
+-- an effort: marks that are got, one after the other, and the steps that are taken
+pub record Effort : Type 0 where
   pub marks : List ℕ
-  pub few : length marks ≤ most
-  pub called : Called (gets_of p marks) calls calls'
+  pub steps : ℕ
 
--- so many marks at most were got up to a fault, which came from getting one of them, and no other call was made
-pub record GotUntil (p : MarkPlan) (most : ℕ) (fault : RunFault) (calls calls' : Calls) : Type 0 where
-  pub marks : List ℕ
-  pub few : length marks ≤ most
-  pub called : Called (gets_of p marks) calls calls'
-  pub of : IsOfGetting (gets_of p marks) fault
+-- one effort, and then another
+abbrev pub both : Effort → Effort → Effort
+both a b = record { marks = a.marks ++ b.marks; steps = a.steps + b.steps }
 
--- an order that says its place takes the steps from the last mark that isn't above it, and gets that mark
-abbrev pub Takes : MarkPlan → Option ℕ → ℕ → ℕ → Calls → Calls → Type 0
-Takes p (Some n) steps steps' calls calls' = (steps' ≡ steps + (n - mark p n)) × Called (one_get (mark_level p (mark_of p n))) calls calls'
-Takes p None steps steps' calls calls' = (steps ≤ steps') × (steps' ≤ steps + (p.count + 2 * stride p)) × GotAtMost p (mark_count p + 2) calls calls'
+-- nothing is done; one mark is got
+abbrev pub nothing : Effort
+nothing = record { marks = []; steps = 0 }
 
--- What an order took that was broken off while it got marks: where it says its place, its mark was got, and no step was
--- taken; else it is no more. The fault came from getting a mark that was got.
-abbrev pub TookInPart : MarkPlan → Option ℕ → RunFault → ℕ → ℕ → Calls → Calls → Type 0
-TookInPart p (Some n) fault steps steps' calls calls' =
-    (steps' ≡ steps) × Called (one_get (mark_level p (mark_of p n))) calls calls' × IsOfGetting (one_get (mark_level p (mark_of p n))) fault
-TookInPart p None fault steps steps' calls calls' =
-    (steps ≤ steps') × (steps' ≤ steps + (p.count + 2 * stride p)) × GotUntil p (mark_count p + 2) fault calls calls'
+abbrev pub asking : ℕ → Effort
+asking mark = record { marks = mark ∷ []; steps = 0 }
 
--- What a refused order took: as much as an answered one where the visitor refused its state, nothing where the console had
--- ended, and else a part.
-abbrev pub TookUntil : MarkPlan → Option ℕ → RunFault → ℕ → ℕ → Calls → Calls → Type 0
-TookUntil p said Visitor steps steps' calls calls' = Takes p said steps steps' calls calls'
-TookUntil p said Ended steps steps' calls calls' = (steps' ≡ steps) × (calls' ≡ calls)
-TookUntil p said fault steps steps' calls calls' = TookInPart p said fault steps steps' calls calls'
+-- the steps from the mark of one state to another state, which doesn't stand below it
+abbrev pub way : MarkPlan → (from to : ℕ) → ℕ
+way p from to = to - mark p from
+
+-- the marks below a number, from the last of them down to one
+abbrev pub marks_down : (high low : ℕ) → List ℕ
+marks_down high low = reverse (range_with_len low (high - low))
+
+-- To look back from a place, the marks below it are got from the last one down, to that of the answer or to the first, and the steps
+-- from each to the next are taken, once.
+abbrev pub looking_back : MarkPlan → (place : ℕ) → (answer : Option ℕ) → Effort
+looking_back p place (Some n) = record { marks = marks_down (marks_below p place) (mark_of p n); steps = way p n place }
+looking_back p place None = record { marks = marks_down (marks_below p place) 0; steps = place }
+
+-- To look on from a place, its mark is got, and the steps from there to the answer or to the end are taken. At the end nothing is done.
+abbrev pub looking_on : MarkPlan → (place : ℕ) → (answer : Option ℕ) → Effort
+looking_on p place answer = if place == p.count then nothing else record { marks = mark_of p place ∷ []; steps = way p place (unwrap_or answer p.count) }
+
+-- how the place of an order is looked for; one that says it itself looks for nothing
+abbrev pub looking : MarkPlan → (place : ℕ) → Order → (answer : Option ℕ) → Effort
+looking p place (BackTo address) = looking_back p place
+looking p place (BackChange word) = looking_back p place
+looking p place (BackWrite word) = looking_back p place
+looking p place (RunTo address) = looking_on p place
+looking p place _ = λ answer. nothing
+
+-- To go to a state, its mark is got, and the steps from there are taken.
+abbrev pub going : MarkPlan → (answer : Option ℕ) → Effort
+going p (Some n) = record { marks = mark_of p n ∷ []; steps = way p n n }
+going p None = nothing
+
+-- an order's place is looked for, and gone to
+abbrev pub effort_of : MarkPlan → (place : ℕ) → Order → (answer : Option ℕ) → Effort
+effort_of p place order answer = both (looking p place order answer) (going p answer)
+
+-- just this was done
+pub record Takes (p : MarkPlan) (effort : Effort) (steps steps' : ℕ) (calls calls' : Calls) : Type 0 where
+  pub counted : steps' ≡ steps + effort.steps
+  pub called : Called (gets_of p effort.marks) calls calls'
+
+-- ---- up to a mark that can't be got
+
+-- It was the last that was asked for, while the place was looked for backward: the steps from the mark behind it were taken.
+pub record BreaksBack (p : MarkPlan) (place mark : ℕ) (effort : Effort) : Type 0 where
+  pub below : mark < marks_below p place
+  pub marks : effort.marks ≡ marks_down (marks_below p place) mark
+  pub steps : effort.steps + min place (marked p (mark + 1)) ≡ place
+
+-- or forward: it was the first
+pub record BreaksOn (p : MarkPlan) (place mark : ℕ) (effort : Effort) : Type 0 where
+  pub before_end : place < p.count
+  pub mark_is : mark ≡ mark_of p place
+  pub effort_is : effort ≡ asking mark
+
+abbrev pub BreaksLooking : MarkPlan → (place : ℕ) → Order → (mark : ℕ) → Effort → Type 0
+BreaksLooking p place (BackTo address) = BreaksBack p place
+BreaksLooking p place (BackChange word) = BreaksBack p place
+BreaksLooking p place (BackWrite word) = BreaksBack p place
+BreaksLooking p place (RunTo address) = BreaksOn p place
+BreaksLooking p place _ = λ mark effort. ⊥
+
+-- It is that of the answer, which was found.
+pub record BreaksGoing (p : MarkPlan) (place : ℕ) (order : Order) (n mark : ℕ) (effort : Effort) : Type 0 where
+  pub mark_is : mark ≡ mark_of p n
+  pub effort_is : effort ≡ both (looking p place order (Some n)) (asking mark)
+
+-- an order broke off at a mark behind such an effort; its answers are these
+abbrev pub BreaksAt : (ℕ → Type 0) → MarkPlan → (place : ℕ) → Order → (mark : ℕ) → Effort → Type 0
+BreaksAt IsFound p place order mark effort =
+    BreaksLooking p place order mark effort ⊎ ((n : ℕ) × (IsFound n × BreaksGoing p place order n mark effort))
+
+-- the place to which an order leads was found by the states that were seen
+abbrev pub IsSeenAt : Source → (place : ℕ) → Order → ℕ → Type 0
+IsSeenAt from place order n = IsAnswerSeen from place order (Some n)
+
+-- an order broke off at a mark, for this fault
+pub record StopsAt (from : Source) (place : ℕ) (order : Order) (fault : RunFault) (steps steps' : ℕ) (calls calls' : Calls) : Type 0 where
+  pub mark : ℕ
+  pub effort : Effort
+  pub at : BreaksAt (IsSeenAt from place order) from.plan place order mark effort
+  pub not_got : IsNotGot from mark fault
+  pub takes : Takes from.plan effort steps steps' calls calls'
+
+-- What a refused order took: nothing where the console had ended, and else as much as leads to the mark that couldn't be got. What it took
+-- where the visitor refused the state is said with the answer.
+abbrev pub TookUntil : Source → (place : ℕ) → Order → RunFault → (steps steps' : ℕ) → (calls calls' : Calls) → Type 0
+TookUntil from place order Visitor steps steps' calls calls' = Unit {0}
+TookUntil from place order Ended steps steps' calls calls' = (steps' ≡ steps) × (calls' ≡ calls)
+TookUntil from place order fault steps steps' calls calls' = StopsAt from place order fault steps steps' calls calls'

@@ -1,22 +1,23 @@
 -- No public clause cites this file. What holds of a workdesk and of keepers while marks are set and got.
-use Rattle.std.specs.Prelude.{◌≡◌, ◌≢◌, ℕ, ◌<◌, ◌≤◌, List, length, slice_index_or, Option, Result, Err, OnOk, IfErr}
+use Rattle.std.specs.Prelude.{◌≡◌, ◌≢◌, ℕ, ◌+◌, ◌<◌, List, length, slice_index_or, Option, Result, Err, OnOk, IfOk, IfErr}
 use Rattle.keepers.specs.Told.{Location, Images}
 use Rattle.level_book.specs.declared.book.Slots.TheVariants.{Count}
 use Rattle.rv_machine.specs.MachineState.{MachineState, IsMachineState}
 use Rattle.rv_machine.specs.States.{state_number}
 use Rattle.image_store.specs.Shelves.{ShelfState, level_of}
 use Rattle.reverse_runner.specs.declared.fault.RunFault.{RunFault}
-use Rattle.reverse_runner.specs.declared.fault.RunFault.TheVariants.{Damaged}
+use Rattle.reverse_runner.specs.declared.fault.RunFault.TheVariants.{Damaged, Memory}
 use Rattle.reverse_console.specs.declared.desk.Desk.{Desk}
 use Rattle.reverse_runner.specs.KeepersSeen.{told_by, calls_to, Called, HaveRoom}
 use Rattle.reverse_runner.specs.LevelsStand.{LevelStandsAt, IsLevelLaidOut}
+use Rattle.reverse_runner.specs.Rooms.{image_room, rooms_by, AreRoomy, AreShort, SameRooms}
 use Rattle.reverse_runner.specs.SessionState.{SamePages}
 use Rattle.reverse_console.specs.Causes.{KeepersStay, Quiet, HasCause}
 use Rattle.reverse_console.specs.Desks.{Fits, levels_in}
-use Rattle.reverse_console.specs.Costs.{gets_of}
-use Rattle.reverse_console.specs.Marks.{MarkPlan, span, marked_on, mark_count}
-use Rattle.reverse_console.specs.Refusals.{IsOfGetting}
-use Rattle.reverse_console.specs.Seen.{Source, IsMarkDamaged}
+use Rattle.reverse_console.specs.Costs.{Effort, gets_of}
+use Rattle.reverse_console.specs.Marks.{MarkPlan, span, marked_on, mark_count, mark_level}
+use Rattle.reverse_console.specs.Refusals.{IsNotGot}
+use Rattle.reverse_console.specs.Seen.{Source}
 use Rattle.reverse_console.specs.Standing.{IsMarkKept}
 
 -- each level of a store holds the first i marks of its own
@@ -24,9 +25,10 @@ pub record AreSet (p : MarkPlan) (i : ℕ) (store : List ShelfState) : Type 0 wh
   pub levels : length store ≡ length p.slots
   pub each : (k : ℕ) → k < length store → IsLevelLaidOut (span p) (slice_index_or p.slots k (Count 0)) (marked_on p i k) (level_of store k)
 
--- and stands for their images in a run
+-- and the level of each mark stands for their images in a run
 abbrev pub StandAt : MachineState → List (List ℕ) → MarkPlan → ℕ → List ShelfState → (ℕ → Option Images) → Type 0
-StandAt first journal p i store told = (k : ℕ) → k < length store → LevelStandsAt (state_number first journal) (marked_on p i k) (level_of store k) (told k)
+StandAt first journal p i store told =
+    (k j : ℕ) → j < mark_count p → mark_level p j ≡ k → LevelStandsAt (state_number first journal) (marked_on p i k) (level_of store k) (told k)
 
 -- of the first i marks a store keeps what their images in a run are
 abbrev pub AreKept : MachineState → List (List ℕ) → MarkPlan → ℕ → List ShelfState → Type 0
@@ -37,13 +39,14 @@ pub record IsReady (p : MarkPlan) (w : Desk) (counts : List ℕ) : Type 0 where
   pub set : AreSet p (mark_count p) w.store
   pub room : HaveRoom (span p) p.slots counts
   pub fits : Fits w
+  pub short : AreShort (image_room w.work) w.store
 
 -- where states come from that are got from a workdesk
 abbrev pub source : MarkPlan → List (List ℕ) → Desk → (ℕ → Option Images) → Source
 source p journal w told = record { plan = p; journal = journal; levels = levels_in w told; machine = w.work }
 
--- some marks were got, and nothing else was done
-pub record Reads {K : Type 0} (told : K → Option Images) (puts gets frees slots : K → ℕ) (places : K → Location) (faults : K → ℕ)
+-- these marks were got, and nothing else was done
+pub record Reads {K : Type 0} (told : K → Option Images) (puts gets frees slots : K → ℕ) (places : K → Location) (faults : K → ℕ) (rooms : K → Option ℕ)
     (p : MarkPlan) (marks : List ℕ) (w w' : Desk) (old new : List K) : Type 0 where
   pub machine : SamePages w'.work w.work
   pub fits : Fits w'
@@ -51,19 +54,26 @@ pub record Reads {K : Type 0} (told : K → Option Images) (puts gets frees slot
   pub told_same : (k : ℕ) → told_by told new k ≡ told_by told old k
   pub called : Called (gets_of p marks) (calls_to puts gets frees old) (calls_to puts gets frees new)
   pub keepers : KeepersStay slots places faults p old new
+  pub rooms_same : SameRooms (rooms_by rooms old) (rooms_by rooms new)
 
--- What a call did that gets marks: so many at most were got. A refusal has its cause; bytes that came back damaged are those of a
--- mark, and never are where the marks stand for a run.
-pub record Gets {K T : Type 0} (told : K → Option Images) (puts gets frees slots : K → ℕ) (places : K → Location) (faults : K → ℕ)
-    (p : MarkPlan) (journal : List (List ℕ)) (most : ℕ) (result : Result T RunFault) (w w' : Desk) (old new : List K) : Type 0 where
-  pub marks : List ℕ
-  pub few : length marks ≤ most
-  pub reads : Reads told puts gets frees slots places faults p marks w w' old new
+-- What a call did that gets these marks. A refusal has its cause; none says damage where the marks stand for a run, and none wants memory
+-- over keepers with room for the images.
+pub record Gets {K T : Type 0} (told : K → Option Images) (puts gets frees slots : K → ℕ) (places : K → Location) (faults : K → ℕ) (rooms : K → Option ℕ)
+    (p : MarkPlan) (journal : List (List ℕ)) (marks : List ℕ) (result : Result T RunFault) (w w' : Desk) (old new : List K) : Type 0 where
+  pub reads : Reads told puts gets frees slots places faults rooms p marks w w' old new
   pub quiet : OnOk result (Quiet faults old new)
   pub cause : IfErr result (HasCause faults p old new)
-  pub damaged : (k : ℕ) (put got : List ℕ) → result ≡ Err (Damaged k put got) → IsMarkDamaged (source p journal w (told_by told old)) k put got
   pub undamaged :
       (first : MachineState) → IsMachineState first → SamePages w.work first → StandAt first journal p (mark_count p) w.store (told_by told old) →
       (k : ℕ) (put got : List ℕ) → result ≢ Err (Damaged k put got)
-  -- a refusal came from getting one of them
-  pub of : IfErr result (IsOfGetting (gets_of p marks))
+  pub roomy : AreRoomy (image_room w.work) (length p.slots) (rooms_by rooms old) → result ≢ Err Memory
+
+-- What a call did that looks for a place: how it looks, and where it may break off, by its answer.
+pub record Looks {K : Type 0} (told : K → Option Images) (puts gets frees slots : K → ℕ) (places : K → Location) (faults : K → ℕ) (rooms : K → Option ℕ)
+    (p : MarkPlan) (journal : List (List ℕ)) (how : Option ℕ → Effort) (Breaks : ℕ → Effort → Type 0)
+    (result : Result (Option ℕ) RunFault) (w w' : Desk) (old new : List K) (steps steps' : ℕ) : Type 0 where
+  pub effort : Effort
+  pub got : Gets told puts gets frees slots places faults rooms p journal effort.marks result w w' old new
+  pub counted : steps' ≡ steps + effort.steps
+  pub done : IfOk result (λ answer. effort ≡ how answer)
+  pub broken : IfErr result (λ fault. (mark : ℕ) × (Breaks mark effort × IsNotGot (source p journal w (told_by told old)) mark fault))

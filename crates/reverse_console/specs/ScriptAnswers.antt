@@ -13,7 +13,7 @@ use Rattle.reverse_runner.specs.declared.fault.RunFault.TheVariants.{Visitor}
 use Rattle.reverse_console.specs.declared.order.Order.{Order}
 use Rattle.reverse_console.specs.Answer.{IsAnswer}
 use Rattle.reverse_console.specs.ConsoleState.{ConsoleState}
-use Rattle.reverse_console.specs.Costs.{place_said, Takes, TookUntil}
+use Rattle.reverse_console.specs.Costs.{effort_of, Takes, StopsAt}
 use Rattle.reverse_console.specs.Marks.{mark_of}
 use Rattle.reverse_console.specs.Seen.{Source, ComesFrom, IsAnswerSeen}
 
@@ -50,7 +50,7 @@ pub record IsAnswered (from : Source) (order : Order) (answer : Option ℕ) (tex
   pub seen : IsAnswerSeen from old.place order answer
   pub place : new.place ≡ place_after old.place answer
   pub says : IsTextOf from answer text
-  pub takes : Takes from.plan (place_said from.plan.count old.place order) old.steps new.steps old.calls new.calls
+  pub takes : Takes from.plan (effort_of from.plan old.place order answer) old.steps new.steps old.calls new.calls
   pub wrote : new.writes ≡ raised old.writes 1
 
 -- the first of some orders was answered, and then the others were
@@ -78,17 +78,25 @@ pub record AreWritten (from : Source) (orders : List Order) (old new : Moment) (
   pub are : AreAnswered from orders answers text old new
   pub written : Tells before after (λ x y. y ≡ x ++ text)
 
--- where the sink failed, a part of the text of an answer to the order was written behind the others, and else nothing
-abbrev pub BreaksOff : Source → ℕ → Order → RunFault → List ℕ → Option (List ℕ) → Option (List ℕ) → Type 0
-BreaksOff from place order Visitor text before after =
-    (answer : Option ℕ) × ((piece : List ℕ) × (IsAnswerSeen from place order answer
-    × IsTextOf from answer piece × Tells before after (λ x y. AddsPrefix piece (x ++ text) y)))
-BreaksOff from place order _ text before after = Tells before after (λ x y. y ≡ x ++ text)
+-- An order had an answer, and a part of its text was written behind what was written before: the sink failed.
+pub record StopsWriting (from : Source) (order : Order) (text : List ℕ) (old new : Moment) (before after : Option (List ℕ)) : Type 0 where
+  pub answer : Option ℕ
+  pub piece : List ℕ
+  pub seen : IsAnswerSeen from old.place order answer
+  pub says : IsTextOf from answer piece
+  pub takes : Takes from.plan (effort_of from.plan old.place order answer) old.steps new.steps old.calls new.calls
+  pub wrote : new.writes ≡ raised old.writes 1
+  pub part : Tells before after (λ x y. AddsPrefix piece (x ++ text) y)
 
--- the sink was called once more where it failed, and else not
-abbrev pub writes_at : RunFault → ℕ → ℕ
-writes_at Visitor n = raised n 1
-writes_at _ n = n
+-- An order broke off at a mark that couldn't be got, and nothing was written of it.
+pub record StopsGetting (from : Source) (order : Order) (fault : RunFault) (text : List ℕ) (old new : Moment) (before after : Option (List ℕ)) : Type 0 where
+  pub stops : StopsAt from old.place order fault old.steps new.steps old.calls new.calls
+  pub none : new.writes ≡ old.writes
+  pub written : Tells before after (λ x y. y ≡ x ++ text)
+
+abbrev pub BreaksOff : Source → Order → RunFault → List ℕ → Moment → Moment → Option (List ℕ) → Option (List ℕ) → Type 0
+BreaksOff from order Visitor text old new before after = StopsWriting from order text old new before after
+BreaksOff from order fault text old new before after = StopsGetting from order fault text old new before after
 
 -- The orders before this one were answered, and it was not; they are counted from 1.
 pub record IsBrokenOff (from : Source) (orders : List Order) (at : ℕ) (fault : RunFault) (old new : Moment) (before after : Option (List ℕ)) : Type 0 where
@@ -100,9 +108,7 @@ pub record IsBrokenOff (from : Source) (orders : List Order) (at : ℕ) (fault :
   pub mid : Moment
   pub are : AreAnswered from (take (at - 1) orders) answers text old mid
   pub stays : new.place ≡ mid.place
-  pub took : TookUntil from.plan (place_said from.plan.count mid.place order) fault mid.steps new.steps mid.calls new.calls
-  pub wrote : new.writes ≡ writes_at fault mid.writes
-  pub breaks : BreaksOff from mid.place order fault text before after
+  pub breaks : BreaksOff from order fault text mid new before after
 
 -- ---- in a run
 

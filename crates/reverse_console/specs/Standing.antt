@@ -1,5 +1,5 @@
 -- When a console stands for a run, and what it keeps of the marks of a run in any case.
-use Rattle.std.specs.Prelude.{◌≡◌, ℕ, ◌<◌, List, length, Option, Some}
+use Rattle.std.specs.Prelude.{◌≡◌, ℕ, ◌<◌, List, length, Option, Some, IsSome}
 use Rattle.sha2.specs.Sha256.{sha256}
 use Rattle.keepers.specs.Told.{Images}
 use Rattle.rv_machine.specs.MachineState.{MachineState}
@@ -13,11 +13,15 @@ use Rattle.reverse_console.specs.ConsoleState.{ConsoleState}
 use Rattle.reverse_console.specs.Marks.{MarkPlan, mark_count, mark_level, marked, marked_on}
 use Rattle.reverse_console.specs.Seen.{Source}
 
--- Over what its keepers tell, a console stands for the run from `first`: its machine maps the pages of the run, and each
--- level stands for the images of the states that are marked on it.
+-- the levels of the marks tell what they keep; others needn't
+abbrev pub MarksTell : MarkPlan → (ℕ → Option Images) → Type 0
+MarksTell p told = (i : ℕ) → i < mark_count p → IsSome (told (mark_level p i))
+
+-- Over what its keepers tell, a console stands for the run from `first`: its machine maps the pages of the run, and the level of each
+-- mark stands for the images of the states that are marked on it.
 pub record Stands (first : MachineState) (c : ConsoleState) (told : ℕ → Option Images) : Type 0 where
   pub machine : SamePages c.work first
-  pub levels : (k : ℕ) → k < length c.store →
+  pub levels : (k i : ℕ) → i < mark_count c.plan → mark_level c.plan i ≡ k →
       LevelStandsAt (state_number first c.journal) (marked_on c.plan (mark_count c.plan) k) (level_of c.store k) (told k)
 
 -- of mark i a store keeps the length and the SHA-256 of the image of its state in the run from `first`

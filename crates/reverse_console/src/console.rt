@@ -7,15 +7,16 @@ ghost use Rattle.level_book.specs.BookCosts.{slots_of, total_room};
 ghost use Rattle.rv_machine.specs.MachineState.{MachineState, IsMachineState};
 ghost use Rattle.rv_machine.specs.States.{state_number};
 ghost use Rattle.reverse_runner.specs.KeepersSeen.{by_number, told_by, calls_to, HaveRoom, Called, CalledAtMost};
+ghost use Rattle.reverse_runner.specs.Rooms.{image_room, rooms_by, AreRoomy, SameRooms};
 ghost use Rattle.reverse_runner.specs.SessionState.{SamePages};
-ghost use Rattle.reverse_console.specs.Answer.{IsAnswer, IsOrder, IsGiven};
+ghost use Rattle.reverse_console.specs.Answer.{IsAnswer, IsOrder, IsGiven, found_at};
 ghost use Rattle.reverse_console.specs.ConsoleState.{GoesOn, source_of};
-ghost use Rattle.reverse_console.specs.Costs.{puts_of, place_said, GotAtMost, Takes, TookUntil};
+ghost use Rattle.reverse_console.specs.Costs.{puts_of, effort_of, looking, BreaksLooking, Takes, TookUntil};
 ghost use Rattle.reverse_console.specs.Marks.{MarkPlan, span, stride, marked, mark, mark_count, mark_of};
-ghost use Rattle.reverse_console.specs.Handling.{IsReady, source, Gets};
+ghost use Rattle.reverse_console.specs.Handling.{IsReady, source, Gets, Looks};
 ghost use Rattle.reverse_console.specs.Refusals.{IsOfPutting};
-ghost use Rattle.reverse_console.specs.Seen.{ComesFrom, IsAnswerSeen, IsMarkDamaged};
-ghost use Rattle.reverse_console.specs.Standing.{Stands, KeepsMarks};
+ghost use Rattle.reverse_console.specs.Seen.{ComesFrom, IsAnswerSeen};
+ghost use Rattle.reverse_console.specs.Standing.{Stands, MarksTell, KeepsMarks};
 ghost use Rattle.reverse_console.specs.declared.order.Order.{Order as AnOrder};
 
 use crate::desk::Desk;
@@ -74,7 +75,7 @@ impl Console {
         // It is at state 0, and stands for the run over keepers that tell.
         ensures begun { IfOk result (λ c. (c.plan ≡ (record { slots = slots_of book; count = count })) × (c.journal ≡ journal) × (c.place ≡ 0)
             × (c.ended ≡ false)) }
-        ensures stands { ((k : ℕ) → k < length (slots_of book) → IsSome (told_by K.told keepers.old.items k)) →
+        ensures stands { MarksTell (record { slots = slots_of book; count = count }) (told_by K.told keepers.old.items) →
             IfOk result (λ c. Stands start c (told_by K.told keepers.new.items)) }
 
         // Of each mark it keeps what the image of its state is, over any keepers.
@@ -101,12 +102,19 @@ impl Console {
             by_number 0 K.fault_count keepers.new.items j ≡ by_number 0 K.fault_count keepers.old.items j }
         ensures keepers_later { (k : ℕ) → by_number 0 K.fault_count keepers.old.items k ≤ by_number 0 K.fault_count keepers.new.items k }
 
-        // The keepers have the slots that they had, and those past the levels of the book are as they were.
+        // Over keepers with room for the images it wants memory before anything else is done.
+        ensures roomy { AreRoomy (image_room start) (length (slots_of book)) (rooms_by K.room_bytes keepers.old.items) → result ≡ Err RunFault.Memory →
+            (keepers.new ≡ keepers.old) × (steps.new ≡ steps.old) }
+
+        // The keepers have the slots and the rooms that they had, and those past the levels of the book are as they were.
         ensures slots { map K.slot_count keepers.new.items ≡ map K.slot_count keepers.old.items }
+        ensures rooms { SameRooms (rooms_by K.room_bytes keepers.old.items) (rooms_by K.room_bytes keepers.new.items) }
         ensures places { map K.place keepers.new.items ≡ map K.place keepers.old.items }
         ensures others { (k : ℕ) → length (slots_of book) ≤ k → slice_get keepers.new.items k ≡ slice_get keepers.old.items k }
     {
         let marks = Marks::new(book, count);
+        marks.are_roomy();
+        marks.have_room();
         let Ok(mut desk) = Desk::begin(alloc, start, marks.book(), marks.span()) else {
             return Err(RunFault::Memory);
         };
@@ -173,18 +181,21 @@ impl Console {
             self.new.place visitor.old visitor.new)) }
 
         // What it took.
-        ensures takes { OnOk result (Takes self.old.plan (place_said self.old.plan.count self.old.place order.now) steps.old steps.new
-            (calls_to K.put_count K.get_count K.free_count keepers.old.items) (calls_to K.put_count K.get_count K.free_count keepers.new.items)) }
+        ensures takes { IfOk result (λ found. Takes self.old.plan (effort_of self.old.plan self.old.place order.now (found_at found self.new.place))
+            steps.old steps.new (calls_to K.put_count K.get_count K.free_count keepers.old.items)
+            (calls_to K.put_count K.get_count K.free_count keepers.new.items)) }
         ensures goes_on { OnOk result (GoesOn self.old self.new × (self.new.ended ≡ false)) }
 
         // What stands after a refusal.
         ensures over { OnErr result (GoesOn self.old self.new × (self.new.place ≡ self.old.place) × (self.new.ended ≡ true)) }
-        ensures took_until { IfErr result (λ fault. TookUntil self.old.plan (place_said self.old.plan.count self.old.place order.now) fault steps.old
+        ensures took_until { IfErr result (λ fault. TookUntil (source_of self.old (told_by K.told keepers.old.items)) self.old.place order.now fault steps.old
             steps.new (calls_to K.put_count K.get_count K.free_count keepers.old.items) (calls_to K.put_count K.get_count K.free_count keepers.new.items)) }
         ensures misses { result ≡ Err RunFault.Visitor → (n : ℕ)
             × ((s : MachineState) × (IsAnswerSeen (source_of self.old (told_by K.told keepers.old.items)) self.old.place order.now (Some n)
             × ComesFrom (source_of self.old (told_by K.told keepers.old.items)) (mark_of self.old.plan n) n s
-            × V.missed visitor.old n s self.old.journal visitor.new)) }
+            × V.missed visitor.old n s self.old.journal visitor.new
+            × Takes self.old.plan (effort_of self.old.plan self.old.place order.now (Some n)) steps.old steps.new
+            (calls_to K.put_count K.get_count K.free_count keepers.old.items) (calls_to K.put_count K.get_count K.free_count keepers.new.items))) }
         ensures misses_state { (first : MachineState) → IsMachineState first → Stands first self.old (told_by K.told keepers.old.items) →
             result ≡ Err RunFault.Visitor → (n : ℕ)
             × (IsAnswer first self.old.journal self.old.plan.count self.old.place order.now (Some n)
@@ -197,17 +208,20 @@ impl Console {
         ensures keepers_quiet { ((k : ℕ) → result ≢ Err (RunFault.Keeper k)) → (j : ℕ) →
             by_number 0 K.fault_count keepers.new.items j ≡ by_number 0 K.fault_count keepers.old.items j }
         ensures keepers_later { (k : ℕ) → by_number 0 K.fault_count keepers.old.items k ≤ by_number 0 K.fault_count keepers.new.items k }
-        ensures damaged { (k : ℕ) (put got : List ℕ) → result ≡ Err (RunFault.Damaged k put got) →
-            IsMarkDamaged (source_of self.old (told_by K.told keepers.old.items)) k put got }
         ensures undamaged { (first : MachineState) → IsMachineState first → Stands first self.old (told_by K.told keepers.old.items) →
             (k : ℕ) (put got : List ℕ) → result ≢ Err (RunFault.Damaged k put got) }
         ensures cause { result ≡ Err RunFault.Visitor → Rose (V.fault_count visitor.old) (V.fault_count visitor.new) }
         ensures quiet { result ≢ Err RunFault.Visitor → V.fault_count visitor.new ≡ V.fault_count visitor.old }
         ensures later { V.fault_count visitor.old ≤ V.fault_count visitor.new }
 
-        // The keepers tell what they told and have the slots that they had, and those past the levels of the book are as they were.
+        // Over keepers with room for the images no order wants memory.
+        ensures roomy { AreRoomy (image_room self.old.work) (length self.old.plan.slots) (rooms_by K.room_bytes keepers.old.items) →
+            result ≢ Err RunFault.Memory }
+
+        // The keepers tell what they told and have the slots and rooms that they had, and those past the levels of the book are as they were.
         ensures same { (k : ℕ) → told_by K.told keepers.new.items k ≡ told_by K.told keepers.old.items k }
         ensures slots { map K.slot_count keepers.new.items ≡ map K.slot_count keepers.old.items }
+        ensures rooms { SameRooms (rooms_by K.room_bytes keepers.old.items) (rooms_by K.room_bytes keepers.new.items) }
         ensures places { map K.place keepers.new.items ≡ map K.place keepers.old.items }
         ensures others { (k : ℕ) → length self.old.plan.slots ≤ k → slice_get keepers.new.items k ≡ slice_get keepers.old.items k }
     {
@@ -256,14 +270,17 @@ fn answer<K: Keeper, V: Visitor, L: Ledger>(
     ensures misses { result ≡ Err RunFault.Visitor → (n : ℕ)
         × ((s : MachineState) × (IsAnswerSeen (source marks.now journal.now desk.old (told_by K.told keepers.old.items)) place.old order.now (Some n)
         × ComesFrom (source marks.now journal.now desk.old (told_by K.told keepers.old.items)) (mark_of marks.now n) n s
-        × V.missed visitor.old n s journal.now visitor.new)) }
+        × V.missed visitor.old n s journal.now visitor.new
+        × Takes marks.now (effort_of marks.now place.old order.now (Some n)) steps.old steps.new
+        (calls_to K.put_count K.get_count K.free_count keepers.old.items) (calls_to K.put_count K.get_count K.free_count keepers.new.items))) }
     ensures unseen { OnErr result (result ≢ Err RunFault.Visitor → visitor.new ≡ visitor.old) }
-    ensures gets { Gets K.told K.put_count K.get_count K.free_count K.slot_count K.place K.fault_count marks.now journal.now (mark_count marks.now + 1) result
-        desk.old desk.new keepers.old.items keepers.new.items }
-    ensures takes { OnOk result (Takes marks.now (place_said marks.now.count place.old order.now) steps.old steps.new
+    ensures gets { (list : List ℕ) × Gets K.told K.put_count K.get_count K.free_count K.slot_count K.place K.fault_count K.room_bytes marks.now journal.now list
+        result desk.old desk.new keepers.old.items keepers.new.items }
+    ensures takes { IfOk result (λ found. Takes marks.now (effort_of marks.now place.old order.now (found_at found place.new)) steps.old steps.new
         (calls_to K.put_count K.get_count K.free_count keepers.old.items) (calls_to K.put_count K.get_count K.free_count keepers.new.items)) }
-    ensures took_until { IfErr result (λ fault. TookUntil marks.now (place_said marks.now.count place.old order.now) fault steps.old steps.new
-        (calls_to K.put_count K.get_count K.free_count keepers.old.items) (calls_to K.put_count K.get_count K.free_count keepers.new.items)) }
+    ensures took_until { IfErr result (λ fault. TookUntil (source marks.now journal.now desk.old (told_by K.told keepers.old.items)) place.old order.now fault
+        steps.old steps.new (calls_to K.put_count K.get_count K.free_count keepers.old.items)
+        (calls_to K.put_count K.get_count K.free_count keepers.new.items)) }
     ensures cause { result ≡ Err RunFault.Visitor → Rose (V.fault_count visitor.old) (V.fault_count visitor.new) }
     ensures quiet { result ≢ Err RunFault.Visitor → V.fault_count visitor.new ≡ V.fault_count visitor.old }
     ensures later { V.fault_count visitor.old ≤ V.fault_count visitor.new }
@@ -294,12 +311,9 @@ fn new_place<K: Keeper, L: Ledger>(
     requires order { IsOrder marks.now.count order.now }
     requires ready { IsReady marks.now desk.old (map K.slot_count keepers.old.items) }
     ensures seen { IfOk result (IsAnswerSeen (source marks.now journal.now desk.old (told_by K.told keepers.old.items)) place order.now) }
-    ensures said { (n : ℕ) → place_said marks.now.count place order.now ≡ Some n → (result ≡ Ok (Some n)) × (desk.new ≡ desk.old)
-        × (keepers.new.items ≡ keepers.old.items) × (steps.new ≡ steps.old) }
-    ensures gets { Gets K.told K.put_count K.get_count K.free_count K.slot_count K.place K.fault_count marks.now journal.now (mark_count marks.now) result desk.old
-        desk.new keepers.old.items keepers.new.items }
-    ensures counted { (steps.old ≤ steps.new) × (steps.new ≤ steps.old + marks.now.count) }
-    ensures silent { result ≢ Err RunFault.Visitor }
+    ensures looks { Looks K.told K.put_count K.get_count K.free_count K.slot_count K.place K.fault_count K.room_bytes marks.now journal.now
+        (looking marks.now place order.now) (BreaksLooking marks.now place order.now) result desk.old desk.new keepers.old.items keepers.new.items
+        steps.old steps.new }
 {
     match *order {
         Order::Back(k) => Ok(Some(place.saturating_sub(k))),
@@ -309,6 +323,7 @@ fn new_place<K: Keeper, L: Ledger>(
             let sought = Sought::Pc(address);
             last_before(desk, marks, journal, &sought, place, keepers, steps)
         }
+        Order::RunTo(_) if place == marks.steps() => Ok(None),
         Order::RunTo(address) => {
             first_after(desk, marks, journal, address, place, keepers, steps)
         }

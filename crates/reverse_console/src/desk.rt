@@ -11,6 +11,7 @@ ghost use Rattle.image_store.specs.Shelves.{level_of, kept_at, no_pairs_on};
 ghost use Rattle.image_store.specs.Standing.{LevelStands};
 ghost use Rattle.reverse_runner.specs.Acts.{IsAsBefore, IsFetched, IsDecoded, Keeps};
 ghost use Rattle.reverse_runner.specs.KeepersSeen.{by_number, told_by, calls_to, Called};
+ghost use Rattle.reverse_runner.specs.Rooms.{image_room, rooms_by, IsRoomy, AreShort, SameRooms};
 ghost use Rattle.reverse_runner.specs.SessionState.{SamePages};
 ghost use Rattle.reverse_runner.specs.Standing.{IsNoImage};
 ghost use Rattle.reverse_runner.specs.Touching.{one_put, one_get, Remain, OthersRemain, IsCaused, IsKeeping, IsFetching, IsOther, fault_on};
@@ -80,6 +81,7 @@ impl Desk {
         ensures digest { result ≡ sha256 self.new.buffer.items }
         ensures image { self.new.buffer.items ≡ image self.old.work }
         ensures short { vec_len self.new.buffer < 2 ^ 32 }
+        ensures few { vec_len self.new.buffer ≤ image_room self.old.work }
         ensures work { self.new.work ≡ self.old.work }
         ensures store { self.new.store ≡ self.old.store }
         ensures fits { Fits self.new }
@@ -137,6 +139,10 @@ impl Desk {
         ensures keepers { OthersRemain level keepers.old.items keepers.new.items }
         ensures caused { IsCaused K.fault_count keepers.old.items keepers.new.items result }
         ensures fault { IfErr result (IsKeeping level) }
+        ensures short { (most : ℕ) → vec_len self.old.buffer ≤ most → AreShort most self.old.store → AreShort most self.new.store }
+        ensures roomy { (most : ℕ) → IsRoomy most (rooms_by K.room_bytes keepers.old.items level) → vec_len self.old.buffer ≤ most →
+            result ≢ Err RunFault.Memory }
+        ensures rooms { SameRooms (rooms_by K.room_bytes keepers.old.items) (rooms_by K.room_bytes keepers.new.items) }
     {
         let keeper = &mut keepers[level as usize];
         let bytes = self.buffer.as_slice();
@@ -172,6 +178,9 @@ impl Desk {
         ensures remain { Remain K.slot_count K.place K.fault_count keepers.old.items keepers.new.items }
         ensures keepers { OthersRemain level keepers.old.items keepers.new.items }
         ensures caused { IsCaused K.fault_count keepers.old.items keepers.new.items result }
+        ensures roomy { (most : ℕ) → IsRoomy most (rooms_by K.room_bytes keepers.old.items level) → AreShort most self.old.store →
+            most ≤ vec_capacity self.old.buffer → result ≢ Err RunFault.Memory }
+        ensures rooms { SameRooms (rooms_by K.room_bytes keepers.old.items) (rooms_by K.room_bytes keepers.new.items) }
     {
         let keeper = &mut keepers[level as usize];
         match self.store.fetch(keeper, level, n, &mut self.buffer) {

@@ -8,13 +8,14 @@ ghost use Rattle.image_store.specs.Shelves.{level_of};
 ghost use Rattle.image_store.specs.Standing.{LevelStands};
 ghost use Rattle.reverse_runner.specs.KeepersSeen.{told_by, calls_to, HaveRoom, Called, CalledAtMost};
 ghost use Rattle.reverse_runner.specs.SessionState.{SamePages};
-ghost use Rattle.reverse_runner.specs.Touching.{one_put, one_get};
+ghost use Rattle.reverse_runner.specs.Rooms.{image_room, rooms_by, AreRoomy, AreShort, SameRooms};
+ghost use Rattle.reverse_runner.specs.Touching.{one_put};
 ghost use Rattle.reverse_console.specs.Desks.{Fits, levels_in};
-ghost use Rattle.reverse_console.specs.Costs.{puts_of};
+ghost use Rattle.reverse_console.specs.Costs.{puts_of, way};
 ghost use Rattle.reverse_console.specs.Marks.{span, stride, marked, mark, mark_count, mark_of, mark_level};
 ghost use Rattle.reverse_console.specs.Causes.{KeepersStay, Quiet, HasCause};
 ghost use Rattle.reverse_console.specs.Handling.{AreSet, AreKept, StandAt, IsReady, source, Gets};
-ghost use Rattle.reverse_console.specs.Refusals.{IsOfPutting, IsOfGetting};
+ghost use Rattle.reverse_console.specs.Refusals.{IsOfPutting, IsNotGot};
 ghost use Rattle.reverse_console.specs.Seen.{ComesFrom};
 
 use crate::desk::Desk;
@@ -51,6 +52,9 @@ fn set_mark<K: Keeper>(
     ensures quiet { OnOk result (Quiet K.fault_count keepers.old.items keepers.new.items) }
     ensures cause { IfErr result (HasCause K.fault_count marks.now keepers.old.items keepers.new.items) }
     ensures putting { IfErr result (IsOfPutting marks.now) }
+    ensures short { AreShort (image_room desk.old.work) desk.old.store → OnOk result (AreShort (image_room desk.old.work) desk.new.store) }
+    ensures roomy { AreRoomy (image_room desk.old.work) (length marks.now.slots) (rooms_by K.room_bytes keepers.old.items) → result ≢ Err RunFault.Memory }
+    ensures rooms { SameRooms (rooms_by K.room_bytes keepers.old.items) (rooms_by K.room_bytes keepers.new.items) }
 {
     marks.are_roomy();
     marks.have_room();
@@ -87,6 +91,9 @@ fn set_next<K: Keeper, L: Ledger>(
     ensures quiet { OnOk result (Quiet K.fault_count keepers.old.items keepers.new.items) }
     ensures cause { IfErr result (HasCause K.fault_count marks.now keepers.old.items keepers.new.items) }
     ensures putting { IfErr result (IsOfPutting marks.now) }
+    ensures short { AreShort (image_room desk.old.work) desk.old.store → OnOk result (AreShort (image_room desk.old.work) desk.new.store) }
+    ensures roomy { AreRoomy (image_room desk.old.work) (length marks.now.slots) (rooms_by K.room_bytes keepers.old.items) → result ≢ Err RunFault.Memory }
+    ensures rooms { SameRooms (rooms_by K.room_bytes keepers.old.items) (rooms_by K.room_bytes keepers.new.items) }
 {
     desk.advance(journal, marks.stride(), steps);
     set_mark(desk, marks, mark, keepers)
@@ -119,6 +126,9 @@ pub(crate) fn set_marks<K: Keeper, L: Ledger>(
     ensures quiet { OnOk result (Quiet K.fault_count keepers.old.items keepers.new.items) }
     ensures cause { IfErr result (HasCause K.fault_count marks.now keepers.old.items keepers.new.items) }
     ensures putting { IfErr result (IsOfPutting marks.now) }
+    ensures short { AreShort (image_room desk.old.work) desk.old.store → OnOk result (AreShort (image_room desk.old.work) desk.new.store) }
+    ensures roomy { AreRoomy (image_room desk.old.work) (length marks.now.slots) (rooms_by K.room_bytes keepers.old.items) → result ≢ Err RunFault.Memory }
+    ensures rooms { SameRooms (rooms_by K.room_bytes keepers.old.items) (rooms_by K.room_bytes keepers.new.items) }
 {
     marks.have_room();
     set_mark(desk, marks, 0, keepers)?;
@@ -140,12 +150,9 @@ pub(crate) fn recall<K: Keeper>(
     requires ready { IsReady marks.now desk.old (map K.slot_count keepers.old.items) }
     ensures comes { OnOk result (ComesFrom (source marks.now journal.now desk.old (told_by K.told keepers.old.items)) mark (marked marks.now mark)
         desk.new.work) }
-    ensures gets { Gets K.told K.put_count K.get_count K.free_count K.slot_count K.place K.fault_count marks.now journal.now 1 result desk.old desk.new
-        keepers.old.items keepers.new.items }
-    ensures called { Called (one_get (mark_level marks.now mark)) (calls_to K.put_count K.get_count K.free_count keepers.old.items)
-        (calls_to K.put_count K.get_count K.free_count keepers.new.items) }
-    ensures of { IfErr result (IsOfGetting (one_get (mark_level marks.now mark))) }
-    ensures silent { result ≢ Err RunFault.Visitor }
+    ensures gets { Gets K.told K.put_count K.get_count K.free_count K.slot_count K.place K.fault_count K.room_bytes marks.now journal.now (mark ∷ []) result
+        desk.old desk.new keepers.old.items keepers.new.items }
+    ensures not_got { IfErr result (IsNotGot (source marks.now journal.now desk.old (told_by K.told keepers.old.items)) mark) }
 {
     marks.are_roomy();
     marks.have_room();
@@ -174,14 +181,12 @@ pub(crate) fn go<K: Keeper, V: Visitor, L: Ledger>(
         × (ComesFrom (source marks.now journal.now desk.old (told_by K.told keepers.old.items)) (mark_of marks.now n) n s
         × V.missed visitor.old n s journal.now visitor.new) }
     ensures unseen { result ≢ Ok tt → result ≢ Err RunFault.Visitor → visitor.new ≡ visitor.old }
-    ensures gets { Gets K.told K.put_count K.get_count K.free_count K.slot_count K.place K.fault_count marks.now journal.now 1 result desk.old desk.new
-        keepers.old.items keepers.new.items }
-    ensures called { Called (one_get (mark_level marks.now (mark_of marks.now n))) (calls_to K.put_count K.get_count K.free_count keepers.old.items)
-        (calls_to K.put_count K.get_count K.free_count keepers.new.items) }
-    ensures of { IfErr result (IsOfGetting (one_get (mark_level marks.now (mark_of marks.now n)))) }
-    ensures counted { OnOk result (steps.new ≡ steps.old + (n - mark marks.now n)) }
-    ensures counted_unseen { result ≡ Err RunFault.Visitor → steps.new ≡ steps.old + (n - mark marks.now n) }
-    ensures counted_at_most { (steps.old ≤ steps.new) × (steps.new ≤ steps.old + (n - mark marks.now n)) }
+    ensures gets { Gets K.told K.put_count K.get_count K.free_count K.slot_count K.place K.fault_count K.room_bytes marks.now journal.now
+        (mark_of marks.now n ∷ []) result desk.old desk.new keepers.old.items keepers.new.items }
+    ensures not_got { result ≢ Err RunFault.Visitor →
+        IfErr result (IsNotGot (source marks.now journal.now desk.old (told_by K.told keepers.old.items)) (mark_of marks.now n)) }
+    ensures counted { OnOk result (steps.new ≡ steps.old + way marks.now n n) }
+    ensures counted_unseen { result ≡ Err RunFault.Visitor → steps.new ≡ steps.old + way marks.now n n }
     ensures idle { result ≢ Ok tt → result ≢ Err RunFault.Visitor → steps.new ≡ steps.old }
     ensures visitor_quiet { result ≢ Err RunFault.Visitor → V.fault_count visitor.new ≡ V.fault_count visitor.old }
     ensures visitor_later { V.fault_count visitor.old ≤ V.fault_count visitor.new }

@@ -1,5 +1,6 @@
 // Laws of the marks and of scripts. Each function does nothing; its contract is the law.
-ghost use Rattle.std.specs.Prelude.{◌≡◌, ◌⊎◌, ◌≤◌, ℕ, List, Option};
+ghost use Rattle.std.specs.Prelude.{◌≡◌, ◌⊎◌, ◌≤◌, ℕ, max, List, Option};
+ghost use Rattle.level_book.specs.BookCosts.{BookCosts, slots_of, total_room};
 ghost use Rattle.input_journal.specs.Form.{IsRecorded};
 ghost use Rattle.rv_machine.specs.MachineState.{MachineState, IsMachineState};
 ghost use Rattle.rv_machine.specs.States.{state_number};
@@ -10,8 +11,10 @@ ghost use Rattle.reverse_console.specs.ScriptAnswers.{IsTextOf, answer_text};
 ghost use Rattle.reverse_console.specs.Seen.{Source, ComesFrom, IsAnswerSeen};
 ghost use Rattle.reverse_console.specs.Standing.{KeepsMarks};
 ghost use Rattle.reverse_console.specs.Marks.{MarkPlan, capacity};
-ghost use Rattle.reverse_console.specs.MarkLaws.{IsLeastStride, AreBelow, IsGreatestMark};
+ghost use Rattle.reverse_console.specs.MarkLaws.{IsLeastStride, AreBelow, IsGreatestMark, HaveLevels};
 ghost use Rattle.reverse_console.specs.ScriptLaws.{OneScript, OneFault, ScriptsHaveNoFault, ScriptOrFault};
+
+use revolve_gen::laws::books_are_roomy;
 
 /// From one mark to the next it is the least number of steps, at least 1, with which as many marks as there is room for
 /// reach over the run.
@@ -28,6 +31,13 @@ pub fn the_marks_stand_below_the_steps()
 pub fn the_mark_is_the_greatest()
     ensures { (p : MarkPlan) → IsGreatestMark p }
 {}
+
+/// Where the levels of a book have room for a mark, each mark is on one of them.
+pub fn the_marks_have_levels()
+    ensures { (book : BookCosts) (count : ℕ) → 1 ≤ total_room book (max count 1) → HaveLevels (record { slots = slots_of book; count = count }) }
+{
+    books_are_roomy();
+}
 
 /// Bytes give one list of orders at most.
 pub fn scripts_give_one_list()

@@ -4,13 +4,14 @@ ghost use Rattle.keepers.specs.Counts.{Rose, raised};
 ghost use Rattle.keepers.specs.Told.{Tells, AddsPrefix};
 ghost use Rattle.rv_machine.specs.MachineState.{MachineState, IsMachineState};
 ghost use Rattle.reverse_runner.specs.KeepersSeen.{told_by, calls_to, HaveRoom};
-ghost use Rattle.reverse_console.specs.Answer.{IsOrder};
+ghost use Rattle.reverse_runner.specs.Rooms.{image_room, rooms_by, AreRoomy, SameRooms};
+ghost use Rattle.reverse_console.specs.Answer.{IsOrder, found_at};
 ghost use Rattle.reverse_console.specs.Causes.{KeepersStay, Quiet, HasCause};
 ghost use Rattle.reverse_console.specs.ConsoleState.{GoesOn, source_of};
-ghost use Rattle.reverse_console.specs.Costs.{place_said, Takes, TookUntil};
+ghost use Rattle.reverse_console.specs.Costs.{effort_of, Takes, TookUntil};
 ghost use Rattle.reverse_console.specs.Marks.{span};
 ghost use Rattle.reverse_console.specs.ScriptAnswers.{place_after, moment, IsTextOf, IsShown, IsAnswered, AreWritten, IsBrokenOff, AreWrittenIn, IsBrokenOffIn};
-ghost use Rattle.reverse_console.specs.Seen.{IsAnswerSeen, IsMarkDamaged};
+ghost use Rattle.reverse_console.specs.Seen.{IsAnswerSeen};
 ghost use Rattle.reverse_console.specs.Standing.{Stands};
 ghost use Rattle.reverse_console.specs.declared.order.Order.{Order as AnOrder};
 
@@ -48,21 +49,26 @@ fn show<K: Keeper, O: Sink, L: Ledger>(
         × (IsAnswerSeen (source_of console.old (told_by K.told keepers.old.items)) console.old.place order.now (Some n)
         × IsTextOf (source_of console.old (told_by K.told keepers.old.items)) (Some n) piece
         × (O.call_count out.new ≡ raised (O.call_count out.old) 1)
-        × Tells (O.told out.old) (O.told out.new) (AddsPrefix piece))) }
+        × Tells (O.told out.old) (O.told out.new) (AddsPrefix piece)
+        × Takes console.old.plan (effort_of console.old.plan console.old.place order.now (Some n)) steps.old steps.new
+        (calls_to K.put_count K.get_count K.free_count keepers.old.items) (calls_to K.put_count K.get_count K.free_count keepers.new.items))) }
     ensures unwritten { OnErr result (result ≢ Err RunFault.Visitor → (O.told out.new ≡ O.told out.old) × (O.call_count out.new ≡ O.call_count out.old)) }
     ensures stays { OnErr result (console.new.place ≡ console.old.place) }
     ensures goes_on { GoesOn console.old console.new }
     ensures lasts { OnOk result (console.new.ended ≡ false) }
-    ensures takes { OnOk result (Takes console.old.plan (place_said console.old.plan.count console.old.place order.now) steps.old steps.new
+    ensures takes { IfOk result (λ found. Takes console.old.plan
+        (effort_of console.old.plan console.old.place order.now (found_at found console.new.place)) steps.old steps.new
         (calls_to K.put_count K.get_count K.free_count keepers.old.items) (calls_to K.put_count K.get_count K.free_count keepers.new.items)) }
-    ensures took_until { IfErr result (λ fault. TookUntil console.old.plan (place_said console.old.plan.count console.old.place order.now) fault steps.old
-        steps.new (calls_to K.put_count K.get_count K.free_count keepers.old.items) (calls_to K.put_count K.get_count K.free_count keepers.new.items)) }
+    ensures took_until { IfErr result (λ fault. TookUntil (source_of console.old (told_by K.told keepers.old.items)) console.old.place order.now fault
+        steps.old steps.new (calls_to K.put_count K.get_count K.free_count keepers.old.items)
+        (calls_to K.put_count K.get_count K.free_count keepers.new.items)) }
     ensures same { (k : ℕ) → told_by K.told keepers.new.items k ≡ told_by K.told keepers.old.items k }
     ensures stay { KeepersStay K.slot_count K.place K.fault_count console.old.plan keepers.old.items keepers.new.items }
+    ensures roomy { AreRoomy (image_room console.old.work) (length console.old.plan.slots) (rooms_by K.room_bytes keepers.old.items) →
+        result ≢ Err RunFault.Memory }
+    ensures rooms { SameRooms (rooms_by K.room_bytes keepers.old.items) (rooms_by K.room_bytes keepers.new.items) }
     ensures quiet { OnOk result (Quiet K.fault_count keepers.old.items keepers.new.items) }
     ensures cause { IfErr result (HasCause K.fault_count console.old.plan keepers.old.items keepers.new.items) }
-    ensures damaged { (k : ℕ) (put got : List ℕ) → result ≡ Err (RunFault.Damaged k put got) →
-        IsMarkDamaged (source_of console.old (told_by K.told keepers.old.items)) k put got }
     ensures undamaged { (first : MachineState) → IsMachineState first → Stands first console.old (told_by K.told keepers.old.items) →
         (k : ℕ) (put got : List ℕ) → result ≢ Err (RunFault.Damaged k put got) }
     ensures sink_cause { result ≡ Err RunFault.Visitor → Rose (O.fault_count out.old) (O.fault_count out.new) }
@@ -93,19 +99,23 @@ fn answer_line<K: Keeper, O: Sink, L: Ledger>(
         × (IsAnswerSeen (source_of console.old (told_by K.told keepers.old.items)) console.old.place order.now answer
         × IsTextOf (source_of console.old (told_by K.told keepers.old.items)) answer piece
         × (O.call_count out.new ≡ raised (O.call_count out.old) 1)
-        × Tells (O.told out.old) (O.told out.new) (AddsPrefix piece))) }
+        × Tells (O.told out.old) (O.told out.new) (AddsPrefix piece)
+        × Takes console.old.plan (effort_of console.old.plan console.old.place order.now answer) steps.old steps.new
+        (calls_to K.put_count K.get_count K.free_count keepers.old.items) (calls_to K.put_count K.get_count K.free_count keepers.new.items))) }
     ensures unwritten { OnErr result (result ≢ Err RunFault.Visitor → (O.told out.new ≡ O.told out.old) × (O.call_count out.new ≡ O.call_count out.old)) }
     ensures stays { OnErr result (console.new.place ≡ console.old.place) }
     ensures goes_on { GoesOn console.old console.new }
     ensures lasts { OnOk result (console.new.ended ≡ false) }
-    ensures took_until { IfErr result (λ fault. TookUntil console.old.plan (place_said console.old.plan.count console.old.place order.now) fault steps.old
-        steps.new (calls_to K.put_count K.get_count K.free_count keepers.old.items) (calls_to K.put_count K.get_count K.free_count keepers.new.items)) }
+    ensures took_until { IfErr result (λ fault. TookUntil (source_of console.old (told_by K.told keepers.old.items)) console.old.place order.now fault
+        steps.old steps.new (calls_to K.put_count K.get_count K.free_count keepers.old.items)
+        (calls_to K.put_count K.get_count K.free_count keepers.new.items)) }
     ensures same { (k : ℕ) → told_by K.told keepers.new.items k ≡ told_by K.told keepers.old.items k }
     ensures stay { KeepersStay K.slot_count K.place K.fault_count console.old.plan keepers.old.items keepers.new.items }
+    ensures roomy { AreRoomy (image_room console.old.work) (length console.old.plan.slots) (rooms_by K.room_bytes keepers.old.items) →
+        result ≢ Err RunFault.Memory }
+    ensures rooms { SameRooms (rooms_by K.room_bytes keepers.old.items) (rooms_by K.room_bytes keepers.new.items) }
     ensures quiet { OnOk result (Quiet K.fault_count keepers.old.items keepers.new.items) }
     ensures cause { IfErr result (HasCause K.fault_count console.old.plan keepers.old.items keepers.new.items) }
-    ensures damaged { (k : ℕ) (put got : List ℕ) → result ≡ Err (RunFault.Damaged k put got) →
-        IsMarkDamaged (source_of console.old (told_by K.told keepers.old.items)) k put got }
     ensures undamaged { (first : MachineState) → IsMachineState first → Stands first console.old (told_by K.told keepers.old.items) →
         (k : ℕ) (put got : List ℕ) → result ≢ Err (RunFault.Damaged k put got) }
     ensures sink_cause { result ≡ Err RunFault.Visitor → Rose (O.fault_count out.old) (O.fault_count out.new) }
@@ -160,14 +170,17 @@ pub fn answer_all<K: Keeper, O: Sink, L: Ledger>(
     // The cause of each refusal; no fault says that the console had ended.
     ensures cause { IfErr result (λ stop. HasCause K.fault_count console.old.plan keepers.old.items keepers.new.items stop.fault) }
     ensures quiet { OnOk result (Quiet K.fault_count keepers.old.items keepers.new.items) }
-    ensures damaged { IfErr result (λ stop. (k : ℕ) (put got : List ℕ) → stop.fault ≡ RunFault.Damaged k put got →
-        IsMarkDamaged (source_of console.old (told_by K.told keepers.old.items)) k put got) }
     ensures undamaged { (first : MachineState) → IsMachineState first → Stands first console.old (told_by K.told keepers.old.items) →
         IfErr result (λ stop. (k : ℕ) (put got : List ℕ) → stop.fault ≢ RunFault.Damaged k put got) }
     ensures sink_cause { IfErr result (λ stop. stop.fault ≡ RunFault.Visitor → Rose (O.fault_count out.old) (O.fault_count out.new)) }
     ensures sink_quiet { IfErr result (λ stop. stop.fault ≢ RunFault.Visitor → O.fault_count out.new ≡ O.fault_count out.old) }
     ensures sink_still { OnOk result (O.fault_count out.new ≡ O.fault_count out.old) }
     ensures sink_later { O.fault_count out.old ≤ O.fault_count out.new }
+
+    // Over keepers with room for the images no order wants memory.
+    ensures roomy { AreRoomy (image_room console.old.work) (length console.old.plan.slots) (rooms_by K.room_bytes keepers.old.items) →
+        IfErr result (λ stop. stop.fault ≢ RunFault.Memory) }
+    ensures rooms { SameRooms (rooms_by K.room_bytes keepers.old.items) (rooms_by K.room_bytes keepers.new.items) }
 
     // The keepers tell what they told.
     ensures same { (k : ℕ) → told_by K.told keepers.new.items k ≡ told_by K.told keepers.old.items k }

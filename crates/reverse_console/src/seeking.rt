@@ -1,5 +1,5 @@
 // How a state is sought in a run from its marks.
-ghost use Rattle.std.specs.Prelude.{◌≡◌, ◌≢◌, ◌+◌, ◌-◌, ◌<◌, ◌≤◌, ◌↔◌, ℕ, List, length, map, Err, OnOk, IfOk, IfErr, IsTrue};
+ghost use Rattle.std.specs.Prelude.{◌≡◌, ◌≢◌, ◌+◌, ◌-◌, ◌<◌, ◌≤◌, ◌↔◌, ℕ, List, length, map, unwrap_or, Err, OnOk, IfOk, IfErr, IsTrue};
 ghost use Rattle.rv_machine.specs.MachineState.{MachineState, IsMachineState};
 ghost use Rattle.rv_machine.specs.States.{state_number};
 ghost use Rattle.rv_machine.specs.StepTable.{next};
@@ -8,7 +8,8 @@ ghost use Rattle.reverse_runner.specs.SessionState.{SamePages};
 ghost use Rattle.reverse_queries.specs.Queries.{IsLast};
 ghost use Rattle.reverse_console.specs.Answer.{IsFirst};
 ghost use Rattle.reverse_console.specs.Marks.{mark_count};
-ghost use Rattle.reverse_console.specs.Handling.{IsReady, source, Gets};
+ghost use Rattle.reverse_console.specs.Costs.{looking_back, looking_on, BreaksBack, BreaksOn};
+ghost use Rattle.reverse_console.specs.Handling.{IsReady, source, Looks};
 ghost use Rattle.reverse_console.specs.Seeking.{Meets, IsSought, MeetsFrom};
 ghost use Rattle.reverse_console.specs.Seen.{HasPc, IsLastSeen, IsFirstSeen};
 
@@ -93,7 +94,7 @@ fn seek_first<L: Ledger>(
     requires order { from ≤ to }
     ensures first { IsFirst (λ n. HasPc address (state_number work.old journal.now (n - from))) from to result }
     ensures mapped { SamePages work.new work.old }
-    ensures counted { (steps.old ≤ steps.new) × (steps.new ≤ steps.old + (to - from)) }
+    ensures counted { steps.new + from ≡ steps.old + unwrap_or result to }
 {
     for n in from..to {
         work.advance(journal, 1, steps);
@@ -118,10 +119,8 @@ pub(crate) fn last_before<K: Keeper, L: Ledger>(
     requires sought { IsSought sought.now }
     requires ready { IsReady marks.now desk.old (map K.slot_count keepers.old.items) }
     ensures seen { IfOk result (IsLastSeen (source marks.now journal.now desk.old (told_by K.told keepers.old.items)) (Meets sought.now journal.now) place) }
-    ensures gets { Gets K.told K.put_count K.get_count K.free_count K.slot_count K.place K.fault_count marks.now journal.now (mark_count marks.now) result desk.old
-        desk.new keepers.old.items keepers.new.items }
-    ensures counted { (steps.old ≤ steps.new) × (steps.new ≤ steps.old + place) }
-    ensures silent { result ≢ Err RunFault.Visitor }
+    ensures looks { Looks K.told K.put_count K.get_count K.free_count K.slot_count K.place K.fault_count K.room_bytes marks.now journal.now
+        (looking_back marks.now place) (BreaksBack marks.now place) result desk.old desk.new keepers.old.items keepers.new.items steps.old steps.new }
 {
     marks.have_room();
     let mut end = place;
@@ -139,7 +138,7 @@ pub(crate) fn last_before<K: Keeper, L: Ledger>(
     Ok(None)
 }
 
-// The first state above a place whose next instruction stands at an address.
+// The first state above a place, which isn't the last, whose next instruction stands at an address.
 pub(crate) fn first_after<K: Keeper, L: Ledger>(
     desk: &mut Desk,
     marks: &Marks,
@@ -149,13 +148,11 @@ pub(crate) fn first_after<K: Keeper, L: Ledger>(
     keepers: &mut Vec<K>,
     steps: &mut Steps<L>,
 ) -> Result<Option<u32>, RunFault>
-    requires within { place ≤ marks.now.count }
+    requires before_end { place < marks.now.count }
     requires ready { IsReady marks.now desk.old (map K.slot_count keepers.old.items) }
     ensures seen { IfOk result (IsFirstSeen (source marks.now journal.now desk.old (told_by K.told keepers.old.items)) (HasPc address) place marks.now.count) }
-    ensures gets { Gets K.told K.put_count K.get_count K.free_count K.slot_count K.place K.fault_count marks.now journal.now (mark_count marks.now) result desk.old
-        desk.new keepers.old.items keepers.new.items }
-    ensures counted { (steps.old ≤ steps.new) × (steps.new ≤ steps.old + marks.now.count) }
-    ensures silent { result ≢ Err RunFault.Visitor }
+    ensures looks { Looks K.told K.put_count K.get_count K.free_count K.slot_count K.place K.fault_count K.room_bytes marks.now journal.now
+        (looking_on marks.now place) (BreaksOn marks.now place) result desk.old desk.new keepers.old.items keepers.new.items steps.old steps.new }
 {
     marks.have_room();
     let mark = marks.of(place);

@@ -1,15 +1,13 @@
-use Rattle.std.proofs.Common.{ℕ, ◌≤◌, Err, Ok, IfErr, sym, ◌∙◌, ap, subst, arith}
+use Rattle.std.proofs.Common.{ℕ, ◌≤◌, [], ◌∷◌, Err, Ok, IfErr, refl, sym, ◌∙◌, ap, subst, arith}
 use Rattle.std.specs.Vec.{vec_capacity}
 use Rattle.std.proofs.lemmas.Result.{IfErr-at_err, err_from_is_err_and}
-use Rattle.reverse_runner.specs.KeepersSeen.{calls_to, told_by, Called}
-use Rattle.reverse_runner.specs.Touching.{one_get}
-use Rattle.reverse_runner.specs.declared.fault.RunFault.{RunFault}
+use Rattle.reverse_runner.specs.KeepersSeen.{told_by}
 use Rattle.reverse_runner.specs.declared.fault.RunFault.TheVariants.{Visitor}
 use Rattle.reverse_queries.proofs.Ways.{same_fault}
-use Rattle.reverse_console.specs.Marks.{marked, mark_of, mark_level}
+use Rattle.reverse_console.specs.Marks.{marked, mark_of}
 use Rattle.reverse_console.specs.Handling.{source}
-use Rattle.reverse_console.specs.Refusals.{IsOfGetting}
-use Rattle.reverse_console.proofs.Getting.{err_at, fits_on, gets_err, gets_ok, gets_moved, gets_unseen}
+use Rattle.reverse_console.specs.Refusals.{IsNotGot}
+use Rattle.reverse_console.proofs.Getting.{err_at, fits_on, gets_as, gets_err, gets_ok, gets_moved, gets_unseen}
 use Rattle.reverse_console.proofs.Numbers.{mark_at_most, mark_of_known}
 use Rattle.reverse_console.proofs.Seeing.{went}
 use Rattle.reverse_console.proofs.going.go.Goals as goal
@@ -20,36 +18,36 @@ recall-requires-clause-known g c = let known = mark_of_known c.args.marks.now c.
 pub returns-in_err-recall-clause-gets : goal.returns-in_err-recall-clause-gets
 returns-in_err-recall-clause-gets g c =
     let q = err_from_is_err_and c.from_residual.result c.from_residual.ensures.1 in
-    gets_err g.K.Keeper.told g.K.Keeper.put_count g.K.Keeper.get_count g.K.Keeper.free_count g.K.Keeper.slot_count g.K.Keeper.place g.K.Keeper.fault_count c.args.marks.now c.args.journal.now 1 c.recall.result c.from_residual.result _ _ c.args.desk.now c.recall.new.desk c.args.keepers.now.items c.recall.new.keepers.items c.in_err-recall.was q.1 q.2 c.recall.ensures.gets
+    let p = c.args.marks.now in
+    gets_as g.K.Keeper.told g.K.Keeper.put_count g.K.Keeper.get_count g.K.Keeper.free_count g.K.Keeper.slot_count g.K.Keeper.place g.K.Keeper.fault_count g.K.Keeper.room_bytes p c.args.journal.now (c.of-mark.result ∷ []) (mark_of p c.args.n ∷ []) c.from_residual.result c.args.desk.now c.recall.new.desk c.args.keepers.now.items c.recall.new.keepers.items (ap (λ (i : ℕ). i ∷ []) c.of-mark.ensures)
+    (gets_err g.K.Keeper.told g.K.Keeper.put_count g.K.Keeper.get_count g.K.Keeper.free_count g.K.Keeper.slot_count g.K.Keeper.place g.K.Keeper.fault_count g.K.Keeper.room_bytes p c.args.journal.now (c.of-mark.result ∷ []) c.recall.result c.from_residual.result _ _ c.args.desk.now c.recall.new.desk c.args.keepers.now.items c.recall.new.keepers.items c.in_err-recall.was q.1 q.2 c.recall.ensures.gets)
+
+pub returns-in_err-recall-clause-not_got : goal.returns-in_err-recall-clause-not_got
+returns-in_err-recall-clause-not_got g c ne =
+    let q = err_from_is_err_and c.from_residual.result c.from_residual.ensures.1 in
+    let src = source c.args.marks.now c.args.journal.now c.args.desk.now (told_by g.K.Keeper.told c.args.keepers.now.items) in
+    let R : ℕ → Type 0 = λ i. IfErr c.recall.result (IsNotGot src i) in
+    let i = mark_of c.args.marks.now c.args.n in
+    let missed = subst R c.of-mark.ensures c.recall.ensures.not_got in
+    err_at (IsNotGot src i) c.from_residual.result q.0 q.1 (subst (IsNotGot src i) (sym q.2) (IfErr-at_err (IsNotGot src i) c.in_err-recall.was missed))
 
 pub returns-in_err-recall-clause-missed : goal.returns-in_err-recall-clause-missed
 returns-in_err-recall-clause-missed g c e =
     let q = err_from_is_err_and c.from_residual.result c.from_residual.ensures.1 in
-    absurd (c.recall.ensures.silent (same_fault c.recall.result c.from_residual.result _ _ Visitor c.in_err-recall.was q.1 q.2 e))
+    let src = source c.args.marks.now c.args.journal.now c.args.desk.now (told_by g.K.Keeper.told c.args.keepers.now.items) in
+    absurd (IfErr-at_err (IsNotGot src c.of-mark.result) (same_fault c.recall.result c.from_residual.result _ _ Visitor c.in_err-recall.was q.1 q.2 e) c.recall.ensures.not_got)
 
 pub returns-in_err-recall-clause-visitor_cause : goal.returns-in_err-recall-clause-visitor_cause
 returns-in_err-recall-clause-visitor_cause g c e =
     let q = err_from_is_err_and c.from_residual.result c.from_residual.ensures.1 in
-    absurd (c.recall.ensures.silent (same_fault c.recall.result c.from_residual.result _ _ Visitor c.in_err-recall.was q.1 q.2 e))
-
-pub returns-in_err-recall-clause-called : goal.returns-in_err-recall-clause-called
-returns-in_err-recall-clause-called g c =
-    let calls = calls_to g.K.Keeper.put_count g.K.Keeper.get_count g.K.Keeper.free_count in
-    subst (λ (i : ℕ). Called (one_get (mark_level c.args.marks.now i)) (calls c.args.keepers.now.items) (calls c.recall.new.keepers.items)) c.of-mark.ensures c.recall.ensures.called
-
-pub returns-in_err-recall-clause-of : goal.returns-in_err-recall-clause-of
-returns-in_err-recall-clause-of g c =
-    let q = err_from_is_err_and c.from_residual.result c.from_residual.ensures.1 in
-    let P : ℕ → RunFault → Type 0 = λ i. IsOfGetting (one_get (mark_level c.args.marks.now i)) in
-    let R : ℕ → Type 0 = λ i. IfErr c.recall.result (P i) in
-    let of = subst R c.of-mark.ensures c.recall.ensures.of in
-    let i = mark_of c.args.marks.now c.args.n in
-    err_at (P i) c.from_residual.result q.0 q.1 (subst (P i) (sym q.2) (IfErr-at_err (P i) c.in_err-recall.was of))
+    let src = source c.args.marks.now c.args.journal.now c.args.desk.now (told_by g.K.Keeper.told c.args.keepers.now.items) in
+    absurd (IfErr-at_err (IsNotGot src c.of-mark.result) (same_fault c.recall.result c.from_residual.result _ _ Visitor c.in_err-recall.was q.1 q.2 e) c.recall.ensures.not_got)
 
 pub returns-in_err-recall-clause-counted_unseen : goal.returns-in_err-recall-clause-counted_unseen
 returns-in_err-recall-clause-counted_unseen g c e =
     let q = err_from_is_err_and c.from_residual.result c.from_residual.ensures.1 in
-    absurd (c.recall.ensures.silent (same_fault c.recall.result c.from_residual.result _ _ Visitor c.in_err-recall.was q.1 q.2 e))
+    let src = source c.args.marks.now c.args.journal.now c.args.desk.now (told_by g.K.Keeper.told c.args.keepers.now.items) in
+    absurd (IfErr-at_err (IsNotGot src c.of-mark.result) (same_fault c.recall.result c.from_residual.result _ _ Visitor c.in_err-recall.was q.1 q.2 e) c.recall.ensures.not_got)
 
 pub returns-in-Ok-clause-got : goal.returns-in-Ok-clause-got
 returns-in-Ok-clause-got g c =
@@ -67,23 +65,14 @@ returns-in-Ok-clause-gets g c =
     let pages = sym c.advance.ensures.pages in
     let same = ap vec_capacity c.advance.ensures.buffer in
     let fits = fits_on c.recall.new.desk c.advance.new.self pages (omega (arith, same)) c.recall.ensures.gets.reads.fits in
-    gets_moved g.K.Keeper.told g.K.Keeper.put_count g.K.Keeper.get_count g.K.Keeper.free_count g.K.Keeper.slot_count g.K.Keeper.place g.K.Keeper.fault_count p c.args.journal.now 1 (Ok tt) c.args.desk.now c.recall.new.desk c.advance.new.self c.args.keepers.now.items c.recall.new.keepers.items pages c.advance.ensures.store fits
-    (gets_ok g.K.Keeper.told g.K.Keeper.put_count g.K.Keeper.get_count g.K.Keeper.free_count g.K.Keeper.slot_count g.K.Keeper.place g.K.Keeper.fault_count p c.args.journal.now 1 c.recall.result _ tt c.args.desk.now c.recall.new.desk c.args.keepers.now.items c.recall.new.keepers.items c.in_ok-recall.was c.recall.ensures.gets)
-
-pub returns-in-Ok-clause-called : goal.returns-in-Ok-clause-called
-returns-in-Ok-clause-called g c =
-    let calls = calls_to g.K.Keeper.put_count g.K.Keeper.get_count g.K.Keeper.free_count in
-    subst (λ (i : ℕ). Called (one_get (mark_level c.args.marks.now i)) (calls c.args.keepers.now.items) (calls c.recall.new.keepers.items)) c.of-mark.ensures c.recall.ensures.called
+    gets_as g.K.Keeper.told g.K.Keeper.put_count g.K.Keeper.get_count g.K.Keeper.free_count g.K.Keeper.slot_count g.K.Keeper.place g.K.Keeper.fault_count g.K.Keeper.room_bytes p c.args.journal.now (c.of-mark.result ∷ []) (mark_of p c.args.n ∷ []) (Ok tt) c.args.desk.now c.advance.new.self c.args.keepers.now.items c.recall.new.keepers.items (ap (λ (i : ℕ). i ∷ []) c.of-mark.ensures)
+    (gets_moved g.K.Keeper.told g.K.Keeper.put_count g.K.Keeper.get_count g.K.Keeper.free_count g.K.Keeper.slot_count g.K.Keeper.place g.K.Keeper.fault_count g.K.Keeper.room_bytes p c.args.journal.now (c.of-mark.result ∷ []) (Ok tt) c.args.desk.now c.recall.new.desk c.advance.new.self c.args.keepers.now.items c.recall.new.keepers.items pages c.advance.ensures.store fits
+    (gets_ok g.K.Keeper.told g.K.Keeper.put_count g.K.Keeper.get_count g.K.Keeper.free_count g.K.Keeper.slot_count g.K.Keeper.place g.K.Keeper.fault_count g.K.Keeper.room_bytes p c.args.journal.now (c.of-mark.result ∷ []) c.recall.result _ tt c.args.desk.now c.recall.new.desk c.args.keepers.now.items c.recall.new.keepers.items c.in_ok-recall.was c.recall.ensures.gets))
 
 pub returns-in-Ok-clause-counted : goal.returns-in-Ok-clause-counted
 returns-in-Ok-clause-counted g c =
     let at = c.marked.ensures ∙ ap (marked c.args.marks.now) c.of-mark.ensures in
     omega (arith, at)
-
-pub returns-in-Ok-clause-counted_at_most : goal.returns-in-Ok-clause-counted_at_most
-returns-in-Ok-clause-counted_at_most g c =
-    let at = c.marked.ensures ∙ ap (marked c.args.marks.now) c.of-mark.ensures in
-    (omega arith, omega (arith, at))
 
 pub returns-in-Err-clause-missed : goal.returns-in-Err-clause-missed
 returns-in-Err-clause-missed g c e =
@@ -101,23 +90,17 @@ returns-in-Err-clause-gets g c =
     let pages = sym c.advance.ensures.pages in
     let same = ap vec_capacity c.advance.ensures.buffer in
     let fits = fits_on c.recall.new.desk c.advance.new.self pages (omega (arith, same)) c.recall.ensures.gets.reads.fits in
-    gets_moved g.K.Keeper.told g.K.Keeper.put_count g.K.Keeper.get_count g.K.Keeper.free_count g.K.Keeper.slot_count g.K.Keeper.place g.K.Keeper.fault_count p c.args.journal.now 1 (Err Visitor) c.args.desk.now c.recall.new.desk c.advance.new.self c.args.keepers.now.items c.recall.new.keepers.items pages c.advance.ensures.store fits
-    (gets_unseen g.K.Keeper.told g.K.Keeper.put_count g.K.Keeper.get_count g.K.Keeper.free_count g.K.Keeper.slot_count g.K.Keeper.place g.K.Keeper.fault_count p c.args.journal.now 1 c.recall.result _ c.args.desk.now c.recall.new.desk c.args.keepers.now.items c.recall.new.keepers.items c.in_ok-recall.was c.recall.ensures.gets)
+    gets_as g.K.Keeper.told g.K.Keeper.put_count g.K.Keeper.get_count g.K.Keeper.free_count g.K.Keeper.slot_count g.K.Keeper.place g.K.Keeper.fault_count g.K.Keeper.room_bytes p c.args.journal.now (c.of-mark.result ∷ []) (mark_of p c.args.n ∷ []) (Err Visitor) c.args.desk.now c.advance.new.self c.args.keepers.now.items c.recall.new.keepers.items (ap (λ (i : ℕ). i ∷ []) c.of-mark.ensures)
+    (gets_moved g.K.Keeper.told g.K.Keeper.put_count g.K.Keeper.get_count g.K.Keeper.free_count g.K.Keeper.slot_count g.K.Keeper.place g.K.Keeper.fault_count g.K.Keeper.room_bytes p c.args.journal.now (c.of-mark.result ∷ []) (Err Visitor) c.args.desk.now c.recall.new.desk c.advance.new.self c.args.keepers.now.items c.recall.new.keepers.items pages c.advance.ensures.store fits
+    (gets_unseen g.K.Keeper.told g.K.Keeper.put_count g.K.Keeper.get_count g.K.Keeper.free_count g.K.Keeper.slot_count g.K.Keeper.place g.K.Keeper.fault_count g.K.Keeper.room_bytes p c.args.journal.now (c.of-mark.result ∷ []) c.recall.result _ c.args.desk.now c.recall.new.desk c.args.keepers.now.items c.recall.new.keepers.items c.in_ok-recall.was c.recall.ensures.gets))
 
-pub returns-in-Err-clause-called : goal.returns-in-Err-clause-called
-returns-in-Err-clause-called g c =
-    let calls = calls_to g.K.Keeper.put_count g.K.Keeper.get_count g.K.Keeper.free_count in
-    subst (λ (i : ℕ). Called (one_get (mark_level c.args.marks.now i)) (calls c.args.keepers.now.items) (calls c.recall.new.keepers.items)) c.of-mark.ensures c.recall.ensures.called
+pub returns-in-Err-clause-not_got : goal.returns-in-Err-clause-not_got
+returns-in-Err-clause-not_got g c ne = absurd (ne refl)
 
 pub returns-in-Err-clause-counted_unseen : goal.returns-in-Err-clause-counted_unseen
 returns-in-Err-clause-counted_unseen g c e =
     let at = c.marked.ensures ∙ ap (marked c.args.marks.now) c.of-mark.ensures in
     omega (arith, at)
-
-pub returns-in-Err-clause-counted_at_most : goal.returns-in-Err-clause-counted_at_most
-returns-in-Err-clause-counted_at_most g c =
-    let at = c.marked.ensures ∙ ap (marked c.args.marks.now) c.of-mark.ensures in
-    (omega arith, omega (arith, at))
 
 pub overflow_sub-n : goal.overflow_sub-n
 overflow_sub-n g c =

@@ -1,4 +1,4 @@
-use Rattle.std.proofs.Common.{◌≡◌, ℕ, ◌+◌, ◌-◌, ◌<◌, sym, ◌∙◌, ap, subst, arith}
+use Rattle.std.proofs.Common.{◌≡◌, ℕ, ◌+◌, ◌-◌, ◌<◌, refl, sym, ◌∙◌, ap, subst, arith}
 use Rattle.std.proofs.lemmas.Result.{IfErr-at_err, err_from_is_err_and}
 use Rattle.rv_machine.specs.MachineState.{MachineState}
 use Rattle.rv_machine.specs.States.{state_number}
@@ -11,6 +11,10 @@ use Rattle.reverse_console.specs.Causes.{HasCause}
 use Rattle.reverse_console.specs.Handling.{AreSet, AreKept, StandAt}
 use Rattle.reverse_console.specs.Refusals.{IsOfPutting}
 use Rattle.reverse_console.proofs.Calling.{stay_then, cause_then}
+use Rattle.reverse_runner.specs.declared.fault.RunFault.TheVariants.{Memory}
+use Rattle.reverse_runner.specs.Rooms.{rooms_by, AreShort}
+use Rattle.reverse_runner.proofs.Rooms.{same_room, still_roomy}
+use Rattle.reverse_queries.proofs.Ways.{same_fault}
 use Rattle.reverse_console.proofs.Getting.{err_at, at_ok}
 use Rattle.reverse_console.proofs.Numbers.{first_known, marked_first, marked_within, one_less}
 use Rattle.reverse_console.proofs.Putting.{puts_more, puts_none, puts_within, next_state, same_mark}
@@ -40,6 +44,8 @@ loop-mark-init g c =
       stay = c.set_mark.ensures.stay;
       quiet = done.quiet;
       known = omega (arith, some);
+      short = λ short. at_ok c.set_mark.result _ c.in_ok-set_mark.was (c.set_mark.ensures.short short);
+      rooms = c.set_mark.ensures.rooms;
     }
 
 pub loop-mark-preserved : goal.loop-mark-preserved
@@ -65,6 +71,12 @@ loop-mark-preserved g c =
       stay = stay_then g.K.Keeper.slot_count g.K.Keeper.place g.K.Keeper.fault_count p c.args.keepers.now.items c.loop-mark.keepers.items c.set_next.new.keepers.items so_far.stay c.set_next.ensures.stay;
       quiet = λ j. done.quiet j ∙ so_far.quiet j;
       known = omega (arith, below);
+      short = λ short.
+          let pages = same_room c.loop-mark.desk.work c.args.desk.now.work (ap (λ (s : MachineState). page_numbers s.memory) so_far.work ∙ state_number_keeps_pages c.args.desk.now.work c.args.journal.now (marked p (i - 1))) in
+          let S : ℕ → Type 0 = λ most. AreShort most c.loop-mark.desk.store in
+          let P : ℕ → Type 0 = λ most. AreShort most c.set_next.new.desk.store in
+          subst P pages (at_ok c.set_next.result _ c.in_ok-set_next.was (c.set_next.ensures.short (subst S (sym pages) (so_far.short short))));
+      rooms = λ k. c.set_next.ensures.rooms k ∙ so_far.rooms k;
     }
 
 pub returns-in_err-set_mark-clause-counted_at_most : goal.returns-in_err-set_mark-clause-counted_at_most
@@ -173,3 +185,20 @@ returns-clause-called_at_most g c = puts_within c.args.marks.now c.loop-mark.mar
 
 pub set_next-requires-clause-room : goal.set_next-requires-clause-room
 set_next-requires-clause-room g c = subst (HaveRoom (span c.args.marks.now) c.args.marks.now.slots) (sym c.loop-mark.invariant.stay.slots_same) c.requires.room
+
+pub returns-in_err-set_mark-clause-roomy : goal.returns-in_err-set_mark-clause-roomy
+returns-in_err-set_mark-clause-roomy g c has e =
+    let q = err_from_is_err_and c.from_residual.result c.from_residual.ensures.1 in
+    c.set_mark.ensures.roomy has (same_fault c.set_mark.result c.from_residual.result _ _ Memory c.in_err-set_mark.was q.1 q.2 e)
+
+pub returns-in_err-set_next-clause-roomy : goal.returns-in_err-set_next-clause-roomy
+returns-in_err-set_next-clause-roomy g c has e =
+    let q = err_from_is_err_and c.from_residual-in_err-set_next.result c.from_residual-in_err-set_next.ensures.1 in
+    let p = c.args.marks.now in
+    let so_far = c.loop-mark.invariant in
+    let pages = ap (λ (s : MachineState). page_numbers s.memory) so_far.work ∙ state_number_keeps_pages c.args.desk.now.work c.args.journal.now (marked p (c.loop-mark.mark - 1)) in
+    let here = still_roomy c.args.desk.now.work c.loop-mark.desk.work p.slots p.slots (rooms_by g.K.Keeper.room_bytes c.args.keepers.now.items) (rooms_by g.K.Keeper.room_bytes c.loop-mark.keepers.items) pages refl so_far.rooms has in
+    c.set_next.ensures.roomy here (same_fault c.set_next.result c.from_residual-in_err-set_next.result _ _ Memory c.in_err-set_next.was q.1 q.2 e)
+
+pub returns-in_err-set_next-clause-rooms : goal.returns-in_err-set_next-clause-rooms
+returns-in_err-set_next-clause-rooms g c k = c.set_next.ensures.rooms k ∙ c.loop-mark.invariant.rooms k

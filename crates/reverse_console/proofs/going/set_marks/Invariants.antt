@@ -1,6 +1,7 @@
 use Rattle.std.proofs.Common.{◌≡◌, ◌+◌, ◌-◌, ◌≤◌}
 use Rattle.rv_machine.specs.States.{state_number}
 use Rattle.reverse_runner.specs.KeepersSeen.{told_by, calls_to, Called}
+use Rattle.reverse_runner.specs.Rooms.{image_room, rooms_by, AreShort, SameRooms}
 use Rattle.reverse_console.specs.Costs.{puts_of}
 use Rattle.reverse_console.specs.Desks.{Fits}
 use Rattle.reverse_console.specs.Marks.{marked, mark_count}
@@ -25,4 +26,6 @@ invariant-loop-mark g l = record {
   stay : KeepersStay g.K.Keeper.slot_count g.K.Keeper.place g.K.Keeper.fault_count l.marks l.fn.keepers.items l.keepers.items;
   quiet : Quiet g.K.Keeper.fault_count l.fn.keepers.items l.keepers.items;
   known : l.mark ≤ mark_count l.marks;
+  short : AreShort (image_room l.fn.desk.work) l.fn.desk.store → AreShort (image_room l.fn.desk.work) l.desk.store;
+  rooms : SameRooms (rooms_by g.K.Keeper.room_bytes l.fn.keepers.items) (rooms_by g.K.Keeper.room_bytes l.keepers.items);
 }

@@ -1,8 +1,10 @@
-use Rattle.std.proofs.Common.{sym, ◌∙◌, ap, subst, arith}
+use Rattle.std.proofs.Common.{ℕ, OnOk, refl, sym, ◌∙◌, ap, subst, arith}
 use Rattle.std.specs.Vec.{vec_capacity}
 use Rattle.rv_machine.specs.States.{state_number}
 use Rattle.reverse_runner.specs.KeepersSeen.{told_by}
 use Rattle.reverse_console.specs.Handling.{AreSet, AreKept, StandAt}
+use Rattle.reverse_runner.specs.Rooms.{image_room, rooms_by, AreShort}
+use Rattle.reverse_runner.proofs.Rooms.{same_room, short_same, still_roomy}
 use Rattle.reverse_console.proofs.Getting.{fits_on}
 use Rattle.reverse_console.proofs.going.set_next.Goals as goal
 
@@ -26,3 +28,17 @@ returns-clause-kept g c first journal kept work =
 pub returns-clause-work : goal.returns-clause-work
 returns-clause-work g c =
     c.set_mark.ensures.work ∙ c.advance.ensures.work ∙ ap (state_number c.args.desk.now.work c.args.journal.now) c.stride.ensures
+
+pub returns-clause-short : goal.returns-clause-short
+returns-clause-short g c short =
+    let pages = same_room c.advance.new.self.work c.args.desk.now.work (sym c.advance.ensures.pages) in
+    let short_here = short_same (image_room c.args.desk.now.work) c.args.desk.now.store c.advance.new.self.store c.advance.ensures.store short in
+    let S : ℕ → Type 0 = λ most. AreShort most c.advance.new.self.store in
+    let P : ℕ → Type 0 = λ most. OnOk c.set_mark.result (AreShort most c.set_mark.new.desk.store) in
+    subst P pages (c.set_mark.ensures.short (subst S (sym pages) short_here))
+
+pub returns-clause-roomy : goal.returns-clause-roomy
+returns-clause-roomy g c has =
+    let p = c.args.marks.now in
+    let rooms = rooms_by g.K.Keeper.room_bytes c.args.keepers.now.items in
+    c.set_mark.ensures.roomy (still_roomy c.args.desk.now.work c.advance.new.self.work p.slots p.slots rooms rooms (sym c.advance.ensures.pages) refl (λ k. refl) has)

@@ -9,13 +9,14 @@ use Rattle.reverse_console.specs.declared.order.Order.{Order}
 use Rattle.reverse_console.specs.declared.order.Order.TheVariants.{Back}
 use Rattle.reverse_console.specs.Causes.{KeepersStay, HasCause}
 use Rattle.reverse_console.specs.ConsoleState.{source_of}
-use Rattle.reverse_console.specs.Costs.{place_said, TookUntil}
+use Rattle.reverse_runner.specs.Rooms.{rooms_by}
+use Rattle.reverse_runner.proofs.Rooms.{still_roomy}
 use Rattle.reverse_console.specs.Marks.{MarkPlan}
 use Rattle.reverse_console.specs.ScriptAnswers.{moment, AreAnswered, AreAnswers, BreaksOffIn}
 use Rattle.reverse_console.proofs.Answering.{both_ways}
-use Rattle.reverse_console.proofs.Calling.{stay_still, stay_then, cause_then}
+use Rattle.reverse_console.proofs.Calling.{stay_still, stay_then, cause_then, not_ended}
 use Rattle.reverse_console.proofs.Getting.{at_ok}
-use Rattle.reverse_console.proofs.Scripts.{tells_none, tells_more, answered_more, answered_there, breaks_of, seen_there, text_there, damage_there, stands_there, goes_then, in_run, breaks_in_run, same_err}
+use Rattle.reverse_console.proofs.Scripts.{tells_none, tells_more, answered_more, answered_there, breaks_of, seen_there, text_there, took_there, takes_there, stands_there, goes_then, in_run, breaks_in_run, same_err}
 use Rattle.reverse_console.proofs.script.answer_all.Goals as goal
 
 pub loop-at-init : goal.loop-at-init
@@ -23,6 +24,7 @@ loop-at-init g c = record {
   lasts = c.requires.lasts;
   goes = record { machine = refl; plan = refl; store = refl; journal = refl };
   same = λ k. refl;
+  rooms = λ k. refl;
   stay = stay_still g.K.Keeper.slot_count g.K.Keeper.place g.K.Keeper.fault_count c.args.console.now.plan c.args.keepers.now.items;
   quiet = λ j. refl;
   still = refl;
@@ -59,6 +61,7 @@ loop-at-preserved g c =
       lasts = at_ok c.answer_line.result _ c.in_default.is c.answer_line.ensures.lasts;
       goes = goes_then old mid new so_far.goes c.answer_line.ensures.goes_on;
       same = λ k. c.answer_line.ensures.same k ∙ so_far.same k;
+      rooms = λ k. c.answer_line.ensures.rooms k ∙ so_far.rooms k;
       stay = stay_then keeper.slot_count keeper.place keeper.fault_count old.plan c.args.keepers.now.items c.loop-at.keepers.items c.answer_line.new.keepers.items so_far.stay (subst S so_far.goes.plan c.answer_line.ensures.stay);
       quiet = λ j. quiet j ∙ so_far.quiet j;
       still = c.answer_line.ensures.sink_quiet (λ e. both_ways c.answer_line.result Visitor c.in_default.is e) ∙ so_far.still;
@@ -94,12 +97,14 @@ returns-in-Err-clause-broken_off g c =
     let G : ℕ → Type 0 = λ i. slice_get orders i ≡ Some order in
     let w = so_far.written in
     let L : ℕ → Type 0 = λ i. AreAnswered from (take i orders) w.answers w.text m0 m1 in
-    let P : MarkPlan → Type 0 = λ p. TookUntil p (place_said p.count mid.place order) fault c.loop-at.steps c.answer_line.new.steps calls1 calls2 in
-    let b = breaks_of from mid.place order fault w.text (sink.call_count c.loop-at.out) (sink.call_count c.answer_line.new.out) (sink.told c.args.out.now) (sink.told c.loop-at.out) (sink.told c.answer_line.new.out) w.written
+    let m2 = moment c.answer_line.new.console c.answer_line.new.steps calls2 (sink.call_count c.answer_line.new.out) in
+    let b = breaks_of from order fault w.text m1 m2 (sink.told c.args.out.now) (sink.told c.loop-at.out) (sink.told c.answer_line.new.out) w.written
     (λ e.
     let m = c.answer_line.ensures.missed (c.in-Err.is ∙ ap Err e) in
-    (m.0, (m.1.0, (seen_there old mid told told' so_far.goes so_far.same mid.place order m.0 m.1.1.0, text_there old mid told told' so_far.goes so_far.same m.0 m.1.0 m.1.1.1, m.1.1.2, m.1.1.3))))
-    (λ never. c.in-Err.ensures.unwritten (λ e. never (same_err _ fault Visitor refl e))) in
+    (m.0, (m.1.0, (seen_there old mid told told' so_far.goes so_far.same mid.place order m.0 m.1.1.0, text_there old mid told told' so_far.goes so_far.same m.0 m.1.0 m.1.1.1, m.1.1.2, m.1.1.3, takes_there old mid told told' so_far.goes so_far.same mid.place order m.0 c.loop-at.steps c.answer_line.new.steps calls1 calls2 m.1.1.4))))
+    (λ never. c.in-Err.ensures.unwritten (λ e. never (same_err _ fault Visitor refl e)))
+    (not_ended keeper.fault_count mid.plan c.loop-at.keepers.items c.answer_line.new.keepers.items fault c.in-Err.ensures.cause)
+    (took_there old mid told told' so_far.goes so_far.same mid.place order fault c.loop-at.steps c.answer_line.new.steps calls1 calls2 c.in-Err.ensures.took_until) in
     record {
       from_one = omega arith;
       order = order;
@@ -109,9 +114,7 @@ returns-in-Err-clause-broken_off g c =
       mid = m1;
       are = subst L back w.are;
       stays = c.in-Err.ensures.stays;
-      took = subst P so_far.goes.plan c.in-Err.ensures.took_until;
-      wrote = b.1;
-      breaks = b.0;
+      breaks = b;
     }
 
 pub returns-in-Err-clause-broken_off_in_run : goal.returns-in-Err-clause-broken_off_in_run
@@ -138,11 +141,16 @@ returns-in-Err-clause-broken_off_in_run g c first is stands =
     let states = c.sees_its_run.ensures.states first told is stands in
     let sees = c.sees_its_run.ensures.answers first told is stands in
     let r = in_run first from states sees (take at orders) w.answers w.text m0 m1 w.are in
-    let b = breaks_of from mid.place order fault w.text (sink.call_count c.loop-at.out) (sink.call_count c.answer_line.new.out) (sink.told c.args.out.now) (sink.told c.loop-at.out) (sink.told c.answer_line.new.out) w.written
+    let calls1 = calls_to keeper.put_count keeper.get_count keeper.free_count c.loop-at.keepers.items in
+    let calls2 = calls_to keeper.put_count keeper.get_count keeper.free_count c.answer_line.new.keepers.items in
+    let m2 = moment c.answer_line.new.console c.answer_line.new.steps calls2 (sink.call_count c.answer_line.new.out) in
+    let b = breaks_of from order fault w.text m1 m2 (sink.told c.args.out.now) (sink.told c.loop-at.out) (sink.told c.answer_line.new.out) w.written
     (λ e.
     let m = c.answer_line.ensures.missed (c.in-Err.is ∙ ap Err e) in
-    (m.0, (m.1.0, (seen_there old mid told told' so_far.goes so_far.same mid.place order m.0 m.1.1.0, text_there old mid told told' so_far.goes so_far.same m.0 m.1.0 m.1.1.1, m.1.1.2, m.1.1.3))))
-    (λ never. c.in-Err.ensures.unwritten (λ e. never (same_err _ fault Visitor refl e))) in
+    (m.0, (m.1.0, (seen_there old mid told told' so_far.goes so_far.same mid.place order m.0 m.1.1.0, text_there old mid told told' so_far.goes so_far.same m.0 m.1.0 m.1.1.1, m.1.1.2, m.1.1.3, takes_there old mid told told' so_far.goes so_far.same mid.place order m.0 c.loop-at.steps c.answer_line.new.steps calls1 calls2 m.1.1.4))))
+    (λ never. c.in-Err.ensures.unwritten (λ e. never (same_err _ fault Visitor refl e)))
+    (not_ended keeper.fault_count mid.plan c.loop-at.keepers.items c.answer_line.new.keepers.items fault c.in-Err.ensures.cause)
+    (took_there old mid told told' so_far.goes so_far.same mid.place order fault c.loop-at.steps c.answer_line.new.steps calls1 calls2 c.in-Err.ensures.took_until) in
     let L : ℕ → Type 0 = λ i. AreAnswers first old.journal old.plan.count old.place (take i orders) w.answers mid.place in
     let E : ℕ → Type 0 = λ p. AreAnswers first old.journal old.plan.count old.place (take (at + 1 - 1) orders) w.answers p in
     let B : ℕ → Type 0 = λ p. BreaksOffIn first old.journal old.plan.count p order fault w.answers (sink.told c.args.out.now) (sink.told c.answer_line.new.out) in
@@ -153,7 +161,7 @@ returns-in-Err-clause-broken_off_in_run g c first is stands =
       there = subst G back there;
       answers = w.answers;
       are = subst E here (subst L back r.0);
-      breaks = subst B here (breaks_in_run first from states sees mid.place order fault w.text w.answers (sink.told c.args.out.now) (sink.told c.answer_line.new.out) r.1 b.0);
+      breaks = subst B here (breaks_in_run first from states sees order fault w.text m1 m2 w.answers (sink.told c.args.out.now) (sink.told c.answer_line.new.out) r.1 b);
     }
 
 pub returns-in-Err-clause-stands : goal.returns-in-Err-clause-stands
@@ -174,19 +182,25 @@ returns-in-Err-clause-cause g c =
     let P : MarkPlan → Type 0 = λ p. HasCause f p c.loop-at.keepers.items c.answer_line.new.keepers.items c.in-Err.fault in
     cause_then f c.args.console.now.plan c.args.keepers.now.items c.loop-at.keepers.items c.answer_line.new.keepers.items c.in-Err.fault c.loop-at.invariant.quiet (subst P c.loop-at.invariant.goes.plan c.in-Err.ensures.cause)
 
-pub returns-in-Err-clause-damaged : goal.returns-in-Err-clause-damaged
-returns-in-Err-clause-damaged g c k put got e =
-    let keeper = g.K.Keeper in
-    let so_far = c.loop-at.invariant in
-    damage_there c.args.console.now c.loop-at.console (told_by keeper.told c.args.keepers.now.items) (told_by keeper.told c.loop-at.keepers.items) so_far.goes so_far.same k put got
-    (c.answer_line.ensures.damaged k put got (c.in-Err.is ∙ ap Err e))
-
 pub returns-in-Err-clause-undamaged : goal.returns-in-Err-clause-undamaged
 returns-in-Err-clause-undamaged g c first is stands k put got e =
     let keeper = g.K.Keeper in
     let so_far = c.loop-at.invariant in
     let here = stands_there c.args.console.now c.loop-at.console (told_by keeper.told c.args.keepers.now.items) (told_by keeper.told c.loop-at.keepers.items) so_far.goes so_far.same first stands in
     c.answer_line.ensures.undamaged first is here k put got (c.in-Err.is ∙ ap Err e)
+
+pub returns-in-Err-clause-roomy : goal.returns-in-Err-clause-roomy
+returns-in-Err-clause-roomy g c has e =
+    let so_far = c.loop-at.invariant in
+    let old = c.args.console.now in
+    let mid = c.loop-at.console in
+    let rooms = rooms_by g.K.Keeper.room_bytes in
+    let plan = ap (λ (p : MarkPlan). p.slots) so_far.goes.plan in
+    let here = still_roomy old.work mid.work old.plan.slots mid.plan.slots (rooms c.args.keepers.now.items) (rooms c.loop-at.keepers.items) so_far.goes.machine plan so_far.rooms has in
+    c.answer_line.ensures.roomy here (c.in-Err.is ∙ ap Err e)
+
+pub returns-in-Err-clause-rooms : goal.returns-in-Err-clause-rooms
+returns-in-Err-clause-rooms g c k = c.answer_line.ensures.rooms k ∙ c.loop-at.invariant.rooms k
 
 pub returns-in-Err-clause-sink_cause : goal.returns-in-Err-clause-sink_cause
 returns-in-Err-clause-sink_cause g c e =

@@ -1,5 +1,6 @@
 use Rattle.std.proofs.Common.{◌≡◌, ℕ, false, take}
 use Rattle.reverse_runner.specs.KeepersSeen.{told_by, calls_to}
+use Rattle.reverse_runner.specs.Rooms.{rooms_by, SameRooms}
 use Rattle.reverse_console.specs.Causes.{KeepersStay, Quiet}
 use Rattle.reverse_console.specs.ConsoleState.{GoesOn, source_of}
 use Rattle.reverse_console.specs.ScriptAnswers.{moment, AreWritten}
@@ -14,6 +15,7 @@ invariant-loop-at g l =
       lasts : l.console.ended ≡ false;
       goes : GoesOn l.fn.console l.console;
       same : (k : ℕ) → told_by keeper.told l.keepers.items k ≡ told_by keeper.told l.fn.keepers.items k;
+      rooms : SameRooms (rooms_by keeper.room_bytes l.fn.keepers.items) (rooms_by keeper.room_bytes l.keepers.items);
       stay : KeepersStay keeper.slot_count keeper.place keeper.fault_count l.fn.console.plan l.fn.keepers.items l.keepers.items;
       quiet : Quiet keeper.fault_count l.fn.keepers.items l.keepers.items;
       still : sink.fault_count l.out ≡ sink.fault_count l.fn.out;

@@ -47,7 +47,7 @@ returns-clause-missed g c e =
     let A : g.row.O.Denot → Type 0 = λ o. (calls v.out.now ≡ raised (calls o) 1) × Tells (told o) (told v.out.now) (AddsPrefix text) in
     let B : g.row.O.Denot → Type 0 = λ o. (calls o ≡ raised (calls c.args.out.now) 1) × Tells (told c.args.out.now) (told o) (AddsPrefix text) in
     let both = subst B (sym last) (subst A c.new-writer.ensures.same (missed.2, missed.1)) in
-    (m.0, (text, (m.1.1.0, (m.1.0, (m.1.1.1, λ i. text)), both.0, both.1)))
+    (m.0, (text, (m.1.1.0, (m.1.0, (m.1.1.1, λ i. text)), both.0, both.1, m.1.1.3)))
 
 pub returns-clause-unwritten : goal.returns-clause-unwritten
 returns-clause-unwritten g c =

@@ -128,7 +128,7 @@ returns-in-List-clause-roomy g c =
 pub returns-in-MoveAbout-clause-roomy : goal.returns-in-MoveAbout-clause-roomy
 returns-in-MoveAbout-clause-roomy g c =
     let P : Job → Type 0 = λ j. HaveRoomsFor (job_of j) (rooms_by g.K.Keeper.room_bytes c.args.keepers.now.items) → c.move_about.result.status ≡ 17 → IsUntouched c.move_about.result c.args.out.now c.move_about.new.out c.args.keepers.now c.move_about.new.keepers c.args.counter.now c.move_about.new.counter in
-    subst P (sym c.in-MoveAbout.is) (λ none status. absurd none)
+    subst P (sym c.in-MoveAbout.is) c.move_about.ensures.roomy
 
 pub returns-in-Demonstrate-clause-roomy : goal.returns-in-Demonstrate-clause-roomy
 returns-in-Demonstrate-clause-roomy g c =

@@ -1,4 +1,4 @@
-use Rattle.std.proofs.Common.{◌≡◌, ℕ, ◌≤◌, List, length, map, Some, Err, refl, sym, ◌∙◌, ap, subst, slice_get}
+use Rattle.std.proofs.Common.{◌≡◌, ◌≢◌, ℕ, ◌≤◌, List, length, map, Some, Err, refl, sym, ◌∙◌, ap, subst, slice_get}
 use Rattle.keepers.specs.Counts.{Rose}
 use Rattle.level_book.specs.BookCosts.{slots_of}
 use Rattle.reverse_runner.specs.KeepersSeen.{by_number, told_by, calls_to, HaveRoom}
@@ -6,16 +6,21 @@ use Rattle.reverse_runner.specs.declared.fault.RunFault.TheVariants as fault_is
 use Rattle.reverse_console.specs.declared.order.Order.{Order}
 use Rattle.reverse_console.specs.Answer.{IsOrder}
 use Rattle.reverse_console.specs.ConsoleState.{ConsoleState, source_of}
-use Rattle.reverse_console.specs.Marks.{MarkPlan, span}
-use Rattle.reverse_console.specs.Standing.{Stands}
+use Rattle.reverse_console.specs.Marks.{MarkPlan, span, mark_level}
+use Rattle.reverse_console.specs.Refusals.{IsOfPutting}
+use Rattle.reverse_console.specs.Standing.{Stands, MarksTell}
+use Rattle.reverse_runner.specs.Rooms.{rooms_by}
+use Rattle.reverse_runner.proofs.Rooms.{still_roomy}
+use Rattle.std.proofs.lemmas.Result.{IfErr-at_err}
 use Rattle.reverse_console.proofs.Calling.{keeper_cause, quiet_else, not_ended}
 use Rattle.reverse_console.proofs.Scripts.{if_ok_at, same_err}
 use Rattle.requests.specs.declared.ended.Ended.{Ended}
 use Rattle.requests.specs.Ending.{done}
 use Rattle.reversal.specs.Job.{move_about}
-use Rattle.reversal.specs.Moment.{moment, AllTell}
+use Rattle.reversal.specs.Moment.{moment}
 use Rattle.reversal.specs.CommandConsole.{IsOfMarks}
 use Rattle.reversal.specs.JobReading.{Works, moves, fault_ending}
+use Rattle.reversal.proofs.Rooms.{is_memory}
 use Rattle.reversal.proofs.MovingAbout.{marks_refused, all_answered, order_refused}
 use Rattle.reversal.proofs.moving.Moving.move_about.Goals as goal
 
@@ -45,9 +50,9 @@ returns-in-Ok-answer_all-clause-works g c =
     let a = moment g.O.Sink.told g.O.Sink.call_count g.O.Sink.fault_count g.K.Keeper.told g.K.Keeper.put_count g.K.Keeper.get_count g.K.Keeper.free_count g.K.Keeper.fault_count c.args.out.now c.args.keepers.now.items c.args.counter.now in
     let b = moment g.O.Sink.told g.O.Sink.call_count g.O.Sink.fault_count g.K.Keeper.told g.K.Keeper.put_count g.K.Keeper.get_count g.K.Keeper.free_count g.K.Keeper.fault_count c.answer_all.new.out c.answer_all.new.keepers.items c.answer_all.new.steps in
     let is : IsOfMarks m.start m.journal p b.images from = record { plan = c.in-Ok.ensures.begun.0; journal = c.in-Ok.ensures.begun.1; told = λ k. sym (c.answer_all.ensures.same k); marks = c.in-Ok.ensures.marks } in
-    let stands = λ (tells : AllTell (length p.slots) a.images). if_ok_at (λ (x : ConsoleState). Stands m.start x told) c.begin.result console c.in-Ok.is (c.begin.ensures.stands tells) in
-    let states = λ (tells : AllTell (length p.slots) a.images). c.sees_its_run.ensures.states m.start told c.is_machine_state.ensures (stands tells) in
-    let sees = λ (tells : AllTell (length p.slots) a.images). c.sees_its_run.ensures.answers m.start told c.is_machine_state.ensures (stands tells) in
+    let stands = λ (tells : MarksTell p a.images). if_ok_at (λ (x : ConsoleState). Stands m.start x told) c.begin.result console c.in-Ok.is (c.begin.ensures.stands tells) in
+    let states = λ (tells : MarksTell p a.images). c.sees_its_run.ensures.states m.start told c.is_machine_state.ensures (stands tells) in
+    let sees = λ (tells : MarksTell p a.images). c.sees_its_run.ensures.answers m.start told c.is_machine_state.ensures (stands tells) in
     let quiet = c.begin.ensures.keepers_quiet (λ k e. absurd (cc (c.in-Ok.is, e))) in
     let E : Ended → Type 0 = λ e. Works (moves m) e a b in
     let J : List Order → Type 0 = λ l. Works (move_about m.start m.journal p l) done a b in
@@ -74,9 +79,9 @@ returns-clause-works g c =
     let a = moment g.O.Sink.told g.O.Sink.call_count g.O.Sink.fault_count g.K.Keeper.told g.K.Keeper.put_count g.K.Keeper.get_count g.K.Keeper.free_count g.K.Keeper.fault_count c.args.out.now c.args.keepers.now.items c.args.counter.now in
     let b = moment g.O.Sink.told g.O.Sink.call_count g.O.Sink.fault_count g.K.Keeper.told g.K.Keeper.put_count g.K.Keeper.get_count g.K.Keeper.free_count g.K.Keeper.fault_count c.answer_all.new.out c.answer_all.new.keepers.items c.answer_all.new.steps in
     let is : IsOfMarks m.start m.journal p b.images from = record { plan = c.in-Ok.ensures.begun.0; journal = c.in-Ok.ensures.begun.1; told = λ k. sym (c.answer_all.ensures.same k); marks = c.in-Ok.ensures.marks } in
-    let stands = λ (tells : AllTell (length p.slots) a.images). if_ok_at (λ (x : ConsoleState). Stands m.start x told) c.begin.result console c.in-Ok.is (c.begin.ensures.stands tells) in
-    let states = λ (tells : AllTell (length p.slots) a.images). c.sees_its_run.ensures.states m.start told c.is_machine_state.ensures (stands tells) in
-    let sees = λ (tells : AllTell (length p.slots) a.images). c.sees_its_run.ensures.answers m.start told c.is_machine_state.ensures (stands tells) in
+    let stands = λ (tells : MarksTell p a.images). if_ok_at (λ (x : ConsoleState). Stands m.start x told) c.begin.result console c.in-Ok.is (c.begin.ensures.stands tells) in
+    let states = λ (tells : MarksTell p a.images). c.sees_its_run.ensures.states m.start told c.is_machine_state.ensures (stands tells) in
+    let sees = λ (tells : MarksTell p a.images). c.sees_its_run.ensures.answers m.start told c.is_machine_state.ensures (stands tells) in
     let f = g.K.Keeper.fault_count in
     let before = c.begin.new.keepers.items in
     let after = c.answer_all.new.keepers.items in
@@ -91,8 +96,8 @@ returns-clause-works g c =
     (not_ended f console.plan before after stop.fault cause)
     (λ k e. (let rose = (keeper_cause f console.plan before after stop.fault k cause e).1 in let N : ℕ → Type 0 = λ n. Rose n (by_number 0 f after k) in subst N (quiet k) rose))
     (λ never k. quiet_else f console.plan before after stop.fault cause never k ∙ quiet k)
-    c.in-Err-answer_all.ensures.sink_cause c.in-Err-answer_all.ensures.sink_quiet c.in-Err-answer_all.ensures.damaged
-    (λ tells. c.in-Err-answer_all.ensures.undamaged m.start c.is_machine_state.ensures (stands tells)))))
+    c.in-Err-answer_all.ensures.sink_cause c.in-Err-answer_all.ensures.sink_quiet
+    (λ tells. c.in-Err-answer_all.ensures.undamaged m.start c.is_machine_state.ensures (stands (λ i known. tells (mark_level p i) (c.the_marks_have_levels.ensures m.book m.steps c.requires.can_be_done.slots i known)))))))
 
 pub returns-clause-others : goal.returns-clause-others
 returns-clause-others g c =
@@ -112,3 +117,23 @@ answer_all-requires-clause-room g c =
     let P : MarkPlan → Type 0 = λ q. HaveRoom (span q) q.slots (map g.K.Keeper.slot_count c.args.keepers.now.items) in
     let R : List ℕ → Type 0 = λ l. HaveRoom (span c.in-Ok.console.plan) c.in-Ok.console.plan.slots l in
     subst R (sym c.begin.ensures.slots) (subst P (sym c.in-Ok.ensures.begun.0) c.requires.room)
+
+pub returns-in-Err-clause-roomy : goal.returns-in-Err-clause-roomy
+returns-in-Err-clause-roomy g c has e =
+    let fault = c.in-Err.fault in
+    let wants = is_memory 0 fault (λ q. absurd (subst (IsOfPutting (record { slots = slots_of c.args.self.book; count = c.args.self.steps })) q c.in-Err.ensures.putting)) (sym (ap (λ (x : Ended). x.status) c.fault_ending.ensures) ∙ e) in
+    let none = c.begin.ensures.roomy has (c.in-Err.is ∙ ap Err wants) in
+    (c.fault_ending.ensures ∙ ap (fault_ending 0) wants, refl, none.0, none.1)
+
+pub returns-clause-roomy : goal.returns-clause-roomy
+returns-clause-roomy g c has e =
+    let m = c.args.self in
+    let stop = c.in-Err-answer_all.stop in
+    let console = c.in-Ok.console in
+    let f = g.K.Keeper.fault_count in
+    let cause = c.in-Err-answer_all.ensures.cause in
+    let status = sym (ap (λ (x : Ended). x.status) c.fault_ending-in-Err-answer_all.ensures) ∙ e in
+    let wants = is_memory c.from.result stop.fault (λ q. not_ended f console.plan c.begin.new.keepers.items c.answer_all.new.keepers.items stop.fault cause q) status in
+    let plan = ap (λ (q : MarkPlan). q.slots) c.in-Ok.ensures.begun.0 in
+    let here = still_roomy m.start console.work (slots_of m.book) console.plan.slots (rooms_by g.K.Keeper.room_bytes c.args.keepers.now.items) (rooms_by g.K.Keeper.room_bytes c.begin.new.keepers.items) c.in-Ok.ensures.marks.machine plan c.begin.ensures.rooms has in
+    absurd (IfErr-at_err (λ x. x.fault ≢ fault_is.Memory) c.in-Err-answer_all.is (c.answer_all.ensures.roomy here) wants)

@@ -1,4 +1,4 @@
-use Rattle.std.proofs.Common.{◌<◌, ◌≤◌, List, length, map, Err, IfErr, sym, ◌∙◌, ap, subst}
+use Rattle.std.proofs.Common.{ℕ, ◌≤◌, List, length, map, Err, IfErr, refl, sym, ◌∙◌, ap, subst, arith}
 use Rattle.std.proofs.lemmas.Result.{IfErr-at_err, err_from_is_err_and}
 use Rattle.level_book.specs.declared.book.Slots.{Slots}
 use Rattle.rv_pages.specs.Memory.{page_numbers}
@@ -6,10 +6,15 @@ use Rattle.rv_machine.specs.MachineState.{MachineState}
 use Rattle.image_store.specs.Shelves.{ShelfState, no_pairs_on}
 use Rattle.reverse_runner.specs.KeepersSeen.{told_by, HaveRoom}
 use Rattle.reverse_console.specs.Marks.{MarkPlan, span, mark_count}
+use Rattle.level_book.specs.BookCosts.{slots_of}
+use Rattle.reverse_runner.specs.declared.fault.RunFault.TheVariants.{Memory}
+use Rattle.reverse_runner.specs.Rooms.{image_room, rooms_by, AreShort}
+use Rattle.reverse_runner.proofs.Rooms.{begun_short, same_room, still_roomy}
+use Rattle.reverse_queries.proofs.Ways.{same_fault}
 use Rattle.reverse_console.specs.Causes.{HasCause}
 use Rattle.reverse_console.specs.Handling.{AreSet, StandAt}
 use Rattle.reverse_console.specs.Refusals.{IsOfPutting}
-use Rattle.reverse_console.specs.Standing.{IsMarkKept}
+use Rattle.reverse_console.specs.Standing.{MarksTell, IsMarkKept}
 use Rattle.reverse_console.proofs.Calling.{quiet_else}
 use Rattle.reverse_console.proofs.Getting.{at_ok, err_at}
 use Rattle.reverse_console.proofs.Setting.{none_set, none_stand}
@@ -59,10 +64,35 @@ returns-clause-stands g c tells =
     let told' = told_by g.K.Keeper.told c.set_marks.new.keepers.items in
     let desk = c.in-Ok.desk in
     let e = c.in-Ok.ensures.store ∙ ap (λ (s : List Slots). no_pairs_on s c.span.result) c.book.ensures ∙ ap (no_pairs_on p.slots) c.span.ensures.value in
-    let none = none_stand desk.work j p told (λ k lt. tells k (subst (λ (q : MarkPlan). k < length q.slots) c.new-marks.ensures lt)) in
+    let tells_here = subst (λ (q : MarkPlan). MarksTell q told) (sym c.new-marks.ensures) tells in
+    let none = none_stand desk.work j p told c.are_roomy.ensures c.have_room.ensures.room tells_here in
     let start = subst (λ (s : List ShelfState). StandAt desk.work j p 0 s told) (sym e) none in
     let all = at_ok c.set_marks.result _ c.in_ok-set_marks.was (c.set_marks.ensures.stand start) in
     record {
       machine = c.set_marks.ensures.machine ∙ ap (λ (s : MachineState). page_numbers s.memory) c.in-Ok.ensures.work;
       levels = subst (λ (s : MachineState). StandAt s j p (mark_count p) c.set_marks.new.desk.store told') c.in-Ok.ensures.work all;
+    }
+
+pub returns-in_err-set_marks-clause-roomy : goal.returns-in_err-set_marks-clause-roomy
+returns-in_err-set_marks-clause-roomy g c has e =
+    let q = err_from_is_err_and c.from_residual.result c.from_residual.ensures.1 in
+    let p = c.new-marks.result in
+    let rooms = rooms_by g.K.Keeper.room_bytes c.args.keepers.now.items in
+    let pages = ap (λ (s : MachineState). page_numbers s.memory) c.in-Ok.ensures.work in
+    let slots = ap (λ (m : MarkPlan). m.slots) c.new-marks.ensures in
+    let here = still_roomy c.args.start c.in-Ok.desk.work (slots_of c.args.book) p.slots rooms rooms pages slots (λ k. refl) has in
+    absurd (c.set_marks.ensures.roomy here (same_fault c.set_marks.result c.from_residual.result _ _ Memory c.in_err-set_marks.was q.1 q.2 e))
+
+pub invariant_of-result : goal.invariant_of-result
+invariant_of-result g c =
+    let desk = c.in-Ok.desk in
+    let new = c.set_marks.new.desk in
+    let most = image_room desk.work in
+    let empty = subst (AreShort most) (sym c.in-Ok.ensures.store) (begun_short most _ _) in
+    let short = at_ok c.set_marks.result _ c.in_ok-set_marks.was (c.set_marks.ensures.short empty) in
+    record {
+      fits = c.set_marks.ensures.fits;
+      set = c.in_ok-set_marks.ensures.set;
+      within = omega arith;
+      short = subst (λ (m : ℕ). AreShort m new.store) (sym (same_room new.work desk.work c.set_marks.ensures.machine)) short;
     }

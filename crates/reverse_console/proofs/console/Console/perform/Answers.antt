@@ -1,16 +1,18 @@
-use Rattle.std.proofs.Common.{◌≡◌, ℕ, Bool, Option, Some, Err, IfOk, IfErr, sym, ◌∙◌, subst}
+use Rattle.std.proofs.Common.{◌≡◌, ◌≢◌, ℕ, length, Bool, Option, Some, Err, IfOk, IfErr, sym, ◌∙◌, subst}
 use Rattle.rv_machine.specs.MachineState.{MachineState}
 use Rattle.rv_machine.specs.States.{state_number}
 use Rattle.reverse_runner.specs.KeepersSeen.{told_by, calls_to}
-use Rattle.reverse_runner.specs.declared.fault.RunFault.TheVariants.{Visitor}
-use Rattle.reverse_console.specs.Answer.{IsAnswer, IsGiven}
+use Rattle.reverse_runner.specs.declared.fault.RunFault.TheVariants.{Visitor, Memory}
+use Rattle.reverse_console.specs.Answer.{IsAnswer, IsGiven, found_at}
 use Rattle.reverse_console.specs.ConsoleState.{ConsoleState, source_of}
-use Rattle.reverse_console.specs.Costs.{place_said, TookUntil}
+use Rattle.reverse_runner.specs.Rooms.{image_room, rooms_by, AreRoomy}
+use Rattle.reverse_console.specs.Costs.{effort_of, Takes, TookUntil}
 use Rattle.reverse_console.specs.Marks.{mark_of, mark_count}
 use Rattle.reverse_console.specs.Handling.{source}
 use Rattle.reverse_console.specs.Seen.{ComesFrom, IsAnswerSeen}
 use Rattle.reverse_console.specs.Standing.{Stands}
 use Rattle.reverse_console.proofs.Answering.{if_ok_map, given_of_seen, source_stands, on_ok_always}
+use Rattle.reverse_console.proofs.Calling.{quiet_unless}
 use Rattle.reverse_console.proofs.Coming.{comes_from_run}
 use Rattle.reverse_console.proofs.Getting.{stand_same}
 use Rattle.reverse_console.proofs.Seeing.{answer_of_seen}
@@ -39,11 +41,13 @@ returns-clause-misses g c =
     let told = told_by g.K.Keeper.told c.args.keepers.now.items in
     let src = source p j inside.desk told in
     let missed = g.V.Visitor.missed in
+    let calls = calls_to g.K.Keeper.put_count g.K.Keeper.get_count g.K.Keeper.free_count in
     let P : ConsoleState → Type 0 = λ s.
     c.answer-outcome.result ≡ Err Visitor →
     (n : ℕ)
     × ((t : MachineState)
-    × (IsAnswerSeen (source_of s told) s.place c.args.order.now (Some n) × ComesFrom (source_of s told) (mark_of s.plan n) n t × missed c.args.visitor.now n t s.journal c.answer-outcome.new.visitor)) in
+    × (IsAnswerSeen (source_of s told) s.place c.args.order.now (Some n) × ComesFrom (source_of s told) (mark_of s.plan n) n t × missed c.args.visitor.now n t s.journal c.answer-outcome.new.visitor
+    × Takes s.plan (effort_of s.plan s.place c.args.order.now (Some n)) c.args.steps.now c.answer-outcome.new.steps (calls c.args.keepers.now.items) (calls c.answer-outcome.new.keepers.items))) in
     subst P c.self.view_is c.answer-outcome.ensures.misses
 
 pub returns-clause-answer : goal.returns-clause-answer
@@ -55,7 +59,7 @@ returns-clause-answer g c first is stands =
     let src = source p j inside.desk told in
     let S : ConsoleState → Type 0 = λ s. Stands first s told in
     let st = subst S (sym c.self.view_is) stands in
-    let from = source_stands first p j inside.desk told is c.is_recorded.ensures c.are_roomy.ensures c.have_room.ensures.room c.self.invariant.set st.machine st.levels in
+    let from = source_stands first p j inside.desk told is c.is_recorded.ensures st.machine st.levels in
     let got = g.V.Visitor.got in
     let P : ConsoleState → Type 0 = λ s.
     IfOk c.answer-outcome.result (λ found.
@@ -84,7 +88,7 @@ returns-clause-stands g c first is stands =
     let src = source p j inside.desk told in
     let S : ConsoleState → Type 0 = λ s. Stands first s told in
     let st = subst S (sym c.self.view_is) stands in
-    let reads = c.answer-outcome.ensures.gets.reads in
+    let reads = c.answer-outcome.ensures.gets.1.reads in
     on_ok_always c.answer-outcome.result (record {
       machine = reads.machine ∙ st.machine;
       levels = stand_same first j p (mark_count p) inside.desk.store c.answer-outcome.new.desk.store told (told_by g.K.Keeper.told c.answer-outcome.new.keepers.items) reads.store reads.told_same st.levels;
@@ -99,7 +103,7 @@ returns-clause-misses_state g c first is stands e =
     let src = source p j inside.desk told in
     let S : ConsoleState → Type 0 = λ s. Stands first s told in
     let st = subst S (sym c.self.view_is) stands in
-    let from = source_stands first p j inside.desk told is c.is_recorded.ensures c.are_roomy.ensures c.have_room.ensures.room c.self.invariant.set st.machine st.levels in
+    let from = source_stands first p j inside.desk told is c.is_recorded.ensures st.machine st.levels in
     let missed = g.V.Visitor.missed in
     let P : ConsoleState → Type 0 = λ s.
     (n : ℕ) × (IsAnswer first s.journal s.plan.count s.place c.args.order.now (Some n) × missed c.args.visitor.now n (state_number first s.journal n) s.journal c.answer-outcome.new.visitor) in
@@ -116,11 +120,29 @@ returns-clause-undamaged g c first is stands =
     let src = source p j inside.desk told in
     let S : ConsoleState → Type 0 = λ s. Stands first s told in
     let st = subst S (sym c.self.view_is) stands in
-    c.answer-outcome.ensures.gets.undamaged first is st.machine st.levels
+    c.answer-outcome.ensures.gets.1.undamaged first is st.machine st.levels
+
+pub returns-clause-takes : goal.returns-clause-takes
+returns-clause-takes g c =
+    let calls = calls_to g.K.Keeper.put_count g.K.Keeper.get_count g.K.Keeper.free_count in
+    let P : ConsoleState → Type 0 = λ s.
+    IfOk c.answer-outcome.result (λ found. Takes s.plan (effort_of s.plan s.place c.args.order.now (found_at found c.answer-outcome.new.place)) c.args.steps.now c.answer-outcome.new.steps (calls c.args.keepers.now.items) (calls c.answer-outcome.new.keepers.items)) in
+    subst P c.self.view_is c.answer-outcome.ensures.takes
 
 pub returns-clause-took_until : goal.returns-clause-took_until
 returns-clause-took_until g c =
     let calls = calls_to g.K.Keeper.put_count g.K.Keeper.get_count g.K.Keeper.free_count in
+    let told = told_by g.K.Keeper.told c.args.keepers.now.items in
     let P : ConsoleState → Type 0 = λ s.
-    IfErr c.answer-outcome.result (λ fault. TookUntil s.plan (place_said s.plan.count s.place c.args.order.now) fault c.args.steps.now c.answer-outcome.new.steps (calls c.args.keepers.now.items) (calls c.answer-outcome.new.keepers.items)) in
+    IfErr c.answer-outcome.result (λ fault. TookUntil (source_of s told) s.place c.args.order.now fault c.args.steps.now c.answer-outcome.new.steps (calls c.args.keepers.now.items) (calls c.answer-outcome.new.keepers.items)) in
     subst P c.self.view_is c.answer-outcome.ensures.took_until
+
+pub returns-clause-roomy : goal.returns-clause-roomy
+returns-clause-roomy g c =
+    let P : ConsoleState → Type 0 = λ s. AreRoomy (image_room s.work) (length s.plan.slots) (rooms_by g.K.Keeper.room_bytes c.args.keepers.now.items) → c.answer-outcome.result ≢ Err Memory in
+    subst P c.self.view_is c.answer-outcome.ensures.gets.1.roomy
+
+pub returns-clause-keepers_quiet : goal.returns-clause-keepers_quiet
+returns-clause-keepers_quiet g c never =
+    let gets = c.answer-outcome.ensures.gets.1 in
+    quiet_unless g.K.Keeper.fault_count c.self.inside.marks c.args.keepers.now.items c.answer-outcome.new.keepers.items c.answer-outcome.result gets.quiet gets.cause never

@@ -17,7 +17,7 @@ returns-clause-states c first told is stands i n s =
     let j = inside.journal in
     let S : ConsoleState → Type 0 = λ x. Stands first x told in
     let st = subst S (sym c.self.view_is) stands in
-    let from = source_stands first p j inside.desk told is c.is_recorded.ensures c.are_roomy.ensures c.have_room.ensures.room c.self.invariant.set st.machine st.levels in
+    let from = source_stands first p j inside.desk told is c.is_recorded.ensures st.machine st.levels in
     let P : ConsoleState → Type 0 = λ x. ComesFrom (source_of x told) i n s → s ≡ state_number first x.journal n in
     subst P c.self.view_is (comes_from_run first (source p j inside.desk told) i n s from)
 
@@ -28,6 +28,6 @@ returns-clause-answers c first told is stands place order answer =
     let j = inside.journal in
     let S : ConsoleState → Type 0 = λ x. Stands first x told in
     let st = subst S (sym c.self.view_is) stands in
-    let from = source_stands first p j inside.desk told is c.is_recorded.ensures c.are_roomy.ensures c.have_room.ensures.room c.self.invariant.set st.machine st.levels in
+    let from = source_stands first p j inside.desk told is c.is_recorded.ensures st.machine st.levels in
     let P : ConsoleState → Type 0 = λ x. IsAnswerSeen (source_of x told) place order answer → IsAnswer first x.journal x.plan.count place order answer in
     subst P c.self.view_is (answer_of_seen first (source p j inside.desk told) place order answer from)
