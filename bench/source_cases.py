@@ -218,7 +218,7 @@ def calls():
         add(f"disasm: {many} words, and write {fails} fails", ["disasm", "p"], {"p": program}, *ends, line * written, ["p"], fails={"write": fails})
     add("disasm: a program that is one byte too long", ["disasm", "p"], {"p": {"repeat": "s", "times": 4194305}}, 10, "reversal: 10 Limit 1 4194304 8", "", ["p"])
     add("asm: 1,048,577 instructions", ["asm", "s"], {"s": {"repeat": "ecall\n", "times": 1048577}}, 19, "reversal: 19 Source 1048577 1 6", "", ["s"])
-    add("asm: 1,048,577 instructions, the last behind a label", ["asm", "s"], {"s": {"repeat": "  ecall#\n", "times": 1048577}}, 19,
+    add("asm: 1,048,577 instructions behind blanks, a comment behind each", ["asm", "s"], {"s": {"repeat": "  ecall#\n", "times": 1048577}}, 19,
         "reversal: 19 Source 1048577 3 6", "", ["s"])
 
 

@@ -1,13 +1,16 @@
-// The digests of the states of a unit, taken by two workers and by four.
-ghost use Rattle.std.specs.Prelude.{◌≡◌, ◌<◌};
+// The digests of the states of a unit, taken by workers side by side.
+ghost use Rattle.std.specs.Prelude.{◌≡◌, ◌<◌, IfOk};
+ghost use Rattle.std.specs.List.{AllByRecursion};
+ghost use Rattle.unit_digests.specs.Digests.{states_of, AreDigests, HasPages};
 ghost use Rattle.unit_undo.specs.Leading.{LeadsBack, led_back};
 
+use crate::meeting::Meeting;
 use crate::states::first_state;
 use crate::undo_tests::{COUNTING, JOURNAL, take};
 use input_journal::read_journal;
 use rv_machine::{State, Steps};
 use state_image::image_digest;
-use std::alloc::Global;
+use std::alloc::{AllocError, Global};
 use std::marker::Brand;
 use std::process::Abort;
 use std::sync::ledger::{Blank, Ledger};
@@ -29,12 +32,43 @@ fn check_digests(rt: &impl Abort, undo: &mut Undo, state: &mut State, known: &[O
     }
 }
 
-// Takes a unit of twenty steps, and so many workers take the digests of the states before them.
+// So many workers take the digests of a unit of twenty steps, each so many of them, and all at once. That of the first state may be
+// known before: then it was taken where there was room for no other.
+#[derive(Drop)]
+struct Case {
+    workers: u32,
+    first_known: bool,
+    calls: u32,
+}
+
+// What is known before: the digest of the first state, if it is to be, and nothing else. There is room for all digests.
+fn known_before<R: Threads + Sync>(
+    rt: &R,
+    alloc: Global,
+    state: &State,
+    undo: &Undo,
+    digesters: &mut Digesters,
+    first_known: bool,
+) -> Result<Vec<Option<[u8; 32]>>, AllocError>
+    requires back { LeadsBack undo.now.entries state.now (led_back undo.now.entries state.now) }
+    requires pages { AllByRecursion (HasPages state.now) digesters.old }
+    ensures known { IfOk result (λ known. AreDigests known.items (states_of undo.now.entries state.now)) }
+    ensures same { digesters.new ≡ digesters.old }
+{
+    let mut known = Vec::with_capacity(alloc, 1)?;
+    if first_known {
+        digesters.digest(rt, state, undo, &mut known);
+    }
+    known.reserve(20)?;
+    Ok(known)
+}
+
+// The digests are right, and taken by all workers at once.
 fn take_digests<L: Ledger, R: Threads + Sync>(
     rt: &R,
     abort: &impl Abort,
     alloc: Global,
-    workers: u32,
+    case: &Case,
     blank: Blank,
 ) -> Result<(), Fail>
     requires name { blank.name ≡ L.name }
@@ -46,15 +80,24 @@ fn take_digests<L: Ledger, R: Threads + Sync>(
     let mut state = first_state(abort, alloc, &[0x10, 0x11, 0x12], &COUNTING, 0)?;
     let mut undo = Undo::begin(alloc, 20, &journal)?;
     take(&mut undo, &mut state, &journal, 20, &mut steps);
-    let mut digesters = Digesters::begin(alloc, &state, 20, workers)?;
-    let mut known = Vec::with_capacity(alloc, 20)?;
-    digesters.digest(rt, &state, &undo, &mut known);
+    let mut digesters = Digesters::begin(alloc, &state, 20, case.workers)?;
+    let gate = Meeting::new(alloc, case.workers, 0)?;
+    let mut known = known_before(rt, alloc, &state, &undo, &mut digesters, case.first_known)?;
+    digesters.digest_with(rt, &gate, &state, &undo, &mut known);
+    assert_eq!(abort; gate.calls(), Some(case.calls));
     check_digests(abort, &mut undo, &mut state, known.as_slice());
     Ok(())
 }
 
 #[test]
 fn workers_take_the_digests_of_a_unit(rt: HostRuntime) -> Result<(), Fail> {
-    take_digests::<Brand, _>(&rt, &rt, rt.alloc(), 2, Blank::new(1))?;
-    take_digests::<Brand, _>(&rt, &rt, rt.alloc(), 4, Blank::new(1))
+    for (workers, first_known, calls) in [(2, false, 10), (20, false, 1), (19, true, 1)] {
+        let case = Case {
+            workers,
+            first_known,
+            calls,
+        };
+        take_digests::<Brand, _>(&rt, &rt, rt.alloc(), &case, Blank::new(1))?;
+    }
+    Ok(())
 }

@@ -1,7 +1,8 @@
 //! Tests of the libraries below, by their public functions alone: the memory, the recorded input, the machine, its images,
-//! the undo lists, the digests of a unit, the tables of least costs, the runner, the questions and the console. A crate with tests is
-//! proved a second time, so those tests stand here together, and not each in the crate of what it tests. It stands on those crates,
-//! and nothing stands on it; without tests it has no function.
+//! the undo lists, the digests of a unit, the search for a digest, the lists and tables of plans, the runner, the questions and the
+//! console. A crate with tests is proved a second time, so those tests stand here together, and not each in the crate of what it tests.
+//! It stands on those crates, and nothing stands on it; without tests it has no function. Whether workers are at work at once no
+//! contract says: `meeting.rt` has a gate that tells it.
 #![tactic(auto)]
 
 #[cfg(test)]
@@ -13,7 +14,11 @@ mod image_tests;
 #[cfg(test)]
 mod machine_tests;
 #[cfg(test)]
+mod meeting;
+#[cfg(test)]
 mod query_tests;
+#[cfg(test)]
+mod search_tests;
 #[cfg(test)]
 mod session_tests;
 #[cfg(test)]
@@ -22,5 +27,7 @@ mod sessions;
 mod states;
 #[cfg(test)]
 mod table_tests;
+#[cfg(test)]
+mod uncalled_tests;
 #[cfg(test)]
 mod undo_tests;

@@ -1,12 +1,14 @@
-// That three workers fill the entries of tables, each a piece of its own, and one alone fills them the same. What the entries
-// are a contract says, and cases of whole calls show.
+// That workers fill the entries of tables at once, each a piece of its own, and one alone fills them the same. What the entries are a
+// contract says, and cases of whole calls show.
 ghost use Rattle.std.specs.Prelude.{◌≡◌, ◌<◌, ◌≤◌, length, slice_index};
 
+use crate::meeting::Meeting;
 use cost_tables::{Cost, Tables};
 use level_book::Book;
-use plan_types::Gate;
-use std::sync::atomic::{AtomicU32, Ordering};
+use std::alloc::Global;
+use std::process::Abort;
 use std::test::Fail;
+use std::thread::Threads;
 
 // An entry, or None where the tables have none.
 fn fresh(tables: &Tables, k: u8, l: u32, m: u32) -> Option<Cost> {
@@ -42,34 +44,32 @@ fn are_same(a: &Tables, b: &Tables) -> bool {
     true
 }
 
-// How often each of three pieces was entered.
-#[derive(Drop)]
-struct Counting {
-    entered: [AtomicU32; 3],
-}
-
-impl Gate for Counting {
-    fn enter(&self, piece: u32) {
-        if piece < 3 {
-            self.entered[piece as usize].fetch_add(1, Ordering::SeqCst);
-        }
-    }
-}
-
-#[test]
-fn three_workers_fill_three_pieces(rt: HostRuntime) -> Result<(), Fail> {
-    let gate = Counting {
-        entered: [AtomicU32::new(0), AtomicU32::new(0), AtomicU32::new(0)],
-    };
-    let book = Book::plain(5);
-    assert!(rt; Tables::fits(300, &book));
-    let tables = Tables::build_with(&rt, rt.alloc(), 300, &book, 3, &gate)?;
-    let alone = Tables::build(&rt, rt.alloc(), 300, &book, 1)?;
-    assert!(rt; are_same(&alone, &tables));
-    // The first 16 rows are shared one at a time.
-    let first = gate.entered[0].load(Ordering::SeqCst);
-    assert!(rt; 16 < first);
-    assert_eq!(rt; gate.entered[1].load(Ordering::SeqCst), first);
-    assert_eq!(rt; gate.entered[2].load(Ordering::SeqCst), first);
+// So many workers fill the entries for so many steps and slots as one alone does. Each has so many calls, and all are at work at once
+// in each that comes behind those for the first rows, which are shared one at a time.
+fn fill<R: Threads + Sync>(
+    rt: &R,
+    abort: &impl Abort,
+    alloc: Global,
+    steps: u32,
+    workers: u32,
+    calls: u32,
+) -> Result<(), Fail>
+    requires { (1 ≤ workers) × (workers ≤ 64) }
+{
+    let gate = Meeting::new(alloc, workers, 17)?;
+    let book = Book::plain(workers);
+    assert!(abort; Tables::fits(steps, &book));
+    let tables = Tables::build_with(rt, alloc, steps, &book, workers, &gate)?;
+    assert_eq!(abort; gate.calls(), Some(calls));
+    let alone = Tables::build(rt, alloc, steps, &book, 1)?;
+    assert!(abort; are_same(&alone, &tables));
     Ok(())
+}
+
+// Of the rows for 20 steps 16 are shared one at a time, and the others two at a time; of those for 100 steps 16 are shared two at a
+// time, 18 three at a time, 16 four at a time, 15 five at a time, 18 six at a time, and the last one alone.
+#[test]
+fn workers_are_at_work_at_once_on_all_rows(rt: HostRuntime) -> Result<(), Fail> {
+    fill(&rt, &rt, rt.alloc(), 20, 3, 18)?;
+    fill(&rt, &rt, rt.alloc(), 100, 64, 41)
 }

@@ -2,11 +2,15 @@
 // file is read, names that are no file, and what stands in the place of a slot's file.
 ghost use Rattle.std.specs.Prelude.{◌≡◌, ◌<◌};
 
-use keepers::{FileInputs, FileKeeper, InputFault, Inputs, KeepFault, Keeper, SystemDisk, Whole};
+use keepers::{
+    FileInputs, FileKeeper, InputFault, Inputs, KeepFault, Keeper, Output, Sink, SinkFault,
+    StdoutSink, SystemDisk, Whole,
+};
 use std::alloc::{AllocError, Global};
-use std::fs;
+use std::io::{ErrorKind, Write};
 use std::os::unix::fs::symlink;
 use std::test::Fail;
+use std::{fs, io};
 
 // Calls of a keeper. Each says whether it did as it should.
 fn puts<K: Keeper>(keeper: &mut K, slot: u32, image: &[u8]) -> bool
@@ -145,5 +149,54 @@ fn what_is_no_file_is_left_as_it_is(rt: HostRuntime) -> Result<(), Fail> {
     assert_eq!(rt; elsewhere.as_slice(), b"elsewhere".as_slice());
     fs::remove_file(&rt, "elsewhere.txt")?;
     fs::remove_dir_all(&rt, "links")?;
+    Ok(())
+}
+
+// Errors of the system other than that nothing is there: a file in the place of the folder, a link to itself, and a long name.
+#[test]
+fn a_folder_that_cannot_be_looked_into_is_a_fault(rt: HostRuntime) -> Result<(), Fail> {
+    fs::write(&rt, "no-folder.txt", "a file")?;
+    symlink(&rt, "itself", "itself")?;
+    let long = [b'x'; 300];
+    let mut into = Vec::new(rt.alloc());
+    for folder in [b"no-folder.txt".as_slice(), b"itself", &long] {
+        let folder = Vec::from_slice(rt.alloc(), folder)?;
+        let disk = SystemDisk::new(rt.clone()?);
+        let mut keeper = FileKeeper::new(disk, rt.alloc(), folder, 0, 1);
+        assert!(rt; fails(&mut keeper, 0, &mut into));
+        assert_eq!(rt; keeper.faults(), 3);
+    }
+    fs::remove_file(&rt, "no-folder.txt")?;
+    fs::remove_file(&rt, "itself")?;
+    Ok(())
+}
+
+// Takes bytes, and fails where it is to say that they arrived.
+#[derive(Drop)]
+struct Unflushed;
+
+impl Write for Unflushed {
+    fn write(&mut self, buf: &[u8]) -> io::Result<usize> {
+        Ok(buf.len())
+    }
+
+    fn flush(&mut self) -> io::Result<()> {
+        Err(io::Error::from(ErrorKind::StorageFull))
+    }
+}
+
+impl Output for Unflushed {
+    ghost use Rattle.std.specs.Prelude.{false, refl};
+
+    ghost tells = { false };
+
+    ghost steady = { λ _. refl };
+}
+
+#[test]
+fn a_piece_that_is_not_flushed_is_a_fault_of_the_sink(rt: HostRuntime) -> Result<(), Fail> {
+    let mut sink = StdoutSink::new(Unflushed);
+    assert_eq!(rt; sink.write(b"piece"), Err(SinkFault::Failed));
+    assert_eq!(rt; sink.faults(), 1);
     Ok(())
 }

@@ -39,7 +39,7 @@ const LINES: [&[u8]; 5] = [
 ];
 
 /// The program over files of the system, with a writer in memory.
-type RanOverFiles = Ran<SystemDisk<HostRuntime>, Vec<u8>>;
+pub(crate) type RanOverFiles = Ran<SystemDisk<HostRuntime>, Vec<u8>>;
 
 // The words of a line, with a space between them.
 fn words_of(alloc: Global, line: &str) -> Result<Words, AllocError> {
@@ -76,7 +76,11 @@ fn run_words<T: Threads + Sync, L: Ledger>(
 }
 
 // The same of the words of a line, with a count of steps that nobody reads.
-fn ran<T: Threads + Sync>(threads: &T, rt: &HostRuntime, line: &str) -> Result<RanOverFiles, Fail> {
+pub(crate) fn ran<T: Threads + Sync>(
+    threads: &T,
+    rt: &HostRuntime,
+    line: &str,
+) -> Result<RanOverFiles, Fail> {
     let words = words_of(rt.alloc(), line)?;
     run_words::<T, Brand>(threads, rt, &words, Blank::new(1))
 }

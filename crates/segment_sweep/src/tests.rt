@@ -1,5 +1,4 @@
-// That two workers are at work at once, that a worker ends at a place behind its segment, and that every number of workers
-// gives the same answer.
+// That a worker ends at a place behind its segment and at no other, and that every number of workers gives the same answer.
 ghost use Rattle.std.specs.Prelude.{◌≡◌, ◌≤◌, ◌<◌, IfOk};
 ghost use Rattle.plan_types.specs.declared.limits.TheConstants.{MOST_STEPS};
 ghost use Rattle.segment_sweep.specs.MarkedRun.{StandFor};
@@ -12,10 +11,11 @@ use rv_pages::Pages;
 use state_image::image_digest;
 use std::alloc::{AllocError, Global};
 use std::marker::Brand;
+use std::sync::atomic::AtomicU32;
 use std::sync::atomic::Ordering::SeqCst;
-use std::sync::atomic::{AtomicBool, AtomicU32};
 use std::sync::ledger::{Blank, Ledger};
 use std::test::Fail;
+use std::thread;
 
 // ADDI x5, x5, 1 and XORI x5, x5, 1: with a jump back to it, all states of the first differ, and those of the second come
 // again after four steps.
@@ -63,7 +63,7 @@ fn marked<L: Ledger>(
     Marks::make(alloc, start, journal, count, workers, &mut steps)
 }
 
-fn marks(
+fn marks_of(
     alloc: Global,
     start: &State,
     journal: &Journal,
@@ -78,42 +78,33 @@ fn marks(
     marked::<Brand>(alloc, start, journal, count, workers, Blank::new(1))
 }
 
-// Whether the flag is set. It is looked at for so long.
-fn comes(flag: &AtomicBool) -> bool {
-    for _ in 0..200_000_000u64 {
-        if flag.load(SeqCst) {
-            return true;
-        }
-    }
-    false
-}
-
-// Whether each of two segments was seen by the worker of the other, before either went on from its first state.
-#[derive(Drop)]
-struct Meeting {
-    here: [AtomicBool; 2],
-    seen: [AtomicBool; 2],
-}
-
-impl Gate for Meeting {
-    fn enter(&self, segment: u32) {
-        if segment >= 2 {
+// Waits until there were so many calls, but not forever.
+fn wait(calls: &AtomicU32, count: u32) {
+    for _ in 0..1_000_000u32 {
+        if calls.load(SeqCst) >= count {
             return;
         }
-        let own = segment as usize;
-        if !self.here[own].swap(true, SeqCst) && comes(&self.here[1 - own]) {
-            self.seen[own].store(true, SeqCst);
-        }
+        thread::yield_now();
     }
 }
 
-// Segment 0 goes on from its first state once segment 1 has stored its first one, and this waits until segment 0 has seen
-// the word before.
+// Segment 1 waits at its first state until segment 0 comes to a state, counted from 1, and there segment 0 waits until segment 1 comes
+// to another one.
 #[derive(Drop)]
 struct Handover {
     calls: [AtomicU32; 2],
-    first: AtomicBool,
-    second: AtomicBool,
+    first: u32,
+    second: u32,
+}
+
+impl Handover {
+    fn new(first: u32, second: u32) -> Handover {
+        Handover {
+            calls: [AtomicU32::new(0), AtomicU32::new(0)],
+            first,
+            second,
+        }
+    }
 }
 
 impl Gate for Handover {
@@ -121,52 +112,47 @@ impl Gate for Handover {
         if segment >= 2 {
             return;
         }
-        match (segment, self.calls[segment as usize].fetch_add(1, SeqCst)) {
-            (0, 0) => {
-                self.first.store(true, SeqCst);
-                comes(&self.second);
-            }
-            (1, 0) => {
-                comes(&self.first);
-            }
-            (1, 1) => self.second.store(true, SeqCst),
-            _ => {}
+        let before = self.calls[segment as usize].fetch_add(1, SeqCst);
+        if segment == 1 && before == 0 {
+            wait(&self.calls[0], self.first);
+        }
+        if segment == 0 && before.saturating_add(1) == self.first {
+            wait(&self.calls[1], self.second);
         }
     }
-}
-
-#[test]
-fn two_workers_are_at_work_at_once(rt: HostRuntime) -> Result<(), Fail> {
-    let journal = Journal::none(rt.alloc());
-    let start = start(rt.alloc(), COUNT_UP)?;
-    let marks = marks(rt.alloc(), &start, &journal, 19, 2)?;
-    let gate = Meeting {
-        here: [AtomicBool::new(false), AtomicBool::new(false)],
-        seen: [AtomicBool::new(false), AtomicBool::new(false)],
-    };
-    let digest = image_digest(&start);
-    let found = find_digest(&rt, rt.alloc(), &marks, &journal, &digest, &gate)?;
-    assert_eq!(rt; found, Some(0));
-    assert!(rt; gate.seen[0].load(SeqCst));
-    assert!(rt; gate.seen[1].load(SeqCst));
-    Ok(())
 }
 
 #[test]
 fn a_worker_ends_at_a_place_behind_its_segment(rt: HostRuntime) -> Result<(), Fail> {
     let journal = Journal::none(rt.alloc());
     let start = start(rt.alloc(), COUNT_UP)?;
-    let marks = marks(rt.alloc(), &start, &journal, 1000, 2)?;
-    assert_eq!(rt; marks.segments(), 2);
-    let gate = Handover {
-        calls: [AtomicU32::new(0), AtomicU32::new(0)],
-        first: AtomicBool::new(false),
-        second: AtomicBool::new(false),
-    };
-    let digest = image_digest(marks.mark(1));
+    let marks = marks_of(rt.alloc(), &start, &journal, 1000, 2)?;
+    assert_eq!(rt; (marks.segments(), marks.width()), (2, 501));
+    // Of two segments for the states up to 1,019 the second begins with state 510, the tenth of the segment here.
+    let ahead = marks_of(rt.alloc(), &start, &journal, 1019, 2)?;
+    assert_eq!(rt; ahead.segments(), 2);
+    let digest = image_digest(ahead.mark(1));
+    let gate = Handover::new(10, 11);
     let found = find_digest(&rt, rt.alloc(), &marks, &journal, &digest, &gate)?;
-    assert_eq!(rt; found, Some(501));
-    assert_eq!(rt; gate.calls[0].load(SeqCst), 1);
+    assert_eq!(rt; found, Some(510));
+    assert_eq!(rt; gate.calls[0].load(SeqCst), 10);
+    Ok(())
+}
+
+#[test]
+fn a_place_that_was_stored_ends_no_worker_behind_it(rt: HostRuntime) -> Result<(), Fail> {
+    let journal = Journal::none(rt.alloc());
+    let start = start(rt.alloc(), TURN_OVER)?;
+    let half = marks_of(rt.alloc(), &start, &journal, 3, 2)?;
+    let marks = marks_of(rt.alloc(), &start, &journal, 7, 2)?;
+    assert_eq!(rt; (marks.segments(), marks.width()), (2, 4));
+    // State 2, as which state 6 is.
+    assert_eq!(rt; half.segments(), 2);
+    let digest = image_digest(half.mark(1));
+    let gate = Handover::new(4, 0);
+    let found = find_digest(&rt, rt.alloc(), &marks, &journal, &digest, &gate)?;
+    assert_eq!(rt; found, Some(6));
+    assert_eq!(rt; gate.calls[1].load(SeqCst), 4);
     Ok(())
 }
 
@@ -176,7 +162,7 @@ fn every_number_of_workers_finds_the_same(rt: HostRuntime) -> Result<(), Fail> {
     let start = start(rt.alloc(), TURN_OVER)?;
     let digest = image_digest(&start);
     for workers in [1, 2, 5, 64] {
-        let marks = marks(rt.alloc(), &start, &journal, 42, workers)?;
+        let marks = marks_of(rt.alloc(), &start, &journal, 42, workers)?;
         let found = find_digest(&rt, rt.alloc(), &marks, &journal, &digest, &NoGate)?;
         assert_eq!(rt; found, Some(40));
         let none = find_digest(&rt, rt.alloc(), &marks, &journal, &[0; 32], &NoGate)?;

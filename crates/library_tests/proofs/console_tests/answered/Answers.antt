@@ -7,6 +7,16 @@ use Rattle.reverse_console.specs.Answer.{IsOrder}
 use Rattle.reverse_console.specs.Marks.{MarkPlan, span}
 use Rattle.library_tests.proofs.console_tests.answered.Goals as goal
 
+pub begin-requires-clause-room : goal.begin-requires-clause-room
+begin-requires-clause-room g c =
+    let f = g.K.Keeper.slot_count in
+    let slots = slots_of c.args.over.book in
+    let roomy : c.have_room.result ≡ true = cc in
+    let P : Bool → Type 0 = λ b. OnTrue b (HaveRoom c.max-2.result slots (map f c.as_slice.result.now)) in
+    let M : ℕ → Type 0 = λ n. HaveRoom n slots (map f c.as_slice.result.now) in
+    let Q : List ℕ → Type 0 = λ counts. HaveRoom (max c.args.over.count 1) slots counts in
+    subst Q (ap (λ ks. map f ks) c.as_slice.ensures.value) (subst M c.max-2.ensures (subst P roomy c.have_room.ensures))
+
 pub answer_all-requires-clause-orders : goal.answer_all-requires-clause-orders
 answer_all-requires-clause-orders g c i order at =
     let begun = c.in_ok-console.ensures.begun in

@@ -26,12 +26,12 @@ returns g c = λ r asks. IfOk-weaker c.program.result _ _ (λ ran h.
     let begin = h.1 r asks in
     let four : length h.0 ≡ 4 = as_many tells 0 folders disks h.0 begin in
     let none : HaveNoFiles tells 0 folders disks = (
-      no_files 0 (folder_said 0 r.options) c.failing-zero.result (c.failing-zero.ensures ∙ c.new.ensures),
+      no_files 0 (folder_said 0 r.options) c.failing-zero.result (c.failing-zero.ensures.told ∙ c.new.ensures.told),
       (
-        no_files 1 (folder_said 1 r.options) c.failing-one.result (c.failing-one.ensures ∙ c.new-2.ensures),
+        no_files 1 (folder_said 1 r.options) c.failing-one.result (c.failing-one.ensures.told ∙ c.new-2.ensures.told),
         (
-          no_files 2 (folder_said 2 r.options) c.failing-two.result (c.failing-two.ensures ∙ c.new-3.ensures),
-          (no_files 3 (folder_said 3 r.options) c.failing-three.result (c.failing-three.ensures ∙ c.new-4.ensures), tt),
+          no_files 2 (folder_said 2 r.options) c.failing-two.result (c.failing-two.ensures.told ∙ c.new-3.ensures.told),
+          (no_files 3 (folder_said 3 r.options) c.failing-three.result (c.failing-three.ensures.told ∙ c.new-4.ensures.told), tt),
         ),
       ),
     ) in (

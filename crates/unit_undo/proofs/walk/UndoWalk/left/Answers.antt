@@ -1,5 +1,4 @@
-use Rattle.std.proofs.Common.{[], length, ap, arith, ◌≡◌, ◌∙◌, sym}
-use Rattle.unit_undo.specs.Entry.{Entry}
+use Rattle.std.proofs.Common.{[], length, ap, arith}
 use Rattle.unit_undo.proofs.Keeping.{length-kept}
 use Rattle.unit_undo.proofs.walk.UndoWalk.left.Goals as goal
 

@@ -1,0 +1,80 @@
+// A gate at which workers meet.
+use plan_types::Gate;
+use std::alloc::{AllocError, Global};
+use std::sync::atomic::{AtomicBool, AtomicU32, Ordering};
+use std::thread;
+
+// How often a worker looks whether the others have come.
+const LOOKS: u32 = 1_000_000;
+
+/// In each of its calls, but for the first so many, a worker waits until all have come to as many. Where fewer threads than workers
+/// are at work at once, one of them waits in vain.
+#[derive(Drop)]
+pub(crate) struct Meeting {
+    free: u32,
+    calls: Vec<AtomicU32>,
+    missed: AtomicBool,
+}
+
+impl Meeting {
+    /// A gate for so many workers, each of which has so many calls in which it doesn't wait.
+    pub(crate) fn new(alloc: Global, workers: u32, free: u32) -> Result<Meeting, AllocError> {
+        let mut calls = Vec::with_capacity(alloc, workers as usize)?;
+        for _ in 0..workers {
+            calls.push(AtomicU32::new(0))?;
+        }
+        Ok(Meeting {
+            free,
+            calls,
+            missed: AtomicBool::new(false),
+        })
+    }
+
+    /// How many calls each worker had, where all had as many and none waited in vain.
+    pub(crate) fn calls(&self) -> Option<u32> {
+        let count = self.calls.first()?.load(Ordering::SeqCst);
+        for calls in &self.calls {
+            if calls.load(Ordering::SeqCst) != count {
+                return None;
+            }
+        }
+        match self.missed.load(Ordering::SeqCst) {
+            true => None,
+            false => Some(count),
+        }
+    }
+
+    // Whether all workers have come to so many calls.
+    fn have_come(&self, count: u32) -> bool {
+        for calls in &self.calls {
+            if calls.load(Ordering::SeqCst) < count {
+                return false;
+            }
+        }
+        true
+    }
+
+    // Whether all come to so many calls while this worker waits.
+    fn meets(&self, count: u32) -> bool {
+        for _ in 0..LOOKS {
+            if self.have_come(count) {
+                return true;
+            }
+            thread::yield_now();
+        }
+        false
+    }
+}
+
+impl Gate for Meeting {
+    fn enter(&self, piece: u32) {
+        let Some(calls) = self.calls.get(piece as usize) else {
+            self.missed.store(true, Ordering::SeqCst);
+            return;
+        };
+        let count = calls.fetch_add(1, Ordering::SeqCst).saturating_add(1);
+        if count > self.free && !self.meets(count) {
+            self.missed.store(true, Ordering::SeqCst);
+        }
+    }
+}
