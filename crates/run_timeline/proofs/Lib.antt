@@ -1,0 +1,9 @@
+pub mod Overlap
+pub mod Keeping
+pub mod Noting
+pub mod Marking
+pub mod Walking
+pub mod Hitting
+pub mod Trailing
+pub mod Ending
+pub mod Collecting

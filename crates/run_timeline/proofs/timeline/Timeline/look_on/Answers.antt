@@ -1,0 +1,12 @@
+use Rattle.std.proofs.Common.{◌<◌, subst, ℕ}
+use Rattle.run_timeline.specs.Moves.{EndsForward, CameOn}
+use Rattle.run_timeline.specs.Parts.{MatchPart}
+use Rattle.run_timeline.specs.TimelineState.{TimelineState}
+use Rattle.run_timeline.proofs.timeline.Timeline.look_on.Goals as goal
+
+pub returns-clause-ends : goal.returns-clause-ends
+returns-clause-ends g c =
+    let st = c.args.stops.now in
+    let end = c.look_on.new.self.place in
+    subst (λ (x : TimelineState). (p : ℕ) → p < x.place → CameOn x.run st p x.place → MatchPart c.look_on.result (EndsForward x.run st p end) (CameOn x.run st p end))
+    c.self.view_is c.look_on.ensures.ends

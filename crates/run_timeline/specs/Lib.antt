@@ -1,0 +1,14 @@
+pub mod Ranges
+pub mod Moves
+pub mod Parts
+pub mod Seeing
+pub mod Looking
+pub mod Collecting
+pub mod KeptPages
+pub mod Mark
+pub mod Keeping
+pub mod WalkState
+pub mod WalkFields
+pub mod Trail
+pub mod TimelineState
+pub mod TimelineFields

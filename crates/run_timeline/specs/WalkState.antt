@@ -1,0 +1,32 @@
+-- A walk over a run: a place in it, and how far it came.
+use Rattle.std.specs.Prelude.{ℕ, ◌*◌, ◌≤◌, max, List, refl}
+use Rattle.std.specs.Coded.{Coded, code_by, coded×, coded_ℕ, coded_list}
+use Rattle.rv_machine.specs.MachineState.{MachineState}
+use Rattle.rv_machine.specs.StateCode.{state_code}
+use Rattle.run_timeline.specs.Moves.{Run}
+
+pub record WalkState : Type 0 where
+  pub run : Run
+  -- the number of the state that it stands at, and the greatest that it stood at so far
+  pub place : ℕ
+  pub reached : ℕ
+  -- how many marks it keeps at most
+  pub room : ℕ
+
+-- No more steps than there are between two marks: one, or twice as many as there were if as many marks as there is room for stood
+-- at equal distances over the whole way that it reached.
+abbrev pub IsFew : WalkState → ℕ → Type 0
+IsFew w n = n * w.room ≤ max w.room (2 * w.reached)
+
+-- how a run and a walk are told from others: as the tuples of their fields
+abbrev pub run_code : Coded Run
+run_code =
+    code_by (MachineState × (List (List ℕ) × ℕ))
+    (coded× state_code (coded× (coded_list (coded_list coded_ℕ)) coded_ℕ))
+    (λ r. (r.first, (r.journal, r.most))) (λ p. record { first = p.0; journal = p.1.0; most = p.1.1 }) (λ _. refl)
+
+abbrev pub walk_code : Coded WalkState
+walk_code =
+    code_by (Run × (ℕ × (ℕ × ℕ)))
+    (coded× run_code (coded× coded_ℕ (coded× coded_ℕ coded_ℕ)))
+    (λ w. (w.run, (w.place, (w.reached, w.room)))) (λ p. record { run = p.0; place = p.1.0; reached = p.1.1.0; room = p.1.1.1 }) (λ _. refl)
