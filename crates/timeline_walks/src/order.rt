@@ -1,0 +1,103 @@
+// The orders of a walk.
+
+use crate::fault::Fault;
+use run_timeline::{Range, Stops};
+use std::alloc::Global;
+
+/// What is done. A text of an order is a name, and behind it numbers: `go_to 12`.
+#[derive(Drop)]
+pub enum Order {
+    /// `stops`, with breakpoints and watched ranges for all that follows: addresses, and `START+LENGTH`, all in hexadecimal.
+    Stops(Stops),
+    Move(Move),
+    /// `output_from PLACE`: what was written to the output since that place.
+    OutputFrom(u32),
+}
+
+/// A move.
+#[derive(Clone, Copy)]
+pub enum Move {
+    /// `go_to PLACE`.
+    To(u32),
+    /// `step_on`, or `step_on COUNT` for so many, up to the first that isn't taken.
+    StepOn(u32),
+    /// `step_back`, in the same way.
+    StepBack(u32),
+    /// `run_on`.
+    RunOn,
+    /// `run_back`.
+    RunBack,
+    /// `part_on`: `run_on` in parts.
+    PartOn,
+    /// `part_back`: `run_back` in parts.
+    PartBack,
+}
+
+/// The order of a text.
+pub fn order_of(alloc: Global, text: &str) -> Result<Order, Fault> {
+    let (name, rest) = text.split_once(' ').unwrap_or((text, ""));
+    match name {
+        "stops" => Ok(Order::Stops(stops_of(alloc, rest)?)),
+        "output_from" => Ok(Order::OutputFrom(number_of(rest)?)),
+        _ => Ok(Order::Move(move_of(name, rest)?)),
+    }
+}
+
+fn move_of(name: &str, rest: &str) -> Result<Move, Fault> {
+    match name {
+        "go_to" => Ok(Move::To(number_of(rest)?)),
+        "step_on" => Ok(Move::StepOn(count_of(rest)?)),
+        "step_back" => Ok(Move::StepBack(count_of(rest)?)),
+        "run_on" => Ok(Move::RunOn),
+        "run_back" => Ok(Move::RunBack),
+        "part_on" => Ok(Move::PartOn),
+        "part_back" => Ok(Move::PartBack),
+        _ => Err(Fault::Form),
+    }
+}
+
+fn number_of(text: &str) -> Result<u32, Fault> {
+    text.parse::<u32>().map_err(|_| Fault::Form)
+}
+
+// How many steps; one where nothing is said.
+fn count_of(text: &str) -> Result<u32, Fault> {
+    if text.is_empty() {
+        return Ok(1);
+    }
+    number_of(text)
+}
+
+fn hexadecimal(digits: &str) -> Result<u32, Fault> {
+    u32::from_str_radix(digits, 16).map_err(|_| Fault::Form)
+}
+
+/// What a text says that ends moves.
+pub fn stops_of(alloc: Global, text: &str) -> Result<Stops, Fault> {
+    let mut stops = Stops {
+        addresses: Vec::new(alloc),
+        ranges: Vec::new(alloc),
+    };
+    for word in text.split(' ') {
+        if !word.is_empty() {
+            add(&mut stops, word)?;
+        }
+    }
+    Ok(stops)
+}
+
+// Adds a breakpoint, or a watched range.
+fn add(stops: &mut Stops, word: &str) -> Result<(), Fault> {
+    let added = match word.split_once('+') {
+        None => stops.addresses.push(hexadecimal(word)?).is_ok(),
+        Some((start, length)) => stops.ranges.push(range_of(start, length)?).is_ok(),
+    };
+    if added { Ok(()) } else { Err(Fault::Memory) }
+}
+
+fn range_of(start: &str, length: &str) -> Result<Range, Fault> {
+    Ok(Range {
+        start: hexadecimal(start)?,
+        length: hexadecimal(length)?,
+    })
+}

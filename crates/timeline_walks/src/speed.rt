@@ -1,0 +1,144 @@
+// How fast moves are, and how much memory they take.
+ghost use Rattle.std.specs.Prelude.{◌≡◌, ◌<◌};
+
+use crate::inputs::program_of;
+use input_journal::Journal;
+use run_timeline::{Hit, Range, Stops, Timeline};
+use rv_machine::{State, Steps, advance};
+use std::alloc::{AllocError, Global};
+use std::marker::Brand;
+use std::rt::CpuClock;
+use std::sync::ledger::{Blank, Ledger};
+use std::time::Duration;
+use std::{fs, io};
+
+// An address that no program maps.
+const NOWHERE: u32 = 0xf000_0000;
+
+const FAR: Range = Range {
+    start: NOWHERE,
+    length: 4,
+};
+
+/// Takes so many steps of a program that doesn't end before. With `break` or `watch` for `how` that is a move forward with so many marks,
+/// and then one backward, with a breakpoint or a watched range that is never met. It prints how many microseconds of the processor each
+/// took, and how much memory was in use at most, when the timeline began and in the end.
+pub fn measure(
+    rt: &HostRuntime,
+    how: &str,
+    file: &str,
+    count: &str,
+    marks: &str,
+) -> io::Result<bool> {
+    let bytes = fs::read(rt, file)?;
+    let Ok(start) = program_of(rt.alloc(), file, bytes.as_slice()) else {
+        return Ok(false);
+    };
+    let (Ok(count), Ok(marks)) = (count.parse::<u32>(), marks.parse::<u32>()) else {
+        return Ok(false);
+    };
+    match stops_of(rt.alloc(), how)? {
+        None => measure_plain::<Brand>(rt, start, count, Blank::new(1))?,
+        Some(stops) => measure_moves::<Brand>(rt, start, count, marks, &stops, Blank::new(1))?,
+    }
+    Ok(true)
+}
+
+fn stops_of(alloc: Global, how: &str) -> Result<Option<Stops>, AllocError> {
+    let mut stops = Stops {
+        addresses: Vec::new(alloc),
+        ranges: Vec::new(alloc),
+    };
+    match how {
+        "break" => stops.addresses.push(NOWHERE)?,
+        "watch" => stops.ranges.push(FAR)?,
+        _ => return Ok(None),
+    }
+    Ok(Some(stops))
+}
+
+fn measure_plain<L: Ledger>(
+    rt: &HostRuntime,
+    mut state: State,
+    count: u32,
+    blank: Blank,
+) -> io::Result<()>
+    requires name { blank.name ≡ L.name }
+    requires parts { blank.parts ≡ L.parts }
+    requires some { 0 < blank.parts }
+{
+    let journal = Journal::none(rt.alloc());
+    let mut steps = Steps::<L>::new(blank);
+    let since = rt.thread_cpu_time()?;
+    advance(&mut state, &journal, count, &mut steps);
+    tell(rt, "advance", since)
+}
+
+fn measure_moves<L: Ledger>(
+    rt: &HostRuntime,
+    start: State,
+    count: u32,
+    marks: u32,
+    stops: &Stops,
+    blank: Blank,
+) -> io::Result<()>
+    requires name { blank.name ≡ L.name }
+    requires parts { blank.parts ≡ L.parts }
+    requires some { 0 < blank.parts }
+{
+    let budget = budget_for(marks, start.pages.count());
+    let mut timeline = Timeline::begin(
+        rt.alloc(),
+        start,
+        Journal::none(rt.alloc()),
+        budget,
+        count,
+    )?;
+    tell_memory(rt)?;
+    move_over(rt, &mut timeline, &stops, &mut Steps::<L>::new(blank))?;
+    tell_memory(rt)
+}
+
+// The bytes of so many marks of states with so many pages.
+fn budget_for(marks: u32, pages: u32) -> u64 {
+    let each = (pages as u64).saturating_mul(4100).saturating_add(512);
+    each.saturating_mul(marks as u64)
+}
+
+// Goes forward as far as the run goes, and back.
+fn move_over<L: Ledger>(
+    rt: &HostRuntime,
+    timeline: &mut Timeline,
+    stops: &Stops,
+    steps: &mut Steps<L>,
+) -> io::Result<()> {
+    let since = rt.thread_cpu_time()?;
+    let hit = timeline.run_on(stops, steps);
+    tell(rt, "run_on", since)?;
+    tell_end(rt, hit, timeline)?;
+    let since = rt.thread_cpu_time()?;
+    let hit = timeline.run_back(stops, steps);
+    tell(rt, "run_back", since)?;
+    tell_end(rt, hit, timeline)
+}
+
+fn tell(rt: &HostRuntime, what: &str, since: Duration) -> io::Result<()> {
+    let spent = rt.thread_cpu_time()?.saturating_sub(since).as_micros();
+    println!(rt; "{what} {spent}")
+}
+
+fn tell_end(rt: &HostRuntime, hit: Option<Hit>, timeline: &Timeline) -> io::Result<()> {
+    let place = timeline.place();
+    println!(rt; "came to {place}, hit {hit:?}")
+}
+
+// Prints the line of the system that says how much memory this process had in use at most.
+fn tell_memory(rt: &HostRuntime) -> io::Result<()> {
+    let text = fs::read_to_string(rt, "/proc/self/status")?;
+    for line in text.as_str().lines() {
+        if line.starts_with("VmHWM:") {
+            println!(rt; "{line}")?;
+        }
+    }
+    Ok(())
+}

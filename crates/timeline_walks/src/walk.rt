@@ -1,0 +1,189 @@
+// A walk over a run.
+
+use crate::fault::Fault;
+use crate::inputs::{Inputs, text_of};
+use crate::moves::{part_back, part_on, steps_back, steps_on};
+use crate::order::{Move, Order, order_of, stops_of};
+use crate::sum::sum_of;
+use input_journal::Journal;
+use run_timeline::{Hit, Step, Stops, Timeline};
+use rv_machine::Steps;
+use serde_json::Value;
+use std::alloc::{AllocError, Global};
+use std::sync::ledger::Ledger;
+
+/// A timeline, with what ends moves, and the greatest place that came so far.
+#[derive(Drop)]
+pub struct Walk {
+    timeline: Timeline,
+    stops: Stops,
+    furthest: u32,
+}
+
+/// The walk that a value says, before its first order.
+pub fn walk_of(alloc: Global, inputs: &Inputs, value: &Value) -> Result<Walk, Fault> {
+    let start = inputs.program(alloc, text_of(value, "program")?)?;
+    let journal = match value.get("journal").and_then(Value::as_str) {
+        Some(name) => inputs.journal(alloc, name)?,
+        None => Journal::none(alloc),
+    };
+    let budget = number_of(value, "budget")?;
+    let most = u32::try_from(number_of(value, "most")?).map_err(|_| Fault::Form)?;
+    Ok(Walk {
+        timeline: Timeline::begin(alloc, start, journal, budget, most)?,
+        stops: stops_of(alloc, "")?,
+        furthest: 0,
+    })
+}
+
+fn number_of(value: &Value, name: &str) -> Result<u64, Fault> {
+    value.get(name).and_then(Value::as_u64).ok_or(Fault::Form)
+}
+
+impl Walk {
+    /// Takes the walk, and tells what came first otherwise than it had to.
+    pub fn first_wrong<L: Ledger>(
+        &mut self,
+        alloc: Global,
+        value: &Value,
+        steps: &mut Steps<L>,
+    ) -> Result<Option<String>, AllocError> {
+        let Some(orders) = value.get("orders").and_then(Value::as_array) else {
+            return Ok(Some(String::from_str(alloc, "has no orders")?));
+        };
+        for order in orders {
+            let wrong = self.wrong_of(alloc, order.as_str().unwrap_or(""), steps)?;
+            if wrong.is_some() {
+                return Ok(wrong);
+            }
+        }
+        let sum = format!(in alloc; "{:x}", sum_of(self.timeline.state()))?;
+        told(
+            alloc,
+            "sum",
+            text_of(value, "sum").unwrap_or(""),
+            sum.as_str(),
+        )
+    }
+
+    // What came otherwise than it had to, of an order.
+    fn wrong_of<L: Ledger>(
+        &mut self,
+        alloc: Global,
+        text: &str,
+        steps: &mut Steps<L>,
+    ) -> Result<Option<String>, AllocError> {
+        let (order, wanted) = text.split_once(": ").unwrap_or((text, ""));
+        let came = self.came_of(alloc, order, steps)?;
+        told(alloc, order, wanted, came.as_str())
+    }
+
+    // What comes of an order; nothing of `stops`.
+    fn came_of<L: Ledger>(
+        &mut self,
+        alloc: Global,
+        text: &str,
+        steps: &mut Steps<L>,
+    ) -> Result<String, AllocError> {
+        let how = match order_of(alloc, text) {
+            Ok(Order::Stops(stops)) => {
+                self.stops = stops;
+                return Ok(String::new(alloc));
+            }
+            Ok(Order::Move(order)) => self.go(alloc, order, steps)?,
+            Ok(Order::OutputFrom(place)) => output_from(alloc, &mut self.timeline, place, steps)?,
+            Err(_) => return String::from_str(alloc, "no order"),
+        };
+        self.seen(alloc, how.as_str())
+    }
+
+    // Makes a move, and tells what was hit or how a step ended.
+    fn go<L: Ledger>(
+        &mut self,
+        alloc: Global,
+        order: Move,
+        steps: &mut Steps<L>,
+    ) -> Result<String, AllocError> {
+        let timeline = &mut self.timeline;
+        let stops = &self.stops;
+        match order {
+            Move::To(place) => go_to(alloc, timeline, place, steps),
+            Move::StepOn(count) => step_text(alloc, steps_on(timeline, stops, count, steps)),
+            Move::StepBack(count) => step_text(alloc, steps_back(timeline, stops, count, steps)),
+            Move::RunOn => hit_text(alloc, timeline.run_on(stops, steps)),
+            Move::RunBack => hit_text(alloc, timeline.run_back(stops, steps)),
+            Move::PartOn => hit_text(alloc, part_on(timeline, stops, steps)),
+            Move::PartBack => hit_text(alloc, part_back(timeline, stops, steps)),
+        }
+    }
+
+    // What is seen of the place where the walk is. The place that was reached is told if it isn't the greatest so far.
+    fn seen(&mut self, alloc: Global, how: &str) -> Result<String, AllocError> {
+        let place = self.timeline.place();
+        let pc = self.timeline.state().pc;
+        let reached = self.timeline.reached();
+        self.furthest = self.furthest.max(place);
+        if reached != self.furthest {
+            return format!(in alloc; "{place} {pc:x}{how} reached {reached}");
+        }
+        format!(in alloc; "{place} {pc:x}{how}")
+    }
+}
+
+// What differs from what had to come.
+fn told(alloc: Global, what: &str, wanted: &str, came: &str) -> Result<Option<String>, AllocError> {
+    if came == wanted {
+        return Ok(None);
+    }
+    Ok(Some(format!(in alloc; "{what}: wanted {wanted}, came {came}")?))
+}
+
+fn go_to<L: Ledger>(
+    alloc: Global,
+    timeline: &mut Timeline,
+    place: u32,
+    steps: &mut Steps<L>,
+) -> Result<String, AllocError> {
+    if place > timeline.most() {
+        return String::from_str(alloc, " no place");
+    }
+    timeline.go_to(place, steps);
+    Ok(String::new(alloc))
+}
+
+fn output_from<L: Ledger>(
+    alloc: Global,
+    timeline: &mut Timeline,
+    place: u32,
+    steps: &mut Steps<L>,
+) -> Result<String, AllocError> {
+    if place > timeline.place() {
+        return String::from_str(alloc, " no place");
+    }
+    let bytes = timeline.outputs_from(alloc, place, steps)?;
+    let mut text = String::new(alloc);
+    for (index, byte) in bytes.iter().enumerate() {
+        if index == 0 {
+            text.push_str(" ")?;
+        }
+        let digits = format!(in alloc; "{byte:02x}")?;
+        text.push_str(digits.as_str())?;
+    }
+    Ok(text)
+}
+
+fn hit_text(alloc: Global, hit: Option<Hit>) -> Result<String, AllocError> {
+    match hit {
+        None => Ok(String::new(alloc)),
+        Some(Hit::Break) => String::from_str(alloc, " break"),
+        Some(Hit::Watch(which)) => format!(in alloc; " watch {which}"),
+    }
+}
+
+fn step_text(alloc: Global, step: Step) -> Result<String, AllocError> {
+    match step {
+        Step::Went => String::from_str(alloc, " went"),
+        Step::Watched(which) => format!(in alloc; " watched {which}"),
+        Step::End => String::from_str(alloc, " end"),
+    }
+}
