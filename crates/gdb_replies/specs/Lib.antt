@@ -1,0 +1,4 @@
+pub mod Commands
+pub mod Description
+pub mod StateTexts
+pub mod StateWords

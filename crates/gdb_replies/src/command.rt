@@ -1,0 +1,98 @@
+// The commands behind `monitor`.
+ghost use Rattle.std.specs.Prelude.{◌≡◌, ◌++◌, OnOk, MatchOption, ℕ, codes};
+ghost use Rattle.gdb_wire.specs.Requests.{Begins};
+ghost use Rattle.gdb_replies.specs.Commands.{IsCommand, IsDecimal, help as help_text, hint as hint_text};
+
+use std::alloc::AllocError;
+
+/// What the user asks for behind `monitor`.
+#[derive(Clone, Copy, Debug, PartialEq, Eq)]
+pub enum Command {
+    /// `when`: which state is shown.
+    When,
+    /// `goto N`: show the state with this number, or the last of the run.
+    Goto(u32),
+    /// `end`: show the last state of the run.
+    End,
+    /// `line`: the line of the state that is shown.
+    Line,
+    /// `quiet on` and `quiet off`: whether what the program writes is kept silent.
+    Quiet(bool),
+    /// `help`: which commands there are.
+    Help,
+    /// None of these.
+    Unknown,
+}
+
+/// Reads a command.
+pub fn read_command(text: &[u8]) -> Command
+    ensures { IsCommand text.now result }
+{
+    match text.strip_prefix(b"goto ") {
+        Some(digits) => goto(digits),
+        None => word(text),
+    }
+}
+
+// The command with a number.
+fn goto(digits: &[u8]) -> Command
+    ensures { IsCommand (codes "goto " ++ digits.now) result }
+{
+    match decimal(digits) {
+        Some(n) => Command::Goto(n),
+        None => Command::Unknown,
+    }
+}
+
+// The number that the digits spell.
+fn decimal(digits: &[u8]) -> Option<u32>
+    ensures { MatchOption result ((n : ℕ) → ¬ IsDecimal digits.now n) (λ n. IsDecimal digits.now n) }
+{
+    if digits.starts_with(b"+") {
+        return None;
+    }
+    std::str::from_utf8(digits).ok()?.parse().ok()
+}
+
+// A command that is spelled in one way.
+fn word(text: &[u8]) -> Command
+    requires { ¬ (Begins text.now (codes "goto ")) }
+    ensures { IsCommand text.now result }
+{
+    if text == b"when".as_slice() {
+        Command::When
+    } else if text == b"end".as_slice() {
+        Command::End
+    } else if text == b"line".as_slice() {
+        Command::Line
+    } else if text == b"quiet on".as_slice() {
+        Command::Quiet(true)
+    } else if text == b"quiet off".as_slice() {
+        Command::Quiet(false)
+    } else if text == b"help".as_slice() {
+        Command::Help
+    } else {
+        Command::Unknown
+    }
+}
+
+/// Adds what is answered to a text that is no command. Where memory runs out, a part of it may have been added.
+pub fn push_hint(out: &mut Vec<u8>) -> Result<(), AllocError>
+    ensures { OnOk result (out.new.items ≡ out.old.items ++ hint_text) }
+{
+    out.extend_from_slice(b"monitor when: the state that is shown; monitor goto N: show state N\n")
+}
+
+/// Adds what each command does. Where memory runs out, a part of it may have been added.
+pub fn push_help(out: &mut Vec<u8>) -> Result<(), AllocError>
+    ensures { OnOk result (out.new.items ≡ out.old.items ++ help_text) }
+{
+    out.extend_from_slice(HELP)
+}
+
+const HELP: &[u8] = b"monitor when: the state that is shown\n\
+monitor goto N: show state N\n\
+monitor end: show the last state of the run\n\
+monitor line: the state that is shown, as the line that reversal_cli writes of it\n\
+monitor quiet on, monitor quiet off: don't show, show what the program writes\n\
+monitor help: these lines\n";
