@@ -278,7 +278,7 @@ def try_steps(ours, expect):
 
 
 def try_wrong_builds(ours, expect):
-    """What docs/GUIDE.md says of programs that weren't made for this machine."""
+    """What examples/README.md says of programs that weren't made for this machine."""
     barred = ours.room / "barred.c"
     barred.write_text('int main(void) {\n    asm volatile(".option arch, +zicsr; csrw mtvec, zero");\n    return 0;\n}\n')
     hello, program = PROGRAMS / "hello.c", ours.room / "wrong.elf"
