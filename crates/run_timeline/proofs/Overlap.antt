@@ -86,3 +86,9 @@ some_or_none false x o r e f = f
 pub then_some_is : {X : Type 0} (b : Bool) (x : X) → then_some b x ≡ cond b (Some x) None
 then_some_is true x = refl
 then_some_is false x = refl
+
+-- of which range a byte is written first, where no bytes are written
+pub nothing_first : (ranges : List Range) (ws : List ℕ) (at n : ℕ) (m : Bool) → ws ≡ cond m (addresses at n) [] → n ≡ 0 → position (writes_in ws) ranges ≡ None
+nothing_first ranges ws at n m e none =
+    let P : ℕ → Type 0 = λ k. position (writes_in (addresses at k)) ranges ≡ None in
+    written_first ranges ws at n m e ∙ none_either m (position (writes_in (addresses at n)) ranges) (subst P (sym none) (no_position ranges))

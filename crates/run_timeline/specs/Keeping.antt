@@ -10,14 +10,14 @@ use Rattle.run_timeline.specs.Mark.{HaveRoom, IsMarkOf}
 abbrev pub next_mark : Marks → ℕ
 next_mark m = m.count * m.distance
 
--- They are marks of a run with these states: mark i keeps the state i times the distance from the first. In each there is room for
--- as many pages as the states map.
+-- They are marks of a run with these states. Mark i keeps the state i times the distance from the first. Each has room
+-- for as many pages as the states map.
 pub record AreMarks (states : ℕ → MachineState) (m : Marks) : Type 0 where
   pub kept : (i : ℕ) (d : Mark) → i < m.count → IsMarkOf (states (i * m.distance)) (slice_index_or m.marks.items i d)
   pub pages : HaveRoom (length (page_numbers (states 0).memory)) m.marks.items
 
--- The marks stand over the way that a run has reached: the last one isn't behind its end, and the next one is. They are one
--- step from one another, or no more than twice as many as they would be if there were room for them at all such distances.
+-- The marks span what the run has reached. The last one is within it, and the next one would be past it. Their distance
+-- is one step, or at most twice that of a full set of marks over that way.
 pub record Spans (m : Marks) (reached : ℕ) : Type 0 where
   pub last : (m.count - 1) * m.distance ≤ reached
   pub before : reached < next_mark m

@@ -1,11 +1,11 @@
--- No public clause cites this file. How states are looked at.
+-- No public clause cites this file. How states are observed.
 use Rattle.std.specs.Prelude.{◌≡◌, ℕ, ◌+◌, List}
 use Rattle.std.specs.Option.{option_or}
 use Rattle.rv_machine.specs.MachineState.{MachineState}
 use Rattle.run_timeline.specs.declared.looking.Last.{Last}
 use Rattle.run_timeline.specs.Seeing.{seen}
 
--- a state and the step from it were looked at
+-- a state and the step from it were observed
 pub record IsNotedLast (before : Last) (s : MachineState) (journal : List (List ℕ)) (after : Last) : Type 0 where
   pub stops : after.stops.now ≡ before.stops.now
   pub at : after.at ≡ before.at + 1

@@ -16,7 +16,7 @@ pub record IsMarkOf (s : MachineState) (m : Mark) : Type 0 where
   pub written : m.written ≡ s.written
   pub pages : KeepsFrom (page_numbers s.memory) s.memory 0 m.indices.items m.bytes.items
 
--- it keeps a state that a machine can be in, which maps these pages
+-- it keeps a machine state that maps these pages
 abbrev pub CanGive : Mark → List ℕ → Type 0
 CanGive m numbers = (s : MachineState) × (IsMarkOf s m × IsMachineState s × (page_numbers s.memory ≡ numbers))
 

@@ -1,4 +1,4 @@
--- No public clause cites this file. What the fields of a timeline stand for, and what is true of them.
+-- No public clause cites this file. The meaning of a timeline's fields, and their invariant.
 use Rattle.std.specs.Prelude.{◌≡◌, length}
 use Rattle.unit_undo.specs.Leading.{IsMadeFor}
 use Rattle.run_timeline.specs.declared.timeline.Timeline.TheInside.{Inside}

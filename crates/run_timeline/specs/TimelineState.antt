@@ -6,25 +6,25 @@ use Rattle.run_timeline.specs.WalkState.{run_code}
 
 pub record TimelineState : Type 0 where
   pub run : Run
-  -- the number of the state that it stands at, and the greatest that it stood at so far
+  -- the number of the state at its place, and the greatest such number so far
   pub place : ℕ
   pub reached : ℕ
   -- how many states of the run it keeps at most
   pub room : ℕ
-  -- how many steps back it takes without one of the machine
+  -- how many steps back it takes without steps of the machine
   pub trail : ℕ
 
--- No more steps than there are between two of the states that it keeps: one, or twice as many as there were if as many states as
--- there is room for stood at equal distances over the whole way that it reached.
+-- At most as many steps as between two kept states. That is one, or at most twice the distance of a full set of states
+-- over the way reached.
 abbrev pub IsFew : TimelineState → ℕ → Type 0
 IsFew t n = n * t.room ≤ max t.room (2 * t.reached)
 
--- How many states are kept in so many bytes: each has its pages, with an index of four bytes for each, and 512 bytes more. There are
--- at least two, and at most 2 ^ 20.
+-- How many states fit into so many bytes. Each takes its pages, with an index of four bytes for each, and 512 bytes
+-- more. There are at least two, and at most 2 ^ 20.
 abbrev pub marks_for : ℕ → ℕ → ℕ
 marks_for bytes pages = max 2 (min (2 ^ 20) (bytes / (4100 * pages + 512)))
 
--- how a timeline is told from another: as the tuple of its fields
+-- a timeline's code for comparisons: the tuple of its fields
 abbrev pub timeline_code : Coded TimelineState
 timeline_code =
     code_by (Run × (ℕ × (ℕ × (ℕ × ℕ))))

@@ -1,4 +1,4 @@
--- No public clause cites this file. What the fields of a walk stand for, and what is true of them.
+-- No public clause cites this file. The meaning of a walk's fields, and their invariant.
 use Rattle.std.specs.Prelude.{◌≡◌, ℕ, ◌<◌, ◌≤◌, true, length}
 use Rattle.rv_machine.specs.States.{state_number}
 use Rattle.rv_machine.specs.StepTable.{is_running}
@@ -14,7 +14,8 @@ walk_state w = record {
   room = length w.marks.marks.items;
 }
 
--- It keeps marks of the run, over the way that it has reached, on which no state is stopped, and has in work the state at its place.
+-- It keeps marks of the run, over the way that it has reached. No state there is stopped. The state at its place is in
+-- work.
 pub record IsWalk (w : Inside) : Type 0 where
   pub marks : AreMarks (state_number w.first w.journal) w.marks
   pub spans : Spans w.marks w.reached

@@ -1,4 +1,4 @@
--- A walk over a run: a place in it, and how far it came.
+-- A walk over a run: a place in it, and how far it has come.
 use Rattle.std.specs.Prelude.{ℕ, ◌*◌, ◌≤◌, max, List, refl}
 use Rattle.std.specs.Coded.{Coded, code_by, coded×, coded_ℕ, coded_list}
 use Rattle.rv_machine.specs.MachineState.{MachineState}
@@ -7,18 +7,18 @@ use Rattle.run_timeline.specs.Moves.{Run}
 
 pub record WalkState : Type 0 where
   pub run : Run
-  -- the number of the state that it stands at, and the greatest that it stood at so far
+  -- the number of the state at its place, and the greatest such number so far
   pub place : ℕ
   pub reached : ℕ
   -- how many marks it keeps at most
   pub room : ℕ
 
--- No more steps than there are between two marks: one, or twice as many as there were if as many marks as there is room for stood
--- at equal distances over the whole way that it reached.
+-- At most as many steps as between two marks. That is one, or at most twice the distance of a full set of marks over
+-- the way reached.
 abbrev pub IsFew : WalkState → ℕ → Type 0
 IsFew w n = n * w.room ≤ max w.room (2 * w.reached)
 
--- how a run and a walk are told from others: as the tuples of their fields
+-- the codes of a run and of a walk for comparisons: the tuples of their fields
 abbrev pub run_code : Coded Run
 run_code =
     code_by (MachineState × (List (List ℕ) × ℕ))

@@ -7,7 +7,7 @@ use rv_machine::{Next, Span, State, Watch};
 use rv_pages::Pages;
 use std::alloc::{AllocError, Global};
 
-/// The bytes that the steps wrote to the program's output which were looked at so far, as far as there was memory.
+/// The bytes that the observed steps wrote to the program's output, as far as there was memory.
 #[derive(Drop)]
 pub(crate) struct Collector {
     bytes: Vec<u8>,
@@ -15,7 +15,7 @@ pub(crate) struct Collector {
 }
 
 impl Collector {
-    /// Nothing was looked at yet.
+    /// No step was observed yet.
     pub(crate) fn new(alloc: Global) -> Collector
         ensures bytes { result.bytes.items ≡ [] }
         ensures failed { result.failed ≡ false }
@@ -54,7 +54,7 @@ impl Watch for Collector {
     }
 }
 
-// Adds the bytes at these addresses, all of which are mapped. Where memory runs out, a part of them may have been added.
+// Adds the bytes at these addresses, which are all mapped. If memory runs out, it may have added a part of them.
 fn push_span(out: &mut Vec<u8>, pages: &Pages, span: &Span) -> Result<(), AllocError>
     requires { IsMapped pages.now span.now.at span.now.count }
     ensures { OnOk result ((bytes : List ℕ) → bytes_at pages.now span.now.at span.now.count ≡ Some bytes → out.new.items ≡ out.old.items ++ bytes) }

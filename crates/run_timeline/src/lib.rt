@@ -1,7 +1,7 @@
-//! A timeline: a run of the machine, and a place in it, from which a debugger goes on and back. It stands on the machine and on
-//! undo lists. `specs/Moves.antt` says where a move ends: at a breakpoint, before it crosses a step that writes a watched byte, or at
-//! the end of the run. It keeps states of the run at equal distances, without the pages that were never written, and undoes steps back
-//! one after the other.
+//! A timeline: a run of the machine, and a place from which a debugger goes on and back. It uses `rv_machine`,
+//! `unit_undo` and the crates below them. `timeline_walks` uses it. A move ends at a breakpoint, before a step that
+//! writes a watched byte, or at the end of the run. `specs/Moves.antt` defines this. A timeline keeps states of the run
+//! at equal distances, without the pages that were never written. It undoes steps back one by one.
 #![tactic(auto)]
 
 mod collector;

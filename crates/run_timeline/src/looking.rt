@@ -1,31 +1,69 @@
-// How the steps of a run are looked at.
-ghost use Rattle.std.specs.Prelude.{◌≡◌, ℕ, ◌+◌, ◌<◌, ◌≤◌, ◌^◌, false};
+// How the steps of a run are observed.
+ghost use Rattle.std.specs.Prelude.{◌≡◌, ℕ, ◌+◌, ◌<◌, ◌≤◌, ◌^◌, false, is_some};
 ghost use Rattle.rv_pages.specs.Memory.{page_numbers};
 ghost use Rattle.rv_machine.specs.States.{state_number};
 ghost use Rattle.rv_machine.specs.Watching.{Ends, GoesOn};
-ghost use Rattle.run_timeline.specs.Seeing.{is_hit, seen, IsLastSeen};
+ghost use Rattle.run_timeline.specs.Seeing.{breaks_at, is_hit, seen, writes_from, IsLastSeen};
 
 use crate::stops::{Hit, Stops};
 use input_journal::Journal;
 use rv_machine::{Next, State, Steps, Stop, Watch, advance_until, advance_watched};
 use std::sync::ledger::Ledger;
 
-// A run is stopped at a breakpoint, and before a step that writes a watched byte.
+// Stops a run at a breakpoint, and before a step that writes a watched byte.
 impl Stop for Stops {
     ghost stops = { is_hit };
 
+    ghost is_at = { breaks_at };
+
+    #[inline(always)]
+    fn is_at(&self, state: &State) -> bool {
+        self.breaks(state)
+    }
+
     #[inline(always)]
     fn stops(&self, state: &State, journal: &Journal, next: &Next) -> bool {
-        self.breaks(state) || self.writes(state, journal, next).is_some()
+        self.writes(state, journal, next).is_some()
     }
 }
 
-// A run is stopped nowhere.
+// A run is stopped before a step that writes a watched byte.
 #[derive(Drop)]
-struct Never;
+struct Writes<'a> {
+    stops: &'a Stops,
+}
 
-impl Stop for Never {
-    ghost stops = { λ _ _ _. false };
+impl<'a> Stop for Writes<'a> {
+    ghost stops = { λ writes s journal. is_some (writes_from writes.stops.now journal s) };
+
+    ghost is_at = { λ _ _. false };
+
+    #[inline(always)]
+    fn is_at(&self, _state: &State) -> bool {
+        false
+    }
+
+    #[inline(always)]
+    fn stops(&self, state: &State, journal: &Journal, next: &Next) -> bool {
+        self.stops.writes(state, journal, next).is_some()
+    }
+}
+
+// A run is stopped at a breakpoint.
+#[derive(Drop)]
+struct Breaks<'a> {
+    stops: &'a Stops,
+}
+
+impl<'a> Stop for Breaks<'a> {
+    ghost stops = { λ breaks s _. breaks_at breaks.stops.now s };
+
+    ghost is_at = { λ breaks s. breaks_at breaks.stops.now s };
+
+    #[inline(always)]
+    fn is_at(&self, state: &State) -> bool {
+        self.stops.breaks(state)
+    }
 
     #[inline(always)]
     fn stops(&self, _state: &State, _journal: &Journal, _next: &Next) -> bool {
@@ -33,7 +71,28 @@ impl Stop for Never {
     }
 }
 
-// What a move backward hits first, of the steps that were looked at so far, and where. The next step is one from the place `at`.
+// Stops a run nowhere.
+#[derive(Drop)]
+struct Never;
+
+impl Stop for Never {
+    ghost stops = { λ _ _ _. false };
+
+    ghost is_at = { λ _ _. false };
+
+    #[inline(always)]
+    fn is_at(&self, _state: &State) -> bool {
+        false
+    }
+
+    #[inline(always)]
+    fn stops(&self, _state: &State, _journal: &Journal, _next: &Next) -> bool {
+        false
+    }
+}
+
+// The first hit of a move backward among the steps observed so far, and its place. The next step is one from the place
+// `at`.
 #[derive(Drop)]
 struct Last<'a> {
     stops: &'a Stops,
@@ -60,7 +119,7 @@ impl<'a> Watch for Last<'a> {
     }
 }
 
-// Goes on by at most so many steps, to the first state that is stopped. It tells how many it took.
+// Goes on by at most so many steps, to the first state that is stopped. It returns how many it took.
 pub(crate) fn go_on<L: Ledger>(
     work: &mut State,
     journal: &Journal,
@@ -76,8 +135,8 @@ pub(crate) fn go_on<L: Ledger>(
     advance_until(work, journal, count, steps, &Never)
 }
 
-// Goes on by at most so many steps, to the first state that is stopped, or is at a breakpoint, or is before a step that writes a
-// watched byte. It tells how many it took.
+// Goes on by at most so many steps. It ends at the first stopped state, at a breakpoint, or before a step that writes a
+// watched byte. It returns how many it took.
 pub(crate) fn look_on<L: Ledger>(
     work: &mut State,
     journal: &Journal,
@@ -91,10 +150,16 @@ pub(crate) fn look_on<L: Ledger>(
     ensures before { (k : ℕ) → k < result → GoesOn (is_hit stops.now) journal.now (state_number work.old journal.now k) }
     ensures end { result < count → Ends (is_hit stops.now) journal.now work.new }
 {
+    if stops.ranges.is_empty() {
+        return advance_until(work, journal, count, steps, &Breaks { stops });
+    }
+    if stops.addresses.is_empty() {
+        return advance_until(work, journal, count, steps, &Writes { stops });
+    }
     advance_until(work, journal, count, steps, stops)
 }
 
-// Goes on by so many steps from a place, and tells what a move backward over them hits first, and where.
+// Goes on by so many steps from a place. Returns what a move backward over them hits first, and where.
 pub(crate) fn look_back<L: Ledger>(
     work: &mut State,
     journal: &Journal,

@@ -1,4 +1,4 @@
-// A state of a run that is kept.
+// A kept state of a run.
 ghost use Rattle.std.specs.Prelude.{◌≡◌, ℕ, ◌*◌, ◌≤◌, ◌<◌, IfOk, length, slice_index};
 ghost use Rattle.std.specs.Vec.{vec_capacity};
 ghost use Rattle.rv_pages.specs.Memory.{Memory, page_numbers, IsMemory};
@@ -9,8 +9,8 @@ use rv_machine::{State, Status};
 use rv_pages::{PAGE, Pages};
 use std::alloc::{AllocError, Global};
 
-/// A state of a run without the pages that it never wrote. Only `begin` takes memory, and there it takes what all pages would
-/// need; the system gives no more of it than is written to.
+/// A state of a run without the pages that it never wrote. Only `begin` takes memory: as much as all pages need. The
+/// system provides only what is written to.
 #[derive(Drop)]
 pub(crate) struct Mark {
     pc: u32,
@@ -32,7 +32,7 @@ pub(crate) struct Mark {
 impl Mark {
     ghost use Rattle.run_timeline.specs.Mark.{CanGive, IsMarkOf};
 
-    /// Room for a state that maps as many pages as this one. It keeps no state yet.
+    /// Room for a state with as many pages as this one. No state is kept yet.
     pub(crate) fn begin(alloc: Global, state: &State) -> Result<Mark, AllocError>
         ensures { IfOk result (λ m. m.pages ≡ length (page_numbers state.now.memory)) }
     {
@@ -50,7 +50,7 @@ impl Mark {
         })
     }
 
-    /// Keeps a state.
+    /// Copies a state into the mark.
     pub(crate) fn keep(&mut self, state: &State)
         requires { length (page_numbers state.now.memory) ≡ self.old.pages }
         ensures keeps { IsMarkOf state.now self.new }
@@ -65,7 +65,7 @@ impl Mark {
         keep_pages(&mut self.indices, &mut self.bytes, &state.pages);
     }
 
-    /// Makes a state of the run the one that is kept.
+    /// Copies the kept state into a state of the run.
     pub(crate) fn give(&self, state: &mut State)
         requires { CanGive self.now (page_numbers state.old.memory) }
         ensures { (s : MachineState) → IsMarkOf s self.now → IsMemory s.memory → page_numbers s.memory ≡ page_numbers state.old.memory → state.new ≡ s }
@@ -118,7 +118,7 @@ fn give_pages(indices: &[u32], bytes: &[u8], pages: &mut Pages)
     pages.are_memory();
 }
 
-// Makes all bytes 0 of the pages from one index on and before another.
+// Makes all bytes 0 of the pages from one index up to below another.
 fn clear_pages(pages: &mut Pages, from: u32, to: u32)
     requires { to ≤ length (page_numbers pages.old) }
     ensures numbers { page_numbers pages.new ≡ page_numbers pages.old }
@@ -133,7 +133,7 @@ fn clear_pages(pages: &mut Pages, from: u32, to: u32)
     pages.are_memory();
 }
 
-// Makes all bytes 0 of the first page from an index on that may have others, if it is before another index. It tells up to where
+// Clears the first page, from an index up to below another, that may have bytes other than 0. It returns up to where
 // all pages are zero then.
 fn clear_next(pages: &mut Pages, from: u32, to: u32) -> u32
     requires some { from < to }

@@ -8,12 +8,12 @@ use crate::mark::Mark;
 use rv_machine::State;
 use std::alloc::{AllocError, Global};
 
-// Marks, from the first state of a run on. There is room for a bounded number of states; where all of it is used and another mark is
-// due, every second one is given up.
+// Marks, from the first state of a run on. There is room for a bounded number of states. If it is full at the next
+// mark, every second mark is dropped.
 #[derive(Drop)]
 pub(crate) struct Marks {
     marks: Vec<Mark>,
-    // How many of them are in use, and how many steps the marks are from one another.
+    // How many of them are in use, and the steps from one to the next.
     count: u32,
     distance: u32,
     ghost some: { 1 ≤ count },
@@ -57,7 +57,7 @@ impl Marks {
         self.next().min(to as u64) as u32
     }
 
-    // The last mark that isn't behind a place, and the place of that mark.
+    // The last mark up to a place, and its place.
     pub fn last_to(&self, place: u32) -> (&Mark, u32)
         ensures mark { (states : ℕ → MachineState) → AreMarks states self.now → IsMarkOf (states result.1) result.0.now }
         ensures room { (n : ℕ) → HaveRoom n self.now.marks.items → result.0.now.pages ≡ n }
@@ -69,7 +69,8 @@ impl Marks {
         (&self.marks[index as usize], index * self.distance)
     }
 
-    // The run comes to a place, which may be further than it has reached. The state there is marked, where a mark is due.
+    // Passes a place of the run, which may be further than it has reached. If a mark belongs there, the state is
+    // marked.
     pub fn pass(&mut self, state: &State, place: u32)
         requires before { place ≤ next_mark self.old }
         requires pages { HaveRoom (length (page_numbers state.now.memory)) self.old.marks.items }
@@ -83,7 +84,7 @@ impl Marks {
         }
     }
 
-    // Marks a state, if its mark is due.
+    // Marks a state, if a mark belongs there.
     fn add(&mut self, state: &State, place: u32)
         requires before { place ≤ next_mark self.old }
         requires room { self.old.count < vec_len self.old.marks }
@@ -101,7 +102,7 @@ impl Marks {
         }
     }
 
-    // There is room for one more mark.
+    // Makes room for one more mark.
     fn make_room(&mut self)
         requires { next_mark self.old < 2 ^ 32 }
         ensures fits { self.new.count < vec_len self.new.marks }
@@ -117,7 +118,7 @@ impl Marks {
         }
     }
 
-    // Gives up every second mark.
+    // Drops every second mark.
     fn thin(&mut self)
         requires many { 2 ≤ self.old.count }
         requires near { 2 * self.old.distance < 2 ^ 32 }
@@ -136,7 +137,7 @@ impl Marks {
     }
 }
 
-// Room for so many states that map as many pages as this one.
+// Room for so many states with as many pages as this one.
 fn rooms(alloc: Global, state: &State, count: u32) -> Result<Vec<Mark>, AllocError>
     ensures len { IfOk result (λ v. vec_len v ≡ count) }
     ensures room { IfOk result (λ v. HaveRoom (length (page_numbers state.now.memory)) v.items) }

@@ -10,7 +10,7 @@ use rv_machine::Steps;
 use std::sync::ledger::Ledger;
 
 impl Walk {
-    /// Goes to a place, or to the end of the run where that comes first.
+    /// Goes to a place, or to the end of the run if that comes first.
     pub(crate) fn go_to<L: Ledger>(&mut self, place: u32, steps: &mut Steps<L>)
         requires { place ≤ self.old.run.most }
         ensures goes { (self.new.place ≡ place) ⊎ ((self.new.place < place) × (is_end_of self.old.run self.new.place ≡ true)) }
@@ -28,7 +28,7 @@ impl Walk {
         }
     }
 
-    /// Goes on to the first place where something is hit, and tells what, or to the end of the run.
+    /// Goes on to the first hit, and returns it, or to the end of the run.
     pub(crate) fn run_on<L: Ledger>(&mut self, stops: &Stops, steps: &mut Steps<L>) -> Option<Hit>
         ensures ends { EndsForward self.old.run stops.now self.old.place self.new.place result }
         ensures stays { self.new ≡ record self.old { place = self.new.place; reached = max self.old.reached self.new.place } }
@@ -44,7 +44,7 @@ impl Walk {
         }
     }
 
-    /// Begins a move forward: goes on by a step, if there is one and it writes no watched byte.
+    /// Begins a move forward: takes a step, if there is one and it writes no watched byte.
     pub(crate) fn begin_on<L: Ledger>(&mut self, stops: &Stops, steps: &mut Steps<L>) -> Part
         ensures ends { MatchPart result (EndsForward self.old.run stops.now self.old.place self.new.place) (CameOn self.old.run stops.now self.old.place self.new.place) }
         ensures further { MatchPart result (λ _. ⊤) (self.new.place ≡ self.old.place + 1) }
@@ -63,7 +63,7 @@ impl Walk {
         Part::GoesOn
     }
 
-    /// Goes on with a move that began elsewhere, up to the next mark.
+    /// Continues a move that began elsewhere, up to the next mark.
     pub(crate) fn look_on<L: Ledger>(&mut self, stops: &Stops, steps: &mut Steps<L>) -> Part
         ensures ends { (p : ℕ) → p < self.old.place → CameOn self.old.run stops.now p self.old.place →
             MatchPart result (EndsForward self.old.run stops.now p self.new.place) (CameOn self.old.run stops.now p self.new.place) }
@@ -79,7 +79,7 @@ impl Walk {
         Part::Ended(self.hit(stops))
     }
 
-    /// Goes back to the last place where something is hit, and tells what, or to the first place.
+    /// Goes back to the last hit, and returns it, or to the first place.
     pub(crate) fn run_back<L: Ledger>(&mut self, stops: &Stops, steps: &mut Steps<L>) -> Option<Hit>
         ensures ends { EndsBackward self.old.run stops.now self.old.place self.new.place result }
         ensures stays { self.new ≡ record self.old { place = self.new.place } }
@@ -99,7 +99,7 @@ impl Walk {
         None
     }
 
-    /// Goes on by one step, if there is one and it writes no watched byte. It tells how that ended.
+    /// Goes on by one step, if there is one and it writes no watched byte. It returns how that ended.
     pub(crate) fn step_on<L: Ledger>(&mut self, stops: &Stops, steps: &mut Steps<L>) -> Step
         ensures value { result ≡ step_ahead self.old.run stops.now self.old.place }
         ensures goes { self.new.place ≡ self.old.place + steps_of result }

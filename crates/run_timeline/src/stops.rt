@@ -1,9 +1,10 @@
 // What ends a move over a run.
-ghost use Rattle.std.specs.Prelude.{◌≡◌, ◌==◌, position};
+ghost use Rattle.std.specs.Prelude.{◌≡◌, ◌==◌, if◌then◌else◌, [], position};
 ghost use Rattle.std.specs.List.{list_any};
 ghost use Rattle.rv_machine.specs.MachineState.{MachineState};
 ghost use Rattle.rv_machine.specs.StateChanges.{addresses};
 ghost use Rattle.rv_machine.specs.StepTable.{written};
+ghost use Rattle.rv_machine.specs.SystemCalls.{are_mapped};
 ghost use Rattle.rv_machine.specs.Watching.{IsNext};
 ghost use Rattle.run_timeline.specs.Ranges.{writes_in};
 
@@ -34,12 +35,12 @@ pub enum Hit {
     Watch(usize),
 }
 
-/// How far a part of a move forward came.
+/// The end of a part of a move forward.
 #[derive(Clone, Copy, Debug, PartialEq, Eq)]
 pub enum Part {
-    /// The move ended, and this is what ended it, or nothing did up to the end of the run.
+    /// The move ended with this hit, or at the end of the run.
     Ended(Option<Hit>),
-    /// It goes on from where the part came to.
+    /// The move continues from the end of the part.
     GoesOn,
 }
 
@@ -48,9 +49,9 @@ pub enum Part {
 pub enum Step {
     /// It was taken.
     Went,
-    /// It wasn't, since a byte of the range with this index is written between the two places.
+    /// It wasn't taken, since it would cross a write to the range with this index.
     Watched(usize),
-    /// There is none.
+    /// There is no step: the run ends or begins here.
     End,
 }
 
@@ -68,11 +69,15 @@ impl Stops {
     pub(crate) fn breaks(&self, state: &State) -> bool
         ensures { result ≡ list_any (λ a. a == state.now.pc) self.now.addresses }
     {
-        self.addresses.iter().any(|a| *a == state.pc)
+        match self.addresses.as_slice() {
+            [] => false,
+            [address] => *address == state.pc,
+            addresses => is_among(addresses, state.pc),
+        }
     }
 
-    /// The first range of which the next step of a state writes a byte. Ranges are compared before it is asked whether the
-    /// bytes are mapped.
+    /// The first range with a byte that the next step of a state writes. Ranges are compared before the bytes are
+    /// looked up in memory.
     #[inline(always)]
     pub(crate) fn writes(&self, state: &State, journal: &Journal, next: &Next) -> Option<usize>
         requires { IsNext next.now state.now }
@@ -82,9 +87,28 @@ impl Stops {
             return None;
         }
         let aim = next.aim(state, journal);
-        let first = first_met(&self.ranges, &aim)?;
-        state.pages.are_mapped(aim.at, aim.count).then_some(first)
+        if aim.count == 0 {
+            return None;
+        }
+        first_written(&self.ranges, state, &aim)
     }
+}
+
+// Whether an address is one of these.
+#[inline(never)]
+fn is_among(addresses: &[u32], pc: u32) -> bool
+    ensures { result ≡ list_any (λ a. a == pc) addresses.now }
+{
+    addresses.iter().any(|a| *a == pc)
+}
+
+// The first range that has one of these addresses, if all of them are mapped.
+#[inline(always)]
+fn first_written(ranges: &[Range], state: &State, aim: &Span) -> Option<usize>
+    ensures { result ≡ position (writes_in (if are_mapped state.now.memory aim.now.at aim.now.count then addresses aim.now.at aim.now.count else [])) ranges.now }
+{
+    let first = first_met(ranges, aim)?;
+    state.pages.are_mapped(aim.at, aim.count).then_some(first)
 }
 
 // The first range that has one of these addresses.
@@ -95,7 +119,8 @@ fn first_met(ranges: &[Range], span: &Span) -> Option<usize>
     ranges.iter().position(|range| has_some(range, span))
 }
 
-// Whether a range has one of these addresses: the first of them is in the range, or the first of the range is among them.
+// Whether a range has one of these addresses. Then the first of them is in the range, or the first of the range is
+// among them.
 #[inline(always)]
 fn has_some(range: &Range, span: &Span) -> bool
     ensures { result ≡ writes_in (addresses span.now.at span.now.count) range.now }

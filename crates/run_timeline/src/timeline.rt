@@ -2,6 +2,8 @@
 ghost use Rattle.std.specs.Prelude.{◌≡◌, ◌⊎◌, ℕ, ◌+◌, ◌*◌, ◌<◌, ◌≤◌, ⊤, max, length, IfOk, IfSome, MatchOption, Some, true};
 ghost use Rattle.rv_pages.specs.Memory.{page_numbers};
 ghost use Rattle.run_timeline.specs.declared.stops.Step.TheVariants.{Went};
+ghost use Rattle.input_journal.specs.Form.{IsRecorded};
+ghost use Rattle.rv_machine.specs.MachineState.{IsMachineState};
 ghost use Rattle.rv_machine.specs.Output.{outputs};
 ghost use Rattle.run_timeline.specs.Moves.{state as state_of, IsPlace, is_end as is_end_of, EndsForward, EndsBackward, CameOn, CameBack, step_ahead, step_behind, steps_of, watched as watched_of};
 ghost use Rattle.run_timeline.specs.Parts.{MatchPart};
@@ -21,12 +23,13 @@ const PAGE_BYTES: u64 = 4100;
 
 const REST_BYTES: u64 = 512;
 
-// The most marks.
+// The most marks of a timeline.
 const MOST_MARKS: u64 = 0x10_0000;
 
-/// A run of the machine, and a place in it: the number of the state that it stands at. It keeps some states of the run at equal
-/// distances: as the run goes further every second one is given up, and the distance doubles. So going back takes at most as many
-/// steps as there are between two of them, and steps back one after the other are undone without one. Only `begin` takes memory.
+/// A run of the machine, and a place in it, which is the number of a state. It keeps some states of the run at equal
+/// distances. As the run gets longer, every second one is dropped, and the distance doubles. Going back takes at most
+/// as many steps as that distance. Steps back one by one are undone, without steps of the machine. Only `begin` takes
+/// memory.
 #[derive(Drop)]
 pub struct Timeline {
     walk: Walk,
@@ -49,8 +52,8 @@ impl Model for Timeline {
 }
 
 impl Timeline {
-    /// A timeline that stands at the start of a run of at most so many steps. It keeps as many states as fit into so many bytes, each
-    /// with all its pages. The system gives no more memory than the pages need that are written.
+    /// A timeline at the start of a run of at most so many steps. It keeps as many states as fit into so many bytes,
+    /// each with all its pages. The system provides memory only for pages that are written.
     pub fn begin(
         alloc: Global,
         start: State,
@@ -72,35 +75,35 @@ impl Timeline {
         Ok(Timeline { walk, undo })
     }
 
-    /// The number of the state that it stands at.
+    /// The number of the state at its place.
     pub fn place(&self) -> u32
         ensures { result ≡ self.now.place }
     {
         self.walk.place()
     }
 
-    /// The greatest number that it stood at so far.
+    /// The greatest number of its places so far.
     pub fn reached(&self) -> u32
         ensures { result ≡ self.now.reached }
     {
         self.walk.reached()
     }
 
-    /// The greatest number that there may be.
+    /// The greatest possible number of a place.
     pub fn most(&self) -> u32
         ensures { result ≡ self.now.run.most }
     {
         self.walk.most()
     }
 
-    /// The state that it stands at.
+    /// The state at its place.
     pub fn state(&self) -> &State
         ensures { result.now ≡ state_of self.now.run self.now.place }
     {
         self.walk.state()
     }
 
-    /// Whether the run ends where it stands: the state is stopped, or the run has its most steps.
+    /// Whether the run ends at its place: the state is stopped, or the run has its most steps.
     pub fn is_end(&self) -> bool
         ensures { result ≡ is_end_of self.now.run self.now.place }
     {
@@ -115,7 +118,15 @@ impl Timeline {
         self.walk.are_places();
     }
 
-    /// Goes to a place, or to the end of the run where that comes first.
+    /// Does nothing. Its contract is a law: the run is one of a machine, over recorded input.
+    pub fn is_machine_run(&self)
+        ensures first { IsMachineState self.now.run.first }
+        ensures recorded { IsRecorded self.now.run.journal }
+    {
+        self.walk.is_machine_run();
+    }
+
+    /// Goes to a place, or to the end of the run if that comes first.
     pub fn go_to<L: Ledger>(&mut self, place: u32, steps: &mut Steps<L>)
         requires { place ≤ self.old.run.most }
         ensures goes { (self.new.place ≡ place) ⊎ ((self.new.place < place) × (is_end_of self.old.run self.new.place ≡ true)) }
@@ -127,7 +138,7 @@ impl Timeline {
         self.walk.go_to(place, steps);
     }
 
-    /// Goes on to the first place where something is hit, and tells what, or to the end of the run.
+    /// Goes on to the first hit, and returns it, or to the end of the run.
     pub fn run_on<L: Ledger>(&mut self, stops: &Stops, steps: &mut Steps<L>) -> Option<Hit>
         ensures ends { EndsForward self.old.run stops.now self.old.place self.new.place result }
         ensures stays { self.new ≡ record self.old { place = self.new.place; reached = max self.old.reached self.new.place; trail = 0 } }
@@ -137,7 +148,7 @@ impl Timeline {
         self.walk.run_on(stops, steps)
     }
 
-    /// Begins a move forward: goes on by a step, if there is one and it writes no watched byte.
+    /// Begins a move forward: takes a step, if there is one and it writes no watched byte.
     pub fn begin_on<L: Ledger>(&mut self, stops: &Stops, steps: &mut Steps<L>) -> Part
         ensures ends { MatchPart result (EndsForward self.old.run stops.now self.old.place self.new.place) (CameOn self.old.run stops.now self.old.place self.new.place) }
         ensures further { MatchPart result (λ _. ⊤) (self.new.place ≡ self.old.place + 1) }
@@ -148,7 +159,7 @@ impl Timeline {
         self.walk.begin_on(stops, steps)
     }
 
-    /// Goes on with a move forward that began elsewhere, up to where the next state is kept.
+    /// Continues a move forward that began elsewhere, up to the place of the next kept state.
     pub fn look_on<L: Ledger>(&mut self, stops: &Stops, steps: &mut Steps<L>) -> Part
         ensures ends { (p : ℕ) → p < self.old.place → CameOn self.old.run stops.now p self.old.place →
             MatchPart result (EndsForward self.old.run stops.now p self.new.place) (CameOn self.old.run stops.now p self.new.place) }
@@ -160,8 +171,8 @@ impl Timeline {
         self.walk.look_on(stops, steps)
     }
 
-    /// Goes on with a move backward that came to `end`, over the steps from the last kept state before. It tells where that state
-    /// is, and what was hit first, and where. It stands at `end` then.
+    /// Continues a move backward that reached `end`, over the steps from the last earlier kept state. It returns the
+    /// place of that state, and the first hit with its place. Afterwards it is at `end`.
     pub fn look_back<L: Ledger>(
         &mut self,
         end: u32,
@@ -183,7 +194,7 @@ impl Timeline {
         self.walk.look_before(end, stops, steps)
     }
 
-    /// The bytes that the steps from a place on wrote to the program's output, up to where it stands.
+    /// The bytes that the steps from a place up to its own wrote to the program's output.
     pub fn outputs_from<L: Ledger>(
         &mut self,
         alloc: Global,
@@ -198,7 +209,7 @@ impl Timeline {
         self.walk.outputs_from(alloc, from, steps)
     }
 
-    /// Goes back to the last place where something is hit, and tells what, or to the first place.
+    /// Goes back to the last hit, and returns it, or to the first place.
     pub fn run_back<L: Ledger>(&mut self, stops: &Stops, steps: &mut Steps<L>) -> Option<Hit>
         ensures ends { EndsBackward self.old.run stops.now self.old.place self.new.place result }
         ensures stays { self.new ≡ record self.old { place = self.new.place; trail = 0 } }
@@ -208,7 +219,7 @@ impl Timeline {
         self.walk.run_back(stops, steps)
     }
 
-    /// Goes on by one step, if there is one and it writes no watched byte. It tells how that ended.
+    /// Goes on by one step, if there is one and it writes no watched byte. It returns how that ended.
     pub fn step_on<L: Ledger>(&mut self, stops: &Stops, steps: &mut Steps<L>) -> Step
         ensures value { result ≡ step_ahead self.old.run stops.now self.old.place }
         ensures goes { self.new.place ≡ self.old.place + steps_of result }
@@ -219,8 +230,8 @@ impl Timeline {
         self.walk.step_on(stops, steps)
     }
 
-    /// Goes back by one step, if there is one and it wrote no watched byte. It tells how that ended. A step that can be undone takes none
-    /// of the machine.
+    /// Goes back by one step, if there is one and it wrote no watched byte. It returns how that ended. Undoing a step
+    /// takes no step of the machine.
     pub fn step_back<L: Ledger>(&mut self, stops: &Stops, steps: &mut Steps<L>) -> Step
         ensures value { result ≡ step_behind self.old.run stops.now self.old.place }
         ensures goes { self.new.place + steps_of result ≡ self.old.place }
@@ -244,14 +255,14 @@ impl Timeline {
         }
     }
 
-    // The first range of which the step from where it stands writes a byte.
+    // The first range with a byte that the next step writes.
     fn watched(&self, stops: &Stops) -> Option<usize>
         ensures { result ≡ watched_of self.now.run stops.now self.now.place }
     {
         self.walk.watched(stops)
     }
 
-    // Notes the steps before the place, where none can be undone.
+    // Notes the steps before the place, if none can be undone.
     fn prepare<L: Ledger>(&mut self, steps: &mut Steps<L>)
         requires { 0 < self.old.place }
         ensures ready { 0 < self.new.trail }
@@ -266,7 +277,7 @@ impl Timeline {
         self.walk.trace(&mut self.undo, steps);
     }
 
-    // Undoes a step.
+    // Goes back by the last noted step.
     fn undo_step(&mut self)
         requires { 0 < self.old.trail }
         ensures place { self.new.place + 1 ≡ self.old.place }
@@ -276,7 +287,7 @@ impl Timeline {
         self.walk.go_back(&mut self.undo);
     }
 
-    // Goes on by a step that was taken before.
+    // Repeats a step that was taken before.
     fn take_again<L: Ledger>(&mut self, steps: &mut Steps<L>)
         requires { self.old.place < self.old.reached }
         ensures goes { self.new ≡ record self.old { place = self.old.place + 1; trail = 0 } }
@@ -289,7 +300,7 @@ impl Timeline {
     }
 }
 
-// How many marks fit into so many bytes, where a state maps so many pages: two at least.
+// How many marks fit into so many bytes, if a state maps so many pages: at least two.
 fn marks_for(budget_bytes: u64, pages: u32) -> u32
     ensures value { result ≡ marks_of_budget budget_bytes pages }
     ensures some { 2 ≤ result }

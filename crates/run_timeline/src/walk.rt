@@ -1,6 +1,8 @@
-// A place in a run, and marks to come back by.
+// A place in a run, and marks to go back to.
 ghost use Rattle.std.specs.Prelude.{◌≡◌, ℕ, ◌+◌, ◌*◌, ◌^◌, ◌<◌, ◌≤◌, ◌⊎◌, ◌++◌, max, [], length, Option, IfOk, IsTrue, IsFalse, false, true};
 ghost use Rattle.std.specs.Option.{option_map, option_or};
+ghost use Rattle.input_journal.specs.Form.{IsRecorded};
+ghost use Rattle.rv_machine.specs.MachineState.{IsMachineState};
 ghost use Rattle.rv_machine.specs.Output.{outputs};
 ghost use Rattle.rv_machine.specs.StepTable.{is_running};
 ghost use Rattle.rv_machine.specs.Watching.{Ends, GoesOn};
@@ -22,7 +24,7 @@ use std::marker::Model;
 use std::sync::ledger::Ledger;
 use unit_undo::Undo;
 
-/// How many steps are noted at most, which can be undone one after the other.
+/// The most noted steps, which can be undone one after the other.
 pub(crate) const TRAIL: u32 = 1024;
 
 /// A run, and a place in it. It keeps marks: states at equal distances over the way that the run has reached.
@@ -54,7 +56,7 @@ impl Model for Walk {
 }
 
 impl Walk {
-    /// It stands at the first state. It keeps so many marks at most.
+    /// A walk at the first state, with at most so many marks.
     pub(crate) fn begin(
         alloc: Global,
         first: State,
@@ -78,7 +80,7 @@ impl Walk {
         })
     }
 
-    /// The number of the state that it stands at.
+    /// The number of the state at its place.
     pub(crate) fn place(&self) -> u32
         ensures value { result ≡ self.now.place }
         ensures known { result ≤ self.now.reached }
@@ -94,14 +96,14 @@ impl Walk {
         self.reached
     }
 
-    /// The greatest place that there may be.
+    /// The greatest possible place.
     pub(crate) fn most(&self) -> u32
         ensures { result ≡ self.now.run.most }
     {
         self.most
     }
 
-    /// The state that it stands at.
+    /// The state at its place.
     pub(crate) fn state(&self) -> &State
         ensures { result.now ≡ state_of self.now.run self.now.place }
     {
@@ -117,7 +119,16 @@ impl Walk {
         let _most = self.most;
     }
 
-    /// Whether the run ends where it stands.
+    /// Does nothing. Its contract is a law: the run is one of a machine, over recorded input.
+    pub(crate) fn is_machine_run(&self)
+        ensures first { IsMachineState self.now.run.first }
+        ensures recorded { IsRecorded self.now.run.journal }
+    {
+        self.first.is_machine_state();
+        self.journal.is_recorded();
+    }
+
+    /// Whether the run ends at its place.
     pub(crate) fn is_end(&self) -> bool
         ensures { result ≡ is_end_of self.now.run self.now.place }
     {
@@ -127,7 +138,7 @@ impl Walk {
         }
     }
 
-    /// The first range of which the step from where it stands writes a byte.
+    /// The first range with a byte that the next step writes.
     pub(crate) fn watched(&self, stops: &Stops) -> Option<usize>
         ensures { result ≡ watched_of self.now.run stops.now self.now.place }
     {
@@ -137,7 +148,7 @@ impl Walk {
         stops.writes(&self.work, &self.journal, &Next::of(&self.work))
     }
 
-    // What a move forward hits where it stands, if it began elsewhere.
+    // The hit of a move forward at its place, if the move began elsewhere.
     pub(crate) fn hit(&self, stops: &Stops) -> Option<Hit>
         ensures { result ≡ option_or (broken self.now.run stops.now self.now.place) (option_map Watch (watched_of self.now.run stops.now self.now.place)) }
     {
@@ -150,7 +161,7 @@ impl Walk {
         }
     }
 
-    // Goes to the last mark that isn't behind a place that was reached.
+    // Goes to the last mark up to a place that was reached.
     fn go_to_mark(&mut self, place: u32)
         requires { place ≤ self.old.reached }
         ensures near { self.new.place ≤ place }
@@ -164,7 +175,7 @@ impl Walk {
         self.place = at;
     }
 
-    // Whether it stands before a place that was reached, and no mark is nearer before that place.
+    // Whether its place is before a place that was reached, with no mark between them.
     fn is_near(&self, place: u32) -> bool
         requires { place ≤ self.now.reached }
         ensures behind { IsTrue result → self.now.place ≤ place }
@@ -176,7 +187,7 @@ impl Walk {
         self.marks.last_to(place).1 <= self.place
     }
 
-    // The same, unless it stands nearer before that place.
+    // Goes to the last mark up to a place, unless it is already nearer before that place.
     fn come_near(&mut self, place: u32)
         requires { place ≤ self.old.reached }
         ensures near { self.new.place ≤ place }
@@ -210,7 +221,7 @@ impl Walk {
         self.go_within(place, steps);
     }
 
-    // Goes on to a place, or to the next mark where that comes first, or to the first state that is stopped.
+    // Goes on to a place, to an earlier mark, or to the first state that is stopped.
     pub(crate) fn go_towards<L: Ledger>(&mut self, place: u32, steps: &mut Steps<L>)
         requires behind { self.old.place < place }
         requires within { place ≤ self.old.run.most }
@@ -227,8 +238,8 @@ impl Walk {
         self.marks.pass(&self.work, self.place);
     }
 
-    // Goes on to the next mark or the last place, or to the first state in which a move forward ends. It tells whether it came to
-    // such a one before.
+    // Goes on to the next mark, the last place, or the first state where a move forward ends. It returns whether it
+    // found such a state before the mark.
     pub(crate) fn look_towards<L: Ledger>(&mut self, stops: &Stops, steps: &mut Steps<L>) -> bool
         requires { self.old.place < self.old.run.most }
         ensures within { (self.old.place ≤ self.new.place) × (self.new.place ≤ self.old.run.most) }
@@ -247,7 +258,7 @@ impl Walk {
         taken < count
     }
 
-    // Goes on to a place that was reached, and tells what a move backward over these steps hits first, and where.
+    // Goes on to a place that was reached. Returns what a move backward over these steps hits first, and where.
     fn look_to<L: Ledger>(
         &mut self,
         end: u32,
@@ -274,8 +285,8 @@ impl Walk {
         last
     }
 
-    // Goes from the last mark before a place to that place. It tells where the mark is, and what a move backward over the steps from
-    // there hits first, and where.
+    // Goes from the last mark before a place to that place. It returns the place of the mark. It also returns what a
+    // move backward from there hits first, and where.
     pub(crate) fn look_before<L: Ledger>(
         &mut self,
         end: u32,
@@ -319,7 +330,7 @@ impl Walk {
         self.place = place;
     }
 
-    /// Notes the steps before the place, from the last mark before it on, but no more than there is room for.
+    /// Notes the steps before the place, from the last earlier mark on, as far as there is room.
     pub(crate) fn trace<L: Ledger>(&mut self, undo: &mut Undo, steps: &mut Steps<L>)
         requires some { 0 < self.old.place }
         requires empty { undo.old.entries ≡ [] }
@@ -338,7 +349,7 @@ impl Walk {
         self.note_to(end, undo, steps);
     }
 
-    /// The bytes that the steps from a place on wrote to the output, up to where it stands.
+    /// The bytes that the steps from a place up to its own wrote to the output.
     pub(crate) fn outputs_from<L: Ledger>(
         &mut self,
         alloc: Global,

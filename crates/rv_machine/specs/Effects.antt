@@ -1,6 +1,7 @@
--- The effects of the instructions, a line each (RISC-V unprivileged manual, chapters "RV32I Base Integer Instruction Set" and
--- "M" Extension for Integer Multiplication and Division). x gives the registers by their numbers, and pc is the address of
--- the instruction. Sums are modulo 2 ^ 32. In SUB nothing is cut, since a register is below 2 ^ 32.
+-- The effects of the instructions, a line each. Source: RISC-V unprivileged manual, chapters "RV32I Base Integer
+-- Instruction Set" and "M" Extension for Integer Multiplication and Division. x gives the registers by their numbers,
+-- and pc is the address of the instruction. Sums are modulo 2 ^ 32. In SUB the subtraction doesn't truncate, since a
+-- register is below 2 ^ 32.
 use Rattle.std.specs.Prelude.{ℕ, ◌+◌, ◌-◌, ◌*◌, ◌/◌, ◌%◌, ◌^◌, ◌==◌, ◌<◌, true, false, not, nat_lt, bit_and, bit_or, bit_xor}
 use Rattle.rv_pages.specs.Memory.{wrapped}
 use Rattle.rv_decode.specs.declared.instruction.Inst.{Inst}
@@ -12,8 +13,8 @@ use Rattle.rv_machine.specs.declared.effect.Width.TheVariants.{Byte, Half, Word}
 use Rattle.rv_machine.specs.Numbers.{signed_lt, shifted_left, shifted_right, shifted_right_signed, one_if}
 use Rattle.rv_machine.specs.Products.{high_signed, high_signed_unsigned, high_unsigned, quotient_signed, quotient_unsigned, remainder_signed, remainder_unsigned}
 
--- An effect is one of these: Put rd value; Jump rd target; Branch taken target; Load rd address width with_sign; Store
--- address width value; Nothing; Call; Break.
+-- The effects: Put rd value; Jump rd target; Branch taken target; Nothing; Call; Break. Also Load rd address width
+-- with_sign; Store address width value.
 abbrev pub effect_of : (ℕ → ℕ) → ℕ → Inst → Effect
 -- upper immediates
 effect_of x pc (Lui rd imm) = Put rd imm

@@ -1,4 +1,4 @@
--- A state of the machine: what the next step depends on, and nothing of how the code keeps it.
+-- A state of the machine: what the next step depends on, independent of how the code keeps it.
 use Rattle.std.specs.Prelude.{◌≡◌, ℕ, ◌%◌, ◌^◌, ◌<◌, ◌==◌, List, [], ◌∷◌, length, slice_index, IsTrue}
 use Rattle.std.specs.List.{All, list_any}
 use Rattle.rv_pages.specs.Memory.{Memory, IsMemory}
@@ -19,19 +19,19 @@ pub record MachineState : Type 0 where
   -- the mapped addresses with their bytes
   pub memory : Memory
 
--- The causes of traps: a jump to an address that is not aligned to words, a fetch from memory that is not mapped, a word
--- that is no instruction, EBREAK, and a load from or a store to memory that is not mapped. They are the exception codes
--- of the RISC-V privileged manual, chapter "Machine-Level ISA", section "Machine Cause Register (mcause)".
+-- The causes of traps: a misaligned jump, an illegal word, EBREAK, and unmapped memory at a fetch, a load or a store.
+-- They are the exception codes of the RISC-V privileged manual, chapter "Machine-Level ISA", section "Machine Cause
+-- Register (mcause)".
 abbrev pub trap_causes : List ℕ
 trap_causes = 0 ∷ 1 ∷ 2 ∷ 3 ∷ 5 ∷ 7 ∷ []
 
--- a status as it may stand in a state: an exit code is a byte, and a trap has one of the causes
+-- a possible status: an exit code is a byte, and a trap has one of the causes
 abbrev pub IsStatus : Status → Type 0
 IsStatus Running = Unit {0}
 IsStatus (Exited code) = code < 256
 IsStatus (Trapped cause) = IsTrue (list_any (λ c. c == cause) trap_causes)
 
--- A state that a machine can be in: registers and pc are words of 32 bits, x0 is 0, and pc is aligned to words.
+-- A state that a machine can be in. Registers and pc are words of 32 bits, x0 is 0, and pc is aligned to words.
 pub record IsMachineState (s : MachineState) : Type 0 where
   pub pc : s.pc < 2 ^ 32
   pub aligned : s.pc % 4 ≡ 0

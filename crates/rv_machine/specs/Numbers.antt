@@ -3,7 +3,7 @@ use Rattle.std.specs.Prelude.{ℕ, ◌*◌, ◌/◌, ◌^◌, Bool, cond, ℤ, i
 use Rattle.std.specs.Int.{w32, cast_signed, cast_unsigned, int_shr}
 use Rattle.rv_pages.specs.Memory.{wrapped}
 
--- the number that a word is in two's complement
+-- the integer of a word in two's complement
 abbrev pub signed : ℕ → ℤ
 signed a = cast_signed w32 a
 
@@ -11,7 +11,7 @@ signed a = cast_signed w32 a
 abbrev pub signed_lt : ℕ → ℕ → Bool
 signed_lt a b = int_lt (signed a) (signed b)
 
--- a word that is shifted by so many places: left, right with zeros in, and right with the sign in
+-- a word shifted by so many places: left, logical right, and arithmetic right
 abbrev pub shifted_left : ℕ → ℕ → ℕ
 shifted_left a places = wrapped (a * 2 ^ places)
 
@@ -21,6 +21,6 @@ shifted_right a places = a / 2 ^ places
 abbrev pub shifted_right_signed : ℕ → ℕ → ℕ
 shifted_right_signed a places = cast_unsigned w32 (int_shr (signed a) places)
 
--- a truth as a word
+-- a truth value as a word
 abbrev pub one_if : Bool → ℕ
 one_if test = cond test 1 0

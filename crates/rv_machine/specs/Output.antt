@@ -1,4 +1,4 @@
--- What the steps of a run write to the program's output. A state keeps no more of it than how many bytes there were.
+-- What the steps of a run write to the program's output. A state keeps only the number of these bytes.
 use Rattle.std.specs.Prelude.{ℕ, zero, suc, ◌==◌, cond, if◌then◌else◌, List, [], ◌++◌, Option, Some, unwrap_or}
 use Rattle.rv_pages.specs.Memory.{bytes_at}
 use Rattle.rv_machine.specs.declared.effect.Effect.{Effect}

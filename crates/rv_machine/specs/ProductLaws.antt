@@ -9,20 +9,21 @@ use Rattle.rv_machine.specs.Products.{high_signed, high_signed_unsigned, high_un
 abbrev pub MakeUp : ℤ → ℕ → ℕ → Type 0
 MakeUp z high low = int_rem_euclid z (pos (2 ^ 64)) ≡ pos (high * 2 ^ 32 + low)
 
--- Each upper word of a product makes it up with the lower one, which is the same whether the numbers have signs or not.
+-- The upper and the lower word make up each product. The lower word is the same with signs and without.
 pub record AreProducts (a b : ℕ) : Type 0 where
   pub signed_both : MakeUp (signed a *ℤ signed b) (high_signed a b) (wrapped (a * b))
   pub signed_first : MakeUp (signed a *ℤ pos b) (high_signed_unsigned a b) (wrapped (a * b))
   pub signed_none : MakeUp (pos a *ℤ pos b) (high_unsigned a b) (wrapped (a * b))
 
--- a quotient and a remainder say how often a divisor goes into a dividend: what remains is smaller than the divisor, and is
--- 0 or has the sign of the dividend
+-- Quotient and remainder are those of a division. The remainder is smaller than the divisor, and is 0 or has the
+-- dividend's sign.
 pub record IsDivision (dividend divisor quotient remainder : ℤ) : Type 0 where
   pub whole : dividend ≡ quotient *ℤ divisor +ℤ remainder
   pub smaller : unsigned_abs remainder < unsigned_abs divisor
   pub sign : (remainder ≡ pos 0) ⊎ (is_negative remainder ≡ is_negative dividend)
 
--- Quotients and remainders are those of a division, but for two cases: by zero, and 80000000 by ffffffff with signs.
+-- Quotients and remainders are those of a division. The two exceptions are division by zero, and 80000000 by ffffffff
+-- with signs.
 pub record AreQuotients (a b : ℕ) : Type 0 where
   pub with_signs : b ≢ 0 → ((a ≡ 0x80000000) × (b ≡ 0xFFFFFFFF) → ⊥) →
       IsDivision (signed a) (signed b) (signed (quotient_signed a b)) (signed (remainder_signed a b))

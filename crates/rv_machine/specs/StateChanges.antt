@@ -1,4 +1,4 @@
--- What a step may do to a state, whatever it carries out.
+-- What a step may do to a state, for any instruction.
 use Rattle.std.specs.Prelude.{ℕ, zero, suc, ◌+◌, ◌==◌, cond, List, [], ◌∷◌, slice_set}
 use Rattle.rv_pages.specs.Memory.{wrapped}
 use Rattle.rv_machine.specs.declared.status.Status.TheVariants.{Trapped}
@@ -12,11 +12,11 @@ with_register registers n value = cond (n == 0) registers (slice_set registers n
 abbrev pub trapped : MachineState → ℕ → MachineState
 trapped s cause = record s { status = Trapped cause }
 
--- pc goes on to the next word
+-- pc moves to the next word
 abbrev pub gone_on : MachineState → MachineState
 gone_on s = record s { pc = wrapped (s.pc + 4) }
 
--- a register gets a value, and pc goes on
+-- a register gets a value, and pc moves to the next word
 abbrev pub put : MachineState → ℕ → ℕ → MachineState
 put s rd value = record s { pc = wrapped (s.pc + 4); registers = with_register s.registers rd value }
 

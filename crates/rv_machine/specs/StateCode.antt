@@ -1,4 +1,4 @@
--- How a state is told from another: as the tuple of its fields.
+-- A state's code for comparisons: the tuple of its fields.
 use Rattle.std.specs.Prelude.{ℕ, List, refl}
 use Rattle.std.specs.Coded.{Coded, code_by, coded×, coded_ℕ, coded_list}
 use Rattle.std.specs.FinMap as finmap

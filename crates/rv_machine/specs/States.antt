@@ -1,5 +1,5 @@
--- The states of a run: the state after each number of steps from a first one. Nothing here knows of programs, of images or
--- of schedules.
+-- The states of a run: the state after each number of steps from a first one. This file doesn't mention programs,
+-- images or schedules.
 use Rattle.std.specs.Prelude.{ℕ, zero, suc, List}
 use Rattle.rv_machine.specs.MachineState.{MachineState}
 use Rattle.rv_machine.specs.StepTable.{next}

@@ -1,5 +1,5 @@
--- One step of the machine: what the effect of an instruction does to a state, and the traps, which are our own choice
--- where the manual leaves them to the execution environment. Memory is a map of single bytes.
+-- One step of the machine: what the effect of an instruction does to a state, and the traps. The traps are our own
+-- choice where the manual leaves them to the execution environment. Memory is a map of single bytes.
 use Rattle.std.specs.Prelude.{ℕ, ◌+◌, ◌*◌, ◌%◌, ◌==◌, Bool, true, false, cond, List, [], slice_index, Option, Some, None, is_some}
 use Rattle.std.specs.Option.{option_and_then, option_map_or}
 use Rattle.rv_pages.specs.Memory.{wrapped, number_at, word_at, with_number}
@@ -20,8 +20,8 @@ use Rattle.rv_machine.specs.SystemCalls.{called, written_by_call}
 abbrev pub jumped : MachineState → ℕ → ℕ → MachineState
 jumped s rd target = cond (target % 4 == 0) (record s { pc = target; registers = with_register s.registers rd (wrapped (s.pc + 4)) }) (trapped s 0)
 
--- A load of the number that stands there, if all its bytes are mapped, as a word: with or without its sign. Trap 5: they
--- are not.
+-- A load of a number whose bytes are all mapped, as a word, with sign extension or without. Trap 5: they are not
+-- mapped.
 abbrev pub loaded : MachineState → ℕ → Width → Bool → Option ℕ → MachineState
 loaded s rd width with_sign None = trapped s 5
 loaded s rd width with_sign (Some n) = put s rd (cond with_sign (sign_extended (8 * bytes_of width) n) n)
@@ -33,7 +33,7 @@ stored s at width value = cond (is_some (number_at s.memory at (bytes_of width))
   memory = with_number s.memory at (bytes_of width) value;
 }) (trapped s 7)
 
--- What an effect does, with the recorded input. A branch that is taken is a jump that leaves nothing. Trap 3: EBREAK.
+-- What an effect does, with the recorded input. A taken branch is a jump that writes no register. Trap 3: EBREAK.
 abbrev pub happened : MachineState → List (List ℕ) → Effect → MachineState
 happened s journal (Put rd value) = put s rd value
 happened s journal (Jump rd target) = jumped s rd target
@@ -48,7 +48,7 @@ happened s journal Break = trapped s 3
 abbrev pub effect_in : MachineState → Inst → Effect
 effect_in s inst = effect_of (λ n. slice_index s.registers n) s.pc inst
 
--- what a word says in a state. Trap 2: it is illegal
+-- what a word means in a state. Trap 2: it is illegal
 abbrev pub said : MachineState → List (List ℕ) → Option Inst → MachineState
 said s journal None = trapped s 2
 said s journal (Some inst) = happened s journal (effect_in s inst)
@@ -77,7 +77,7 @@ written_by s journal _ = []
 abbrev pub effect_at_pc : MachineState → Option Effect
 effect_at_pc s = option_and_then (λ w. option_and_then (λ inst. Some (effect_in s inst)) (decoded w)) (word_at s.memory s.pc)
 
--- the register that an effect gives a value, where it doesn't trap; that of x0 stands for none
+-- the register that an effect writes, if it doesn't trap; x0 means none
 abbrev pub register_of : Effect → ℕ
 register_of (Put rd value) = rd
 register_of (Jump rd target) = rd
@@ -89,6 +89,6 @@ register_of _ = 0
 abbrev pub register_changed : MachineState → ℕ
 register_changed s = cond (is_running s.status) (option_map_or register_of (effect_at_pc s) 0) 0
 
--- the addresses that the next step writes, also where it writes the byte that is there
+-- the addresses that the next step writes, even with unchanged bytes
 abbrev pub written : MachineState → List (List ℕ) → List ℕ
 written s journal = cond (is_running s.status) (written_by s journal (effect_at_pc s)) []

@@ -1,6 +1,6 @@
--- The system calls. a7 (x17) says which, a0 to a2 (x10 to x12) are its arguments, and the answer goes into a0. Numbers and
--- arguments are those of Linux on RISC-V (asm-generic/unistd.h), and so are the errors, negated (asm-generic/errno-base.h
--- and errno.h). The descriptor in a0 isn't looked at: recorded input is all the input there is.
+-- The system calls. a7 (x17) has the number, and a0 to a2 (x10 to x12) have the arguments. The answer goes into a0.
+-- Numbers and arguments are those of Linux on RISC-V (asm-generic/unistd.h). So are the errors, negated
+-- (asm-generic/errno-base.h and errno.h). The descriptor in a0 is ignored: recorded input is the only input.
 use Rattle.std.specs.Prelude.{ℕ, ◌+◌, ◌%◌, ◌^◌, ◌==◌, ◌||◌, Bool, if◌then◌else◌, List, [], length, take, drop, slice_index, slice_get, nat_le, Option, Some, None, is_some}
 use Rattle.rv_pages.specs.Memory.{Memory, bytes_at, with_bytes}
 use Rattle.rv_machine.specs.declared.status.Status.TheVariants.{Exited}
@@ -11,7 +11,7 @@ use Rattle.rv_machine.specs.StateChanges.{put, addresses}
 abbrev pub argument : MachineState → ℕ → ℕ
 argument s n = slice_index s.registers (10 + n)
 
--- an answer in two's complement: EFAULT is -14, a byte isn't mapped; ENOSYS is -38, there is no such call
+-- An answer in two's complement. EFAULT, -14: a byte isn't mapped. ENOSYS, -38: there is no such call.
 abbrev pub not_mapped : ℕ
 not_mapped = 0xFFFFFFF2
 
@@ -22,11 +22,11 @@ no_such_call = 0xFFFFFFDA
 abbrev pub are_mapped : Memory → ℕ → ℕ → Bool
 are_mapped m at n = is_some (bytes_at m at n)
 
--- read (63): the bytes that it takes are the next ones of the item, at most a2, and none beyond its end
+-- read (63): the next bytes of the item, at most a2, and none beyond its end
 abbrev pub bytes_read : MachineState → List ℕ → List ℕ
 bytes_read s item = take (argument s 2) (drop s.offset item)
 
--- the place behind so many bytes more of an item; an item that was read to its end is left
+-- the place so many bytes of an item further; an item that was read to its end is left
 abbrev pub moved : MachineState → List ℕ → ℕ → MachineState
 moved s item n = if nat_le (length item) (s.offset + n) then record s { item = s.item + 1; offset = 0 } else record s { offset = s.offset + n }
 
@@ -39,7 +39,7 @@ abbrev pub read_from : MachineState → Option (List ℕ) → MachineState
 read_from s None = put s 10 0
 read_from s (Some item) = if are_mapped s.memory (argument s 1) (length (bytes_read s item)) then received s item (bytes_read s item) else put s 10 not_mapped
 
--- write (64): the a2 bytes at a1 are counted, modulo 2 ^ 64, and kept nowhere
+-- write (64): the a2 bytes at a1 are counted, modulo 2 ^ 64, but not kept
 abbrev pub sent : MachineState → MachineState
 sent s = if are_mapped s.memory (argument s 1) (argument s 2) then put (record s { written = (s.written + argument s 2) % 2 ^ 64 }) 10
     (argument s 2) else put s 10 not_mapped
@@ -48,7 +48,7 @@ sent s = if are_mapped s.memory (argument s 1) (argument s 2) then put (record s
 abbrev pub exited : MachineState → MachineState
 exited s = record s { status = Exited (argument s 0 % 256) }
 
--- what a call makes of a state, with the recorded input
+-- the state after a call, with the recorded input
 abbrev pub called : MachineState → List (List ℕ) → MachineState
 called s journal =
     if argument s 7 == 63 then read_from s (slice_get journal s.item) else

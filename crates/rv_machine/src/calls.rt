@@ -1,4 +1,4 @@
-// What a system call makes of a state.
+// How a system call changes a state.
 ghost use Rattle.std.specs.Prelude.{◌≡◌, ◌+◌, ◌<◌, ◌≤◌, ◌^◌, if◌then◌else◌, [], length, slice_get, Some};
 ghost use Rattle.input_journal.specs.Form.{IsShort};
 ghost use Rattle.rv_pages.specs.Memory.{bytes_at, page_numbers};
@@ -21,7 +21,7 @@ const EXIT: u32 = 93;
 
 const EXIT_GROUP: u32 = 94;
 
-// Where a call finds its arguments and its number. The answer goes where the first argument was.
+// The registers of a call's arguments and number. The answer replaces the first argument.
 const A0: usize = 10;
 
 const A1: usize = 11;
@@ -37,7 +37,7 @@ const NOT_MAPPED: u32 = 0xffff_fff2;
 
 const NO_SUCH_CALL: u32 = 0xffff_ffda;
 
-/// Makes the state what it is after the system call that its registers name. It takes no memory.
+/// Performs the system call that the registers of the state name. It takes no memory.
 #[inline(never)]
 pub(crate) fn call(state: &mut State, journal: &Journal)
     ensures state { state.new ≡ called state.old journal.now }
@@ -80,7 +80,7 @@ fn next_bytes<'a>(state: &State, item: &'a [u8]) -> &'a [u8]
     &item[start..start + count]
 }
 
-// Moves the place in the recorded input behind so many bytes more of an item.
+// Moves the place in the recorded input so many bytes of an item further.
 fn move_on(state: &mut State, item: &[u8], count: u32)
     requires next { state.old.item + 1 < 2 ^ 32 }
     requires short { IsShort item.now }
@@ -113,7 +113,7 @@ fn exit(state: &mut State)
     state.status = Status::Exited((state.x[A0] % 256) as u8);
 }
 
-/// Where a call writes, if the bytes there are mapped: no address, if it is no read of recorded input.
+/// Where a call writes, if the bytes there are mapped; no address, if it doesn't read recorded input.
 pub(crate) fn span_read(state: &State, journal: &Journal) -> Span
     ensures { written_by_call state.now journal.now
         ≡ (if are_mapped state.now.memory result.at result.count then addresses result.at result.count else []) }
@@ -127,7 +127,7 @@ pub(crate) fn span_read(state: &State, journal: &Journal) -> Span
     }
 }
 
-/// Where the bytes stand that a call writes to the output: no address, if it is no write of mapped bytes.
+/// The bytes that a call writes to the output; no addresses, if it doesn't write mapped bytes.
 pub(crate) fn span_sent(state: &State) -> Span
     ensures { bytes_at state.now.memory result.at result.count ≡ Some (output_of_call state.now) }
 {

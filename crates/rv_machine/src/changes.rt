@@ -1,4 +1,4 @@
-// What a step may do to a state, whatever it carries out.
+// What a step may do to a state, for any instruction.
 ghost use Rattle.std.specs.Prelude.{◌≡◌, ◌<◌};
 ghost use Rattle.rv_machine.specs.MachineState.{IsStatus};
 ghost use Rattle.rv_machine.specs.StateChanges.{put as put_in, gone_on, trapped};
@@ -15,7 +15,7 @@ pub(crate) fn trap(state: &mut State, cause: u8)
     state.status = Status::Trapped(cause);
 }
 
-/// pc goes on to the next word.
+/// pc moves to the next word.
 #[inline(always)]
 pub(crate) fn go_on(state: &mut State)
     ensures { state.new ≡ gone_on state.old }
@@ -23,7 +23,7 @@ pub(crate) fn go_on(state: &mut State)
     state.pc = state.pc.wrapping_add(4);
 }
 
-/// A register gets a value, and pc goes on.
+/// A register gets a value, and pc moves to the next word.
 #[inline(always)]
 pub(crate) fn put(state: &mut State, rd: u8, value: u32)
     requires { rd < 32 }

@@ -9,8 +9,7 @@ use rv_pages::Pages;
 // The bytes of a page, as a part of an address.
 const SIZE: u32 = 4096;
 
-/// The page of the last instruction that was fetched, with its index, so that it isn't looked for as long as instructions
-/// are fetched from it.
+/// The page of the last fetched instruction, with its index. While instructions come from it, it isn't looked up again.
 #[derive(Clone, Copy)]
 pub(crate) struct CodePage {
     number: u32,
@@ -18,7 +17,7 @@ pub(crate) struct CodePage {
 }
 
 impl CodePage {
-    /// No page: none has that number.
+    /// No page: no page has that number.
     pub(crate) fn none() -> CodePage
         ensures { (numbers : List ℕ) → IsFound numbers result }
     {

@@ -26,7 +26,7 @@ pub(crate) enum Width {
     Word,
 }
 
-/// What an instruction does. Where no case says otherwise, pc goes on to the next word.
+/// What an instruction does. Unless a case says otherwise, pc moves to the next word.
 #[derive(Clone, Copy)]
 pub(crate) enum Effect {
     /// The register with a number gets a value.
@@ -35,9 +35,9 @@ pub(crate) enum Effect {
     Jump(u8, u32),
     /// pc becomes a target, if the branch is taken.
     Branch(bool, u32),
-    /// The register with a number gets what stands at an address, with its sign or without one.
+    /// Loads a register from an address, with sign extension or without.
     Load(u8, u32, Width, bool),
-    /// The lowest bytes of a value go to an address.
+    /// Stores the lowest bytes of a value at an address.
     Store(u32, Width, u32),
     /// Nothing else.
     Nothing,

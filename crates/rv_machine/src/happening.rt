@@ -1,4 +1,4 @@
-// What an effect makes of a state.
+// How an effect changes a state.
 ghost use Rattle.std.specs.Prelude.{◌≡◌, ◌+◌, ◌*◌, ◌<◌, cond, is_some, IsTrue, IsFalse};
 ghost use Rattle.std.specs.Option.{option_map};
 ghost use Rattle.rv_pages.specs.Memory.{number_at, with_number, page_numbers};
@@ -23,7 +23,7 @@ const LOAD_UNMAPPED: u8 = 5;
 
 const STORE_UNMAPPED: u8 = 7;
 
-/// Makes the state what it is after the effect, with the recorded input.
+/// Applies the effect to the state, with the recorded input.
 #[inline(always)]
 pub(crate) fn happen(state: &mut State, journal: &Journal, effect: Effect)
     requires { NamesRegister effect }
@@ -65,7 +65,7 @@ fn jump(state: &mut State, rd: u8, target: u32)
     }
 }
 
-// The number of so many bytes at an address, as a word with or without its sign, if they are mapped.
+// The number of so many mapped bytes at an address, as a word, with sign extension or without.
 #[inline(always)]
 fn load(pages: &Pages, at: u32, width: Width, with_sign: bool) -> Option<u32>
     ensures { result ≡ option_map (λ n. cond with_sign (sign_extended (8 * bytes_of width) n) n) (number_at pages.now at (bytes_of width)) }
@@ -93,7 +93,7 @@ fn signed_half(half: u16) -> u32
     (half.cast_signed() as i32).cast_unsigned()
 }
 
-// Stores the lowest bytes of a value, if all their addresses are mapped, and answers whether it did.
+// Stores the lowest bytes of a value, if all their addresses are mapped, and returns whether it did.
 #[inline(always)]
 fn store(pages: &mut Pages, at: u32, width: Width, value: u32) -> bool
     ensures stored { result ≡ is_some (number_at pages.old at (bytes_of width)) }

@@ -8,26 +8,26 @@ ghost use Rattle.rv_machine.specs.States.{state_number};
 ghost use Rattle.rv_machine.specs.StepChanges.{IsStep};
 ghost use Rattle.rv_machine.specs.StepTable.{next, register_changed, written};
 
-/// The upper word of a product of words, read with signs or without, is that of the product of whole numbers: together with
-/// the lower one, which is the same in each reading, it is that product modulo 2 ^ 64.
+/// The upper and lower words of a product make up the product of whole numbers modulo 2 ^ 64. This holds for signed and
+/// unsigned readings. The lower word is the same in each reading.
 pub fn products_have_two_words()
     ensures { (a b : ℕ) → a < 2 ^ 32 → b < 2 ^ 32 → AreProducts a b }
 {}
 
-/// A quotient and a remainder of words, read with signs or without, are those of one division of whole numbers; where there
-/// is none, or where it does not fit, they have the values of their own that the manual gives them.
+/// A quotient and a remainder, signed or unsigned, are those of one division of whole numbers. Division by zero and
+/// overflow give the values in the manual.
 pub fn quotients_leave_remainders()
     ensures { (a b : ℕ) → a < 2 ^ 32 → b < 2 ^ 32 → AreQuotients a b }
 {}
 
-/// From a state that a machine can be in, steps with recorded input lead to such states only.
+/// From a machine state, steps with recorded input lead to machine states only.
 pub fn runs_stay_in_machine_states()
     ensures { (first : MachineState) (journal : List (List ℕ)) (n : ℕ) → IsMachineState first → IsRecorded journal →
         IsMachineState (state_number first journal n) }
 {}
 
-/// A step changes one register and the bytes at the addresses that it writes, all of which are mapped, and no others. It
-/// unmaps nothing, and writes at most four bytes beside those that it reads of the recorded input.
+/// A step changes one register and the bytes at the addresses that it writes, which are all mapped. It unmaps nothing.
+/// It writes at most four bytes more than it reads of the recorded input.
 pub fn steps_change_what_they_name()
     ensures { (s : MachineState) (journal : List (List ℕ)) → IsStep s (next s journal) (register_changed s) (written s journal) journal }
 {}

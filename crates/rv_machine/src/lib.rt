@@ -1,9 +1,16 @@
-//! The machine: its state, and one step of it. It stands on the instruction words, the memory and the recorded input;
-//! program files, images, the runner and the top call stand on it. `specs/Effects.antt` has what each instruction does, a
-//! line each, `specs/SystemCalls.antt` what each system call does, `specs/StepTable.antt` what that makes of a state, over a
-//! map of bytes, and `specs/Output.antt` what it writes to the output; the code may keep pages and decoded instructions as it
-//! likes. Of the crate's functions only `step`, `advance`, `advance_watched` and `advance_until` take steps, and each step
-//! counts one. The fields of a state are public: a caller may make and change states itself, and nothing is counted then.
+//! The machine: its state, and one step of it. It uses `rv_decode`, `rv_pages` and `input_journal`. Most crates above
+//! them use it.
+//!
+//! In `specs/`:
+//!
+//! - `Effects`: what each instruction does, a line each.
+//! - `SystemCalls`: what each system call does.
+//! - `StepTable`: what that makes of a state, over a map of bytes.
+//! - `Output`: what a step writes to the output.
+//!
+//! The specs don't mention pages and decoded instructions, which the code keeps. Only `step`, `advance`,
+//! `advance_watched` and `advance_until` take steps, and each step counts one. The fields of a state are public. A
+//! caller may change states itself, which counts nothing.
 #![tactic(auto)]
 
 mod calls;

@@ -13,8 +13,8 @@ const KEPT: usize = 1024;
 // The word of ECALL.
 const ECALL: u32 = 0x00000073;
 
-/// Keeps instructions by the addresses of their words, so that a word that comes again at its address is decoded once. Two
-/// addresses share a place where they differ by a multiple of as many words as are kept.
+/// Decoded instructions by the addresses of their words. A word that returns to its address is decoded once. Two
+/// addresses share a place if they differ by a multiple of so many words.
 #[derive(Drop)]
 pub(crate) struct Memo {
     words: [u32; KEPT],
@@ -33,7 +33,7 @@ impl Memo {
         }
     }
 
-    /// The instruction that the word at an address says, or `None` for an illegal word.
+    /// The instruction of the word at an address, or `None` for an illegal word.
     #[inline(always)]
     pub(crate) fn decode(&mut self, at: u32, word: u32) -> Option<Inst>
         ensures table { result ≡ decoded word }
@@ -57,7 +57,7 @@ impl Memo {
         self.insts[place]
     }
 
-    // Puts a word at a place, if it is legal, and answers whether it did.
+    // Puts a word at a place, if it is legal, and returns whether it did.
     #[inline(never)]
     fn enter(&mut self, place: usize, word: u32) -> bool
         requires { place < 1024 }

@@ -1,5 +1,5 @@
 // What the next step of a state does, and what it may change.
-ghost use Rattle.std.specs.Prelude.{◌≡◌, ◌<◌, cond, if◌then◌else◌, [], Some, None, IfSome};
+ghost use Rattle.std.specs.Prelude.{◌≡◌, ◌<◌, cond, if◌then◌else◌, [], Some, None, IfSome, IsFalse};
 ghost use Rattle.rv_pages.specs.Memory.{bytes_at, page_numbers};
 ghost use Rattle.rv_machine.specs.Effects.{bytes_of, NamesRegister};
 ghost use Rattle.rv_machine.specs.StateChanges.{addresses};
@@ -19,17 +19,17 @@ use crate::span::Span;
 use crate::state::State;
 use crate::status::Status;
 use input_journal::Journal;
+use rv_decode::Inst::{Ecall, Sb, Sh, Sw};
 use rv_decode::{Inst, decode};
 
-/// What the next step of a state does: an instruction. There is none where the state is stopped, or the step traps for want of
-/// one.
+/// The instruction of a state's next step. None: the state is stopped, or the step traps because it has no instruction.
 #[derive(Clone, Copy)]
 pub struct Next {
     pub(crate) inst: Option<Inst>,
 }
 
 impl Next {
-    /// What the next step of a state does. It takes no memory.
+    /// The next step of a state. It takes no memory.
     pub fn of(state: &State) -> Next
         ensures { IsNext result state.now }
     {
@@ -40,7 +40,7 @@ impl Next {
         Next { inst }
     }
 
-    // The same, from a page that was found and by what was decoded before. It is for loops over steps.
+    // The next instruction, from a page that was found and the instructions decoded before. Loops over steps use it.
     #[inline(always)]
     pub(crate) fn by(state: &State, code: &mut CodePage, memo: &mut Memo) -> Next
         requires { IsFound (page_numbers state.now.memory) code.old }
@@ -71,14 +71,17 @@ impl Next {
         }
     }
 
-    /// Where the step writes, if all the bytes there are mapped, and else it writes nowhere. It doesn't look whether they are,
-    /// which `changes` does.
+    /// Where the step writes, if all the bytes there are mapped; it writes nothing otherwise. `changes` checks whether
+    /// they are mapped; this doesn't.
     #[inline(always)]
     pub fn aim(&self, state: &State, journal: &Journal) -> Span
         requires { IsNext self.now state.now }
         ensures { written state.now journal.now
             ≡ (if are_mapped state.now.memory result.at result.count then addresses result.at result.count else []) }
     {
+        if !self.may_write(state, journal) {
+            return Span::NONE;
+        }
         match self.effect(state) {
             Some(Store(at, width, _)) => span_stored(at, width),
             Some(Call) => span_read(state, journal),
@@ -86,7 +89,16 @@ impl Next {
         }
     }
 
-    /// Where the bytes stand that the step writes to the program's output.
+    // Whether the step stores or calls. No other one writes.
+    #[inline(always)]
+    fn may_write(&self, state: &State, journal: &Journal) -> bool
+        requires { IsNext self.now state.now }
+        ensures { IsFalse result → written state.now journal.now ≡ [] }
+    {
+        matches!(self.inst, Some(Sb { .. } | Sh { .. } | Sw { .. } | Ecall))
+    }
+
+    /// The bytes that the step writes to the program's output.
     #[inline(always)]
     pub fn output(&self, state: &State) -> Span
         requires { IsNext self.now state.now }
@@ -116,7 +128,7 @@ impl Next {
 /// What a step may change in the registers and in the memory.
 #[derive(Clone, Copy)]
 pub struct Changes {
-    /// The number of a register. That of x0, which always is 0, stands for none.
+    /// The number of a register. x0, which always is 0, means none.
     pub register: u8,
     /// The first address that is written.
     pub at: u32,

@@ -10,7 +10,7 @@ fn upper_word(number: i64) -> u32
     ((number >> 32) as i32).cast_unsigned()
 }
 
-// The upper word of a product: both numbers have signs, the first alone has one, neither has one.
+// The upper word of a product: signed by signed, signed by unsigned, and unsigned by unsigned.
 #[inline(always)]
 pub(crate) fn high_signed(a: u32, b: u32) -> u32
     ensures { result ≡ high_signed_of a b }
@@ -33,7 +33,7 @@ pub(crate) fn high_unsigned(a: u32, b: u32) -> u32
     (product >> 32) as u32
 }
 
-// A quotient, cut towards zero. By zero it has all bits set.
+// A quotient, rounded towards zero. By zero it has all bits set.
 #[inline(always)]
 pub(crate) fn quotient_signed(a: u32, b: u32) -> u32
     ensures { result ≡ quotient_signed_of a b }
@@ -53,7 +53,7 @@ pub(crate) fn quotient_unsigned(a: u32, b: u32) -> u32
     if b == 0 { u32::MAX } else { a / b }
 }
 
-// What a quotient leaves of the dividend. By zero that is all of it.
+// The remainder of a division. By zero it is the dividend.
 #[inline(always)]
 pub(crate) fn remainder_signed(a: u32, b: u32) -> u32
     ensures { result ≡ remainder_signed_of a b }

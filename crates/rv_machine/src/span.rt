@@ -1,11 +1,11 @@
 // Runs of addresses.
 
-/// So many addresses from one on, one after the other, modulo 2 ^ 32.
+/// So many consecutive addresses from one on, modulo 2 ^ 32.
 #[derive(Clone, Copy, Debug, PartialEq, Eq)]
 pub struct Span {
     /// The first address.
     pub at: u32,
-    /// How many there are.
+    /// The number of addresses.
     pub count: u32,
 }
 

@@ -10,7 +10,7 @@ use rv_pages::Pages;
 use std::alloc::AllocError;
 use std::marker::Model;
 
-/// A state of the machine: all that its next step depends on, beside the recorded input.
+/// A state of the machine: all that its next step depends on, besides the recorded input.
 #[derive(Drop)]
 pub struct State {
     /// The address of the next instruction.
@@ -61,7 +61,7 @@ impl Clone for State {
 }
 
 impl State {
-    /// Does nothing. Its contract is a law: a state is one that a machine can be in.
+    /// Does nothing. Its contract is a law: every state is a machine state.
     pub fn is_machine_state(&self)
         ensures { IsMachineState self.now }
     {
@@ -70,7 +70,7 @@ impl State {
         are_below(self.pc, self.item, self.offset, self.written);
     }
 
-    /// Makes this state the other one. It takes no memory: the pages are those that are mapped already.
+    /// Copies another state into this one. It takes no memory, since the pages are already mapped.
     pub fn copy_from(&mut self, other: &State)
         requires { page_numbers self.old.memory ≡ page_numbers other.now.memory }
         ensures { self.new ≡ other.now }
@@ -95,7 +95,7 @@ impl State {
     }
 }
 
-// Do nothing: words of 32 bits are below 2 ^ 32, and a number of 64 bits is below 2 ^ 64.
+// Do nothing. Their contracts are laws: words are below 2 ^ 32, and numbers of 64 bits below 2 ^ 64.
 fn are_words(words: &[u32])
     ensures { All (λ x. x < 2 ^ 32) words.now }
 {}

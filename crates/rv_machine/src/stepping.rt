@@ -25,8 +25,7 @@ const UNMAPPED: u8 = 1;
 
 const ILLEGAL: u8 = 2;
 
-/// Takes one step, with the recorded input. It takes no memory. A stopped state stays as it is, and the step counts all
-/// the same.
+/// Takes one step, with the recorded input. It takes no memory. A stopped state doesn't change, but the step counts.
 pub fn step<L: Ledger>(state: &mut State, journal: &Journal, steps: &mut Steps<L>)
     ensures next { state.new ≡ next state.old journal.now }
     ensures counted { steps.new ≡ steps.old + 1 }
@@ -35,7 +34,7 @@ pub fn step<L: Ledger>(state: &mut State, journal: &Journal, steps: &mut Steps<L
     advance(state, journal, 1, steps);
 }
 
-/// Takes so many steps, as `step` takes one.
+/// Takes so many steps, each like `step`.
 pub fn advance<L: Ledger>(state: &mut State, journal: &Journal, count: u32, steps: &mut Steps<L>)
     ensures states { state.new ≡ state_number state.old journal.now count }
     ensures counted { steps.new ≡ steps.old + count }
@@ -44,7 +43,7 @@ pub fn advance<L: Ledger>(state: &mut State, journal: &Journal, count: u32, step
     advance_watched(state, journal, count, steps, &mut Nobody);
 }
 
-/// Takes so many steps, and lets a watch look at each before it is taken.
+/// Takes so many steps. A watcher looks at each before it is taken.
 pub fn advance_watched<L: Ledger, W: Watch>(
     state: &mut State,
     journal: &Journal,
@@ -62,8 +61,8 @@ pub fn advance_watched<L: Ledger, W: Watch>(
     go_on(state, journal, count, &mut steps.memo, watch);
 }
 
-// Goes so many states on. All steps that are watched alike are taken in this loop alone: a compiler puts what a step does
-// in place only where one call of it stands in the whole program, and a call at each step costs a tenth of it.
+// Takes so many steps. All steps with one kind of watcher run in this single loop. The compiler inlines a step only if
+// the program has one call of it. A call at each step costs a tenth of the time.
 #[inline(never)]
 fn go_on<W: Watch>(state: &mut State, journal: &Journal, count: u32, memo: &mut Memo, watch: &mut W)
     requires { CanNote W.can_note W.noted state.old journal.now count watch.old }
@@ -79,7 +78,7 @@ fn go_on<W: Watch>(state: &mut State, journal: &Journal, count: u32, memo: &mut 
     }
 }
 
-/// Takes steps until the state is stopped, or `stop` says so of it, and at most so many. It tells how many it took.
+/// Takes at most so many steps, until the state stops or `stop` says so. It returns how many it took.
 pub fn advance_until<L: Ledger, S: Stop>(
     state: &mut State,
     journal: &Journal,
@@ -99,7 +98,7 @@ pub fn advance_until<L: Ledger, S: Stop>(
     taken
 }
 
-// Goes so many states on, or until the run is to be stopped.
+// Takes so many steps, or fewer if the run is stopped.
 #[inline(never)]
 fn go_until<S: Stop>(
     state: &mut State,
@@ -116,8 +115,11 @@ fn go_until<S: Stop>(
 {
     let mut code = CodePage::none();
     for done in 0..count {
+        if is_stopped(state) || stop.is_at(state) {
+            return done;
+        }
         let next = Next::by(state, &mut code, memo);
-        if is_stopped(state) || stop.stops(state, journal, &next) {
+        if stop.stops(state, journal, &next) {
             return done;
         }
         take(state, journal, next);
@@ -149,7 +151,8 @@ fn take(state: &mut State, journal: &Journal, step: Next)
     }
 }
 
-// Takes a step that has no effect: a stopped state stays as it is, and in another the word at pc is not mapped, or is illegal.
+// Takes a step without an effect. A stopped state stays as it is. Otherwise the word at pc is not mapped, or is
+// illegal.
 #[inline(never)]
 fn take_without_effect(state: &mut State)
     requires { cond (is_running state.old.status) (effect_at_pc state.old) None ≡ None }
@@ -165,8 +168,7 @@ fn take_without_effect(state: &mut State)
     }
 }
 
-/// Whether the next step writes a byte at an address or at one of the three after it, also where it writes the byte that
-/// is there.
+/// Whether the next step writes any of the four bytes from `word` on, even with an unchanged value.
 pub fn wrote(state: &State, journal: &Journal, word: u32) -> bool
     requires { word ≤ 0xFFFFFFFC }
     ensures { IsTrue result ↔ Any (λ at. (word ≤ at) × (at < word + 4)) (written state.now journal.now) }
@@ -184,16 +186,16 @@ pub fn next_changes(state: &State, journal: &Journal) -> Changes
     Next::of(state).changes(state, journal)
 }
 
-/// Where the bytes stand that the next step writes to the program's output: they are mapped there, one after the other. There
-/// are none, if it writes nothing.
+/// The bytes that the next step writes to the program's output. They are mapped and consecutive. There are none if it
+/// writes nothing.
 pub fn next_output(state: &State) -> Span
     ensures { bytes_at state.now.memory result.at result.count ≡ Some (output state.now) }
 {
     Next::of(state).output(state)
 }
 
-// Whether one of so many addresses from `at` on, modulo 2 ^ 32, is one of the four from `word` on: the first of the four
-// is among them, or the first of them is among the four.
+// Whether so many addresses from `at` on overlap the four from `word` on, modulo 2 ^ 32. Then the first of the four is
+// among them, or the first of them is among the four.
 fn meets(at: u32, count: u32, word: u32) -> bool
     requires { word ≤ 0xFFFFFFFC }
     ensures { IsTrue result ↔ Any (λ a. (word ≤ a) × (a < word + 4)) (addresses at count) }

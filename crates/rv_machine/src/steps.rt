@@ -5,13 +5,13 @@ use crate::memo::Memo;
 use std::marker::Model;
 use std::sync::ledger::{Blank, Book, Ledger, Share};
 
-/// How many steps were taken. It takes no memory, and only what takes steps changes it. Beside the count, which is in no code, it
-/// keeps what was decoded last, so that it has some 12 KB.
+/// Counts the steps that were taken. It takes no memory, and only functions that take steps change it. The count isn't
+/// in compiled code. Beside it the object keeps the last decoded instructions, some 12 KB.
 #[derive(Drop)]
 pub struct Steps<L: Ledger> {
     book: Book<L>,
     share: Share<L>,
-    // What the machines decoded.
+    // Instructions decoded before.
     pub(crate) memo: Memo,
 }
 
@@ -26,7 +26,7 @@ impl<L: Ledger> Model for Steps<L> {
 }
 
 impl<L: Ledger> Steps<L> {
-    /// The count before the first step. The ledger is the caller's to choose: the count itself is in no code.
+    /// The count before the first step. The caller chooses the ledger, since the count isn't in compiled code.
     pub fn new(blank: Blank) -> Steps<L>
         requires name { blank.name ≡ L.name }
         requires parts { blank.parts ≡ L.parts }

@@ -1,34 +1,22 @@
-use Rattle.std.proofs.Common.{◌≡◌, Bool, Some, None, cond, sym, ap, ◌∙◌}
+use Rattle.std.proofs.Common.{[], List, ℕ, cond, sym, ap, ◌∙◌}
 use Rattle.std.specs.Prelude.{position}
-use Rattle.rv_machine.specs.MachineState.{MachineState}
 use Rattle.rv_machine.specs.StateChanges.{addresses}
 use Rattle.rv_machine.specs.SystemCalls.{are_mapped}
 use Rattle.run_timeline.specs.Moves.{StopList}
 use Rattle.run_timeline.specs.Ranges.{writes_in}
-use Rattle.run_timeline.proofs.Overlap.{written_first, none_either, some_or_none, then_some_is}
+use Rattle.run_timeline.proofs.Overlap.{nothing_first}
 use Rattle.run_timeline.proofs.stops.Stops.writes.Goals as goal
 
-pub returns-in_err-first : goal.returns-in_err-first
-returns-in_err-first c =
+pub returns-then-aim-eq0 : goal.returns-then-aim-eq0
+returns-then-aim-eq0 c =
     let aim = c.aim-aim.result in
-    let ranges = c.args.self.now.ranges in
     let m = are_mapped c.args.state.now.memory aim.at aim.count in
-    let first : position (writes_in (addresses aim.at aim.count)) ranges ≡ None =
-    ap (λ rs. position (writes_in (addresses aim.at aim.count)) rs) (sym (ap (λ (s : StopList). s.ranges) c.self.view_is) ∙ sym c.deref.ensures.value) ∙ sym c.first_met.ensures ∙ c.in_err-first.was
-    in
-    c.from_residual.ensures ∙ sym (written_first ranges _ aim.at aim.count m c.aim-aim.ensures ∙ none_either m _ first)
+    sym (nothing_first c.args.self.now.ranges _ aim.at aim.count m c.aim-aim.ensures c.if-aim-eq0.true)
 
 pub returns : goal.returns
 returns c =
     let aim = c.aim-aim.result in
-    let ranges = c.args.self.now.ranges in
     let m = are_mapped c.args.state.now.memory aim.at aim.count in
-    let first : position (writes_in (addresses aim.at aim.count)) ranges ≡ Some c.in_ok-first.first =
-    ap (λ rs. position (writes_in (addresses aim.at aim.count)) rs) (sym (ap (λ (s : StopList). s.ranges) c.self.view_is) ∙ sym c.deref.ensures.value) ∙ sym c.first_met.ensures ∙ c.in_ok-first.was
-    in
-    some_or_none m c.in_ok-first.first _ c.then_some.result first (
-    c.then_some.ensures
-    ∙ then_some_is c.are_mapped.result c.in_ok-first.first
-    ∙ ap (λ (b : Bool). cond b (Some c.in_ok-first.first) None) (c.are_mapped.ensures ∙ ap (λ (s : MachineState). are_mapped s.memory aim.at aim.count) c.state.view_is)
-    )
-    ∙ sym (written_first ranges _ aim.at aim.count m c.aim-aim.ensures)
+    c.first_written.ensures
+    ∙ ap (λ rs. position (writes_in (cond m (addresses aim.at aim.count) [])) rs) (c.deref.ensures.value ∙ ap (λ (s : StopList). s.ranges) c.self.view_is)
+    ∙ ap (λ (ws : List ℕ). position (writes_in ws) c.args.self.now.ranges) (sym c.aim-aim.ensures)
