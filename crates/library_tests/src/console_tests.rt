@@ -1,4 +1,4 @@
-// Scripts answered by a console: over a program that stores a word twice, and over one that adds up its input.
+// Scripts for a console: over a program that stores a word twice, and over one that sums its input.
 ghost use Rattle.std.specs.Prelude.{◌≡◌, ◌<◌, ◌≤◌};
 ghost use Rattle.plan_types.specs.declared.limits.TheConstants.{MOST_SLOTS};
 
@@ -18,7 +18,7 @@ use std::test::Fail;
 // addi x5, x0, 1; sw x5, 0(x2); sw x5, 0(x2); addi x6, x5, 2.
 const TWO_STORES: [u32; 4] = [0x00100293, 0x00512023, 0x00512023, 0x00228313];
 
-// It adds up how many bytes it reads, in the word at 0x11000.
+// It sums how many bytes it reads, in the word at 0x11000.
 const ADDER: [u32; 13] = [
     0x00011437, 0x00000513, 0x00440593, 0x00100613, 0x03f00893, 0x00000073, 0x00050a63, 0x00042283,
     0x00128293, 0x00542023, 0xfddff06f, 0x05d00893, 0x00000073,
@@ -28,7 +28,7 @@ const ADDER: [u32; 13] = [
 const TWO_LEVELS: &[u8] =
     br#"{"forward":1,"reverse":1,"levels":[{"name":"RAM","slots":4,"write":0,"read":0},{"name":"DISK","slots":8,"write":2,"read":1}]}"#;
 
-// What a console is made over.
+// What a console is built from.
 #[derive(Drop)]
 struct Over {
     start: State,
@@ -37,7 +37,7 @@ struct Over {
     book: Book,
 }
 
-// Answers a script, and writes the answers to a sink. It gives the place after them.
+// Answers a script, and writes the answers to a sink. It returns the last place.
 fn answered<K: Keeper, L: Ledger>(
     rt: &impl Abort,
     alloc: Global,
@@ -77,7 +77,7 @@ fn answered<K: Keeper, L: Ledger>(
     Ok(console.place())
 }
 
-// The same over keepers in memory.
+// The answers to a script, over keepers in memory.
 fn answered_in_memory(
     rt: &impl Abort,
     alloc: Global,
@@ -89,7 +89,7 @@ fn answered_in_memory(
     answered::<MemoryKeeper, Brand>(rt, alloc, over, script, keepers, out, Blank::new(1))
 }
 
-// Whether each line begins so, and there are no more of them.
+// Whether the lines begin with these texts, and there are no more of them.
 fn lines_begin(bytes: &[u8], fronts: &[&[u8]]) -> bool {
     let mut rest = bytes;
     for front in fronts {
@@ -101,7 +101,7 @@ fn lines_begin(bytes: &[u8], fronts: &[&[u8]]) -> bool {
     rest.is_empty()
 }
 
-// What stands behind the first line.
+// What comes after the first line.
 fn behind_line(bytes: &[u8]) -> &[u8] {
     for (i, byte) in bytes.iter().enumerate() {
         if *byte == b'\n' {
@@ -131,7 +131,7 @@ const ANSWERS: [&[u8]; 12] = [
     b"7 ", b"2 ", b"1 ", b"none\n", b"7 ", b"1 ", b"3 ", b"none\n", b"0 ", b"2 ", b"1 ", b"0 ",
 ];
 
-// Whether the orders are answered as they should be, over so many slots.
+// Whether the orders have the expected answers, over so many slots.
 fn is_gone_through(rt: &impl Abort, alloc: Global, slots: u32) -> Result<bool, Fail>
     requires { slots ≤ MOST_SLOTS }
 {

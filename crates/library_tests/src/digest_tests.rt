@@ -1,4 +1,4 @@
-// The digests of the states of a unit, taken by workers side by side.
+// The digests of the states of a unit, taken with workers in parallel.
 ghost use Rattle.std.specs.Prelude.{◌≡◌, ◌<◌, IfOk};
 ghost use Rattle.std.specs.List.{AllByRecursion};
 ghost use Rattle.unit_digests.specs.Digests.{states_of, AreDigests, HasPages};
@@ -32,8 +32,8 @@ fn check_digests(rt: &impl Abort, undo: &mut Undo, state: &mut State, known: &[O
     }
 }
 
-// So many workers take the digests of a unit of twenty steps, each so many of them, and all at once. That of the first state may be
-// known before: then it was taken where there was room for no other.
+// So many workers take the digests of a unit of twenty steps at once, each so many of them. That of the first state may
+// be known before. Then an earlier call took it, with room for no other.
 #[derive(Drop)]
 struct Case {
     workers: u32,
@@ -41,7 +41,7 @@ struct Case {
     calls: u32,
 }
 
-// What is known before: the digest of the first state, if it is to be, and nothing else. There is room for all digests.
+// What is known before: at most the digest of the first state. There is room for all digests.
 fn known_before<R: Threads + Sync>(
     rt: &R,
     alloc: Global,
@@ -63,7 +63,7 @@ fn known_before<R: Threads + Sync>(
     Ok(known)
 }
 
-// The digests are right, and taken by all workers at once.
+// The digests are right, and all workers take them at once.
 fn take_digests<L: Ledger, R: Threads + Sync>(
     rt: &R,
     abort: &impl Abort,

@@ -1,4 +1,4 @@
-// Images that are cut.
+// Truncated images.
 use crate::sessions::STACK;
 use crate::states::first_state;
 use state_image::{ImageFault, decode_image, encode_image, max_image};
@@ -7,8 +7,9 @@ use std::test::Fail;
 // addi x10, x0, 7; addi x17, x0, 93; ecall.
 const WORDS: [u32; 3] = [0x00700513, 0x05d00893, 0x00000073];
 
-// Where the fields begin of an image that stores one page: the letters, the version, pc, the registers, the status and its
-// code, the item, the offset, the number of bytes written, the number of pages, and the page with its number.
+// Where the fields of an image with one page begin. They are the letters, the version, pc, the registers, the status,
+// and its code. Then come the item, the offset, the number of bytes written, and the number of pages. The last is the
+// page with its number.
 const FIELDS: [usize; 11] = [0, 4, 8, 12, 136, 140, 144, 148, 152, 160, 164];
 
 #[test]

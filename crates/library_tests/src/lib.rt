@@ -1,8 +1,6 @@
-//! Tests of the libraries below, by their public functions alone: the memory, the recorded input, the machine, its images,
-//! the undo lists, the digests of a unit, the search for a digest, the lists and tables of plans, the runner, the questions and the
-//! console. A crate with tests is proved a second time, so those tests stand here together, and not each in the crate of what it tests.
-//! It stands on those crates, and nothing stands on it; without tests it has no function. Whether workers are at work at once no
-//! contract says: `meeting.rt` has a gate that tells it.
+//! Tests of the other libraries, by their public functions alone. It uses most crates up to `reverse_console`. No crate
+//! uses it. A crate with tests is proved a second time, so these tests share one crate. Without tests it has no
+//! function. No contract says whether workers run in parallel, so a gate in `meeting.rt` tests it.
 #![tactic(auto)]
 
 #[cfg(test)]
@@ -27,6 +25,8 @@ mod sessions;
 mod states;
 #[cfg(test)]
 mod table_tests;
+#[cfg(test)]
+mod tape_tests;
 #[cfg(test)]
 mod uncalled_tests;
 #[cfg(test)]

@@ -1,6 +1,6 @@
-// What no step of the machine shows: which pages of the memory are touched, how one memory is copied to another, that recorded
-// input is written again as it was read, and that a state is cloned. What steps do is shown by the rows and the cases of
-// machine_rows.
+// What steps of the machine don't show: which pages of the memory are touched, and how memory is copied. Also that
+// recorded input is written as it was read, and that a state is cloned. The rows and cases of machine_rows show what
+// steps do.
 ghost use Rattle.std.specs.Prelude.{◌≡◌, ◌^◌, ◌<◌, ◌≤◌, length, vec_len, IfOk};
 ghost use Rattle.std.specs.List.{All};
 ghost use Rattle.std.specs.List.Sorted.{IsStrictlyIncreasing};
@@ -66,7 +66,7 @@ fn check_last(rt: &impl Abort, pages: &Pages, count: u32)
     assert_eq!(rt; pages.next_touched(0), Some(count - 1));
 }
 
-// A clone is written in its first page too, and then made the same again.
+// A clone is written in its first page too, and then made equal again.
 fn check_clone(rt: &impl Abort, pages: &Pages, count: u32) -> Result<(), AllocError>
     requires { (1 ≤ count) × (count ≤ 4096) }
 {
@@ -141,7 +141,7 @@ fn memories_with_different_pages_written_are_copied_to_each_other(
 // One item, with the bytes 61 62.
 const ONE_ITEM: &[u8] = b"RVJL\x01\0\0\0\x01\0\0\0\x02\0\0\0ab";
 
-// No item, an item without bytes, and two items between which there is one without bytes.
+// No item, an empty item, and two items with an empty one between them.
 const JOURNALS: &[(&[u8], &[&[u8]])] = &[
     (ONE_ITEM, &[b"ab"]),
     (b"RVJL\x01\0\0\0\0\0\0\0", &[]),

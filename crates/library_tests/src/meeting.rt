@@ -4,11 +4,11 @@ use std::alloc::{AllocError, Global};
 use std::sync::atomic::{AtomicBool, AtomicU32, Ordering};
 use std::thread;
 
-// How often a worker looks whether the others have come.
+// How often a worker checks whether the others have come.
 const LOOKS: u32 = 1_000_000;
 
-/// In each of its calls, but for the first so many, a worker waits until all have come to as many. Where fewer threads than workers
-/// are at work at once, one of them waits in vain.
+/// In each of its calls but the first few, a worker waits until all workers have made as many. If fewer threads than
+/// workers run at once, one of them waits in vain.
 #[derive(Drop)]
 pub(crate) struct Meeting {
     free: u32,
@@ -17,7 +17,7 @@ pub(crate) struct Meeting {
 }
 
 impl Meeting {
-    /// A gate for so many workers, each of which has so many calls in which it doesn't wait.
+    /// A gate for so many workers. Each has so many calls in which it doesn't wait.
     pub(crate) fn new(alloc: Global, workers: u32, free: u32) -> Result<Meeting, AllocError> {
         let mut calls = Vec::with_capacity(alloc, workers as usize)?;
         for _ in 0..workers {
@@ -30,7 +30,7 @@ impl Meeting {
         })
     }
 
-    /// How many calls each worker had, where all had as many and none waited in vain.
+    /// How many calls each worker made, if all made equally many and none waited in vain.
     pub(crate) fn calls(&self) -> Option<u32> {
         let count = self.calls.first()?.load(Ordering::SeqCst);
         for calls in &self.calls {
@@ -44,7 +44,7 @@ impl Meeting {
         }
     }
 
-    // Whether all workers have come to so many calls.
+    // Whether all workers have made so many calls.
     fn have_come(&self, count: u32) -> bool {
         for calls in &self.calls {
             if calls.load(Ordering::SeqCst) < count {
@@ -54,7 +54,7 @@ impl Meeting {
         true
     }
 
-    // Whether all come to so many calls while this worker waits.
+    // Whether all make so many calls while this worker waits.
     fn meets(&self, count: u32) -> bool {
         for _ in 0..LOOKS {
             if self.have_come(count) {

@@ -25,7 +25,7 @@ use std::test::Fail;
 // addi x5, x0, 1; sw x5, 0(x2); sw x5, 0(x2); addi x6, x5, 2.
 const WORDS: [u32; 4] = [0x00100293, 0x00512023, 0x00512023, 0x00228313];
 
-// What is asked.
+// The questions of these tests.
 #[derive(Clone, Copy, Debug, PartialEq, Eq)]
 enum Ask {
     State(u32),
@@ -51,7 +51,7 @@ fn is_valid(alloc: Global, list: &[Action], book: &Book) -> Result<bool, AllocEr
     }
 }
 
-// Asks a session of four steps that stands at its start; a state is written to a sink.
+// Asks a session of four steps at its start. A state is written to a sink.
 fn ask_session<K: Keeper, L: Ledger>(
     session: &mut Session,
     list: &[Action],
@@ -82,7 +82,7 @@ fn ask_session<K: Keeper, L: Ledger>(
     }
 }
 
-// Asks over a list of four steps. It gives the answer, and how many actions were performed for it.
+// Asks over a list of four steps. It returns the answer, and how many actions were performed for it.
 fn performed<K: Keeper, L: Ledger>(
     rt: &impl Abort,
     alloc: Global,
@@ -112,7 +112,7 @@ fn performed<K: Keeper, L: Ledger>(
     Ok((step, session.done()))
 }
 
-// Asks over the four steps of the list, each of so many steps of the machine, over one level with two slots.
+// Asks over the list of four steps, each of so many machine steps, on one level with two slots.
 fn answered(
     rt: &impl Abort,
     alloc: Global,

@@ -1,4 +1,4 @@
-// That the workers of a search are at work at once, from the first state of their segments to the last.
+// That the workers of a search run in parallel, from the first state of their segments to the last.
 ghost use Rattle.std.specs.Prelude.{◌≡◌, ◌≤◌, ◌<◌};
 
 use crate::meeting::Meeting;
@@ -13,7 +13,7 @@ use std::sync::ledger::{Blank, Ledger};
 use std::test::Fail;
 use std::thread::Threads;
 
-// No state has the digest that is looked for, so each of so many workers goes through its segment of twenty states.
+// No state has the wanted digest, so each of so many workers goes through its segment of twenty states.
 fn search<L: Ledger, R: Threads + Sync>(
     rt: &R,
     abort: &impl Abort,

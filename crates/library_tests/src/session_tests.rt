@@ -1,4 +1,4 @@
-// Lists performed over four words, by keepers and writers that work and by some that fail.
+// Lists performed over four words, with working and failing keepers and writers.
 ghost use Rattle.std.specs.Prelude.{◌≡◌, ◌*◌, ◌<◌, ◌≤◌, map};
 ghost use Rattle.plan_types.specs.declared.limits.TheConstants.{MOST_STEPS};
 ghost use Rattle.reverse_runner.specs.KeepersSeen.{HaveRoom};
@@ -151,7 +151,7 @@ fn refusal<K: Keeper, V: Visitor, L: Ledger>(
     }
 }
 
-// Performs each action of a list that breaks no rule when its turn comes, and says how others were refused.
+// Performs each action that breaks no rule when its turn comes, and says how others were refused.
 fn go_through<K: Keeper, V: Visitor, L: Ledger>(
     alloc: Global,
     session: &mut Session,
@@ -171,7 +171,7 @@ fn go_through<K: Keeper, V: Visitor, L: Ledger>(
     Ok(faults)
 }
 
-// A session over the four words goes through a list for so many steps.
+// A session over the four words performs a list for so many steps.
 fn performed<K: Keeper, L: Ledger>(
     rt: &impl Abort,
     alloc: Global,
@@ -211,7 +211,7 @@ fn performed<K: Keeper, L: Ledger>(
     })
 }
 
-// Goes through a list for four steps over one level with two slots.
+// Performs a list for four steps on one level with two slots.
 fn four_steps<K: Keeper>(
     rt: &impl Abort,
     alloc: Global,
@@ -232,7 +232,7 @@ fn four_steps<K: Keeper>(
     )
 }
 
-// Goes through the list for three steps, each a unit of so many instructions.
+// Performs the list for three steps, each a unit of so many instructions.
 fn three_units<K: Keeper>(
     rt: &impl Abort,
     alloc: Global,
@@ -265,7 +265,7 @@ fn calls(keeper: &MemoryKeeper) -> (u64, u64, u64, u32) {
     )
 }
 
-// Goes through a list over a keeper with one call that fails: the action is refused, and what follows it too. It says how
+// Performs a list over a keeper with one failing call. The action is refused, and so are all later ones. It returns how
 // many actions were performed, and how often the keeper was called.
 fn refused(
     rt: &impl Abort,
@@ -293,7 +293,7 @@ fn is_damage(fault: &RunFault) -> bool {
     }
 }
 
-// How many line ends there are.
+// The number of line ends.
 fn line_ends(bytes: &[u8]) -> usize {
     let mut count = 0usize;
     for byte in bytes {
@@ -304,7 +304,7 @@ fn line_ends(bytes: &[u8]) -> usize {
     count
 }
 
-// Goes through the list over a keeper whose first get gives a wrong bit: the Copy is refused, and what follows it too.
+// Performs the list over a keeper whose first get has a wrong bit. The Copy is refused, and so are all later actions.
 fn damaged(rt: &impl Abort, alloc: Global) -> Result<(), Fail> {
     let mut keepers = vec![in alloc; FlipKeeper::new(alloc, 2, 1, 40)]?;
     let mut out = MemorySink::new(alloc, 4096)?;
@@ -377,7 +377,7 @@ fn travel(rt: &impl Abort, alloc: Global, out: &mut MemorySink) -> Result<(), Fa
     Ok(())
 }
 
-// The list of four steps hands out five states.
+// The list of four steps gives five states.
 fn stay(rt: &impl Abort, alloc: Global, out: &mut MemorySink) -> Result<(), Fail> {
     let mut keepers = vec![in alloc; MemoryKeeper::new(alloc, 2)]?;
     let seen = four_steps(rt, alloc, &LIST, &mut keepers, out)?;
@@ -393,7 +393,7 @@ fn stay(rt: &impl Abort, alloc: Global, out: &mut MemorySink) -> Result<(), Fail
 fn images_travel_between_levels(rt: HostRuntime) -> Result<(), Fail> {
     let mut out = MemorySink::new(rt.alloc(), 4096)?;
     travel(&rt, rt.alloc(), &mut out)?;
-    // The states are the last three that a list of four steps hands out over one level.
+    // The states are the last three that a list of four steps gives over one level.
     let mut all = MemorySink::new(rt.alloc(), 4096)?;
     stay(&rt, rt.alloc(), &mut all)?;
     assert_eq!(rt; all.bytes().get(2 * LINE..), Some(out.bytes()));

@@ -1,5 +1,4 @@
-// What the tests of sessions and of questions share: a list of four steps, where the stack stands, and whether there are
-// keepers for a run.
+// Shared by the tests of sessions and questions: a list of four steps, the stack's place, and a check of keepers.
 ghost use Rattle.std.specs.Prelude.{◌<◌, ◌≤◌, length, map, slice_index_or};
 ghost use Rattle.std.specs.Bool.{OnTrue};
 ghost use Rattle.level_book.specs.BookCosts.{slots_of, room};
@@ -72,7 +71,7 @@ pub(crate) const LIST: [Action; 16] = [
     Action::EndReverse,
 ];
 
-// Whether there is a keeper for a level of a book, with as many slots as a run of so many steps can use there.
+// Whether a level has a keeper with as many slots as a run of so many steps can use.
 fn has_room<K: Keeper>(keepers: &[K], book: &Book, k: u8, steps: u32) -> bool
     requires { k < length book.now.levels }
     ensures { OnTrue result ((k < length keepers.now) × (room book.now k steps ≤ slice_index_or (map K.slot_count keepers.now) k 0)) }
@@ -83,7 +82,7 @@ fn has_room<K: Keeper>(keepers: &[K], book: &Book, k: u8, steps: u32) -> bool
     }
 }
 
-// The same for each level.
+// Whether each level has a keeper with as many slots as a run of so many steps can use.
 pub(crate) fn have_room<K: Keeper>(keepers: &[K], book: &Book, steps: u32) -> bool
     ensures { OnTrue result (HaveRoom steps (slots_of book.now) (map K.slot_count keepers.now)) }
 {

@@ -1,4 +1,4 @@
-// The states that the programs of the tests start in.
+// The start states of the tests' programs.
 ghost use Rattle.std.specs.Prelude.{◌^◌, ◌<◌, ◌≤◌, length};
 ghost use Rattle.std.specs.Bool.{OnTrue};
 ghost use Rattle.std.specs.List.{All};
@@ -25,7 +25,7 @@ fn can_be_mapped(numbers: &[u32]) -> bool
     numbers.len() <= 4096
 }
 
-// The state in which words stand from 0x10000 on, and the first is next. The pages with these numbers are mapped, and all
+// The state with these words from 0x10000 on, the first of them next. It maps the pages with these numbers. All
 // registers are 0 but x2, which has the stack's address.
 pub(crate) fn first_state(
     rt: &impl Abort,

@@ -1,5 +1,5 @@
-// That workers fill the entries of tables at once, each a piece of its own, and one alone fills them the same. What the entries are a
-// contract says, and cases of whole calls show.
+// That workers fill entries of tables in parallel, each its own piece, and one worker fills them equally. A contract
+// says what the entries are, and cases of whole calls show it.
 ghost use Rattle.std.specs.Prelude.{◌≡◌, ◌<◌, ◌≤◌, length, slice_index};
 
 use crate::meeting::Meeting;
@@ -27,7 +27,7 @@ fn held(tables: &Tables, k: u8, l: u32, m: u32) -> Option<Cost> {
     }
 }
 
-// Whether two tables have the same sizes and entries.
+// Whether two tables have equal sizes and entries.
 fn are_same(a: &Tables, b: &Tables) -> bool {
     if a.steps() != b.steps() || a.levels() != b.levels() {
         return false;
@@ -44,8 +44,8 @@ fn are_same(a: &Tables, b: &Tables) -> bool {
     true
 }
 
-// So many workers fill the entries for so many steps and slots as one alone does. Each has so many calls, and all are at work at once
-// in each that comes behind those for the first rows, which are shared one at a time.
+// So many workers fill the entries for so many steps and slots as one alone does. Each makes so many calls. All run in
+// parallel in the calls after the first rows, which are shared one at a time.
 fn fill<R: Threads + Sync>(
     rt: &R,
     abort: &impl Abort,
@@ -66,8 +66,8 @@ fn fill<R: Threads + Sync>(
     Ok(())
 }
 
-// Of the rows for 20 steps 16 are shared one at a time, and the others two at a time; of those for 100 steps 16 are shared two at a
-// time, 18 three at a time, 16 four at a time, 15 five at a time, 18 six at a time, and the last one alone.
+// Of the rows for 20 steps 16 are shared one at a time, the others by two. Of those for 100 steps 16 are shared by two,
+// 18 by three, and 16 by four. Then 15 are shared by five, 18 by six, and the last one alone.
 #[test]
 fn workers_are_at_work_at_once_on_all_rows(rt: HostRuntime) -> Result<(), Fail> {
     fill(&rt, &rt, rt.alloc(), 20, 3, 18)?;

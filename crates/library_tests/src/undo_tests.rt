@@ -13,7 +13,8 @@ use std::sync::ledger::{Blank, Ledger};
 use std::test::Fail;
 use unit_undo::Undo;
 
-// Reads the journal two bytes at a time to 0x11fff, over the end of a page, and counts the reads at 0x12004; then exits.
+// Reads the journal two bytes at a time to 0x11fff, across the end of a page. Counts the reads at 0x12004, and then
+// exits.
 pub(crate) const COUNTING: [u32; 13] = [
     0x00012437, 0x00000513, 0xfff40593, 0x00200613, 0x03f00893, 0x00000073, 0x00050a63, 0x00442283,
     0x00128293, 0x00542223, 0xfddff06f, 0x05d00893, 0x00000073,
@@ -21,7 +22,7 @@ pub(crate) const COUNTING: [u32; 13] = [
 
 pub(crate) const JOURNAL: &[u8] = b"RVJL\x01\0\0\0\x02\0\0\0\x02\0\0\0\x05\x06\x01\0\0\0\x07";
 
-// A unit of steps: the undo list leads back over all states before the last.
+// Takes a unit of steps. The undo list leads back over all states before the last.
 pub(crate) fn take<L: Ledger>(
     undo: &mut Undo,
     state: &mut State,
@@ -42,7 +43,7 @@ pub(crate) fn take<L: Ledger>(
     }
 }
 
-// Two states are the same in what the program changes.
+// Two states are equal in what the program changes.
 fn check_same(rt: &impl Abort, a: &State, b: &State) {
     assert_eq!(rt;
         (a.pc, a.status, a.item, a.offset),
@@ -54,7 +55,7 @@ fn check_same(rt: &impl Abort, a: &State, b: &State) {
     }
 }
 
-// All states back.
+// Goes back over all states.
 fn go_back(undo: &mut Undo, state: &mut State)
     requires { LeadsBack undo.old.entries state.old (led_back undo.old.entries state.old) }
     ensures { (undo.new.unit ≡ undo.old.unit) × (undo.new.room ≡ undo.old.room) }

@@ -29,7 +29,7 @@ use Rattle.reversal.specs.Job.{Run, last_of, state_of}
 use Rattle.reversal.specs.Output.{line_of, Adds}
 use Rattle.reversal.specs.Moment.{Moment, KeepersAreQuiet, NothingFails, SinkFails, KeeperFails, AllTell}
 use Rattle.reversal.specs.Deeds.{Deed, States, deed_for, unseen_deed, writing, CallsSome, bytes_of, bytes_written, writes_made, steps_made, calls_made, Did}
-use Rattle.reversal.specs.Going.{AreOfRun, GoesOver, ComesTo, ComesToDamage, SameLevels, AllLevels, SparesNext, IsFound}
+use Rattle.reversal.specs.Going.{AreOfRun, GoesOver, ComesTo, ComesToDamage, SameLevels, AllLevels, SparesNext, UnreachedNext, IsFound}
 use Rattle.reversal.specs.Course.{Shown, Course, BreaksOff, EndsShowing}
 use Rattle.reversal.specs.CommandAsk.{asking_state, answer_text, IsLastStep, asking_last}
 use Rattle.reversal.specs.JobReading.{WorksBy, fault_ending, run_from}
@@ -38,7 +38,7 @@ use Rattle.reversal.proofs.Answered.{place_writes, place_bytes, steps_of_deeds}
 use Rattle.reversal.proofs.Doing.{tells_nothing, get_front, take_front, raised_none, did_then, did_one, is_until_first, failed_at, damaged_at, halted_at}
 use Rattle.reversal.proofs.Silent.{uncalled}
 use Rattle.reversal.proofs.Performing.{gets_pair}
-use Rattle.reversal.proofs.Progress.{FaultCounts}
+use Rattle.reversal.proofs.Progress.{FaultCounts, other_keeper}
 use Rattle.reversal.proofs.Demonstrating.{behind}
 use Rattle.reversal.proofs.Showing.{settled, settled_at}
 use Rattle.reverse_queries.specs.OnTheWay.{IsFoundOn}
@@ -237,6 +237,7 @@ record IsAskedOver (run : Run) (course : Course) : Type 1 where
   damage : (shown : Shown) (i k : ℕ) (put got : List ℕ) (a c : Moment) → ComesToDamage run i k put got a → course.damage shown i k put got a c
   wants : (d : Deed) → CallsSome d → course.may_want d
   holds : (Same : SameLevels) (shown : Shown) (i : ℕ) (a c : Moment) → course.holds Same shown i a c
+  stops : (shown : Shown) (i k : ℕ) (a c : Moment) → course.stops shown i k a c
   place : (n : ℕ) → n ≡ course.storage_place n
   levels : (a : Moment) → AllTell course.levels a.images → AllTell (length run.slots) a.images
 
@@ -247,25 +248,25 @@ module _ (run : Run) (course : Course) (over : IsAskedOver run course) (shown : 
       ((k : ℕ) (put got : List ℕ) → fault ≡ Damaged k put got → AllTell (length run.slots) a.images → ⊥) → FaultCounts fault a c → WorksBy course (fault_ending (i + 1) fault) a c
   refused_by (Keeper k) i d broke Misses next held states same fits there through seen silent counts =
       let C : Calls → Type 0 = λ x. 0 < x.puts k + x.gets k + x.frees k in
-      let fails : KeeperFails k a c = record { sink = counts.sink_quiet seen; keeper = counts.keeper k refl } in
-      inl (shown, (shows, inr (inr (inl (i, k, ap (λ (n : ℕ). keeper_failed n k) (over.place (i + 1)), failed_at course shown i d a c broke k (subst C (sym same) fits) (over.holds SparesNext shown i a c) fails)))))
+      let fails : KeeperFails k a c = record { sink = counts.sink_quiet seen; keeper = counts.keeper k refl; others = λ j ne. counts.keepers_quiet j (other_keeper k j ne) } in
+      inl (shown, (shows, inr (inr (inl (i, k, ap (λ (n : ℕ). keeper_failed n k) (over.place (i + 1)), failed_at course shown i d a c broke k (subst C (sym same) fits) (over.holds (UnreachedNext k) shown i a c) (over.stops shown i k a c) fails)))))
   refused_by (Damaged k put got) i d broke Misses next held states same fits there through seen silent counts =
       let C : Calls → Type 0 = λ x. 0 < x.gets k in
       let comes : ComesToDamage run i k put got a = record { held = held; states = states; through = through; next = next; there = there; holds = fits } in
       let gets = subst C (sym same) (gets_pair (λ n. run.first) run.unit run.steps next fits.number k fits.pair) in
-      let quiet : NothingFails a c = record { sink = counts.sink_quiet seen; keepers = counts.keepers_quiet (λ j e. cc) } in
+      let quiet : NothingFails a c = record { sink = counts.sink_quiet seen; keepers = λ j. counts.keepers_quiet j (λ e. cc) } in
       inl (shown, (shows, inr (inr (inr (i, k, put, got, ap (λ (n : ℕ). damaged n k put got) (over.place (i + 1)), damaged_at course shown i d a c broke k put got gets (over.damage shown i k put got a c comes) (λ tells. silent k put got refl (over.levels a tells)) (over.holds AllLevels shown i a c) quiet)))))
   refused_by Visitor i d broke Misses next held states same fits there through seen silent counts = absurd (seen refl)
   refused_by Memory i d broke Misses next held states same fits there through seen silent counts =
       let C : Calls → Type 0 = λ x. (k : ℕ) × (0 < x.puts k + x.gets k + x.frees k) in
-      let quiet : NothingFails a c = record { sink = counts.sink_quiet seen; keepers = counts.keepers_quiet (λ j e. cc) } in
+      let quiet : NothingFails a c = record { sink = counts.sink_quiet seen; keepers = λ j. counts.keepers_quiet j (λ e. cc) } in
       inr (refl, (shown, (shows, (i, halted_at course shown i d a c broke (over.wants d (subst C (sym same) fits)) (over.holds SparesNext shown i a c) quiet))))
   refused_by Ended i d broke Misses next held states same fits there through seen silent counts = absurd fits
 
 -- ---- a state
 
 state_over : (place : ℕ) (run : Run) → IsAskedOver run (asking_state place run)
-state_over place run = record { damage = λ shown i k put got a c h. h; wants = λ d h. h; holds = λ Same shown i a c. tt; place = λ n. refl; levels = λ a h. h }
+state_over place run = record { damage = λ shown i k put got a c h. h; wants = λ d h. h; holds = λ Same shown i a c. tt; stops = λ shown i k a c. tt; place = λ n. refl; levels = λ a h. h }
 
 module _ (run : Run) (place : ℕ) where
   abbrev front : List Action
@@ -346,7 +347,7 @@ module _ (run : Run) (place : ℕ) where
       ((k : ℕ) (put got : List ℕ) → fault ≡ Damaged k put got → AllTell (length run.slots) a.images → ⊥) → FaultCounts fault a c → WorksBy (asking_state place run) (fault_ending (refused.place + 1) fault) a c
   state_ended Misses Visitor new a c refused unseen misses silent counts =
       let missed = misses refused.next refused.held refused.fits in
-      state_missed Misses new a c missed.0 refused missed.1.0 missed.1.1 missed.1.2 missed.1.3 (record { sink = counts.sink refl; keepers = counts.keepers_quiet (λ j e. cc) })
+      state_missed Misses new a c missed.0 refused missed.1.0 missed.1.1 missed.1.2 missed.1.3 (record { sink = counts.sink refl; keepers = λ j. counts.keepers_quiet j (λ e. cc) })
   state_ended Misses (Keeper k) new a c refused unseen misses silent counts =
       let same = unseen (λ e. cc) in state_refused Misses (Keeper k) new a c refused same.0 same.1 (λ e. cc) silent counts
   state_ended Misses (Damaged k put got) new a c refused unseen misses silent counts =
@@ -380,7 +381,7 @@ module _ (run : Run) (place : ℕ) where
 -- ---- the last step that does something
 
 last_over : (Holds : States → ℕ → Type 0) (run : Run) → IsAskedOver run (asking_last Holds run)
-last_over Holds run = record { damage = λ shown i k put got a c h. h; wants = λ d h. h; holds = λ Same shown i a c. tt; place = λ n. refl; levels = λ a h. h }
+last_over Holds run = record { damage = λ shown i k put got a c h. h; wants = λ d h. h; holds = λ Same shown i a c. tt; stops = λ shown i k a c. tt; place = λ n. refl; levels = λ a h. h }
 
 module _ (run : Run) (Holds : States → ℕ → Type 0) where
   abbrev with_answer : Option ℕ → Shown

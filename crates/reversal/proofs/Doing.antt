@@ -10,7 +10,7 @@ use Rattle.reverse_runner.specs.KeepersSeen.{Calls, Called, CalledAtMost}
 use Rattle.reversal.specs.Output.{Adds}
 use Rattle.reversal.specs.Moment.{Moment, NothingFails, KeeperFails, AllTell}
 use Rattle.reversal.specs.Deeds.{Deed, CallsLevel, bytes_of, bytes_written, writes_made, calls_made, Did}
-use Rattle.reversal.specs.Going.{AllLevels, SparesNext}
+use Rattle.reversal.specs.Going.{AllLevels, SparesNext, UnreachedNext}
 use Rattle.reversal.specs.Course.{Shown, Course, AddsAndPart, DidUntil, BreaksOff, FailsAt, DamagedAt, Halts}
 
 -- what is told after two calls
@@ -218,10 +218,10 @@ broke_off ds i d a b c at before told writes steps called = broke_off_spending d
 
 module _ (course : Course) (shown : Shown) (i : ℕ) (d : Deed) (a c : Moment) (broke : (breaks : BreaksOff (course.deeds shown) i a c) × (breaks.next ≡ d)) where
   -- the keeper of a level that the deed calls failed there
-  pub failed_at : (level : ℕ) → CallsLevel d level → course.holds SparesNext shown i a c → KeeperFails level a c → FailsAt course shown i level a c
-  failed_at level calls held fails =
+  pub failed_at : (level : ℕ) → CallsLevel d level → course.holds (UnreachedNext level) shown i a c → course.stops shown i level a c → KeeperFails level a c → FailsAt course shown i level a c
+  failed_at level calls held stopped fails =
       let C : Deed → Type 0 = λ e. CallsLevel e level in
-      record { breaks = broke.0; calls = subst C (sym broke.1) calls; held = held; fails = fails }
+      record { breaks = broke.0; calls = subst C (sym broke.1) calls; held = held; stopped_so = stopped; fails = fails }
 
   -- an image of a level that the deed gets was damaged there
   pub damaged_at : (level : ℕ) (put got : List ℕ) → 0 < d.calls.gets level → course.damage shown i level put got a c → (AllTell course.levels a.images → ⊥) → course.holds AllLevels shown i a c → NothingFails a c → DamagedAt course shown i level put got a c

@@ -12,7 +12,7 @@ use Rattle.reverse_runner.specs.KeepersSeen.{Calls, Called, CalledAtMost}
 use Rattle.reverse_runner.proofs.AllCalls.{at_most}
 use Rattle.reverse_console.specs.declared.order.Order.{Order}
 use Rattle.reverse_console.specs.Answer.{IsAnswer}
-use Rattle.reverse_console.specs.Costs.{Effort, puts_of, gets_of, effort_of, Takes, BreaksAt, StopsAt}
+use Rattle.reverse_console.specs.Costs.{Effort, puts_of, StopsPutting, gets_of, effort_of, Takes, BreaksAt, StopsAt}
 use Rattle.reverse_console.specs.Marks.{MarkPlan, marked, mark_count, mark_level}
 use Rattle.reverse_console.specs.Refusals.{IsOfPutting, IsNotGot}
 use Rattle.reverse_console.specs.ScriptAnswers.{Moment as Between, place_after, AreAnswered, AreWritten, StopsWriting, StopsGetting, IsBrokenOff}
@@ -31,6 +31,7 @@ use Rattle.reversal.specs.CommandConsole.{setting_marks, moving, Words, AreOfOrd
 use Rattle.reversal.specs.JobReading.{WorksBy, fault_ending}
 use Rattle.reversal.proofs.Doing.{raised_none, raised_then, did_none, did_then, did_one, broke_off_spending, failed_at, damaged_at, halted_at}
 use Rattle.reversal.proofs.Pieces.{not_called}
+use Rattle.reversal.proofs.Progress.{other_keeper}
 
 -- ---- orders that were answered
 
@@ -162,16 +163,29 @@ module _ (first : MachineState) (items : List (List ℕ)) (p : MarkPlan) (orders
     put_on i k known at = let some = some_place (mark_level p) k i (mark_count p) known (sym at) in omega (arith, some)
 
     pub marks_refused : (fault : RunFault) → IsOfPutting p fault → ((k : ℕ) → fault ≡ fault_is.Keeper k → Rose (a.keeper_faults k) (c.keeper_faults k)) →
-        (((k : ℕ) → fault ≢ fault_is.Keeper k) → KeepersAreQuiet a c) → WorksBy course (fault_ending 0 fault) a c
-    marks_refused (fault_is.Keeper k) of rose quiet =
+        ((j : ℕ) → fault ≢ fault_is.Keeper j → c.keeper_faults j ≡ a.keeper_faults j) → ((k : ℕ) → fault ≡ fault_is.Keeper k → StopsPutting p k a.steps c.steps a.calls c.calls) →
+        WorksBy course (fault_ending 0 fault) a c
+    marks_refused (fault_is.Keeper k) of rose quiet stopped =
         let calls = put_on of.0 k of.1.0 of.1.1 in
-        inl (by [], (tt, inr (inr (inl (0, k, refl, failed_at course (by []) 0 (setting_marks p) a c unset k calls (λ none. absurd (omega (arith, none))) (record { sink = faults; keeper = rose k refl }))))))
-    marks_refused (fault_is.Damaged k put got) of rose quiet = absurd of
-    marks_refused fault_is.Visitor of rose quiet = absurd of
-    marks_refused fault_is.Memory of rose quiet =
+        inl (
+          by [],
+          (
+            tt,
+            inr (inr (inl (
+              0,
+              k,
+              refl,
+              failed_at course (by []) 0 (setting_marks p) a c unset k calls (λ none. absurd (omega (arith, none))) (λ none. stopped k refl)
+                  (record { sink = faults; keeper = rose k refl; others = λ j ne. quiet j (other_keeper k j ne) }),
+            ))),
+          ),
+        )
+    marks_refused (fault_is.Damaged k put got) of rose quiet stopped = absurd of
+    marks_refused fault_is.Visitor of rose quiet stopped = absurd of
+    marks_refused fault_is.Memory of rose quiet stopped =
         let calls = put_on 0 (mark_level p 0) (first_known p) refl in
-        inr (refl, (by [], (tt, (0, halted_at course (by []) 0 (setting_marks p) a c unset (mark_level p 0, calls) (λ none. absurd (omega (arith, none))) (record { sink = faults; keepers = quiet (λ k e. cc) })))))
-    marks_refused fault_is.Ended of rose quiet = absurd of
+        inr (refl, (by [], (tt, (0, halted_at course (by []) 0 (setting_marks p) a c unset (mark_level p 0, calls) (λ none. absurd (omega (arith, none))) (record { sink = faults; keepers = λ j. quiet j (λ e. cc) })))))
+    marks_refused fault_is.Ended of rose quiet stopped = absurd of
 
   -- ---- they were set, and the orders came
 
@@ -410,7 +424,7 @@ module _ (first : MachineState) (items : List (List ℕ)) (p : MarkPlan) (orders
                   n,
                   k,
                   ap (λ (m : ℕ). keeper_failed m k) (place AnyMark tt),
-                  failed_at course (by (with_move AnyMark tt)) n begun a c (broke AnyMark tt) k (some_called k is_level) (λ more. all_went AnyMark tt) fails,
+                  failed_at course (by (with_move AnyMark tt)) n begun a c (broke AnyMark tt) k (some_called k is_level) (λ more. all_went AnyMark tt) (λ none. absurd (omega (arith, none))) fails,
                 ))),
               ),
             )
@@ -463,15 +477,15 @@ module _ (first : MachineState) (items : List (List ℕ)) (p : MarkPlan) (orders
     -- an order was refused
     module _ (at : ℕ) where
       pub order_refused : (fault : RunFault) → IsBrokenOff from orders at fault before after a.told c.told → fault ≢ fault_is.Ended →
-          ((k : ℕ) → fault ≡ fault_is.Keeper k → Rose (a.keeper_faults k) (c.keeper_faults k)) → (((k : ℕ) → fault ≢ fault_is.Keeper k) → KeepersAreQuiet a c) →
+          ((k : ℕ) → fault ≡ fault_is.Keeper k → Rose (a.keeper_faults k) (c.keeper_faults k)) → ((j : ℕ) → fault ≢ fault_is.Keeper j → c.keeper_faults j ≡ a.keeper_faults j) →
           (fault ≡ fault_is.Visitor → Rose a.faults c.faults) → (fault ≢ fault_is.Visitor → c.faults ≡ a.faults) →
           (AllTell (length p.slots) a.images → (k : ℕ) (put got : List ℕ) → fault ≢ fault_is.Damaged k put got) → WorksBy course (fault_ending at fault) a c
       order_refused (fault_is.Keeper k) b lasts keeper keepers out out_quiet never =
-          keeper_refused (fault_is.Keeper k) at b b.breaks k b.breaks.stops.not_got (record { sink = out_quiet (λ e. cc); keeper = keeper k refl })
+          keeper_refused (fault_is.Keeper k) at b b.breaks k b.breaks.stops.not_got (record { sink = out_quiet (λ e. cc); keeper = keeper k refl; others = λ j ne. keepers j (other_keeper k j ne) })
       order_refused (fault_is.Damaged k put got) b lasts keeper keepers out out_quiet never =
-          damage_refused (fault_is.Damaged k put got) at b b.breaks k put got b.breaks.stops.not_got (λ tells. never tells k put got refl) (record { sink = out_quiet (λ e. cc); keepers = keepers (λ j e. cc) })
+          damage_refused (fault_is.Damaged k put got) at b b.breaks k put got b.breaks.stops.not_got (λ tells. never tells k put got refl) (record { sink = out_quiet (λ e. cc); keepers = λ j. keepers j (λ e. cc) })
       order_refused fault_is.Visitor b lasts keeper keepers out out_quiet never =
-          text_refused fault_is.Visitor at b b.breaks (record { sink = out refl; keepers = keepers (λ j e. cc) })
+          text_refused fault_is.Visitor at b b.breaks (record { sink = out refl; keepers = λ j. keepers j (λ e. cc) })
       order_refused fault_is.Memory b lasts keeper keepers out out_quiet never =
-          memory_refused fault_is.Memory at b b.breaks (record { sink = out_quiet (λ e. cc); keepers = keepers (λ j e. cc) })
+          memory_refused fault_is.Memory at b b.breaks (record { sink = out_quiet (λ e. cc); keepers = λ j. keepers j (λ e. cc) })
       order_refused fault_is.Ended b lasts keeper keepers out out_quiet never = absurd (lasts refl)

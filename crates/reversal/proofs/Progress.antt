@@ -11,7 +11,7 @@ use Rattle.image_store.specs.Standing.{IsToldAnd}
 use Rattle.reverse_runner.specs.Acts.{Holdings, Acts}
 use Rattle.reverse_queries.specs.Performing.{IsOut}
 use Rattle.reverse_runner.specs.HoldsJust.{HoldsJust}
-use Rattle.reverse_runner.specs.Left.{Spares, MayLeave, HoldsBesides, HoldsAllBut}
+use Rattle.reverse_runner.specs.Left.{Spares, NotReached, MayLeave, HoldsBesides, HoldsAllBut}
 use Rattle.reverse_runner.specs.LevelsStand.{AreAlone}
 use Rattle.reverse_runner.proofs.HoldingJust.{holds_just}
 use Rattle.reverse_runner.proofs.LeftHolding.{holds_put_to, holds_released}
@@ -43,7 +43,7 @@ use Rattle.reversal.specs.Job.{Run, perform}
 use Rattle.reversal.specs.Output.{line_of, Adds}
 use Rattle.reversal.specs.Moment.{Moment, KeepersAreQuiet, NothingFails, SinkFails, KeeperFails, AllTell, AllEmpty}
 use Rattle.reversal.specs.Deeds.{Deed, States, deed_of, bytes_of, Did}
-use Rattle.reversal.specs.Going.{AreOfRun, held_at_start, GoesOver, ComesToDamage, LeadTo, SameLevels, AllLevels, SparesNext, Went}
+use Rattle.reversal.specs.Going.{AreOfRun, held_at_start, GoesOver, ComesToDamage, LeadTo, SameLevels, AllLevels, SparesNext, UnreachedNext, Went}
 use Rattle.reversal.specs.Course.{AddsAndPart, DidUntil, BreaksOff}
 use Rattle.reversal.specs.LinesWritten.{lines_for, Writes, BreaksLines}
 use Rattle.reversal.specs.Table.{accept}
@@ -279,13 +279,18 @@ pub record FaultCounts (fault : RunFault) (old new : Moment) : Type 0 where
   pub sink : fault ≡ Visitor → Rose old.faults new.faults
   pub sink_quiet : fault ≢ Visitor → new.faults ≡ old.faults
   pub keeper : (k : ℕ) → fault ≡ Keeper k → Rose (old.keeper_faults k) (new.keeper_faults k)
-  pub keepers_quiet : ((k : ℕ) → fault ≢ Keeper k) → KeepersAreQuiet old new
+  pub keepers_quiet : (j : ℕ) → fault ≢ Keeper j → new.keeper_faults j ≡ old.keeper_faults j
+
+-- the keeper of another level
+pub other_keeper : (k j : ℕ) → j ≢ k → Keeper k ≢ Keeper j
+other_keeper k j ne e = ne cc
 
 -- what a session says of an action that it refused, from the moment before it to the one after it
 pub record Refuses {X : Type 0} (told : X → Option (List ℕ)) (writes : X → ℕ) (first : MachineState) (s : SessionState) (a : Action) (fault : RunFault) (x y : X) (mid new : Moment) : Type 0 where
   pub uncounted : new.steps ≡ mid.steps
   pub called : CalledAtMost (calls_of a) mid.calls new.calls
   pub left : MayLeave a (levels_of s mid.images) new.images
+  pub unreached : (k j : ℕ) → fault ≡ Keeper k → NotReached a k j → new.images j ≡ mid.images j
   pub whole : (k : ℕ) (put got : List ℕ) → fault ≡ Damaged k put got → (j : ℕ) → new.images j ≡ mid.images j
   pub breaks : fault ≡ Visitor → BreaksLines told writes (lines_for (handed_by s.unit s.situation.steps a) (states_out a s.work s.tape.states)) x y
   pub unseen : fault ≢ Visitor → y ≡ x
@@ -357,6 +362,10 @@ module _ {X : Type 0} (told : X → Option (List ℕ)) (writes : X → ℕ) (fir
     spared : MayLeave a (levels_of s mid.images) new.images → (k : ℕ) → SparesNext run i k → new.images k ≡ mid.images k
     spared left k out = left.spared k (out a at)
 
+    -- so is one to which it didn't come
+    passed : (k : ℕ) → MayLeave a (levels_of s mid.images) new.images → ((j : ℕ) → NotReached a k j → new.images j ≡ mid.images j) → (j : ℕ) → UnreachedNext k run i j → new.images j ≡ mid.images j
+    passed k left unreached j out = elim (out a at) [ inl free ↦ left.spared j free | inr past ↦ unreached j past ]
+
     broke : y ≡ x → new.steps ≡ mid.steps → CalledAtMost (calls_of a) mid.calls new.calls →
         (breaks : BreaksOff (map (deed_of shown s.unit s.situation.steps) list) i old new) × (breaks.next ≡ deed_of shown s.unit s.situation.steps a)
     broke same still called =
@@ -374,20 +383,20 @@ module _ {X : Type 0} (told : X → Option (List ℕ)) (writes : X → ℕ) (fir
         (λ k out. refuses.left.spared k (broken_spares told writes s.unit s.situation.steps a s.work s.tape.states x y breaks k)) refuses.left in
         let N : ℕ → Type 0 = λ n. Rose n new.faults in
         let other : (k : ℕ) → fault ≢ Keeper k = λ k e. let clash : Visitor ≡ Keeper k = sym is ∙ e in cc in
-        let fails : SinkFails old new = record { sink = subst N so_far.quiet.sink (refuses.counts.sink is); keepers = λ k. refuses.counts.keepers_quiet other k ∙ so_far.quiet.keepers k } in
+        let fails : SinkFails old new = record { sink = subst N so_far.quiet.sink (refuses.counts.sink is); keepers = λ k. refuses.counts.keepers_quiet k (other k) ∙ so_far.quiet.keepers k } in
         (shown_by now, (now_of_run goes.0 goes.1, inr (inl (i, refl, record { until = until; answered = tt; held = held; fails = fails }))))
 
     quiet_refusal : (fault : RunFault) → fault ≢ Visitor → ((k : ℕ) → fault ≢ Keeper k) → Refuses told writes first s a fault x y mid new → NothingFails old new
-    quiet_refusal fault seen other refuses = quiet_then old mid new so_far.quiet (record { sink = refuses.counts.sink_quiet seen; keepers = refuses.counts.keepers_quiet other })
+    quiet_refusal fault seen other refuses = quiet_then old mid new so_far.quiet (record { sink = refuses.counts.sink_quiet seen; keepers = λ j. refuses.counts.keepers_quiet j (other j) })
 
     -- by each fault
     pub refused : (fault : RunFault) → Refuses told writes first s a fault x y mid new → Works (perform run) (fault_ending (i + 1) fault) old new
     refused (Keeper k) refuses =
         let named = refuses.named k refl in
         let deed = deed_of shown s.unit s.situation.steps a in
-        let held = went_quietly SparesNext (named_hands_none s.unit s.situation.steps a k named) (spared refuses.left) refuses.left in
+        let held = went_quietly (UnreachedNext k) (named_hands_none s.unit s.situation.steps a k named) (passed k refuses.left (λ j past. refuses.unreached k j refl past)) refuses.left in
         let N : ℕ → Type 0 = λ n. Rose n (new.keeper_faults k) in
-        let fails : KeeperFails k old new = record { sink = refuses.counts.sink_quiet (λ e. cc) ∙ so_far.quiet.sink; keeper = subst N (so_far.quiet.keepers k) (refuses.counts.keeper k refl) } in
+        let fails : KeeperFails k old new = record { sink = refuses.counts.sink_quiet (λ e. cc) ∙ so_far.quiet.sink; keeper = subst N (so_far.quiet.keepers k) (refuses.counts.keeper k refl); others = λ j ne. refuses.counts.keepers_quiet j (other_keeper k j ne) ∙ so_far.quiet.keepers j } in
         inl (
           shown_by shown,
           (
@@ -396,7 +405,7 @@ module _ {X : Type 0} (told : X → Option (List ℕ)) (writes : X → ℕ) (fir
               i,
               k,
               refl,
-              failed_at (performing run) (shown_by shown) i deed old new (broke (refuses.unseen (λ e. cc)) refuses.uncounted refuses.called) k (calls_named shown s.unit s.situation.steps a k named) held fails,
+              failed_at (performing run) (shown_by shown) i deed old new (broke (refuses.unseen (λ e. cc)) refuses.uncounted refuses.called) k (calls_named shown s.unit s.situation.steps a k named) held tt fails,
             ))),
           ),
         )

@@ -1,4 +1,4 @@
--- How a run begins of which something is decided.
+-- How a run begins in a decision.
 use Rattle.std.specs.Prelude.{ℕ, List}
 use Rattle.level_book.specs.Valid.{Valid}
 use Rattle.input_journal.specs.Form.{IsRecorded}
@@ -9,17 +9,17 @@ use Rattle.requests.specs.Bounds.{IsWithin}
 use Rattle.reversal.specs.Job.{Run, last_of, Job, perform, ask, move_about}
 use Rattle.reversal.specs.Table.{Decision, refuse, accept}
 
--- at a state that a machine can be in, with recorded input
+-- at a machine state, with recorded input
 pub record IsStart (first : MachineState) (journal : List (List ℕ)) : Type 0 where
   pub state : IsMachineState first
   pub recorded : IsRecorded journal
 
--- so does a run that a valid list goes over
+-- and so does a run with a valid list
 pub record IsGoneOver (run : Run) : Type 0 where
   pub start : IsStart run.first run.journal
   pub valid : Valid run.steps run.slots run.list
 
--- and one of which something is asked within its bounds
+-- and one with a question within its bounds
 pub record IsAskedOf (question : Question) (run : Run) : Type 0 where
   pub over : IsGoneOver run
   pub within : IsWithin (question_bound (last_of run) question)

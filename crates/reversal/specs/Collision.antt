@@ -1,4 +1,4 @@
--- What may stand against the answers of a console over keepers that don't tell.
+-- The exception to claims about the answers of a console over any keepers.
 use Rattle.std.specs.Prelude.{◌≡◌, ◌⊎◌, ℕ, List, [], ◌∷◌, Some}
 use Rattle.std.proofs.Common.{inl, inr}
 use Rattle.rv_machine.specs.MachineState.{MachineState}
@@ -11,12 +11,12 @@ use Rattle.reverse_console.specs.Seen.{Source}
 use Rattle.reversal.specs.CommandConsole.{IsAnswered, AreOfOrders, by_marks}
 use Rattle.reversal.specs.Deeds.{Deed}
 
--- an order that broke off had found its answer by bytes that collide with the image of a mark
+-- an order that stopped had found its answer from bytes that collide with the image of a mark
 abbrev pub FoundCollides : MachineState → (from : Source) (p : MarkPlan) (place : ℕ) (order : Order) (mark : ℕ) (effort : Effort) → BreaksAt (IsSeenAt from place order) p place order mark effort → Type 0
 FoundCollides first from p place order mark effort (inl looking) = ⊥
 FoundCollides first from p place order mark effort (inr going) = AnswerCollides first from place order (Some going.0) going.1.0
 
--- an order was answered by such bytes, or its text was written by such, or so it is of the others
+-- an order was answered from such bytes, or its text was, or so were the other orders
 abbrev pub AnsweredCollides : MachineState → (from : Source) (p : MarkPlan) (Broken : ℕ → Type 0) (Others : ℕ → List Deed → Type 0) (OthersCollide : (place : ℕ) (deeds : List Deed) → Others place deeds → Type 0)
     (place : ℕ) (order : Order) (deeds : List Deed) → IsAnswered p (by_marks from Broken) Others place order deeds → Type 0
 AnsweredCollides first from p Broken Others OthersCollide place order deeds a =

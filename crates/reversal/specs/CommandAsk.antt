@@ -1,4 +1,4 @@
--- `ask`: a state of a run by its number, or the last step of a run that writes or changes a word.
+-- `ask`: a state of a run by its number, or the last step that writes or changes a word.
 use Rattle.std.specs.Prelude.{◌≡◌, ℕ, ◌++◌, List, [], ◌∷◌, length, codes, decimal, Option, None, Some, ◌*◌, map}
 use Rattle.requests.specs.declared.question.Question.{Question}
 use Rattle.level_book.specs.CostFold.{forward}
@@ -12,11 +12,11 @@ use Rattle.reversal.specs.Deeds.{States, deed_for, unseen_deed, writing, CallsSo
 use Rattle.reversal.specs.Going.{AreOfRun, IsFound, ComesTo, ComesToDamage}
 use Rattle.reversal.specs.Course.{Course}
 
--- A question is about a run by a schedule's text, and goes by the table of all that is done over one.
+-- A question is about a run by a schedule's text. It uses the table of all that is done over such a run.
 
 -- ---- a state
 
--- The list is performed up to the action that hands out the state, and its line is written.
+-- The list is performed up to the action that gives the state, and its line is written.
 abbrev pub asking_state : (place : ℕ) → Run → Course
 asking_state place run = record {
   levels = length run.slots;
@@ -30,24 +30,26 @@ asking_state place run = record {
   answers_partly = λ shown performed old new. ComesTo (IsOut run.unit run.steps place (shown.states place)) run performed old;
   holds = λ Same shown performed old new. Unit {0};
   damage = λ shown performed level put got old new. ComesToDamage run performed level put got old;
+  stops = λ shown performed level old new. Unit {0};
   may_want = CallsSome;
 }
 
--- ---- the last step that does something
+-- ---- the last step that writes or changes a word
 
 -- the number of a step, or that there is none
 abbrev pub answer_text : Option ℕ → List ℕ
 answer_text (Some n) = decimal n ++ 10 ∷ []
 answer_text None = codes "none\n"
 
--- The answer is the last step of which this holds, by the states that were handed out, and, where the keepers tell, by those of the run.
+-- The answer is the last step with this property, by the states that were given. If the keepers claim their content, it
+-- is so by the run's states.
 abbrev pub IsLastStep : (States → ℕ → Type 0) → Run → Option ℕ → Moment → Moment → Type 0
 IsLastStep Holds run answer old new =
     IsFound (λ states. IsLast (Holds states) (last_of run) answer) run answer old new
     × (AllTell (length run.slots) old.images → IsLast (Holds (state_of run)) (last_of run) answer)
 
--- The list is performed up to the action that hands out the state before that step, or to its end where there is none, and the
--- number is written behind all actions, so that an ending at that write has no action's number.
+-- The list is performed up to the action that gives the state before that step. If there is none, it is performed to
+-- its end. The number is written after all actions. So an ending at that write has no action's number.
 abbrev pub asking_last : (States → ℕ → Type 0) → Run → Course
 asking_last Holds run = record {
   levels = length run.slots;
@@ -61,6 +63,7 @@ asking_last Holds run = record {
   answers_partly = λ shown performed old new. IsLastStep Holds run shown.answer old new;
   holds = λ Same shown performed old new. Unit {0};
   damage = λ shown performed level put got old new. ComesToDamage run performed level put got old;
+  stops = λ shown performed level old new. Unit {0};
   may_want = CallsSome;
 }
 

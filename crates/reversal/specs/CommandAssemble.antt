@@ -11,19 +11,19 @@ use Rattle.reversal.specs.Job.{write}
 use Rattle.reversal.specs.Plans.{in_pieces}
 use Rattle.reversal.specs.Table.{Decision, Table, Decided, accept, reads, needs, does, ends}
 
--- words as a raw program has them: four bytes each, the low one first
+-- words as a raw program has them: four bytes each, little-endian
 abbrev pub word_bytes : List ℕ → List ℕ
 word_bytes words = flat_map (to_le_bytes w32) words
 
--- a source means some words, and they are written, in one write
+-- a source means some words, and they are written in one write
 abbrev pub assemble_table : List ℕ → Table
 assemble_table source = reads (Means source) (HasFault source) bad_source (λ words. does (write (word_bytes words ∷ [])))
 
--- lines with their ends, in pieces of sixty-four, each of which is one write
+-- lines with their ends, in pieces of sixty-four; each piece is one write
 abbrev pub listing : List (List ℕ) → List (List ℕ)
 listing lines = in_pieces (length lines) (map (λ l. l ++ 10 ∷ []) lines)
 
--- what is done of a raw program: these are its words, these are the canonical lines of its words, and they are written
+-- what is done for a raw program: the canonical lines of its words are written
 pub record Lists (program : List ℕ) (d : Decision) : Type 0 where
   pub words : List ℕ
   pub bytes : program ≡ word_bytes words
@@ -31,7 +31,7 @@ pub record Lists (program : List ℕ) (d : Decision) : Type 0 where
   pub canonical : AreCanonical words lines
   pub does : d ≡ accept (write (listing lines))
 
--- bytes are some whole words, and they are listed
+-- bytes are whole words, and their lines are written
 abbrev pub disassemble_table : List ℕ → Table
 disassemble_table program = needs (AreWords program) (bad_program (RawLength (length program))) (ends (Lists program))
 

@@ -10,14 +10,14 @@ use Rattle.reversal.specs.Job.{write}
 use Rattle.reversal.specs.Table.{Decision, Table, does, Decided, reads, weighs}
 use Rattle.reversal.specs.Fronts.{over_valid}
 
--- what is written of a list that is the least of its class
+-- the text for a list that is the least of its class
 abbrev pub least_line : Class → List ℕ
 least_line class.Valid = codes "least valid\n"
 least_line class.Multistage = codes "least multistage\n"
 least_line class.Nested = codes "least nested\n"
 least_line class.Disk = codes "least disk\n"
 
--- that a valid schedule is the least by a certificate: of all valid lists by its forward steps, or of its class by its cost
+-- that a valid schedule is the least by a certificate, of all valid lists or of its class
 abbrev pub certify_table : ℕ → List ℕ → List ℕ → List ℕ → Table
 certify_table steps book schedule certificate =
     over_valid steps book schedule (λ b list.

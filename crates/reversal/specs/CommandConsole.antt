@@ -1,4 +1,4 @@
--- `console`: a run is moved about in by the orders of a script, from images that are kept at its marks.
+-- `console`: the orders of a script move about in a run, using images that are kept at its marks.
 use Rattle.std.specs.Prelude.{◌≡◌, ◌⊎◌, ℕ, ◌+◌, ◌-◌, ◌*◌, ◌/◌, ◌<◌, ◌≤◌, max, List, [], ◌∷◌, length, Option, Some, IsSome}
 use Rattle.keepers.specs.Told.{Images, Tells}
 use Rattle.level_book.specs.BookCosts.{BookCosts, slots_of, total_room}
@@ -6,7 +6,7 @@ use Rattle.rv_machine.specs.MachineState.{MachineState}
 use Rattle.reverse_runner.specs.KeepersSeen.{Called}
 use Rattle.reverse_console.specs.declared.order.Order.{Order}
 use Rattle.reverse_console.specs.Answer.{IsAnswer}
-use Rattle.reverse_console.specs.Costs.{Effort, puts_of, gets_of, effort_of, BreaksAt}
+use Rattle.reverse_console.specs.Costs.{Effort, puts_of, StopsPutting, gets_of, effort_of, BreaksAt}
 use Rattle.reverse_console.specs.Marks.{MarkPlan, marked, mark_count}
 use Rattle.reverse_console.specs.Script.{IsScript}
 use Rattle.reverse_console.specs.ScriptAnswers.{place_after, IsTextOf, answer_text, AreAnswers, script_text}
@@ -23,7 +23,7 @@ use Rattle.reversal.specs.Course.{Course}
 use Rattle.reversal.specs.Table.{Decision, Table, Decided, needs, reads, keeps, does}
 use Rattle.reversal.specs.Fronts.{over_book, over_program}
 
--- State 0 is a mark also where there are no steps, so that the keepers are measured as for one. Some level has a slot.
+-- State 0 is a mark even without steps, so the keepers need room for one. Some level has a slot.
 abbrev pub console_table : List Choice → (steps : ℕ) → (program : List ℕ) → (journal : Option (List ℕ)) → (book script counts : List ℕ) → Table
 console_table options steps program journal book script counts =
     over_book book (λ (b : BookCosts).
@@ -38,7 +38,7 @@ DecidesConsole options steps program journal book script counts d = Decided (con
 
 -- ---- deeds
 
--- The marks are set: the image of each is put on its level, and the steps to the last of them are taken.
+-- Sets the marks: each image is put on its level, and the steps to the last mark are taken.
 abbrev pub setting_marks : MarkPlan → Deed
 setting_marks p = record {
   pieces = [];
@@ -47,18 +47,17 @@ setting_marks p = record {
   calls = puts_of p (mark_count p);
 }
 
--- An order's move: its marks are got, and its steps are taken.
+-- An order's move: its marks are fetched, and its steps are taken.
 abbrev pub moving : MarkPlan → Effort → Deed
 moving p effort = record { pieces = []; steps = effort.steps; spent = effort.steps; calls = gets_of p effort.marks }
 
--- In what words deeds are those of orders: which answer the order at a place has, which text is written of an answer, and what is so of
--- a mark at which an order broke off.
+-- What makes deeds those of orders: an order's answer, the text of an answer, and the mark where an order stopped.
 pub record Words : Type 1 where
   pub answer : (place : ℕ) → Order → Option ℕ → Type 0
   pub text : Option ℕ → List ℕ → Type 0
   pub broken : (mark : ℕ) → Type 0
 
--- The order's mark couldn't be got, or one on the way to its answer: its move up to there is the last deed.
+-- The order's mark couldn't be fetched, or one on the way to its answer. Its move up to there is the last deed.
 pub record IsBrokenOff (p : MarkPlan) (words : Words) (place : ℕ) (order : Order) (deeds : List Deed) : Type 0 where
   pub mark : ℕ
   pub effort : Effort
@@ -66,7 +65,7 @@ pub record IsBrokenOff (p : MarkPlan) (words : Words) (place : ℕ) (order : Ord
   pub broken : words.broken mark
   pub deeds_are : deeds ≡ moving p effort ∷ []
 
--- The order has an answer: behind its move the text of it was written, and the other orders follow at the place after it.
+-- The order has an answer. Its text was written after its move, and the other orders follow at the new place.
 pub record IsAnswered (p : MarkPlan) (words : Words) (Others : ℕ → List Deed → Type 0) (place : ℕ) (order : Order) (deeds : List Deed) : Type 0 where
   pub answer : Option ℕ
   pub text : List ℕ
@@ -76,20 +75,21 @@ pub record IsAnswered (p : MarkPlan) (words : Words) (Others : ℕ → List Deed
   pub deeds_are : deeds ≡ moving p (effort_of p place order answer) ∷ writing (text ∷ []) ∷ rest
   pub others : Others (place_after place answer) rest
 
--- These deeds are of these orders, or of the first of them, from a place on: two of each, its move, and the writing of its text. Of
--- the last one it may be a part of the move alone.
+-- These deeds are those of the first orders, or of all, from a place on. Each order has two deeds: its move, and the
+-- writing of its text. The last one may be only a part of a move.
 abbrev pub AreOfOrders : MarkPlan → Words → List Order → ℕ → List Deed → Type 0
 AreOfOrders p words [] place deeds = deeds ≡ []
 AreOfOrders p words (order ∷ orders) place deeds =
     (deeds ≡ []) ⊎ IsBrokenOff p words place order deeds ⊎ IsAnswered p words (AreOfOrders p words orders) place order deeds
 
--- ---- what is said
+-- ---- answers and texts
 
--- The answer is that of the states that came from marks by the bytes that were got, and so is the text.
+-- The answer is that of the states that came from marks by the fetched bytes. So is the text.
 abbrev pub by_marks : Source → (Broken : ℕ → Type 0) → Words
 by_marks from Broken = record { answer = IsAnswerSeen from; text = IsTextOf from; broken = Broken }
 
--- The answer is that of an index into the states of the run, and the text is the line of the state with its number, or `none`.
+-- The answer is that of an index into the states of the run. The text is the line of the state with its number, or
+-- `none`.
 abbrev pub of_run : MachineState → List (List ℕ) → (count : ℕ) → Words
 of_run first journal count = record {
   answer = IsAnswer first journal count;
@@ -97,16 +97,16 @@ of_run first journal count = record {
   broken = λ mark. Unit {0};
 }
 
--- the source is that of the marks of a run, over keepers that tell these images
+-- the source is that of the marks of a run, over keepers that claim these images
 pub record IsOfMarks (first : MachineState) (items : List (List ℕ)) (p : MarkPlan) (images : ℕ → Option Images) (from : Source) : Type 0 where
   pub plan : from.plan ≡ p
   pub journal : from.journal ≡ items
   pub told : (k : ℕ) → from.levels.told k ≡ images k
   pub marks : KeepsMarks first from
 
--- These are the deeds of the orders, from state 0 on: by what was kept of the marks, which is the length and the digest of each
--- image; and where the levels of the marks tell, in the run. Behind the setting of the marks just they were done, that of an order that
--- broke off too.
+-- These are the deeds of the orders from state 0 on. They follow from the length and digest kept for each mark's image.
+-- If the levels of the marks claim their content, they hold in the run. After the marks were set just these deeds were
+-- done, with that of an order that stopped.
 pub record WentAbout (first : MachineState) (items : List (List ℕ)) (p : MarkPlan) (orders : List Order) (deeds : List Deed)
     (Broken : Source → ℕ → Type 0) (old new : Moment) : Type 0 where
   pub from : Source
@@ -116,17 +116,18 @@ pub record WentAbout (first : MachineState) (items : List (List ℕ)) (p : MarkP
   pub counted : new.steps ≡ old.steps + steps_made (setting_marks p ∷ deeds)
   pub called : Called (calls_made (setting_marks p ∷ deeds)) old.calls new.calls
 
--- any mark may be the one at which the last order broke off
+-- any mark may be the one at which the last order stopped
 abbrev pub AnyMark : Source → ℕ → Type 0
 AnyMark from mark = Unit {0}
 
--- What came back of the mark at which the last order broke off is damaged. Its move was the last deed.
+-- What came back for the mark at which the last order stopped is damaged. Its move was the last deed.
 pub record IsDamagedMark (first : MachineState) (items : List (List ℕ)) (p : MarkPlan) (orders : List Order) (deeds : List Deed)
     (performed level : ℕ) (put got : List ℕ) (old new : Moment) : Type 0 where
   pub last : length deeds ≡ performed
   pub went : WentAbout first items p orders deeds (λ from mark. IsMarkDamaged from mark level put got) old new
 
--- First the marks are set, and then each order is two deeds. At an ending the place is the number of the order, and 0 for the marks.
+-- First the marks are set, up to one that isn't put. Then each order is two deeds. At an ending the place is the number
+-- of the order, and 0 for the marks.
 abbrev pub moving_about : MachineState → List (List ℕ) → MarkPlan → List Order → Course
 moving_about first journal p orders = record {
   levels = length p.slots;
@@ -140,13 +141,15 @@ moving_about first journal p orders = record {
   answers_partly = λ shown performed old new. Unit {0};
   holds = λ Same shown performed old new. 0 < performed → WentAbout first journal p orders shown.orders AnyMark old new;
   damage = λ shown performed level put got old new. IsDamagedMark first journal p orders shown.orders performed level put got old new;
+  stops = λ shown performed level old new. performed ≡ 0 → StopsPutting p level old.steps new.steps old.calls new.calls;
   may_want = CallsSome;
 }
 
 -- ---- in one sentence
 
--- The orders were answered one by one from state 0, each from the place where the one before it led, by an index into the states of the
--- run; and what was written is just the text of each answer: the line of the state with its number, or `none`.
+-- The orders were answered one by one, by an index into the states of the run. The first starts at state 0, and each
+-- other where the one before it led. Just the text of each answer was written: the line of the state with its number,
+-- or `none`.
 pub record WritesAnswers (first : MachineState) (items : List (List ℕ)) (p : MarkPlan) (orders : List Order) (old new : Moment) : Type 0 where
   pub answers : List (Option ℕ)
   pub end : ℕ

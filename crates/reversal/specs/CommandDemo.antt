@@ -1,4 +1,4 @@
--- `demo`: a run of a program that is made from a number, and a summary of it.
+-- `demo`: a run of a program made from a number, and its summary.
 use Rattle.std.specs.Prelude.{◌≡◌, ℕ, ◌++◌, [], ◌∷◌, map}
 use Rattle.level_book.specs.BookCosts.{plain}
 use Rattle.rv_machine.specs.MachineState.{MachineState}
@@ -20,7 +20,7 @@ demo_table number steps slots =
 abbrev pub DecidesDemo : ℕ → ℕ → ℕ → Decision → Type 0
 DecidesDemo number steps slots d = Decided (demo_table number steps slots) d
 
--- The list of Revolve is performed with images in memory of its own, no line is written, and then the summary.
+-- Revolve's list is performed with images in memory of its own. It writes no line, and then the summary.
 abbrev pub demonstrating : (number : ℕ) → MachineState → (steps slots : ℕ) → Course
 demonstrating number first steps slots = record {
   levels = 0;
@@ -34,5 +34,6 @@ demonstrating number first steps slots = record {
   answers_partly = λ shown performed old new. Unit {0};
   holds = λ Same shown performed old new. Unit {0};
   damage = λ shown performed level put got old new. ⊥;
+  stops = λ shown performed level old new. Unit {0};
   may_want = λ deed. deed.pieces ≡ [];
 }

@@ -1,4 +1,4 @@
--- `ask find`: the last state of a run that has a digest, found by workers.
+-- `ask find`: the last state of a run with a digest, found by workers.
 use Rattle.std.specs.Prelude.{ℕ, List, [], ◌∷◌, Option}
 use Rattle.rv_machine.specs.MachineState.{MachineState}
 use Rattle.segment_sweep.specs.Found.{Quest, Found}
@@ -16,15 +16,16 @@ abbrev pub find_table : List Choice → (steps : ℕ) → (digest : List ℕ) �
 find_table options steps digest program journal =
     over_program options program journal (λ start items. does (seek start items steps (worker_count options) digest))
 
--- what is looked for: the states with the numbers 0 to `steps` of a run from this one
+-- what is looked for: states 0 to `steps` of a run from this one
 abbrev pub quest_of : MachineState → List (List ℕ) → ℕ → List ℕ → Quest
 quest_of first journal steps digest = record { start = first; journal = journal; digest = digest; count = steps }
 
--- The steps are taken up to the start of the last segment, one for each worker. Where memory runs out meanwhile, some of them were.
+-- The steps to the start of the last segment are taken; each worker has a segment. If memory runs out, only some of
+-- them are.
 abbrev pub marking : (steps workers : ℕ) → Deed
 marking steps workers = record { pieces = []; steps = last_start steps workers; spent = last_start steps workers; calls = no_calls }
 
--- The workers look for the place, which is the same however many they are, and its number is written, or that there is none.
+-- The workers look for the place; it doesn't depend on their number. Its number is written, or that there is none.
 abbrev pub searching : MachineState → List (List ℕ) → (steps workers : ℕ) → List ℕ → Course
 searching first journal steps workers digest = record {
   levels = 0;
@@ -38,5 +39,6 @@ searching first journal steps workers digest = record {
   answers_partly = λ shown performed old new. Found (quest_of first journal steps digest) shown.answer;
   holds = λ Same shown performed old new. Unit {0};
   damage = λ shown performed level put got old new. ⊥;
+  stops = λ shown performed level old new. Unit {0};
   may_want = λ deed. Unit {0};
 }

@@ -43,8 +43,8 @@ plan_multistage_table steps book =
 abbrev pub DecidesPlanMultistage : ℕ → List ℕ → Decision → Type 0
 DecidesPlanMultistage steps book d = Decided (plan_multistage_table steps book) d
 
--- the text of the list of DiskRevolve for memory and an unlimited disk, which is read from the greatest disk tables, and of these
--- tables
+-- The texts of the DiskRevolve list, and of its tables. It is for memory and an unlimited disk, and is read from the
+-- greatest disk tables.
 abbrev pub plan_disk_table : ℕ → List ℕ → Table
 plan_disk_table steps book =
     over_book book (λ (b : BookCosts).
@@ -58,7 +58,7 @@ plan_disk_table steps book =
 abbrev pub DecidesPlanDisk : ℕ → List ℕ → Decision → Type 0
 DecidesPlanDisk steps book d = Decided (plan_disk_table steps book) d
 
--- the text of the list of H-Revolve, which is read from the greatest tables, and of these tables
+-- the text of the list of H-Revolve, read from the greatest tables, and of these tables
 abbrev pub plan_hrevolve_table : ℕ → List ℕ → Table
 plan_hrevolve_table steps book =
     over_book book (λ (b : BookCosts).
@@ -81,7 +81,8 @@ plan_table Hrevolve steps book = plan_hrevolve_table steps book
 abbrev pub DecidesPlan : PlanKind → ℕ → List ℕ → Decision → Type 0
 DecidesPlan kind steps book d = Decided (plan_table kind steps book) d
 
--- the text of the periodic list for the two levels of a book: the faster has a slot where it is used, the slower has its images
+-- The text of the periodic list for the two levels of a book. The faster level has a slot where it is used, and the
+-- slower has room for its images.
 abbrev pub plan_periodic_table : ℕ → ℕ → List ℕ → Table
 plan_periodic_table steps period book =
     over_book book (λ (b : BookCosts).

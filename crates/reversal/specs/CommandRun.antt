@@ -1,4 +1,4 @@
--- `run`: the program's run, backward by a list of a schedule's text or by that of Revolve.
+-- `run`: the program's run, backward by a schedule's list or by Revolve's.
 use Rattle.std.specs.Prelude.{length, ◌*◌, map}
 use Rattle.level_book.specs.CostFold.{forward}
 use Rattle.reversal.specs.Job.{Run, last_of}
@@ -7,10 +7,11 @@ use Rattle.reversal.specs.Deeds.{deed_of, CallsSome}
 use Rattle.reversal.specs.Going.{AreOfRun, ComesToDamage, Went}
 use Rattle.reversal.specs.Course.{Course}
 
--- A run goes by the table of all that is done over one by a list. It alone may leave its schedule to be made.
+-- A run uses the table of all that is done over one by a list. Only a run may have its schedule made.
 
--- The actions of the list are performed, and the lines of the states are written that they hand out: those of all states from the
--- last to the first, each once. An ending at a write has the number of the action that hands out the state whose line it is.
+-- The actions of the list are performed, and the lines of the states that they give are written. Those are all states
+-- from the last to the first, each once. An ending at a write has the number of the action that gives that line's
+-- state.
 abbrev pub performing : Run → Course
 performing run = record {
   levels = length run.slots;
@@ -24,5 +25,6 @@ performing run = record {
   answers_partly = λ shown performed old new. Unit {0};
   holds = λ Same shown performed old new. Went Same run performed shown.states old new;
   damage = λ shown performed level put got old new. ComesToDamage run performed level put got old;
+  stops = λ shown performed level old new. Unit {0};
   may_want = CallsSome;
 }

@@ -1,4 +1,4 @@
--- What may be there under the names of a request's inputs, bytes or nothing, and that a decision comes of all of it.
+-- What may be there under the names of a request's inputs, bytes or nothing. All of it leads to a decision.
 use Rattle.std.specs.Prelude.{ℕ, ◌<◌, List, Option, None, Some}
 use Rattle.std.specs.List.{AllByRecursion}
 use Rattle.requests.specs.Request.{Request}
@@ -13,8 +13,7 @@ abbrev pub IsContent : Option (List ℕ) → Type 0
 IsContent None = Unit {0}
 IsContent (Some bytes) = AreBytes bytes
 
--- Every request whose numbers are within their bounds comes to a decision, whatever is there under the names of its inputs and
--- however many slots the keepers have.
+-- every request within its bounds has a decision, for any inputs and any slots of the keepers
 abbrev pub DecisionsExist : Type 0
 DecisionsExist =
     (r : Request) → AllByRecursion IsWithin (numbers r) → (given : List (Option (List ℕ))) → AllByRecursion IsContent given → (slots : List ℕ) →

@@ -1,6 +1,6 @@
--- What is decided of a request by its inputs: the call is refused with one ending, or one job is to be done; and how a call ends by
--- what was decided. A command is a row of `table_of`, and a job one of `course_of`. A table reads like the order of refusals: the first
--- line that isn't met decides, and the last line is the job.
+-- The decision on a request by its inputs: one refusal with its ending, or one job. Also how a call ends by the
+-- decision. A command is a row of `table_of`, and a job one of `course_of`. A table reads like the order of refusals.
+-- The first line that isn't met decides, and the last line is the job.
 use Rattle.std.specs.Prelude.{◌≡◌, ◌⊎◌, ℕ, ◌+◌, ◌*◌, ◌≤◌, ◌++◌, slice_get, List, [], ◌∷◌, length, map, take, Option, None, Some}
 use Rattle.keepers.specs.Told.{Files, Location, WhereTold}
 use Rattle.reverse_runner.specs.Rooms.{image_room, AreRoomy}
@@ -27,16 +27,16 @@ use Rattle.reversal.specs.CommandConsole.{console_table, moving_about}
 use Rattle.reversal.specs.CommandDemo.{demo_table, demonstrating}
 use Rattle.reversal.specs.CommandFind.{find_table, searching}
 
--- Each input is there and within its limit, and the lines below decide by their bytes. The first that isn't there, or is
--- too long, is refused with its number, which is counted on from `place`.
+-- Each input is there and within its limit, and the lines below decide by their bytes. The first that is missing or too
+-- long is refused with its number, which counts on from `place`.
 abbrev pub Take : ℕ → List Input → List (Option (List ℕ)) → Decision → (List (List ℕ) → Type 0) → Type 0
 Take place [] given d below = below []
 Take place (i ∷ is) (Some bytes ∷ given) d below =
     Need (length bytes ≤ i.limit) (too_long place i.limit) d (Take (place + 1) is given d (λ others. below (bytes ∷ others)))
 Take place (i ∷ is) given d below = d ≡ refuse (unreadable place)
 
--- The table of a command, by the bytes of its inputs, in the order of the words, and by the slots of the keepers. The number of a
--- question is within its bounds.
+-- The table of a command, by the bytes of its inputs, in order, and the keepers' slots. The number of a question is
+-- within its bounds.
 abbrev pub table_of : List Choice → Command → List (List ℕ) → List ℕ → Table
 table_of options (run c) bytes slots = over_bytes perform options c.schedule c.run.steps bytes slots
 table_of options (plan c) (book ∷ []) slots = plan_table c.kind c.steps book
@@ -65,7 +65,7 @@ table_of options (move_about_command c) _ slots = no_table
 table_of options (demo c) [] slots = demo_table c.number c.steps c.slots
 table_of options (demo c) _ slots = no_table
 
--- what a request comes to by the bytes of its inputs
+-- the decision on a request by the bytes of its inputs
 abbrev pub DecidesBytes : List Choice → Command → List (List ℕ) → List ℕ → Decision → Type 0
 DecidesBytes options command bytes slots d = Decided (table_of options command bytes slots) d
 
@@ -73,10 +73,10 @@ DecidesBytes options command bytes slots d = Decided (table_of options command b
 abbrev pub Decides : Request → List (Option (List ℕ)) → List ℕ → Decision → Type 0
 Decides r given slots d = Take 1 (inputs_of r.command) given d (λ bytes. DecidesBytes r.options r.command bytes slots d)
 
--- ---- what a call comes to
+-- ---- the decision on a call
 
--- This was decided by what is there under the names of the inputs: where they tell, by what they tell, and else by
--- something. The inputs were asked for these names, up to the first that isn't there or is too long.
+-- The decision follows from the content of the inputs: what they claim, or any bytes if they claim nothing. The inputs
+-- were asked for these names, up to the first that is missing or too long.
 pub record Comes (r : Request) (told : Option Files) (before after : List (List ℕ)) (slots : List ℕ) (d : Decision) : Type 0 where
   pub given : List (Option (List ℕ))
   pub as_told : WhereTold told (λ files. given ≡ contents files (inputs_of r.command))
@@ -92,29 +92,29 @@ course_of (write texts) = texts_course texts
 course_of (move_about first journal p orders) = moving_about first journal p orders
 course_of (demonstrate number first steps slots) = demonstrating number first steps slots
 
--- how a call ends by a decision: by the refusal's own ending, or by that of a job, with the states that it shows
+-- how a call ends by a decision: with the refusal's ending, or with that of a job and what it shows
 abbrev pub EndsBy : Decision → Ended → Moment → Moment → Type 0
 EndsBy (refuse refusal) e old new = e ≡ refusal
 EndsBy (accept job) e old new = EndsShowing (course_of job) e old new
 
--- there are the same keepers: each has the slots that it had, in the place where they were
+-- the keepers are the same: each has the same slots, in the same place
 pub record StayInPlace {K : Type 0} (slots : K → ℕ) (place : K → Location) (old new : List K) : Type 0 where
   pub slots_same : map slots new ≡ map slots old
   pub places_same : map place new ≡ map place old
 
--- which keepers a decision leaves as they were: all where the call is refused, and else those past the levels of the job
+-- which keepers a decision leaves unchanged: all for a refusal, and otherwise those past the levels of the job
 abbrev pub KeepsOthers : {K : Type 0} → (K → ℕ) → (K → Location) → Decision → List K → List K → Type 0
 KeepsOthers slots place (refuse refusal) old new = new ≡ old
 KeepsOthers slots place (accept job) old new = StayInPlace slots place old new × ((k : ℕ) → (course_of job).levels ≤ k → slice_get new k ≡ slice_get old k)
 
--- Keepers with these rooms have room for each image of a run that is performed, asked about or moved about in. Other jobs have no
--- keepers of the call, and of them it says nothing.
+-- Keepers with these rooms have room for each image of a run, a question or a console. Other jobs use none of the
+-- call's keepers, and of them it says nothing.
 abbrev pub HaveRoomsFor : Job → (ℕ → Option ℕ) → Type 0
 HaveRoomsFor (perform over) rooms = AreRoomy (image_room over.first) (length over.slots) rooms
 HaveRoomsFor (ask question over) rooms = AreRoomy (image_room over.first) (length over.slots) rooms
 HaveRoomsFor (move_about first journal p orders) rooms = AreRoomy (image_room first) (length p.slots) rooms
 HaveRoomsFor job rooms = ⊥
 
--- the statuses of a call that may have come to its job; at any other it was refused
+-- the statuses of a call that may have had a job; at any other it was refused
 abbrev pub IsOfJob : ℕ → Type 0
 IsOfJob status = (status ≡ 0) ⊎ (status ≡ 12) ⊎ (status ≡ 13) ⊎ (status ≡ 14) ⊎ (status ≡ 17)

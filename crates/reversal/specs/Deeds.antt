@@ -1,4 +1,4 @@
--- What a job does, piece by piece: a list of deeds, and what it is to have done them.
+-- What a job does piece by piece: a list of deeds, and what it means that they were done.
 use Rattle.std.specs.Prelude.{◌≡◌, ℕ, ◌+◌, ◌*◌, ◌<◌, cond, List, [], ◌∷◌, length, map, sum_by}
 use Rattle.std.specs.List.{flat_map}
 use Rattle.plan_types.specs.declared.action.Action.{Action}
@@ -12,8 +12,8 @@ use Rattle.reverse_queries.specs.Queries.{hands_out}
 use Rattle.reversal.specs.Output.{line_of, Adds}
 use Rattle.reversal.specs.Moment.{Moment}
 
--- A deed: what it writes, in as many writes as there are pieces; its machine steps; how many of them it may have taken where it
--- breaks off; and how often it calls the keepers.
+-- A deed: what it writes, its machine steps, and its calls of the keepers. Each piece is one write. It also says how
+-- many steps it may have taken where it stops.
 pub record Deed : Type 0 where
   pub pieces : List (List ℕ)
   pub steps : ℕ
@@ -28,8 +28,8 @@ no_calls = record { puts = λ _. 0; gets = λ _. 0; frees = λ _. 0 }
 abbrev pub States : Type 0
 States = ℕ → MachineState
 
--- An action writes the lines of the states that it hands out, takes its forward steps, and calls the keepers for its images.
--- A step of the list is so many steps of the machine, its unit.
+-- An action writes the lines of its states, takes its forward steps, and calls the keepers for its images. A step of
+-- the list is a unit of so many machine steps.
 abbrev pub deed_of : States → (unit steps : ℕ) → Action → Deed
 deed_of shown unit steps action = record {
   pieces = map (line_of shown) (handed_by unit steps action);
@@ -38,7 +38,7 @@ deed_of shown unit steps action = record {
   calls = calls_of action;
 }
 
--- the same with the line of one state alone
+-- an action's deed that writes the line of one state alone
 abbrev pub deed_for : States → (unit steps place : ℕ) → Action → Deed
 deed_for shown unit steps place action = record {
   pieces = cond (hands_out unit steps place action) (line_of shown place ∷ []) [];
@@ -47,23 +47,23 @@ deed_for shown unit steps place action = record {
   calls = calls_of action;
 }
 
--- the same without lines
+-- an action's deed that writes no lines
 abbrev pub unseen_deed : (unit : ℕ) → Action → Deed
 unseen_deed unit action = record { pieces = []; steps = unit * steps_of action; spent = 0; calls = calls_of action }
 
--- the same without lines, and with no call of a keeper that was handed in
+-- an action's deed that writes no lines and calls none of the given keepers
 abbrev pub silent_deed : Action → Deed
 silent_deed action = record { pieces = []; steps = steps_of action; spent = 0; calls = no_calls }
 
--- what is written, in so many pieces, after everything else
+-- the text is written, in so many pieces, after everything else
 abbrev pub writing : List (List ℕ) → Deed
 writing texts = record { pieces = texts; steps = 0; spent = 0; calls = no_calls }
 
--- a deed calls the keeper of a level
+-- a deed calls the keeper of this level
 abbrev pub CallsLevel : Deed → ℕ → Type 0
 CallsLevel deed k = 0 < deed.calls.puts k + deed.calls.gets k + deed.calls.frees k
 
--- or of some
+-- a deed calls some keeper
 abbrev pub CallsSome : Deed → Type 0
 CallsSome deed = (level : ℕ) × CallsLevel deed level
 
@@ -88,7 +88,7 @@ calls_made ds = record {
   frees = λ k. sum_by (λ (d : Deed). d.calls.frees k) ds;
 }
 
--- these deeds were done, and nothing else
+-- exactly these deeds were done
 pub record Did (ds : List Deed) (old new : Moment) : Type 0 where
   pub added : Tells old.told new.told (Adds (bytes_written ds))
   pub wrote : new.writes ≡ raised old.writes (writes_made ds)

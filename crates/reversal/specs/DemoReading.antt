@@ -1,4 +1,4 @@
--- No public clause cites this file. A demonstration at its start, and one that breaks off.
+-- No public clause cites this file. A demonstration at its start, and one that stops.
 use Rattle.std.specs.Prelude.{◌≡◌, ℕ, ◌+◌, List, map, take, slice_get, Some}
 use Rattle.plan_types.specs.declared.action.Action.{Action}
 use Rattle.level_book.specs.CostFold.{forward}
@@ -9,7 +9,7 @@ use Rattle.reverse_runner.specs.KeepersSeen.{HaveRoom, told_by}
 use Rattle.reverse_runner.specs.Standing.{begun, StandsAt}
 use Rattle.reversal.specs.declared.demo.Demonstrated.{Demonstrated}
 
--- A run: the session is at its start, and stands there over the keeper, which has room; a valid list is still to come.
+-- A run. The session is at its start over the keeper, which has room. A valid list is still to come.
 pub record IsAtStart (d : Demonstrated) : Type 0 where
   pub state : IsMachineState d.session.work
   pub begun_so : d.session ≡ begun d.session.work d.session.journal 1 d.session.situation.steps d.session.situation.slots
@@ -17,7 +17,7 @@ pub record IsAtStart (d : Demonstrated) : Type 0 where
   pub room : HaveRoom d.session.situation.steps d.session.situation.slots (map (λ (k : KeeperState). k.slots) d.keepers.items)
   pub valid : Valid d.session.situation.steps d.session.situation.slots d.actions
 
--- some actions of the list were performed, and the count of steps rose by their forward steps; the next one was not
+-- Some actions of the list were performed, but not the next one. The count of steps rose by their forward steps.
 pub record BreaksWithin (list : List Action) (old new : ℕ) : Type 0 where
   pub performed : ℕ
   pub next : Action

@@ -1,4 +1,4 @@
--- What bytes say, and what the tables of many commands begin with: a book, a program with its recorded input, a schedule.
+-- What bytes mean, and how many tables begin: a book, a program with its recorded input, a schedule.
 use Rattle.std.specs.Prelude.{◌≡◌, ℕ, Bool, true, false, List, [], ◌∷◌, Option, None, Some}
 use Rattle.plan_types.specs.declared.action.Action.{Action}
 use Rattle.level_book.specs.declared.book.Slots.{Slots}
@@ -22,9 +22,9 @@ use Rattle.requests.specs.Ending.{bad_program, bad_journal, bad_book, bad_text}
 use Rattle.reversal.specs.Job.{Run, Job}
 use Rattle.reversal.specs.Table.{Decision, Table, does, plans, Decided, reads, judges, keeps, ends}
 
--- ---- what bytes say, and which fault they have that say nothing
+-- ---- what bytes mean, and the faults of other bytes
 
--- want of memory is no fault of the bytes
+-- a lack of memory is no fault of the bytes
 abbrev pub HasBookFault : List ℕ → BookFault → Type 0
 HasBookFault bytes fault = IsRefused bytes fault × (fault ≡ BookFault.Memory → ⊥)
 
@@ -48,7 +48,7 @@ HasJournalFault (Some bytes) fault = JournalFirst bytes fault
 
 -- ---- fronts of tables
 
--- what the lines of many tables begin with: a book, and a schedule for it that is valid
+-- the first lines of many tables: a book, and a valid schedule for it
 abbrev pub over_book : List ℕ → (BookCosts → Table) → Table
 over_book book below = reads (IsBookText book) (HasBookFault book) bad_book below
 
@@ -70,8 +70,8 @@ over_program options program journal below =
 abbrev pub in_units : (unit : ℕ) → MachineState → List (List ℕ) → (steps : ℕ) → List Slots → List Action → Run
 in_units unit start items steps slots list = record { first = start; journal = items; unit = unit; steps = steps; slots = slots; list = list }
 
--- The list of a run is that of a schedule's text. Without one it is made: it is that of Revolve for the book, if there is one, and that
--- is asked before the program is read.
+-- The list of a run is that of a schedule's text. Without a text it is Revolve's list for the book, if there is one.
+-- That is decided before the program is read.
 abbrev pub plans_made : ℕ → BookCosts → Option (List ℕ) → Table → Table
 plans_made steps b None below = plans steps b below
 plans_made steps b (Some schedule) below = below
@@ -80,7 +80,7 @@ abbrev pub over_list : ℕ → BookCosts → Option (List ℕ) → (List Action 
 over_list steps b None below = below (revolve_list steps b)
 over_list steps b (Some schedule) below = over_schedule b schedule (λ list. judges steps (slots_of b) list (below list))
 
--- what is done over a run by a list, by the bytes of its inputs and the numbers of the keepers' slots
+-- what is done over a run by a list, by the bytes of its inputs and the keepers' slots
 abbrev pub over_run : (Run → Job) → List Choice → ℕ → List ℕ → Option (List ℕ) → List ℕ → Option (List ℕ) → List ℕ → Table
 over_run job options steps program journal book schedule counts =
     over_book book (λ (b : BookCosts).
@@ -97,7 +97,7 @@ DecidesOver job options steps program journal book schedule counts d = Decided (
 abbrev pub no_table : Table
 no_table = ends (λ d. ⊥)
 
--- what is done over a run, by the bytes of its inputs; without a name for recorded input none is read
+-- what is done over a run, by the bytes of its inputs; recorded input is optional
 abbrev pub over_bytes : (Run → Job) → List Choice → Schedule → ℕ → List (List ℕ) → List ℕ → Table
 over_bytes job options (by_name _) steps (program ∷ book ∷ schedule ∷ []) slots = over_run job options steps program None book (Some schedule) slots
 over_bytes job options (by_name _) steps (program ∷ journal ∷ book ∷ schedule ∷ []) slots =

@@ -1,4 +1,4 @@
--- What is to be done of a call that isn't refused.
+-- What an accepted call is to do.
 use Rattle.std.specs.Prelude.{ℕ, ◌*◌, List}
 use Rattle.plan_types.specs.declared.action.Action.{Action}
 use Rattle.level_book.specs.declared.book.Slots.{Slots}
@@ -9,8 +9,8 @@ use Rattle.reverse_console.specs.declared.order.Order.{Order}
 use Rattle.reverse_console.specs.Marks.{MarkPlan}
 use Rattle.requests.specs.declared.question.Question.{Question}
 
--- A run of a program, and a list that goes over it: the first state, the recorded input, how many steps of the machine a step of
--- the list is, how many steps the list has to reverse, the slots of the levels of a book, and the list.
+-- A run of a program, and a list over it. It has the first state, the recorded input, the slots of a book's levels, and
+-- the list. It also has the machine steps in a step of the list, and the steps that the list reverses.
 pub record Run : Type 0 where
   pub first : MachineState
   pub journal : List (List ℕ)
@@ -27,22 +27,22 @@ last_of run = run.unit * run.steps
 abbrev pub state_of : Run → ℕ → MachineState
 state_of run n = state_number run.first run.journal n
 
--- its state at the end of so many units, which is what the list calls the state of a step
+-- its state at the end of so many units, which the list calls the state of a step
 abbrev pub unit_state : Run → ℕ → MachineState
 unit_state run n = unit_states run.first run.journal run.unit n
 
--- A job. What each of them is, is said by its course, in the file of its command.
+-- A job. Its course, in the file of its command, says what it is.
 pub data Job : Type 0 where
   -- the actions of a list over a run
   perform : Run → Job
-  -- a question about a run: its answer, for which the list is performed as far as it takes
+  -- a question about a run: its answer, for which the list is performed as far as needed
   ask : Question → Run → Job
-  -- the last of the states of a run, up to one with this number, that has a digest: found by so many workers, and written
+  -- the last of a run's states up to this number with a digest, found by so many workers
   seek : MachineState → List (List ℕ) → (steps workers : ℕ) → (digest : List ℕ) → Job
   -- texts, each in one write
   write : List (List ℕ) → Job
-  -- orders that move about in a run from a state, with images kept at its marks
+  -- orders of a script that move about in a run from a state, with images kept at its marks
   move_about : MachineState → List (List ℕ) → MarkPlan → List Order → Job
-  -- Revolve's list over the run from a state, which was made from a number, for so many steps and slots, with images in
-  -- memory of its own and no line written; and then a summary of it
+  -- Revolve's list over the run from a state made from a number, for so many steps and slots. It has images in memory
+  -- of its own, and writes no line, but a summary.
   demonstrate : (number : ℕ) → MachineState → (steps slots : ℕ) → Job

@@ -1,4 +1,4 @@
--- No public clause cites this file. The job that one in memory is, and what holds of it.
+-- No public clause cites this file. The job of one in memory, and its invariant.
 use Rattle.std.specs.Prelude.{◌≡◌, ◌⊎◌, ℕ, ◌*◌, ◌<◌, ◌≤◌, ◌^◌, ◌++◌, max, slice_get, List, [], ◌∷◌, length, Option, None, Some}
 use Rattle.std.specs.Global.{Vec}
 use Rattle.std.specs.Option.{option_map}
@@ -60,11 +60,11 @@ performed_run p = in_units p.unit p.start p.journal p.steps (slots_of p.book) (l
 abbrev pub run_over : Over → Run
 run_over o = in_units o.unit o.start o.journal o.steps (slots_of o.book) o.list.items
 
--- what a session goes over by a list, from where it stands
+-- what a session goes over by a list, from its configuration
 abbrev pub run_from : SessionState → List Action → Run
 run_from s list = record { first = s.work; journal = s.journal; unit = s.unit; steps = s.situation.steps; slots = s.situation.slots; list = list }
 
--- what is moved about in, and by which orders
+-- what a console moves about in, and its orders
 abbrev pub moves : Moving → Job
 moves m = move_about m.start m.journal (record { slots = slots_of m.book; count = m.steps }) m.orders.items
 
@@ -88,7 +88,7 @@ pub record IsPerformable (p : Performance) : Type 0 where
   pub few : length (left_of p.actions) ≤ MOST_ACTIONS
   pub valid : Valid p.steps (slots_of p.book) (left_of p.actions)
 
--- a list is valid that a question is about, and its number is within its bounds
+-- the list of a question is valid, and the question's number is within its bounds
 pub record IsOver (o : Over) : Type 0 where
   pub steps : o.steps ≤ MOST_STEPS
   pub unit : (1 ≤ o.unit) × (o.unit ≤ 1024)
@@ -115,7 +115,7 @@ pub record IsSearchable (f : Finding) : Type 0 where
   pub steps : f.steps ≤ MOST_STEPS
   pub workers : (1 ≤ f.workers) × (f.workers ≤ 64)
 
--- a run that is moved about in has a slot for a mark, and each order may be given in it
+-- the run of a console has a slot for a mark, and allows each order
 pub record CanMoveAbout (m : Moving) : Type 0 where
   pub steps : m.steps ≤ MOST_STEPS
   pub slots : 1 ≤ total_room m.book (max m.steps 1)
@@ -152,31 +152,31 @@ KeepersHaveRoom (ListWords l) counts = Unit {0}
 KeepersHaveRoom (MoveAbout m) counts = HaveRoom (max m.steps 1) (slots_of m.book) counts
 KeepersHaveRoom (Demonstrate d) counts = Unit {0}
 
--- the bytes of a text that may be given
+-- the bytes of an optional text
 abbrev pub text_of : Option (Vec ℕ) → Option (List ℕ)
 text_of given = option_map (λ text. text.items) given
 
--- why bytes aren't read: they have a fault, by which the call ends, or memory ran out
+-- why bytes aren't read: their fault, which ends the call, or a lack of memory
 abbrev pub IsRefusal : {F : Type 0} → (F → Type 0) → (F → Ended) → Ended → Type 0
 IsRefusal {F} HasFault ended e = (e ≡ no_memory) ⊎ ((fault : F) × HasFault fault × (e ≡ ended fault))
 
--- why a list isn't shown to be the least: its certificate isn't accepted, for the first reason, or memory ran out
+-- why a list isn't shown to be least: the first reason against its certificate, or no memory
 abbrev pub IsUnweighed : ℕ → BookCosts → List Action → Certificate → Ended → Type 0
 IsUnweighed steps book list certificate e =
     (e ≡ no_memory) ⊎ ((reason : Reason) × (IsFirstReason list steps book certificate reason × (e ≡ not_least reason)))
 
--- what was begun was done, stopped, or wanted memory, by its course
+-- the job was done, stopped, or ran out of memory, by its course
 abbrev pub WorksBy : Course → Ended → Moment → Moment → Type 0
 WorksBy course e old new = EndsShowing course e old new ⊎ ((e ≡ no_memory) × HaltsShowing course old new)
 
 abbrev pub Works : Job → Ended → Moment → Moment → Type 0
 Works job e old new = WorksBy (course_of job) e old new
 
--- memory ran out before anything was done: a sink, keepers and a count of steps are as they were
+-- memory ran out before anything was done: a sink, keepers and a count of steps are unchanged
 abbrev pub IsUntouched : {X K : Type 0} → Ended → X → X → K → K → ℕ → ℕ → Type 0
 IsUntouched e out out' keepers keepers' steps steps' = (e ≡ no_memory) × (out' ≡ out) × (keepers' ≡ keepers) × (steps' ≡ steps)
 
--- how a call ends whose session refused the action at a place for this fault; one that has ended refuses none
+-- How a call ends if its session refused the action at a place for this fault. A session that has ended refuses none.
 abbrev pub fault_ending : ℕ → RunFault → Ended
 fault_ending place (fault.Keeper level) = keeper_failed place level
 fault_ending place (fault.Damaged level put got) = damaged place level put got

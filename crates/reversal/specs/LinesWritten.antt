@@ -1,4 +1,4 @@
--- No public clause cites this file. What is written of lines, each in one call.
+-- No public clause cites this file. How lines are written, each in one call.
 use Rattle.std.specs.Prelude.{◌≡◌, ℕ, ◌+◌, List, [], ◌∷◌, ◌++◌, length, take, slice_get, Option, Some}
 use Rattle.keepers.specs.Counts.{raised}
 use Rattle.keepers.specs.Told.{Tells}
@@ -18,7 +18,7 @@ pub record Writes {X : Type 0} (told : X → Option (List ℕ)) (calls : X → �
   pub added : Tells (told x) (told y) (Adds (bytes_of lines))
   pub called : calls y ≡ raised (calls x) (length lines)
 
--- some of these lines were written, each in one call, and a part of the next one, whose write failed
+-- some of these lines were written, each in one call; the next write failed after a part
 pub record BreaksLines {X : Type 0} (told : X → Option (List ℕ)) (calls : X → ℕ) (lines : List (List ℕ)) (x y : X) : Type 0 where
   pub whole : ℕ
   pub piece : List ℕ

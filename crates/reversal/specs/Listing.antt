@@ -6,18 +6,18 @@ use Rattle.rv_asm.specs.Coding.{entries}
 use Rattle.rv_asm.specs.Canonical.{unpacked, operands_text, hex_word}
 use Rattle.reversal.specs.Plans.{in_pieces}
 
--- what is made of what an option has, or what stands in its place
+-- a function of an option's value, or a default
 abbrev pub made_or : {A B : Type 0} → Option A → (A → B) → B → B
 made_or (Some x) make other = make x
 made_or None make other = other
 
--- the line of a word by the row that takes it, or, where there is none, the word as it is
+-- the line of a word by its row, or by the word itself if it has none
 unfoldable pub word_line : ℕ → List ℕ
 word_line word =
     made_or (find (λ row. takes row.1.format row.1.base word) entries)
     (λ row. row.0 ++ operands_text (unpacked row.1.format word) (wants row.1.format)) (codes ".word 0x" ++ hex_word word)
 
--- the same with a line end
+-- the line of a word, with a line end
 abbrev pub ended_line : ℕ → List ℕ
 ended_line word = word_line word ++ 10 ∷ []
 

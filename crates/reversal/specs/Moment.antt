@@ -1,23 +1,23 @@
--- What is seen at one moment of a sink, of keepers and of the count of steps, by what they tell and count.
-use Rattle.std.specs.Prelude.{◌≡◌, ℕ, ◌<◌, List, Option, Some, IsSome}
+-- One moment of a sink, of keepers and of the count of steps: what they claim and count.
+use Rattle.std.specs.Prelude.{◌≡◌, ◌≢◌, ℕ, ◌<◌, List, Option, Some, IsSome}
 use Rattle.std.specs.FinMap as finmap
 use Rattle.keepers.specs.Counts.{Rose}
 use Rattle.keepers.specs.Told.{Images}
 use Rattle.reverse_runner.specs.KeepersSeen.{Calls, by_number, calls_to, told_by}
 
 pub record Moment : Type 0 where
-  -- the bytes that the sink tells, how often it was called, and how often it failed
+  -- the bytes that the sink claims, how often it was called, and how often it failed
   pub told : Option (List ℕ)
   pub writes : ℕ
   pub faults : ℕ
   -- the steps of the machine
   pub steps : ℕ
-  -- how often the keepers were called, the images that they tell, and how often they failed, by the numbers of their levels
+  -- how often the keepers were called, the images that they claim, and how often they failed, by level
   pub calls : Calls
   pub images : ℕ → Option Images
   pub keeper_faults : ℕ → ℕ
 
--- what is seen of a sink, of keepers and of a count of steps
+-- one moment of a sink, of keepers and of a count of steps
 abbrev pub moment : {X K : Type 0} → (X → Option (List ℕ)) → (X → ℕ) → (X → ℕ) → (K → Option Images) → (K → ℕ) → (K → ℕ) → (K → ℕ) → (K → ℕ) →
     X → List K → ℕ → Moment
 moment told writes faults images puts gets frees keeper_faults sink keepers steps = record {
@@ -30,7 +30,7 @@ moment told writes faults images puts gets frees keeper_faults sink keepers step
   keeper_faults = by_number 0 keeper_faults keepers;
 }
 
--- the same of a sink and a count of steps, with keepers as they are at another moment
+-- one moment of a sink and a count of steps, with keepers as at another moment
 abbrev pub beside : {X : Type 0} → (X → Option (List ℕ)) → (X → ℕ) → (X → ℕ) → Moment → X → ℕ → Moment
 beside told writes faults other sink steps = record {
   told = told sink;
@@ -63,14 +63,15 @@ pub record SinkFails (old new : Moment) : Type 0 where
   pub sink : Rose old.faults new.faults
   pub keepers : KeepersAreQuiet old new
 
--- the keeper of this level failed, and not the sink
+-- the keeper of this level failed, and neither the sink nor another keeper
 pub record KeeperFails (level : ℕ) (old new : Moment) : Type 0 where
   pub sink : new.faults ≡ old.faults
   pub keeper : Rose (old.keeper_faults level) (new.keeper_faults level)
+  pub others : (j : ℕ) → j ≢ level → new.keeper_faults j ≡ old.keeper_faults j
 
--- ---- keepers that tell
+-- ---- keepers that claim their content
 
--- the keepers of so many levels tell, and are empty
+-- the keepers of so many levels claim their content, and are empty
 abbrev pub AllTell : ℕ → (ℕ → Option Images) → Type 0
 AllTell levels images = (k : ℕ) → k < levels → IsSome (images k)
 

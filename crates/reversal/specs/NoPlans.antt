@@ -1,4 +1,4 @@
--- No public clause cites this file. Why there is no plan, as the steps of deciding answer it.
+-- No public clause cites this file. Why there is no plan, as the steps of a decision return it.
 use Rattle.std.specs.Prelude.{◌≡◌, ◌⊎◌, ℕ, ◌≤◌, length, slice_get, Some}
 use Rattle.level_book.specs.declared.book.Slots.TheVariants.{Unlimited}
 use Rattle.level_book.specs.BookCosts.{BookCosts, slots_of, room, total_room}
@@ -8,7 +8,7 @@ use Rattle.hrevolve_gen.specs.Plans as nested
 use Rattle.requests.specs.declared.ended.Ended.{Ended}
 use Rattle.requests.specs.Ending.{no_plan}
 
--- no periodic one
+-- there is no periodic plan
 abbrev pub IsUnperiodic : ℕ → ℕ → BookCosts → Ended → Type 0
 IsUnperiodic steps period b e =
     ((length b.levels ≡ 2 → ⊥) × (e ≡ no_plan steps (total_room b steps) 2))
@@ -16,12 +16,12 @@ IsUnperiodic steps period b e =
     ⊎ ((length b.levels ≡ 2) × (2 ≤ steps → 2 ≤ period → 1 ≤ room b 0 steps) × (HasSlots (slots_at b 1) (images steps period) → ⊥)
     × (e ≡ no_plan steps (total_room b steps) 4)))
 
--- none of DiskRevolve
+-- there is no plan of DiskRevolve
 abbrev pub IsUndisked : ℕ → BookCosts → Ended → Type 0
 IsUndisked steps b e =
     ((length b.levels ≡ 2 → ⊥) × (e ≡ no_plan steps (total_room b steps) 2))
     ⊎ ((length b.levels ≡ 2) × (slice_get (slots_of b) 1 ≡ Some Unlimited → ⊥) × (e ≡ no_plan steps (total_room b steps) 3))
 
--- none of H-Revolve
+-- there is no plan of H-Revolve
 abbrev pub IsUnnested : ℕ → BookCosts → Ended → Type 0
 IsUnnested steps b e = (nested.HasNestedPlan steps b → ⊥) × (e ≡ no_plan steps (total_room b steps) 1)

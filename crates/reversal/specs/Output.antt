@@ -1,4 +1,4 @@
--- What is written of a run: lines of its states, from the one with the greatest number down.
+-- What is written of a run: lines of its states, in descending order of their numbers.
 use Rattle.std.specs.Prelude.{◌≡◌, ℕ, List, [], ◌∷◌, ◌++◌}
 use Rattle.std.specs.List.{flat_map}
 use Rattle.rv_machine.specs.MachineState.{MachineState}
@@ -13,7 +13,7 @@ line_of states n = line n (states n) ++ 10 ∷ []
 abbrev pub lines_down : (ℕ → MachineState) → ℕ → List ℕ
 lines_down states n = flat_map (line_of states) (countdown n)
 
--- bytes were added with which these begin
+-- a beginning of these bytes was added
 abbrev pub AddsFrontOf : List ℕ → List ℕ → List ℕ → Type 0
 AddsFrontOf bytes old new = (front : List ℕ) × (rest : List ℕ) × (bytes ≡ front ++ rest) × (new ≡ old ++ front)
 

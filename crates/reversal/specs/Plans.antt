@@ -1,4 +1,5 @@
--- What is written of a list for a book: its text and its certificate, which say it again; and the tables that some lists are read from.
+-- What is written of a list for a book: its text and its certificate, which read as both. Also the tables for reading
+-- some lists.
 use Rattle.std.specs.Prelude.{ℕ, suc, zero, List, [], ◌∷◌, ◌++◌, length, map, take, drop, cond, nat_le, ◌+◌}
 use Rattle.std.specs.List.{flat_map}
 use Rattle.plan_types.specs.declared.action.Action.{Action}
@@ -14,8 +15,8 @@ use Rattle.cost_tables.specs.TableRows.{TableRows, AreFor}
 use Rattle.disk_gen.specs.DiskRows.{DiskRows, AreDiskSized}
 use Rattle.disk_gen.specs.DiskShapes.{AreDiskShaped}
 
--- The certificate of Revolve's list: its number of repeats, and its forward steps. For no step and for one these are known
--- without a number of repeats.
+-- The certificate of Revolve's list: its number of repeats, and its forward steps. No steps and one step need no number
+-- of repeats.
 abbrev pub certificate_of : ℕ → BookCosts → Certificate
 certificate_of steps book =
     cond (nat_le steps 1) (Revolve 0 steps) (Revolve (repeats steps (total_room book steps)) (steps + least_advances steps (total_room book steps)))
@@ -24,8 +25,8 @@ certificate_of steps book =
 abbrev pub line_of_action : List (List ℕ) → Action → List ℕ
 line_of_action names action = canonical names action ++ 10 ∷ []
 
--- The lines of a list, in pieces of sixty-four, each of which is one write; the last may have fewer. The number is no less
--- than that of the lines, and only bounds the recursion.
+-- The lines of a list in pieces of sixty-four, each one write. The last may have fewer. The number is at least that of
+-- the lines, and only bounds the recursion.
 abbrev pub in_pieces : ℕ → List (List ℕ) → List (List ℕ)
 in_pieces zero lines = []
 in_pieces (suc more) [] = []
@@ -42,6 +43,6 @@ plan_pieces steps book = list_pieces (names_of book) (revolve_list steps book) +
 abbrev pub AreTablesFor : ℕ → BookCosts → TableRows → Type 0
 AreTablesFor steps book t = AreFor steps book t × AreShaped t
 
--- the same of disk tables
+-- disk tables for so many steps and a book, in whole rows, with nothing else in them
 abbrev pub AreDiskTablesFor : ℕ → BookCosts → DiskRows → Type 0
 AreDiskTablesFor steps book t = AreDiskSized steps book t × AreDiskShaped t

@@ -1,5 +1,5 @@
--- What may be decided of a call, and the lines of a table by which it is: the first line that isn't met decides, and the last line is
--- what is to be done. A table is a list of such lines.
+-- The possible decisions on a call, and the lines of a table. The first line that isn't met decides, and the last line
+-- is what is to be done. A table is a list of such lines.
 use Rattle.std.specs.Prelude.{◌≡◌, ◌⊎◌, ℕ, ◌<◌, ◌≤◌, slice_index_or, List, length}
 use Rattle.plan_types.specs.declared.action.Action.{Action}
 use Rattle.level_book.specs.declared.book.Slots.{Slots}
@@ -19,54 +19,55 @@ pub data Decision : Type 0 where
   refuse : Ended → Decision
   accept : Job → Decision
 
--- ---- lines of the table, which commands share
+-- ---- lines of tables, which commands share
 
--- this holds and the lines below decide, or it doesn't and the call is refused so
+-- this holds and the lines below decide; otherwise the call is refused with this ending
 abbrev pub Need : Type 0 → Ended → Decision → Type 0 → Type 0
 Need Holds e d below = ((Holds → ⊥) × (d ≡ refuse e)) ⊎ (Holds × below)
 
--- the bytes say something, of which the lines below decide, or they have a fault, and the call is refused by it
+-- the bytes mean something, and the lines below decide by it, or their fault refuses the call
 abbrev pub Read : {A F : Type 0} → (A → Type 0) → (F → Type 0) → (F → Ended) → Decision → (A → Type 0) → Type 0
 Read {A} {F} IsText HasFault ended d below = ((fault : F) × HasFault fault × (d ≡ refuse (ended fault))) ⊎ ((x : A) × IsText x × below x)
 
--- the list is valid and the lines below decide, or it is refused where it is first broken
+-- the list is valid and the lines below decide; otherwise it is refused where it is first broken
 abbrev pub Judge : ℕ → List Slots → List Action → Decision → Type 0 → Type 0
 Judge steps slots list d below =
     ((place : ℕ) × (rule : ℕ) × (level : ℕ) × BrokenAt steps slots list place rule level × (Valid steps slots list → ⊥)
     × (d ≡ refuse (invalid place level rule)))
     ⊎ (Valid steps slots list × below)
 
--- Revolve has a list for so many steps and this book, and the lines below decide, or the call is refused
+-- Revolve has a list for so many steps and this book, and the lines below decide. Otherwise the call is refused.
 abbrev pub Plan : ℕ → BookCosts → Decision → Type 0 → Type 0
 Plan steps book d below = Need (revolve.HasPlan steps (total_room book steps)) (no_plan steps (total_room book steps) 1) d below
 
--- this level of a book is the first on which more than 64 images of a list for so many steps can be held
+-- the first level that can hold more than 64 images of a list for so many steps
 pub record IsFirstWide (steps : ℕ) (book : BookCosts) (level : ℕ) : Type 0 where
   pub within : level < length book.levels
   pub wide : 64 < room book level steps
   pub before : (k : ℕ) → k < level → room book k steps ≤ 64
 
--- Tables are kept small: no level of the book holds more than 64 images, and the lines below decide, or the call is refused for
--- the first that does, by rule 9.
+-- Tables are kept small. If no level of the book holds more than 64 images, the lines below decide. Otherwise the call
+-- is refused for the first that does, by rule 9.
 abbrev pub Tabulate : ℕ → BookCosts → Decision → Type 0 → Type 0
 Tabulate steps book d below =
     ((level : ℕ) × (IsFirstWide steps book level × (d ≡ refuse (out_of_range (room book level steps) 64 9))))
     ⊎ (((k : ℕ) → k < length book.levels → room book k steps ≤ 64) × below)
 
--- the certificate of a valid list is accepted and the lines below decide, or it is refused for the first reason
+-- The certificate of a valid list is accepted, and the lines below decide. Otherwise it is refused for the first
+-- reason.
 abbrev pub Weigh : ℕ → BookCosts → List Action → Certificate → Decision → Type 0 → Type 0
 Weigh steps book list certificate d below =
     ((reason : Reason) × IsFirstReason list steps book certificate reason × (d ≡ refuse (not_least reason)))
     ⊎ (IsAccepted list steps book certificate × below)
 
--- the keeper of this level is the first that has fewer slots than a run of so many steps can use there
+-- the first keeper with fewer slots than a run of so many steps can use
 pub record IsFirstSmall (steps : ℕ) (slots : List Slots) (counts : List ℕ) (level : ℕ) : Type 0 where
   pub within : level < length slots
   pub small : slice_index_or counts level 0 < least (slice_index_or slots level (Count 0)) steps
   pub before : (k : ℕ) → k < level → least (slice_index_or slots k (Count 0)) steps ≤ slice_index_or counts k 0
 
--- There is a keeper for each level, with slots enough, and the lines below decide; or there are too few keepers, or one has
--- too few slots. The keepers are given by the numbers of their slots.
+-- There is a keeper for each level, with slots enough, and the lines below decide. Otherwise there are too few keepers,
+-- or one has too few slots. The keepers are given by the numbers of their slots.
 abbrev pub Keep : ℕ → List Slots → List ℕ → Decision → Type 0 → Type 0
 Keep steps slots counts d below =
     Need (length slots ≤ length counts) (few_keepers (length slots) (length counts)) d
@@ -75,7 +76,7 @@ Keep steps slots counts d below =
 
 -- ---- tables
 
--- A line that is added is a case here and in `Decided`, and what is proved of it in `proofs/Tables`.
+-- A new line is a case here and in `Decided`, with its proofs in `proofs/Tables`.
 pub data Table : Type 1 where
   needs : Type 0 → Ended → Table → Table
   reads : {A F : Type 0} → (A → Type 0) → (F → Type 0) → (F → Ended) → (A → Table) → Table
@@ -83,9 +84,9 @@ pub data Table : Type 1 where
   keeps : ℕ → List Slots → List ℕ → Table → Table
   tabulates : ℕ → BookCosts → Table → Table
   weighs : ℕ → BookCosts → List Action → Certificate → Table → Table
-  -- what holds of each request that comes so far
+  -- what holds of each request that reaches this line
   grants : Type 0 → Table → Table
-  -- the last line: which decisions may be come to
+  -- the last line: which decisions are possible
   ends : (Decision → Type 0) → Table
 
 -- the last line of most tables: this job is to be done

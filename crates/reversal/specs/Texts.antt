@@ -1,4 +1,4 @@
--- Texts are written: what the commands do that go over no run.
+-- Writing texts: the commands that go over no run.
 use Rattle.std.specs.Prelude.{ℕ, List, [], ◌∷◌}
 use Rattle.reversal.specs.Deeds.{writing, bytes_of}
 use Rattle.reversal.specs.Course.{Course}
@@ -17,5 +17,6 @@ texts_course texts = record {
   answers_partly = λ shown performed old new. Unit {0};
   holds = λ Same shown performed old new. Unit {0};
   damage = λ shown performed level put got old new. ⊥;
+  stops = λ shown performed level old new. Unit {0};
   may_want = λ deed. ⊥;
 }

@@ -1,4 +1,4 @@
--- What is written of a plan says its list and its certificate again.
+-- The written text of a plan reads as its list and its certificate.
 use Rattle.std.specs.Prelude.{ℕ, List}
 use Rattle.plan_types.specs.declared.action.Action.{Action}
 use Rattle.level_book.specs.BookCosts.{BookCosts, names_of}
@@ -9,7 +9,7 @@ use Rattle.reversal.specs.Job.{Job}
 use Rattle.reversal.specs.Course.{Shown}
 use Rattle.reversal.specs.Decision.{course_of}
 
--- read as a schedule it says this list, and read as a certificate this one
+-- read as a schedule it means this list, and read as a certificate this one
 abbrev pub SaysAgain : ℕ → BookCosts → Job → List Action → Certificate → Type 0
 SaysAgain steps book job list certificate =
     (shown : Shown) → IsSchedule (names_of book) ((course_of job).output shown) list × IsCertificateText steps book ((course_of job).output shown) certificate

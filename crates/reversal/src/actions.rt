@@ -13,16 +13,16 @@ use std::marker::Model;
 pub enum Actions {
     /// From a list in memory.
     Listed(Listed),
-    /// From the stream of Revolve, which works each out as it is wanted.
+    /// From the stream of Revolve, which computes each when it is needed.
     Streamed(Revolve),
-    /// From the stream of a periodic list, likewise.
+    /// From the stream of a periodic list, which computes each when it is needed.
     Periodic(Periodic),
-    /// From a multistage plan, likewise.
+    /// From a multistage plan, which computes each when it is needed.
     Multistage(Multistage),
 }
 
 impl Actions {
-    /// The next action, and None after the last and from then on. It takes no memory.
+    /// The next action, and None after the last. It takes no memory.
     #[inline(always)]
     pub fn next(&mut self) -> Option<Action>
         ensures { MatchOption result ((left_of self.old ≡ []) × (left_of self.new ≡ [])) (λ action. left_of self.old ≡ action ∷ left_of self.new) }
@@ -36,7 +36,7 @@ impl Actions {
     }
 }
 
-/// The actions of a list that are still to come.
+/// The actions of a list still to come.
 #[derive(Drop)]
 pub struct Listed {
     list: Vec<Action>,

@@ -32,8 +32,8 @@ use rv_machine::{State, Steps};
 use std::alloc::Global;
 use std::sync::ledger::Ledger;
 
-/// What a list is performed over: the first state, the recorded input, how many instructions a step is, the number of steps and
-/// the book; and the list.
+/// What a list is performed over, and the list. That is the first state, the recorded input, the instructions in a
+/// step, the steps, and the book.
 #[derive(Drop)]
 pub struct Over {
     pub start: State,
@@ -44,7 +44,7 @@ pub struct Over {
     pub list: Vec<Action>,
 }
 
-/// A question, and what it is about.
+/// A question, and the run that it is about.
 #[derive(Drop)]
 pub struct Asking {
     pub question: Question,
@@ -52,7 +52,7 @@ pub struct Asking {
 }
 
 impl Asking {
-    /// Performs the list as far as the answer takes it, and writes the answer.
+    /// Performs the list as far as the answer needs, and writes the answer.
     pub fn answer<K: Keeper, O: Sink, L: Ledger>(
         self,
         alloc: Global,
@@ -156,7 +156,7 @@ fn tell_last_write<K: Keeper, O: Sink, L: Ledger>(
     }
 }
 
-// The same for the last step that changes one.
+// Writes the number of the last step that changes a byte of a word, or that there is none.
 fn tell_last_change<K: Keeper, O: Sink, L: Ledger>(
     session: &mut Session,
     list: &[Action],
@@ -185,7 +185,7 @@ fn tell_last_change<K: Keeper, O: Sink, L: Ledger>(
     }
 }
 
-// How a call ends whose session refused an action for this fault: the actions before it are those that were done.
+// How a call ends if its session refused an action for this fault. The earlier actions were done.
 fn refused(session: &Session, fault: RunFault) -> Ended
     requires over { fault ≢ fault_is.Ended }
     requires counts { session.now.done < 18446744073709551615 }

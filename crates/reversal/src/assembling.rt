@@ -15,7 +15,7 @@ use requests::{Assemble, Ended};
 use rv_asm::assemble;
 use std::alloc::{AllocError, Global};
 
-/// What a request for the words of a source comes to by its bytes.
+/// The decision on a request to assemble a source, by its bytes.
 pub fn decide_assemble(
     alloc: Global,
     assemble: &Assemble<'_>,

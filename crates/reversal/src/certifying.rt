@@ -25,7 +25,7 @@ use plan_types::{Action, Line};
 use requests::{Certify, Ended};
 use std::alloc::Global;
 
-/// What a request for a proof that a list is least comes to by the bytes of its inputs.
+/// The decision on a request to certify a list, by the bytes of its inputs.
 pub fn decide_certify(alloc: Global, certify: &Certify<'_>, bytes: &[Vec<u8>]) -> Result<Job, Ended>
     requires steps { certify.now.steps ≤ MOST_STEPS }
     requires inputs { AreWithinLimits (inputs_of (certify_command (as_certify certify.now))) (map (λ b. b.items) bytes.now) }
@@ -66,7 +66,7 @@ fn certify_texts(
     Ok(Job::Write(least_line(class)))
 }
 
-// What is written of a list that is the least of its class.
+// The text for a list that is the least of its class.
 fn least_line(class: Class) -> Line
     ensures { result ≡ least_line class }
 {
@@ -80,7 +80,7 @@ fn least_line(class: Class) -> Line
     line
 }
 
-// The certificate that bytes say.
+// The certificate that bytes mean.
 fn certificate_in(
     alloc: Global,
     bytes: &[u8],
@@ -95,7 +95,7 @@ fn certificate_in(
     Ok(read_certificate(alloc, bytes, steps, book)?)
 }
 
-// The class of which a valid list is the least by its certificate.
+// The class in which a valid list is the least by its certificate.
 fn weigh(
     alloc: Global,
     list: &[Action],

@@ -1,4 +1,4 @@
-// What a request comes to by its inputs: a job, or a refusal.
+// The decision on a request by its inputs: a job, or a refusal.
 ghost use Rattle.std.specs.Prelude.{◌≡◌, ◌⊎◌, ℕ, ◌*◌, ◌≤◌, ◌++◌, List, [], ◌∷◌, length, map, codes, decimal, IfOk, IfErr, OnOk};
 ghost use Rattle.std.specs.List.{AllByRecursion};
 ghost use Rattle.plan_types.specs.declared.limits.TheConstants.{MOST_STEPS};
@@ -46,7 +46,7 @@ use std::alloc::Global;
 use std::mem;
 use std::thread::Threads;
 
-// The texts that a run is told by.
+// The texts of a run.
 #[derive(Drop)]
 struct Texts<'a> {
     program: &'a [u8],
@@ -55,8 +55,8 @@ struct Texts<'a> {
     schedule: &'a [u8],
 }
 
-/// What a request, whose numbers are within their bounds, comes to by the bytes of its inputs and the numbers of the
-/// keepers' slots.
+/// The decision on a request by the bytes of its inputs and the numbers of the keepers' slots. The request's numbers
+/// are within their bounds.
 pub fn decide<R: Threads + Sync>(
     rt: &R,
     alloc: Global,
@@ -94,7 +94,7 @@ pub fn decide<R: Threads + Sync>(
     }
 }
 
-// The same for a run backward.
+// The decision on a run backward.
 fn decide_run(
     alloc: Global,
     options: &Options,
@@ -152,7 +152,7 @@ fn performance(over: Over, workers: u32) -> Job
     })
 }
 
-// The same for a question about a run.
+// The decision on a question about a run.
 fn decide_ask(
     alloc: Global,
     options: &Options,
@@ -179,7 +179,7 @@ fn decide_ask(
     Ok(Job::Ask(Asking { question, over }))
 }
 
-// What a list is to be performed over, by the bytes of the inputs of a run by a schedule that is read.
+// What a list is performed over, by the bytes of a run's inputs; its schedule is read.
 fn decide_over(
     alloc: Global,
     options: &Options,
@@ -264,7 +264,7 @@ fn decide_texts(
     })
 }
 
-// The same for the judgement of a schedule.
+// The decision on a request to check a schedule.
 fn decide_check(alloc: Global, check: &Check<'_>, bytes: &[Vec<u8>]) -> Result<Job, Ended>
     requires steps { check.now.steps ≤ MOST_STEPS }
     requires inputs { AreWithinLimits (inputs_of (check_command (as_check check.now))) (map (λ b. b.items) bytes.now) }
@@ -296,7 +296,7 @@ fn judge_texts(alloc: Global, steps: u32, book: &[u8], schedule: &[u8]) -> Resul
     Ok(Job::Write(valid_line(list.len())))
 }
 
-// What is written of a valid list of so many actions.
+// The text for a valid list of so many actions.
 fn valid_line(count: usize) -> Line
     ensures { result ≡ codes "valid " ++ decimal count ++ codes "\n" }
 {
@@ -307,7 +307,7 @@ fn valid_line(count: usize) -> Line
     line
 }
 
-// The book that bytes say.
+// The book that bytes mean.
 pub(crate) fn book_in(alloc: Global, bytes: &[u8]) -> Result<Book, Ended>
     ensures found { IfOk result (IsBookText bytes.now) }
     ensures refused { IfErr result (IsRefusal (HasBookFault bytes.now) bad_book) }
@@ -315,7 +315,7 @@ pub(crate) fn book_in(alloc: Global, bytes: &[u8]) -> Result<Book, Ended>
     Ok(read_book(alloc, bytes)?)
 }
 
-// Looks for a keeper for each level of the book, with as many slots as a run of so many steps can use there.
+// Requires a keeper for each level, with as many slots as a run of so many steps can use.
 pub(crate) fn keep(steps: u32, book: &Book, counts: &[u32]) -> Result<(), Ended>
     ensures room { OnOk result (HaveRoom steps (slots_of book.now) counts.now) }
     ensures refused { IfErr result (λ e. Keep steps (slots_of book.now) counts.now (refuse e) ⊥) }
@@ -347,7 +347,7 @@ pub(crate) fn start_of(alloc: Global, options: &Options, bytes: &[u8]) -> Result
     }
 }
 
-// How many instructions a step of a schedule is.
+// How many instructions a step of a schedule has.
 pub(crate) fn unit_of(options: &Options) -> u32
     requires { unit_count options.now ≤ 1024 }
     ensures { result ≡ unit_count options.now }
@@ -355,7 +355,7 @@ pub(crate) fn unit_of(options: &Options) -> u32
     options.unit_count() as u32
 }
 
-// How many workers there are.
+// The number of workers that the options ask for.
 pub(crate) fn workers_of(options: &Options) -> u32
     requires { worker_count options.now ≤ 64 }
     ensures { result ≡ worker_count options.now }
@@ -374,7 +374,7 @@ pub(crate) fn journal_in(alloc: Global, bytes: Option<Vec<u8>>) -> Result<Journa
     }
 }
 
-// The list that the bytes of a schedule say over the levels of a book.
+// The list that the bytes of a schedule mean over the levels of a book.
 pub(crate) fn list_in(alloc: Global, bytes: &[u8], book: &Book) -> Result<Vec<Action>, Ended>
     requires { length bytes.now ≤ 536870912 }
     ensures found { IfOk result (λ list. IsSchedule (names_of book.now) bytes.now list.items) }

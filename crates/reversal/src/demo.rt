@@ -1,4 +1,4 @@
-// A demonstration: a run backward of a program that is made from a number.
+// A demonstration: a run backward of a program made from a number.
 ghost use Rattle.std.specs.Prelude.{◌≡◌, ◌≢◌, ◌⊎◌, ◌↔◌, ℕ, ◌+◌, ◌*◌, ◌%◌, ◌^◌, ◌<◌, ◌≤◌, ◌++◌, List, [], ◌∷◌, length, Option, decimal, MatchOption, IfOk, IfErr, OnOk};
 ghost use Rattle.std.specs.Int.{w32, to_le_bytes};
 ghost use Rattle.plan_types.specs.declared.action.Action.{Action};
@@ -49,10 +49,10 @@ const PROGRAM: usize = 8_192;
 
 const STACK: u32 = 16;
 
-// How many of the program's instructions are drawn.
+// How many of the program's instructions are random.
 const DRAWS: u32 = 62;
 
-/// What a request for a demonstration comes to.
+/// The decision on a request for a demonstration.
 pub fn decide_demo(alloc: Global, demo: &Demo) -> Result<Job, Ended>
     requires number { demo.now.number ≤ 4294967295 }
     requires steps { demo.now.steps ≤ MOST_STEPS }
@@ -78,7 +78,7 @@ pub fn decide_demo(alloc: Global, demo: &Demo) -> Result<Job, Ended>
     }))
 }
 
-// The first state of the program that is made from a number. Its bytes are words and few, so memory alone can be wanting.
+// The first state of the program made from a number. Its bytes are few and whole words, so only memory can run out.
 fn start_of(alloc: Global, number: u32) -> Result<State, Ended>
     ensures found { IfOk result (IsRawProgram (program number) 16) }
     ensures refused { IfErr result (λ e. e ≡ no_memory) }
@@ -90,7 +90,7 @@ fn start_of(alloc: Global, number: u32) -> Result<State, Ended>
     }
 }
 
-// The program that is made from a number.
+// The program made from a number.
 fn program(alloc: Global, number: u32) -> Result<Vec<u8>, AllocError>
     ensures { IfOk result (λ bytes. bytes.items ≡ program number) }
 {
@@ -118,14 +118,14 @@ fn program(alloc: Global, number: u32) -> Result<Vec<u8>, AllocError>
     Ok(bytes)
 }
 
-// The number that is drawn behind a number.
+// The random number after another one.
 fn drawn(v: u32) -> u32
     ensures { result ≡ drawn v }
 {
     v.wrapping_mul(1_664_525).wrapping_add(1_013_904_223)
 }
 
-// The instruction of a drawn number.
+// The instruction of a random number.
 fn instruction(v: u32) -> Inst
     ensures instruction { result ≡ instruction_of v }
     ensures ranges { HasRanges result }
@@ -166,7 +166,7 @@ fn push_instruction(bytes: &mut Vec<u8>, inst: &Inst) -> Result<(), AllocError>
     bytes.extend_from_slice(&encode(inst).to_le_bytes())
 }
 
-/// A program that was made from a number, at its first state, and how it is to be run.
+/// A program made from a number, at its first state, and how to run it.
 #[derive(Drop)]
 pub struct Demonstration {
     pub number: u32,
@@ -176,7 +176,7 @@ pub struct Demonstration {
 }
 
 impl Demonstration {
-    /// Runs the program backward by the list of Revolve, with images in memory, and writes a summary. Where memory runs out
+    /// Runs the program backward by Revolve's list, with images in memory, and writes a summary. If memory runs out
     /// before the first action, nothing was done.
     pub fn show<O: Sink, L: Ledger>(
         self,
@@ -209,7 +209,7 @@ impl Demonstration {
     }
 }
 
-/// A run that is shown: its session, the list of Revolve, and one keeper in memory.
+/// A demonstrated run: its session, Revolve's list, and one keeper in memory.
 #[derive(Drop)]
 pub struct Demonstrated {
     pub session: Session,
@@ -249,8 +249,8 @@ impl Demonstrated {
         })
     }
 
-    // Performs the list, and gives the SHA-256 of the lines of the states, from the last to the first. The keeper is told
-    // no call to fail, so memory alone can be wanting.
+    // Performs the list, and returns the SHA-256 of the states' lines, from the last to the first. No call of the
+    // keeper fails, so only memory can run out.
     fn digest<L: Ledger>(&mut self, counter: &mut Steps<L>) -> Option<[u8; 32]>
         requires { IsAtStart self.old }
         ensures { MatchOption result (BreaksWithin self.old.actions counter.old counter.new)
@@ -267,7 +267,7 @@ impl Demonstrated {
     }
 }
 
-// What is written of a run.
+// The text about a run.
 fn summary(number: u32, steps: u32, slots: u32, digest: &[u8; 32]) -> Line
     requires steps { steps ≤ MOST_STEPS }
     requires slots { slots ≤ MOST_SLOTS }

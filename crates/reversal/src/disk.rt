@@ -1,4 +1,4 @@
-// The list of DiskRevolve for memory and an unlimited disk, and the tables that it is read from, as text.
+// The list of DiskRevolve for memory and an unlimited disk, and its tables, as text.
 ghost use Rattle.std.specs.Prelude.{◌≡◌, ◌⊎◌, ℕ, ◌≤◌, List, length, IfOk, IfErr, OnOk};
 ghost use Rattle.level_book.specs.DiskUnderTable.{IsGreatestDisk};
 ghost use Rattle.cost_tables.specs.TableRows.{FastestTablesFit};
@@ -22,11 +22,11 @@ use revolve_gen::GenFault;
 use std::alloc::Global;
 use std::thread::Threads;
 
-// How many images in memory tables count at most.
+// The most images in memory that tables count.
 const MOST_IMAGES: u32 = 64;
 
-/// What a plan of DiskRevolve comes to by the bytes of its book: the text of its list and of its certificate, whatever the
-/// number of workers.
+/// The decision on a plan of DiskRevolve by its book: the texts of its list and certificate. Any number of workers
+/// gives the same.
 pub fn disk_text<R: Threads + Sync>(
     rt: &R,
     alloc: Global,

@@ -1,4 +1,4 @@
-// The search of a run for the last state that has a digest.
+// The search of a run for the last state with a digest.
 ghost use Rattle.std.specs.Prelude.{◌≡◌, ◌⊎◌, ℕ, ◌≤◌, List, map, IfOk, IfErr};
 ghost use Rattle.plan_types.specs.declared.limits.TheConstants.{MOST_STEPS};
 ghost use Rattle.requests.specs.Request.{find as find_command, stack_pages, worker_count};
@@ -27,7 +27,7 @@ use std::mem;
 use std::sync::ledger::Ledger;
 use std::thread::Threads;
 
-/// A run up to a state with a number, a digest that one of its states may have, and how many workers look for it.
+/// A run up to a state with a number, the wanted digest, and the number of workers.
 #[derive(Drop)]
 pub struct Finding {
     pub start: State,
@@ -38,8 +38,8 @@ pub struct Finding {
 }
 
 impl Finding {
-    /// Looks for the last state that has the digest, and writes its number, or that there is none. Where memory runs out
-    /// nothing is written.
+    /// Finds the last state with the digest, and writes its number, or that there is none. If memory runs out, nothing
+    /// is written.
     pub fn find<R: Threads + Sync, O: Sink, L: Ledger>(
         self,
         rt: &R,
@@ -69,7 +69,7 @@ impl Finding {
     }
 }
 
-/// What a request for the last state that has a digest comes to by the bytes of its inputs.
+/// The decision on a search for the last state with a digest, by the bytes of its inputs.
 pub fn decide_find(
     alloc: Global,
     options: &Options,

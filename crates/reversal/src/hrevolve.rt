@@ -1,4 +1,4 @@
-// The list of H-Revolve for the levels of a book, and the tables that it is read from, as text.
+// The list of H-Revolve for the levels of a book, and its tables, as text.
 ghost use Rattle.std.specs.Prelude.{◌≡◌, ◌⊎◌, ℕ, ◌<◌, ◌≤◌, List, length, IfOk, IfErr, IfNone, OnOk, MatchOption};
 ghost use Rattle.level_book.specs.BookCosts.{room, slots_of};
 ghost use Rattle.level_book.specs.NestedClass.{Nested};
@@ -26,11 +26,11 @@ use revolve_gen::GenFault;
 use std::alloc::Global;
 use std::thread::Threads;
 
-// How many images of a level tables count at most.
+// The most images on a level that tables count.
 const MOST_IMAGES: u32 = 64;
 
-/// What a plan of H-Revolve comes to by the bytes of its book: the text of its list and of its certificate, whatever the number
-/// of workers.
+/// The decision on a plan of H-Revolve by its book: the texts of its list and certificate. Any number of workers gives
+/// the same.
 pub fn hrevolve_text<R: Threads + Sync>(
     rt: &R,
     alloc: Global,
@@ -57,7 +57,7 @@ pub fn hrevolve_text<R: Threads + Sync>(
     Ok(job)
 }
 
-// The first level on which more images can be held than tables count.
+// The first level that can hold more images than tables count.
 fn first_wide(steps: u32, book: &Book) -> Option<u8>
     ensures { MatchOption result ((k : ℕ) → k < length book.now.levels → room book.now k steps ≤ 64) (IsFirstWide steps book.now) }
 {

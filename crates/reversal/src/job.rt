@@ -1,4 +1,4 @@
-// What is to be done of a call that isn't refused.
+// What an accepted call is to do.
 ghost use Rattle.std.specs.Prelude.{◌≡◌, ◌≢◌, ◌⊎◌, ◌≤◌, ℕ, [], ◌∷◌, length, map, Option};
 ghost use Rattle.std.specs.List.{AllByRecursion};
 ghost use Rattle.plan_types.specs.declared.limits.TheConstants.{MOST_ACTIONS};
@@ -48,7 +48,7 @@ pub enum Job {
     Perform(Performance),
     /// To answer a question about a run.
     Ask(Asking),
-    /// To find the last state of a run that has a digest.
+    /// To find the last state of a run with a digest.
     Find(Finding),
     /// To write a text in one piece.
     Write(Line),
@@ -62,12 +62,12 @@ pub enum Job {
     List(Listing),
     /// To move about in a run by orders.
     MoveAbout(Moving),
-    /// To run a program that is made from a number, and to write a summary.
+    /// To run a program made from a number, and to write a summary.
     Demonstrate(Demonstration),
 }
 
-/// Some actions, and the run that they are performed over: its first state, the recorded input, how many instructions a step
-/// is, how many workers take the digests of a unit's lines, the number of steps and the book.
+/// Some actions, and their run. The run has a first state, recorded input, a number of steps, and a book. It also has
+/// the instructions in a step, and the workers for the digests of a unit's lines.
 #[derive(Drop)]
 pub struct Performance {
     pub start: State,
@@ -80,7 +80,7 @@ pub struct Performance {
 }
 
 impl Job {
-    /// The run of a job begins at a state that a machine can be in, with recorded input, and a list that goes over it is valid.
+    /// The run of a job begins in a machine state, with recorded input. A list over it is valid.
     pub fn begins(&self)
         requires { CanBeDone self.now }
         ensures { Begins (job_of self.now) }
@@ -108,8 +108,8 @@ impl Job {
         }
     }
 
-    /// Does the job, over keepers with room for its images, and tells how it ended. Where memory runs out before the first
-    /// deed, nothing was done, and so it is in any run over keepers with a room of `max_image` bytes.
+    /// Does the job, over keepers with room for its images, and returns how it ended. If memory runs out before the
+    /// first action, nothing was done. Over keepers with a room of `max_image` bytes that holds for every run.
     pub fn work<R: Threads + Sync, K: Keeper, O: Sink, L: Ledger>(
         self,
         rt: &R,
@@ -203,7 +203,7 @@ fn write_bytes<O: Sink>(bytes: &[u8], out: &mut O) -> Ended
     }
 }
 
-// Performs the actions that are still to come, a valid list, from the start.
+// Performs the remaining actions, a valid list, from the start.
 fn perform_all<R: Threads + Sync, K: Keeper, O: Sink, L: Ledger>(
     rt: &R,
     mut digesters: Digesters,
@@ -257,7 +257,7 @@ fn digest_lines<R: Threads + Sync>(
     }
 }
 
-/// How a call ends whose session refused the action at a place, or whose console the order there, for this fault.
+/// How a call ends if its session refused the action, or its console the order, at this place for this fault.
 pub fn fault_ending(place: u64, fault: RunFault) -> Ended
     requires over { fault ≢ fault_is.Ended }
     ensures { result ≡ fault_ending place fault }

@@ -43,7 +43,7 @@ ghost use Rattle.reversal.specs.Collision.{OrdersCollide};
 ghost use Rattle.reversal.specs.CommandConsole.{AreOfOrders, of_run, WentAbout, AnyMark, WritesAnswers, moving_about};
 ghost use Rattle.reversal.specs.CommandAsk.{asking};
 ghost use Rattle.reversal.specs.CommandRun.{performing};
-ghost use Rattle.reversal.specs.Going.{AllLevels, SparesNext, Went, IsFound, ComesTo, GoesOver, IsWithinSlots};
+ghost use Rattle.reversal.specs.Going.{AllLevels, SparesNext, UnreachedNext, Went, IsFound, ComesTo, GoesOver, IsWithinSlots};
 ghost use Rattle.level_book.specs.Configuration.{Configuration, start};
 ghost use Rattle.level_book.specs.Valid.{Leads, Valid};
 ghost use Rattle.reverse_runner.specs.Acts.{Holdings};
@@ -55,51 +55,53 @@ ghost use Rattle.reversal.specs.Output.{line_of, lines_down, Adds, AddsFrontOf};
 ghost use Rattle.reversal.specs.Course.{Shown, Done, Stops, FailsAt, DamagedAt, Halts};
 ghost use Rattle.reversal.specs.Deeds.{Deed, States, bytes_written, steps_made};
 
-/// Words say one request at most.
+/// Words mean one request at most.
 pub fn requests_are_unique()
     ensures { (words : List (List ℕ)) (r s : Request) → Says words r → Says words s → r ≡ s }
 {}
 
-/// A request comes to one decision at most, by what is there under its names and the slots of the keepers.
+/// A request has at most one decision, by the content of its inputs and the slots of the keepers.
 pub fn decisions_are_unique()
     ensures { (r : Request) (given : List (Option (List ℕ))) (slots : List ℕ) (d e : Decision) → Decides r given slots d → Decides r given slots e → d ≡ e }
 {}
 
-/// A request whose numbers are within their bounds comes to a decision, whatever is there under its names and however many slots
-/// the keepers have: no table of decisions has a hole.
+/// Every request within its bounds has a decision, for any inputs and any slots of the keepers. No table of decisions
+/// has a hole.
 pub fn requests_come_to_decisions()
     ensures { DecisionsExist }
 {}
 
-/// The deeds of a job that was decided write its output, of whatever states they show, and take its steps.
+/// The deeds of a decided job write its output, for any states that they show, and take its steps.
 pub fn deeds_make_the_output()
     ensures bytes { (r : Request) (given : List (Option (List ℕ))) (slots : List ℕ) (job : Job) → Decides r given slots (accept job) →
         (shown : Shown) → bytes_written ((course_of job).deeds shown) ≡ (course_of job).output shown }
     ensures steps { (shown : Shown) (job : Job) → steps_made ((course_of job).deeds shown) ≡ (course_of job).steps shown }
 {}
 
-/// A script that was done over levels that tell was answered in the run, order by order, and just the answers were written.
+/// If a script was done over in-memory storage, each order was answered in the run. Just the answers were written.
 pub fn scripts_write_the_answers_to_their_orders()
     ensures { (first : MachineState) (items : List (List ℕ)) (p : MarkPlan) (orders : List Order) (shown : Shown) (old new : Moment) →
         MarksTell p old.images → Done (moving_about first items p orders) shown old new → WritesAnswers first items p orders old new }
 {}
 
-/// A job that was accepted is done, where no count of faults rises and the keepers of its levels tell: no image comes back damaged then.
+/// An accepted job is done, if no fault counter rises and the keepers of its levels claim their content. No image is
+/// damaged then.
 pub fn accepted_jobs_are_done()
     ensures { (job : Job) (e : Ended) (old new : Moment) → EndsBy (accept job) e old new → AllTell (course_of job).levels old.images →
         NothingRises old new → (e ≡ done) × ((shown : Shown) × Done (course_of job) shown old new) }
 {}
 
-/// A list that is certified is the least: where a request to certify one comes to its job, the schedule says a valid list and
-/// the certificate's text a certificate; the class of that is written, and the list is the least of that class.
+/// A certified list is the least. Suppose that a request to certify one is accepted. Then the schedule is a valid list,
+/// and the text is a certificate. The class of the certificate is written, and the list is the least of that class.
 pub fn certified_lists_are_least()
     ensures { (steps : ℕ) (book schedule certificate : List ℕ) (job : Job) → DecidesCertify steps book schedule certificate (accept job) →
         (b : BookCosts) × IsBookText book b × (list : List Action) × IsSchedule (names_of b) schedule list × Valid steps (slots_of b) list
         × (c : Certificate) × IsCertificateText steps b certificate c × (job ≡ write (least_line (class_of c) ∷ [])) × IsLeastOf (class_of c) steps b list }
 {}
 
-/// A plan of Revolve is the least: where a request for one comes to its job, the plan of the book is written; its list is
-/// valid, its certificate is accepted for it, and no list that is valid for the book takes fewer forward steps.
+/// A plan of Revolve is the least. Suppose that a request for one is accepted. Then the plan of the book is written.
+/// Its list is valid, and its certificate is accepted for it. No list that is valid for the book takes fewer forward
+/// steps.
 pub fn revolve_plans_are_least()
     ensures { (steps : ℕ) (book : List ℕ) (job : Job) → DecidesPlanRevolve steps book (accept job) →
         (b : BookCosts) × IsBookText book b × (job ≡ write (plan_pieces steps b)) × Valid steps (slots_of b) (revolve_list steps b)
@@ -107,9 +109,9 @@ pub fn revolve_plans_are_least()
         × ((other : List Action) → Valid steps (slots_of b) other → forward (revolve_list steps b) ≤ forward other) }
 {}
 
-/// A run by the list of Revolve takes the fewest forward steps: where a request for one comes to its job, that list is performed;
-/// it is valid for the book, takes N + t(N, c) forward steps with c slots of all levels, and no list that is valid for the book
-/// takes fewer.
+/// A run by Revolve's list takes the fewest forward steps. Suppose that a request for one is accepted. Then that list
+/// is performed. It is valid for the book, and takes N + t(N, c) forward steps with c slots of all levels. No list that
+/// is valid for the book takes fewer.
 pub fn revolve_runs_are_least()
     ensures { (options : List Choice) (steps : ℕ) (program : List ℕ) (journal : Option (List ℕ)) (book counts : List ℕ) (job : Job) →
         DecidesOver perform options steps program journal book None counts (accept job) →
@@ -120,8 +122,8 @@ pub fn revolve_runs_are_least()
         × ((other : List Action) → Valid steps (slots_of b) other → forward (revolve_list steps b) ≤ forward other) }
 {}
 
-/// A periodic plan is valid and is read again as it was made: where a request for one comes to its job, the text of the periodic
-/// list of the book is written; that list is valid for the book, and read as a schedule the text says it.
+/// A periodic plan is valid, and reads as it was made. Suppose that a request for one is accepted. Then the text of the
+/// book's periodic list is written. That list is valid for the book, and the text reads as it.
 pub fn periodic_plans_are_read_again()
     ensures { (steps period : ℕ) (book : List ℕ) (job : Job) → steps ≤ MOST_STEPS → 1 ≤ period → DecidesPlanPeriodic steps period book (accept job) →
         (b : BookCosts) × IsBookText book b × (job ≡ write (list_pieces (names_of b) (periodic_list steps period b)))
@@ -129,7 +131,7 @@ pub fn periodic_plans_are_read_again()
         × ((shown : Shown) → IsSchedule (names_of b) ((course_of job).output shown) (periodic_list steps period b)) }
 {}
 
-/// What is written of a plan of Revolve is read again: as a schedule that says its list, and as a text that says its certificate.
+/// The written text of a plan of Revolve reads as its list, and as its certificate.
 pub fn plans_are_read_again()
     ensures { (steps : ℕ) (book : List ℕ) (job : Job) → steps ≤ MOST_STEPS → DecidesPlanRevolve steps book (accept job) →
         (b : BookCosts) × IsBookText book b × ((shown : Shown) →
@@ -137,9 +139,9 @@ pub fn plans_are_read_again()
         × IsCertificateText steps b ((course_of job).output shown) (certificate_of steps b)) }
 {}
 
-/// A plan of H-Revolve costs the least of its class: where a request for one comes to its job, the text of a list is written
-/// that is in the nested class, with a certificate that is accepted for it, and no list of that class costs less by the book.
-/// What is written is read again as that list and that certificate.
+/// A plan of H-Revolve costs the least of its class. Suppose that a request for one is accepted. Then a list of the
+/// nested class is written, with a certificate that is accepted for it. No list of that class costs less by the book.
+/// The written text reads as that list and that certificate.
 pub fn hrevolve_plans_are_least()
     ensures { (steps : ℕ) (book : List ℕ) (job : Job) → steps ≤ 2048 → DecidesPlanHrevolve steps book (accept job) →
         (b : BookCosts) × IsBookText book b × (list : List Action) × (t : TableRows)
@@ -148,9 +150,9 @@ pub fn hrevolve_plans_are_least()
         × ((other : List Action) → Nested steps (slots_of b) other → cost list b ≤ cost other b) × SaysAgain steps b job list (certified.Nested t) }
 {}
 
-/// A plan of DiskRevolve costs the least of its class: where a request for one comes to its job, the text of a list is written
-/// that is in the disk class, with a certificate that is accepted for it, and no list of that class costs less by the book. What
-/// is written is read again as that list and that certificate.
+/// A plan of DiskRevolve costs the least of its class. Suppose that a request for one is accepted. Then a list of the
+/// disk class is written, with a certificate that is accepted for it. No list of that class costs less by the book. The
+/// written text reads as that list and that certificate.
 pub fn disk_plans_are_least()
     ensures { (steps : ℕ) (book : List ℕ) (job : Job) → steps ≤ 8192 → DecidesPlanDisk steps book (accept job) →
         (b : BookCosts) × IsBookText book b × (list : List Action) × (t : DiskRows) × (job ≡ write (list_pieces (names_of b) list ++ pieces (certified.Disk t)))
@@ -158,9 +160,9 @@ pub fn disk_plans_are_least()
         × ((other : List Action) → Disk steps (slots_of b) other → cost list b ≤ cost other b) × SaysAgain steps b job list (certified.Disk t) }
 {}
 
-/// A multistage plan costs the least of its class: where a request for one comes to its job, the text of a list is written that
-/// is in the multistage class, with a certificate that is accepted for it, and no list of that class costs less by the book. What
-/// is written is read again as that list and that certificate.
+/// A multistage plan costs the least of its class. Suppose that a request for one is accepted. Then a list of the
+/// multistage class is written, with a certificate that is accepted for it. No list of that class costs less by the
+/// book. The written text reads as that list and that certificate.
 pub fn multistage_plans_are_least()
     ensures { (steps : ℕ) (book : List ℕ) (job : Job) → DecidesPlanMultistage steps book (accept job) →
         (b : BookCosts) × IsBookText book b × (list : List Action) × (threshold : ℕ)
@@ -170,8 +172,7 @@ pub fn multistage_plans_are_least()
         × (steps ≤ MOST_STEPS → SaysAgain steps b job list (certified.Places threshold)) }
 {}
 
-/// On the way of a run each level is within its slots, at every configuration: before each of the actions that were done, and after the
-/// last.
+/// During a run each level is within its slots, before each performed action and after the last.
 pub fn runs_stay_within_their_slots()
     ensures { (run : Run) → Begins (perform run) →
         (actions : List Action) (held : Holdings) (states : States) (old : Moment) (through : GoesOver run actions old held states) →
@@ -179,15 +180,19 @@ pub fn runs_stay_within_their_slots()
         IsWithinSlots run c (through.held done) old }
 {}
 
-/// Over any keepers, also over files: each state that a run shows, of the actions that were done and of the next one, is the run's with
-/// its number, and a run that was done wrote the lines of the run's states; or an action took a state into work whose image is other
-/// bytes than that of the run's state with its number, and both have one SHA-256.
+/// Over any keepers, also over files, each state that a run shows is the run's with its number. This covers the
+/// performed actions and the next one. A completed run wrote the lines of the run's states. Otherwise an action fetched
+/// a collision: an image other than the run's state has, with the same SHA-256.
 pub fn runs_show_their_states_or_collide()
     ensures shown { (run : Run) → Begins (perform run) →
         (performed : ℕ) (states : States) (old new : Moment) (went : Went AllLevels run performed states old new) →
         ((n : ℕ) → Contains (handed run.unit run.steps (take (performed + 1) run.list)) n → states n ≡ state_of run n)
         ⊎ CollidesOn (unit_state run) (take performed run.list) went.through.held }
     ensures shown_at_storage { (run : Run) → Begins (perform run) →
+        (performed level : ℕ) (states : States) (old new : Moment) (went : Went (UnreachedNext level) run performed states old new) →
+        ((n : ℕ) → Contains (handed run.unit run.steps (take (performed + 1) run.list)) n → states n ≡ state_of run n)
+        ⊎ CollidesOn (unit_state run) (take performed run.list) went.through.held }
+    ensures shown_in_memory { (run : Run) → Begins (perform run) →
         (performed : ℕ) (states : States) (old new : Moment) (went : Went SparesNext run performed states old new) →
         ((n : ℕ) → Contains (handed run.unit run.steps (take (performed + 1) run.list)) n → states n ≡ state_of run n)
         ⊎ CollidesOn (unit_state run) (take performed run.list) went.through.held }
@@ -197,8 +202,8 @@ pub fn runs_show_their_states_or_collide()
         ⊎ CollidesOn (unit_state run) run.list done.held.through.held }
 {}
 
-/// The same of a run that stopped: where a write or storage failed, an image was damaged or memory ran out, the bytes that were written
-/// are the beginning of the lines of the run's states; or an action took such a state into work.
+/// Over any keepers, let a run stop: output or storage failed, an image was damaged, or memory ran out. The written
+/// bytes are the beginning of the lines of the run's states. Otherwise an action fetched a collision.
 pub fn runs_write_the_beginning_of_their_lines_or_collide()
     ensures at_a_write { (run : Run) → Begins (perform run) →
         (shown : Shown) (performed : ℕ) (old new : Moment) (stops : Stops (performing run) shown performed old new) →
@@ -218,8 +223,8 @@ pub fn runs_write_the_beginning_of_their_lines_or_collide()
         ⊎ CollidesOn (unit_state run) (take performed run.list) halts.held.through.held }
 {}
 
-/// The same of questions: the line that was written is that of the run's state, and the number is that of the last step of the run
-/// that writes or changes the word; or an action took such a state into work.
+/// Over any keepers, the line that answers a question is that of the run's state. The number is that of the last step
+/// of the run that writes or changes the word. Otherwise an action fetched a collision.
 pub fn questions_are_answered_in_the_run_or_collide()
     ensures state { (run : Run) (place : ℕ) → Begins (ask_job (State place) run) →
         (shown : Shown) (old new : Moment) (done : Done (asking (State place) run) shown old new) →
@@ -240,8 +245,8 @@ pub fn questions_are_answered_in_the_run_or_collide()
         ⊎ CollidesOn (unit_state run) (up_to run.unit run.steps answer run.list) found.2.through.held }
 {}
 
-/// The same of scripts: the answer of each order, and its text, is that of an index into the states of the run; or bytes came back of a
-/// mark that are others than the image of its state in the run, and both have one SHA-256.
+/// Over any keepers, each order's answer and its text are those of an index into the run's states. Otherwise a
+/// collision came back for a mark: bytes other than its image, with the same SHA-256.
 pub fn scripts_are_answered_in_the_run_or_collide()
     ensures { (first : MachineState) (items : List (List ℕ)) (p : MarkPlan) (orders : List Order) (deeds : List Deed) (old new : Moment) →
         Begins (move_about first items p orders) → (went : WentAbout first items p orders deeds AnyMark old new) →

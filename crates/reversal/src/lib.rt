@@ -1,8 +1,11 @@
-//! The top call: words and inputs in, lines out, and one ending that says what happened. It stands on `requests`, and on the
-//! crates for schedules, for the machine and for storage, and the program is a thin shell around it. What the words ask for
-//! and what is read is said in `requests`; what that comes to in `specs/Decision`; how a call ends by it in `specs/Course`; and
-//! what each command means in its own file, `specs/CommandRun` and its like. Readers know nothing of runs, and the run nothing
-//! of text.
+//! The top call: words and inputs in, lines out, and one ending that says what happened. It uses `requests` and nearly
+//! all other crates. `reversal_program`, `reversal_cli` and `reversal_calls` use it. Readers know nothing of runs, and
+//! runs nothing of text.
+//!
+//! - What the words ask for, and what is read, is defined in `requests`.
+//! - `specs/Decision`: which job or refusal follows.
+//! - `specs/Course`: how a call ends by it.
+//! - `specs/CommandRun` and its like: what each command means.
 #![tactic(auto)]
 
 mod actions;

@@ -57,7 +57,7 @@ impl Listing {
     }
 }
 
-// Puts the lines of the first words into the piece, in place of what was there, and gives the words behind them.
+// Replaces the piece by the lines of the first words, and returns the words after them.
 fn next_piece<'a>(words: &'a [u32], piece: &mut Vec<u8>) -> &'a [u32]
     requires { 5184 ≤ vec_capacity piece.old }
     ensures piece { piece.new.items ≡ bytes_of (take 64 (map ended_line words.now)) }
@@ -73,7 +73,7 @@ fn next_piece<'a>(words: &'a [u32], piece: &mut Vec<u8>) -> &'a [u32]
     rest
 }
 
-// Adds the line of a word to the piece. It is made in `line`.
+// Adds the line of a word to the piece. It makes the line in `line`.
 fn push_line(word: u32, line: &mut Line, piece: &mut Vec<u8>)
     requires { vec_len piece.old + 81 ≤ vec_capacity piece.old }
     ensures text { piece.new.items ≡ piece.old.items ++ ended_line word }
@@ -85,7 +85,7 @@ fn push_line(word: u32, line: &mut Line, piece: &mut Vec<u8>)
     piece.extend_from_slice(line.bytes()).unwrap();
 }
 
-/// What a request for the lines of a raw program comes to by its bytes.
+/// The decision on a request to disassemble a raw program, by its bytes.
 pub fn decide_disassemble(
     alloc: Global,
     disassemble: &Disassemble<'_>,
@@ -118,7 +118,7 @@ fn list_words(alloc: Global, program: &[u8]) -> Result<Job, Ended>
     Ok(Job::List(Listing { words, piece }))
 }
 
-// The words of bytes, each of which has its low byte first.
+// The words of bytes. Each has its low byte first.
 fn words_in(alloc: Global, program: &[u8]) -> Result<Vec<u32>, AllocError>
     requires { length program.now % 4 ≡ 0 }
     ensures bytes { IfOk result (λ words. program.now ≡ word_bytes words.items) }

@@ -33,7 +33,7 @@ use std::alloc::Global;
 use std::mem;
 use std::sync::ledger::Ledger;
 
-/// A run of so many steps, the book on whose levels the images of its marks are kept, and orders that move about in it.
+/// A run of so many steps, the book whose levels keep its marks, and the orders of a script.
 #[derive(Drop)]
 pub struct Moving {
     pub start: State,
@@ -44,7 +44,8 @@ pub struct Moving {
 }
 
 impl Moving {
-    /// Sets the marks, and answers the orders, one after the other. An ending has the number of the order, and 0 for the marks.
+    /// Sets the marks, and answers the orders one after the other. An ending has the number of the order, and 0 for the
+    /// marks.
     pub fn move_about<K: Keeper, O: Sink, L: Ledger>(
         self,
         alloc: Global,
@@ -83,7 +84,7 @@ impl Moving {
     }
 }
 
-// The texts that a run is told by that is moved about in, and that of the orders.
+// The texts of a console's run, and that of the orders.
 #[derive(Drop)]
 struct Texts<'a> {
     program: &'a [u8],
@@ -92,7 +93,7 @@ struct Texts<'a> {
     script: &'a [u8],
 }
 
-/// What a request to move about in a run comes to by the bytes of its inputs and the numbers of the keepers' slots.
+/// The decision on a console request, by the bytes of its inputs and the keepers' slots.
 pub fn decide_move_about(
     alloc: Global,
     options: &Options,
@@ -166,7 +167,7 @@ fn decide_texts(
     }))
 }
 
-// Looks for a slot for a mark on some level of the book.
+// Requires a slot for a mark on some level of the book.
 fn find_slot(steps: u32, book: &Book) -> Result<(), Ended>
     ensures slots { OnOk result (1 ≤ total_room book.now (max steps 1)) }
     ensures refused { IfErr result (λ e. (1 ≤ total_room book.now (max steps 1) → ⊥) × (e ≡ no_plan steps (total_room book.now steps) 1)) }
@@ -177,7 +178,7 @@ fn find_slot(steps: u32, book: &Book) -> Result<(), Ended>
     Ok(())
 }
 
-// The orders that the bytes of a script give in a run of so many steps.
+// The orders that a script means in a run of so many steps.
 fn orders_in(alloc: Global, bytes: &[u8], steps: u32) -> Result<Vec<Order>, Ended>
     requires steps { steps ≤ MOST_STEPS }
     requires short { length bytes.now ≤ 1048576 }

@@ -22,7 +22,7 @@ use requests::Ended;
 use revolve_gen::GenFault;
 use std::alloc::Global;
 
-/// What a multistage plan comes to by the bytes of its book: the text of its list and of its certificate.
+/// The decision on a multistage plan by the bytes of its book: the texts of its list and certificate.
 pub fn multistage_text(alloc: Global, steps: u32, book: &[u8]) -> Result<Job, Ended>
     requires steps { steps ≤ MOST_STEPS }
     ensures accepted { IfOk result (λ job. DecidesPlanMultistage steps book.now (accept (job_of job))) }

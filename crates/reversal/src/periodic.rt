@@ -20,7 +20,7 @@ use requests::Ended;
 use revolve_gen::GenFault;
 use std::alloc::Global;
 
-/// What a periodic plan comes to by the bytes of its book: the text of its list.
+/// The decision on a periodic plan by the bytes of its book: the text of its list.
 pub fn periodic_text(alloc: Global, steps: u32, period: u32, book: &[u8]) -> Result<Job, Ended>
     requires steps { steps ≤ MOST_STEPS }
     requires some { 1 ≤ period }

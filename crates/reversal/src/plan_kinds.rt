@@ -1,4 +1,4 @@
-// What requests for plans come to.
+// The decisions on requests for plans.
 ghost use Rattle.std.specs.Prelude.{◌≡◌, ◌⊎◌, ℕ, ◌≤◌, List, map, IfOk, IfErr};
 ghost use Rattle.std.specs.List.{AllByRecursion};
 ghost use Rattle.plan_types.specs.declared.limits.TheConstants.{MOST_STEPS};
@@ -24,7 +24,8 @@ use requests::{Ended, PlanFor, PlanKind, PlanPeriodic};
 use std::alloc::Global;
 use std::thread::Threads;
 
-/// What a request for a plan of some kind comes to by the bytes of its inputs, with so many workers where it takes tables.
+/// The decision on a request for a plan of some kind, by the bytes of its inputs. So many workers fill its tables, if
+/// it has any.
 pub fn decide_plan<R: Threads + Sync>(
     rt: &R,
     alloc: Global,
@@ -71,7 +72,7 @@ fn kind_text<R: Threads + Sync>(
     }
 }
 
-/// What a request for a periodic plan comes to by the bytes of its inputs.
+/// The decision on a request for a periodic plan, by the bytes of its inputs.
 pub fn decide_plan_periodic(
     alloc: Global,
     plan: &PlanPeriodic<'_>,

@@ -1,4 +1,4 @@
-// The list of Revolve for a book: a run by it, or its text with its certificate.
+// Revolve's list for a book: a run by it, or its text with its certificate.
 ghost use Rattle.std.specs.Prelude.{◌≡◌, ◌≢◌, ◌⊎◌, ◌↔◌, ℕ, ◌+◌, ◌*◌, ◌≤◌, ◌++◌, List, [], ◌∷◌, map, take, drop, true, false, Option, IsTrue, IfOk, IfErr, OnOk};
 ghost use Rattle.std.specs.List.{AllByRecursion};
 ghost use Rattle.std.specs.Vec.{vec_len, vec_capacity};
@@ -39,12 +39,12 @@ use revolve_gen::{GenFault, Revolve};
 use std::alloc::{AllocError, Global};
 use std::mem;
 
-// How many lines of a plan are written at once, and how many bytes they have at most.
+// The lines of a plan in one write, and their most bytes.
 const LINES: usize = 64;
 
 const PIECE: usize = 5_184;
 
-// The texts that a run whose list is made is told by.
+// The texts of a run whose list is made.
 #[derive(Drop)]
 struct Texts<'a> {
     program: &'a [u8],
@@ -52,7 +52,7 @@ struct Texts<'a> {
     book: &'a [u8],
 }
 
-/// What a request for a run whose list is made comes to by the bytes of its inputs and the numbers of the keepers' slots.
+/// The decision on a run whose list is made, by the bytes of its inputs and the keepers' slots.
 pub fn decide_made(
     alloc: Global,
     options: &Options,
@@ -131,7 +131,7 @@ fn decide_texts(
     }))
 }
 
-/// What a plan of Revolve comes to by the bytes of its book: the text of its list, and of its certificate.
+/// The decision on a plan of Revolve by its book: the texts of its list and certificate.
 pub fn revolve_text(alloc: Global, steps: u32, book: &[u8]) -> Result<Job, Ended>
     requires steps { steps ≤ MOST_STEPS }
     ensures accepted { IfOk result (λ job. DecidesPlanRevolve steps book.now (accept (job_of job))) }
@@ -162,7 +162,7 @@ pub fn list_text(alloc: Global, actions: Actions, book: Book) -> Result<Job, All
     }))
 }
 
-/// The same, and the text of their certificate.
+/// A list's text in pieces, and the text of its certificate.
 pub fn certified_text(
     alloc: Global,
     actions: Actions,
@@ -198,7 +198,7 @@ fn revolve_for(alloc: Global, steps: u32, book: &Book) -> Result<Revolve, Ended>
     }
 }
 
-/// A list over the levels of a book, and its certificate, if there is one. The piece has the lines that are written next.
+/// A list over the levels of a book, and its certificate, if any. The piece has the lines that are written next.
 #[derive(Drop)]
 pub struct Plan {
     pub actions: Actions,
@@ -208,7 +208,8 @@ pub struct Plan {
 }
 
 impl Plan {
-    /// Writes the text of the list, in pieces of sixty-four lines, and then that of the certificate, if there is one.
+    /// Writes the text of the list, in pieces of sixty-four lines. Then it writes that of the certificate, if there is
+    /// one.
     pub fn write<O: Sink>(mut self, out: &mut O) -> Ended
         requires { IsWritable self }
         ensures { (other : Moment) (steps : ℕ) → EndsBy (accept (write (pieces_of self))) result
@@ -230,7 +231,7 @@ impl Plan {
         }
     }
 
-    // Puts the lines of the next actions into the piece, in place of what was there, and tells whether there are any.
+    // Replaces the piece by the lines of the next actions, and returns whether there are any.
     fn next_piece(&mut self) -> bool
         requires spelled { AllByRecursion (HasSpelling (names_of self.old.book)) (left_of self.old.actions) }
         requires reserved { 5184 ≤ vec_capacity self.old.piece }
@@ -249,7 +250,7 @@ impl Plan {
         count > 0
     }
 
-    // Adds the line of the next action to the piece, and tells whether there is one. The line is made in `line`.
+    // Adds the line of the next action to the piece, and returns whether there is one. It makes the line in `line`.
     fn push_line(&mut self, line: &mut Line) -> bool
         requires spelled { AllByRecursion (HasSpelling (names_of self.old.book)) (left_of self.old.actions) }
         requires reserved { vec_len self.old.piece + 81 ≤ vec_capacity self.old.piece }

@@ -28,7 +28,7 @@ use plan_types::Action;
 use requests::{Ended, Price};
 use std::alloc::Global;
 
-/// The counts of a list, and the book by which they cost something.
+/// The counts of a list, and the book that gives the costs.
 #[derive(Drop)]
 pub struct Pricing {
     pub counts: Counts,
@@ -50,7 +50,7 @@ impl Pricing {
     }
 }
 
-/// What a request for the cost of a schedule comes to by the bytes of its inputs.
+/// The decision on a request for the cost of a schedule, by the bytes of its inputs.
 pub fn decide_price(alloc: Global, price: &Price<'_>, bytes: &[Vec<u8>]) -> Result<Job, Ended>
     requires steps { price.now.steps ≤ MOST_STEPS }
     requires inputs { AreWithinLimits (inputs_of (price_command (as_price price.now))) (map (λ b. b.items) bytes.now) }
@@ -91,7 +91,7 @@ fn counts_of(list: &[Action], steps: u32, book: &Book) -> Counts
     ensures report { report_lines book.now result ≡ list_report book.now list.now }
     ensures bounded { all_of result * MOST_COST < 2 ^ 64 }
 {
-    // A valid list names no level but the book's, of which there are four at most.
+    // A valid list names only the book's levels, of which there are at most four.
     let _levels = book.levels();
     tally(list)
 }

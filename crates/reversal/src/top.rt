@@ -25,8 +25,8 @@ use std::alloc::{AllocError, Global};
 use std::sync::ledger::Ledger;
 use std::thread::Threads;
 
-/// Does what the words ask for, and tells how it ended. The words say a request; the request and its inputs come to a
-/// decision, a refusal or a job; and a job is done deed by deed.
+/// Does what the words ask for, and returns how it ended. The words mean a request. The request and its inputs lead to
+/// a decision: a refusal or a job. A job is done deed by deed.
 pub fn reversal<R: Threads + Sync, I: Inputs, K: Keeper, O: Sink, L: Ledger>(
     rt: &R,
     alloc: Global,
@@ -36,22 +36,23 @@ pub fn reversal<R: Threads + Sync, I: Inputs, K: Keeper, O: Sink, L: Ledger>(
     out: &mut O,
     steps: &mut Steps<L>,
 ) -> Ended
-    // Status 2 comes exactly where the words say no request.
+    // Status 2 occurs exactly if the words mean no request.
     ensures words { (result.status ≡ 2) ↔ ((r : ARequest) → Says (words_of words.now) r → ⊥) }
 
-    // Words that say none, or a number of theirs that is outside its bounds, are refused before an input is asked for.
+    // Words that are no request, or have a number out of bounds, are refused before any input is read.
     ensures unread { (e : Ended) → RefusesWords (words_of words.now) e → (result ≡ e) × (inputs.new ≡ inputs.old) }
 
-    // The names asked for are the first few of the request's inputs, perhaps none, in the order of the words.
+    // The requested names are the first few of the request's inputs, perhaps none, in the order of the words.
     ensures asked { (r : ARequest) → Asks (words_of words.now) r → (k : ℕ) × (I.asked inputs.new ≡ I.asked inputs.old ++ take k (names (inputs_of r.command))) }
 
-    // Status 3 names the input that can't be read. Up to its end, the inputs' count of faults rises exactly there.
+    // Status 3 names the input that can't be read. Up to the count's end, the inputs' count of faults rises exactly
+    // then.
     ensures input { (r : ARequest) → Asks (words_of words.now) r → result.status ≡ 3 →
         FailsAtInput (inputs_of r.command) (I.told inputs.old) result (I.asked inputs.old) (I.asked inputs.new) }
     ensures input_cause { result.status ≡ 3 → Rose (I.fault_count inputs.old) (I.fault_count inputs.new) }
     ensures input_quiet { result.status ≢ 3 → I.fault_count inputs.new ≡ I.fault_count inputs.old }
 
-    // Unless an input can't be read or memory runs out, a decision was come to, and the call ended by it.
+    // Unless an input failed or memory ran out, there was a decision, and the call ended by it.
     ensures decided { (r : ARequest) → Asks (words_of words.now) r → result.status ≢ 3 → result.status ≢ 17 → (d : Decision)
         × Comes r (I.told inputs.old) (I.asked inputs.old) (I.asked inputs.new) (map K.slot_count keepers.old.items) d
         × KeepsOthers K.slot_count K.place d keepers.old.items keepers.new.items
@@ -60,7 +61,7 @@ pub fn reversal<R: Threads + Sync, I: Inputs, K: Keeper, O: Sink, L: Ledger>(
         (moment O.told O.call_count O.fault_count K.told K.put_count K.get_count K.free_count K.fault_count out.new keepers.new.items steps.new)
         × BeginsBy d }
 
-    // Where memory runs out nothing was done, or a part of a job that was decided; nothing in a run over keepers with room.
+    // If memory runs out, nothing was done, or a part of a decided job. Over keepers with room it is nothing in a run.
     ensures memory { result.status ≡ 17 → (result ≡ no_memory) × (((out.new ≡ out.old) × (keepers.new ≡ keepers.old) × (steps.new ≡ steps.old))
         ⊎ ((r : ARequest) × Asks (words_of words.now) r × (job : AJob)
         × Comes r (I.told inputs.old) (I.asked inputs.old) (I.asked inputs.new) (map K.slot_count keepers.old.items) (accept job)
@@ -71,10 +72,10 @@ pub fn reversal<R: Threads + Sync, I: Inputs, K: Keeper, O: Sink, L: Ledger>(
         (moment O.told O.call_count O.fault_count K.told K.put_count K.get_count K.free_count K.fault_count out.new keepers.new.items steps.new)
         × (HaveRoomsFor job (rooms_by K.room_bytes keepers.old.items) → (out.new ≡ out.old) × (keepers.new ≡ keepers.old) × (steps.new ≡ steps.old)))) }
 
-    // Each keeper has the slots that it had, in the place where they were.
+    // Each keeper has the same slots, in the same place.
     ensures stay { StayInPlace K.slot_count K.place keepers.old.items keepers.new.items }
 
-    // A refusal leaves the sink, the keepers and the count of steps as they were.
+    // A refusal leaves the sink, the keepers and the count of steps unchanged.
     ensures untouched { (IsOfJob result.status → ⊥) → (out.new ≡ out.old) × (keepers.new ≡ keepers.old) × (steps.new ≡ steps.old) }
 {
     let Some(request) = read_request(&words.list) else {
@@ -92,7 +93,7 @@ pub fn reversal<R: Threads + Sync, I: Inputs, K: Keeper, O: Sink, L: Ledger>(
     }
 }
 
-// The job that a request, whose numbers are within their bounds, comes to by its inputs and the slots of the keepers.
+// The job of a request by its inputs and the slots of the keepers. The request's numbers are within their bounds.
 fn prepared<R: Threads + Sync, I: Inputs, K: Keeper>(
     rt: &R,
     alloc: Global,

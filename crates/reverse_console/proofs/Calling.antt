@@ -78,7 +78,10 @@ stay_still slots places faults p a = record { slots_same = refl; places_same = r
 
 -- where no count changed before, a cause stays
 pub cause_then : {K : Type 0} (faults : K → ℕ) (p : MarkPlan) (a b c : List K) (fault : RunFault) → Quiet faults a b → HasCause faults p b c fault → HasCause faults p a c fault
-cause_then faults p a b c (Keeper k) quiet h = let same = quiet k in (h.0, (let rose = h.1 in omega (arith, rose, same)))
+cause_then faults p a b c (Keeper k) quiet h =
+    let same = quiet k in
+    let rose = h.1.rose in
+    (h.0, record { rose = omega (arith, rose, same); others = λ j ne. h.1.others j ne ∙ quiet j })
 cause_then faults p a b c (Damaged k put got) quiet h = λ j. h j ∙ quiet j
 cause_then faults p a b c Visitor quiet h = λ j. h j ∙ quiet j
 cause_then faults p a b c Memory quiet h = λ j. h j ∙ quiet j
@@ -86,18 +89,21 @@ cause_then faults p a b c Ended quiet h = h
 
 -- what a cause says of the counts
 pub keeper_cause : {K : Type 0} (faults : K → ℕ) (p : MarkPlan) (a b : List K) (fault : RunFault) (k : ℕ) → HasCause faults p a b fault → fault ≡ Keeper k → (k < length p.slots) × Rose (by_number 0 faults a k) (by_number 0 faults b k)
-keeper_cause faults p a b fault k h e = let P : RunFault → Type 0 = HasCause faults p a b in subst P e h
+keeper_cause faults p a b fault k h e =
+    let P : RunFault → Type 0 = HasCause faults p a b in
+    let at = subst P e h in
+    (at.0, at.1.rose)
 
-pub quiet_else : {K : Type 0} (faults : K → ℕ) (p : MarkPlan) (a b : List K) (fault : RunFault) → HasCause faults p a b fault → ((k : ℕ) → fault ≡ Keeper k → ⊥) → Quiet faults a b
-quiet_else faults p a b (Keeper k) h none = absurd (none k refl)
-quiet_else faults p a b (Damaged k put got) h none = h
-quiet_else faults p a b Visitor h none = h
-quiet_else faults p a b Memory h none = h
-quiet_else faults p a b Ended h none = absurd h
+pub quiet_else : {K : Type 0} (faults : K → ℕ) (p : MarkPlan) (a b : List K) (fault : RunFault) → HasCause faults p a b fault → (j : ℕ) → (fault ≡ Keeper j → ⊥) → by_number 0 faults b j ≡ by_number 0 faults a j
+quiet_else faults p a b (Keeper k) h j none = h.1.others j (λ e. none (ap (λ i. Keeper i) (sym e)))
+quiet_else faults p a b (Damaged k put got) h j none = h j
+quiet_else faults p a b Visitor h j none = h j
+quiet_else faults p a b Memory h j none = h j
+quiet_else faults p a b Ended h j none = absurd h
 
-pub quiet_unless : {K T : Type 0} (faults : K → ℕ) (p : MarkPlan) (a b : List K) (r : Result T RunFault) → OnOk r (Quiet faults a b) → IfErr r (HasCause faults p a b) → ((k : ℕ) → r ≡ Err (Keeper k) → ⊥) → Quiet faults a b
-quiet_unless faults p a b (Ok x) quiet cause never = quiet
-quiet_unless faults p a b (Err e) quiet cause never = quiet_else faults p a b e cause (λ k same. never k (ap Err same))
+pub quiet_unless : {K T : Type 0} (faults : K → ℕ) (p : MarkPlan) (a b : List K) (r : Result T RunFault) → OnOk r (Quiet faults a b) → IfErr r (HasCause faults p a b) → (j : ℕ) → (r ≡ Err (Keeper j) → ⊥) → by_number 0 faults b j ≡ by_number 0 faults a j
+quiet_unless faults p a b (Ok x) quiet cause j never = quiet j
+quiet_unless faults p a b (Err e) quiet cause j never = quiet_else faults p a b e cause j (λ same. never (ap Err same))
 
 pub not_ended : {K : Type 0} (faults : K → ℕ) (p : MarkPlan) (a b : List K) (fault : RunFault) → HasCause faults p a b fault → fault ≡ Ended → ⊥
 not_ended faults p a b fault h e = let P : RunFault → Type 0 = HasCause faults p a b in subst P e h

@@ -100,18 +100,20 @@ same_names {X} told calls from place order place' (Err Memory) w v seen missed u
 same_names {X} told calls from place order place' (Err Ended) w v seen missed unseen = ap (λ (x : LineWriter X). x.out.ghost_name) (unseen (λ e. cc))
 
 -- what a call says at Ok and at a refusal
-pub quiet_if_ok : {T P : Type 0} (r : Result T RunFault) → (((k : ℕ) → r ≢ Err (Keeper k)) → P) → OnOk r P
-quiet_if_ok (Ok x) h = h (λ k e. cc)
-quiet_if_ok (Err e) h = tt
+pub quiet_if_ok : {K T : Type 0} (faults : K → ℕ) (old new : List K) (r : Result T RunFault) → ((j : ℕ) → r ≢ Err (Keeper j) → by_number 0 faults new j ≡ by_number 0 faults old j) → OnOk r (Quiet faults old new)
+quiet_if_ok faults old new (Ok x) h = λ j. h j (λ e. cc)
+quiet_if_ok faults old new (Err e) h = tt
 
 pub cause_if_err : {K T : Type 0} (faults : K → ℕ) (p : MarkPlan) (old new : List K) (r : Result T RunFault) {ended : Bool} →
-    ((k : ℕ) → r ≡ Err (Keeper k) → (k < length p.slots) × Rose (by_number 0 faults old k) (by_number 0 faults new k)) → (((k : ℕ) → r ≢ Err (Keeper k)) → Quiet faults old new) →
+    ((k : ℕ) → r ≡ Err (Keeper k) → (k < length p.slots) × Rose (by_number 0 faults old k) (by_number 0 faults new k)) → ((j : ℕ) → r ≢ Err (Keeper j) → by_number 0 faults new j ≡ by_number 0 faults old j) →
     (IsErrOf r Ended → ended ≡ true) → ended ≡ false → IfErr r (HasCause faults p old new)
 cause_if_err faults p old new (Ok x) rose quiet over lasts = tt
-cause_if_err faults p old new (Err (Keeper k)) rose quiet over lasts = rose k refl
-cause_if_err faults p old new (Err (Damaged k put got)) rose quiet over lasts = quiet (λ k e. cc)
-cause_if_err faults p old new (Err Visitor) rose quiet over lasts = quiet (λ k e. cc)
-cause_if_err faults p old new (Err Memory) rose quiet over lasts = quiet (λ k e. cc)
+cause_if_err faults p old new (Err (Keeper k)) rose quiet over lasts =
+    let own = rose k refl in
+    (own.0, record { rose = own.1; others = λ j ne. quiet j (λ e. ne cc) })
+cause_if_err faults p old new (Err (Damaged k put got)) rose quiet over lasts = λ j. quiet j (λ e. cc)
+cause_if_err faults p old new (Err Visitor) rose quiet over lasts = λ j. quiet j (λ e. cc)
+cause_if_err faults p old new (Err Memory) rose quiet over lasts = λ j. quiet j (λ e. cc)
 cause_if_err faults p old new (Err Ended) rose quiet over lasts = true≢false (sym (over refl) ∙ lasts)
 
 pub goes_always : {T E : Type 0} (P Q R S : Type 0) (r : Result T E) → OnOk r (P × Q) → OnErr r (P × R × S) → P

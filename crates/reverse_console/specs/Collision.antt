@@ -1,5 +1,5 @@
--- What may stand against the states that a console goes through over keepers that don't tell: bytes came back of a mark that are others
--- than the image of its state in the run, and both have one SHA-256.
+-- The exception to claims about a console over any keepers: a collision came back for a mark. The bytes differ from the
+-- image of its state in the run, and both have one SHA-256.
 use Rattle.std.specs.Prelude.{◌≡◌, ◌≢◌, ◌⊎◌, ℕ, ◌<◌, ◌≤◌, List, Option, None, Some}
 use Rattle.sha2.specs.Sha256.{sha256}
 use Rattle.rv_machine.specs.MachineState.{MachineState}
@@ -11,12 +11,12 @@ use Rattle.reverse_console.specs.Marks.{marked, mark_of}
 use Rattle.reverse_console.specs.Seen.{Source, ComesFrom, IsSeen, IsLastSeen, IsFirstSeen, HasPc, Changes, Writes, IsAnswerSeen}
 use Rattle.reverse_console.specs.ScriptAnswers.{IsTextOf}
 
--- the bytes by which a state came from a mark collide with the image of the mark's state
+-- the bytes from which a state came collide with the image of the mark's state
 pub record Collides (first : MachineState) (from : Source) (i n : ℕ) (s : MachineState) (came : ComesFrom from i n s) : Type 0 where
   pub other : came.bytes ≢ image (state_number first from.journal (marked from.plan i))
   pub one_digest : sha256 came.bytes ≡ sha256 (image (state_number first from.journal (marked from.plan i)))
 
--- those by which a state was seen do; or those of one of the states by which an answer was
+-- the bytes of a state that was seen collide, or those of a state that an answer used
 abbrev pub SeenCollides : MachineState → (from : Source) (P : MachineState → Type 0) (n : ℕ) → IsSeen from P n → Type 0
 SeenCollides first from P n seen = Collides first from seen.0 n seen.1.0 seen.1.1.0
 
@@ -39,7 +39,7 @@ AnswerCollides first from place (RunTo address) answer h = FirstCollides first f
 AnswerCollides first from place (BackChange word) answer h = LastCollides first from (Changes from.journal word) place answer h
 AnswerCollides first from place (BackWrite word) answer h = LastCollides first from (Writes from.journal word) place answer h
 
--- those by which the state came whose line is written
+-- the bytes of the state whose line is written collide
 abbrev pub TextCollides : MachineState → (from : Source) (answer : Option ℕ) (text : List ℕ) → IsTextOf from answer text → Type 0
 TextCollides first from (Some n) text h = Collides first from (mark_of from.plan n) n h.0 h.1.0
 TextCollides first from None text h = ⊥

@@ -1,4 +1,4 @@
--- A console as it is seen.
+-- The model of a console.
 use Rattle.std.specs.Prelude.{◌≡◌, ℕ, Bool, List, Option, refl}
 use Rattle.std.specs.Coded.{Coded, code_by, coded×, coded_ℕ, coded_bool, coded_list}
 use Rattle.keepers.specs.Told.{Images}
@@ -13,9 +13,9 @@ use Rattle.reverse_console.specs.Marks.{MarkPlan}
 use Rattle.reverse_console.specs.Seen.{Source}
 
 pub record ConsoleState : Type 0 where
-  -- where its marks stand
+  -- the places of its marks
   pub plan : MarkPlan
-  -- a state of the machine: the one at which the last order left off, which isn't that of the place where this order had no answer
+  -- A state of the machine, where the last order stopped. If that order had no answer, it isn't the state of the place.
   pub work : MachineState
   -- which images the levels keep
   pub store : List ShelfState
@@ -26,7 +26,7 @@ pub record ConsoleState : Type 0 where
   -- whether an order was refused
   pub ended : Bool
 
--- its levels over what its keepers tell
+-- its levels over what its keepers claim
 abbrev pub levels_of : ConsoleState → (ℕ → Option Images) → Levels
 levels_of c told = record { store = c.store; told = told }
 
@@ -34,7 +34,7 @@ levels_of c told = record { store = c.store; told = told }
 abbrev pub source_of : ConsoleState → (ℕ → Option Images) → Source
 source_of c told = record { plan = c.plan; journal = c.journal; levels = levels_of c told; machine = c.work }
 
--- the same console, perhaps at another place, with any state in work of the same machine
+-- the console is unchanged, except perhaps for its place and the state in work
 pub record GoesOn (old new : ConsoleState) : Type 0 where
   pub machine : SamePages new.work old.work
   pub plan : new.plan ≡ old.plan

@@ -1,4 +1,4 @@
--- What an order takes: marks that are got, one after the other, and steps of the machine.
+-- What an order takes: marks that are fetched, one after the other, and steps of the machine.
 use Rattle.std.specs.Prelude.{◌≡◌, ◌⊎◌, ℕ, ◌+◌, ◌-◌, ◌==◌, ◌<◌, min, if◌then◌else◌, List, [], ◌∷◌, ◌++◌, reverse, count_by, unwrap_or, Option, None, Some}
 use Rattle.std.specs.List.{range_with_len}
 use Rattle.reverse_runner.specs.KeepersSeen.{Calls, Called}
@@ -7,7 +7,7 @@ use Rattle.reverse_runner.specs.declared.fault.RunFault.TheVariants.{Visitor, En
 use Rattle.revolve_gen.specs.Places.{places_on}
 use Rattle.reverse_console.specs.declared.order.Order.{Order}
 use Rattle.reverse_console.specs.declared.order.Order.TheVariants.{BackTo, RunTo, BackChange, BackWrite}
-use Rattle.reverse_console.specs.Marks.{MarkPlan, marked, mark_level, mark_of, mark, marks_below}
+use Rattle.reverse_console.specs.Marks.{MarkPlan, marked, mark_level, mark_of, mark_count, mark, marks_below}
 use Rattle.reverse_console.specs.Refusals.{IsNotGot}
 use Rattle.reverse_console.specs.Seen.{Source, IsAnswerSeen}
 
@@ -15,11 +15,19 @@ use Rattle.reverse_console.specs.Seen.{Source, IsAnswerSeen}
 abbrev pub puts_of : MarkPlan → ℕ → Calls
 puts_of p i = record { puts = λ k. places_on (mark_level p) k i; gets = λ _. 0; frees = λ _. 0 }
 
+-- A mark of level k wasn't put: those before it were, it was tried, and no one behind it. Just the steps to it were taken.
+pub record StopsPutting (p : MarkPlan) (k steps steps' : ℕ) (calls calls' : Calls) : Type 0 where
+  pub mark : ℕ
+  pub known : mark < mark_count p
+  pub level_is : mark_level p mark ≡ k
+  pub counted : steps' ≡ steps + marked p mark
+  pub called : Called (puts_of p (mark + 1)) calls calls'
+
 -- each of some marks is got from its level
 abbrev pub gets_of : MarkPlan → List ℕ → Calls
 gets_of p marks = record { puts = λ _. 0; gets = λ k. count_by (λ i. mark_level p i == k) marks; frees = λ _. 0 }
 
--- an effort: marks that are got, one after the other, and the steps that are taken
+-- an effort: the fetched marks, in order, and the steps
 pub record Effort : Type 0 where
   pub marks : List ℕ
   pub steps : ℕ
@@ -28,14 +36,14 @@ pub record Effort : Type 0 where
 abbrev pub both : Effort → Effort → Effort
 both a b = record { marks = a.marks ++ b.marks; steps = a.steps + b.steps }
 
--- nothing is done; one mark is got
+-- nothing is done; one mark is fetched
 abbrev pub nothing : Effort
 nothing = record { marks = []; steps = 0 }
 
 abbrev pub asking : ℕ → Effort
 asking mark = record { marks = mark ∷ []; steps = 0 }
 
--- the steps from the mark of one state to another state, which doesn't stand below it
+-- the steps from the mark of one state to another state, which isn't below the mark
 abbrev pub way : MarkPlan → (from to : ℕ) → ℕ
 way p from to = to - mark p from
 
@@ -43,17 +51,18 @@ way p from to = to - mark p from
 abbrev pub marks_down : (high low : ℕ) → List ℕ
 marks_down high low = reverse (range_with_len low (high - low))
 
--- To look back from a place, the marks below it are got from the last one down, to that of the answer or to the first, and the steps
--- from each to the next are taken, once.
+-- To look back from a place, the marks below it are fetched, the last one first. The search ends at the answer's mark,
+-- or at the first. The steps from each mark to the next are taken once.
 abbrev pub looking_back : MarkPlan → (place : ℕ) → (answer : Option ℕ) → Effort
 looking_back p place (Some n) = record { marks = marks_down (marks_below p place) (mark_of p n); steps = way p n place }
 looking_back p place None = record { marks = marks_down (marks_below p place) 0; steps = place }
 
--- To look on from a place, its mark is got, and the steps from there to the answer or to the end are taken. At the end nothing is done.
+-- To look on from a place, its mark is fetched. The steps from there to the answer or to the end are taken. At the end
+-- nothing is done.
 abbrev pub looking_on : MarkPlan → (place : ℕ) → (answer : Option ℕ) → Effort
 looking_on p place answer = if place == p.count then nothing else record { marks = mark_of p place ∷ []; steps = way p place (unwrap_or answer p.count) }
 
--- how the place of an order is looked for; one that says it itself looks for nothing
+-- how the place of an order is searched for; an order with its own place needs no search
 abbrev pub looking : MarkPlan → (place : ℕ) → Order → (answer : Option ℕ) → Effort
 looking p place (BackTo address) = looking_back p place
 looking p place (BackChange word) = looking_back p place
@@ -61,12 +70,12 @@ looking p place (BackWrite word) = looking_back p place
 looking p place (RunTo address) = looking_on p place
 looking p place _ = λ answer. nothing
 
--- To go to a state, its mark is got, and the steps from there are taken.
+-- To reach a state, its mark is fetched, and the steps from there are taken.
 abbrev pub going : MarkPlan → (answer : Option ℕ) → Effort
 going p (Some n) = record { marks = mark_of p n ∷ []; steps = way p n n }
 going p None = nothing
 
--- an order's place is looked for, and gone to
+-- an order's place is searched for, and reached
 abbrev pub effort_of : MarkPlan → (place : ℕ) → Order → (answer : Option ℕ) → Effort
 effort_of p place order answer = both (looking p place order answer) (going p answer)
 
@@ -75,15 +84,15 @@ pub record Takes (p : MarkPlan) (effort : Effort) (steps steps' : ℕ) (calls ca
   pub counted : steps' ≡ steps + effort.steps
   pub called : Called (gets_of p effort.marks) calls calls'
 
--- ---- up to a mark that can't be got
+-- ---- up to a mark that can't be fetched
 
--- It was the last that was asked for, while the place was looked for backward: the steps from the mark behind it were taken.
+-- It was the last mark that was asked for in a search backward. The steps from the next mark were taken.
 pub record BreaksBack (p : MarkPlan) (place mark : ℕ) (effort : Effort) : Type 0 where
   pub below : mark < marks_below p place
   pub marks : effort.marks ≡ marks_down (marks_below p place) mark
   pub steps : effort.steps + min place (marked p (mark + 1)) ≡ place
 
--- or forward: it was the first
+-- or in a search forward: it was the first
 pub record BreaksOn (p : MarkPlan) (place mark : ℕ) (effort : Effort) : Type 0 where
   pub before_end : place < p.count
   pub mark_is : mark ≡ mark_of p place
@@ -96,12 +105,12 @@ BreaksLooking p place (BackWrite word) = BreaksBack p place
 BreaksLooking p place (RunTo address) = BreaksOn p place
 BreaksLooking p place _ = λ mark effort. ⊥
 
--- It is that of the answer, which was found.
+-- It is the mark of the answer, which was found.
 pub record BreaksGoing (p : MarkPlan) (place : ℕ) (order : Order) (n mark : ℕ) (effort : Effort) : Type 0 where
   pub mark_is : mark ≡ mark_of p n
   pub effort_is : effort ≡ both (looking p place order (Some n)) (asking mark)
 
--- an order broke off at a mark behind such an effort; its answers are these
+-- an order stopped at a mark after such an effort; its answers are these
 abbrev pub BreaksAt : (ℕ → Type 0) → MarkPlan → (place : ℕ) → Order → (mark : ℕ) → Effort → Type 0
 BreaksAt IsFound p place order mark effort =
     BreaksLooking p place order mark effort ⊎ ((n : ℕ) × (IsFound n × BreaksGoing p place order n mark effort))
@@ -110,7 +119,7 @@ BreaksAt IsFound p place order mark effort =
 abbrev pub IsSeenAt : Source → (place : ℕ) → Order → ℕ → Type 0
 IsSeenAt from place order n = IsAnswerSeen from place order (Some n)
 
--- an order broke off at a mark, for this fault
+-- an order stopped at a mark, for this fault
 pub record StopsAt (from : Source) (place : ℕ) (order : Order) (fault : RunFault) (steps steps' : ℕ) (calls calls' : Calls) : Type 0 where
   pub mark : ℕ
   pub effort : Effort
@@ -118,8 +127,8 @@ pub record StopsAt (from : Source) (place : ℕ) (order : Order) (fault : RunFau
   pub not_got : IsNotGot from mark fault
   pub takes : Takes from.plan effort steps steps' calls calls'
 
--- What a refused order took: nothing where the console had ended, and else as much as leads to the mark that couldn't be got. What it took
--- where the visitor refused the state is said with the answer.
+-- What a refused order took: nothing if the console had ended. Otherwise it is what leads to the mark that couldn't be
+-- fetched. If the visitor refused the state, the answer says what it took.
 abbrev pub TookUntil : Source → (place : ℕ) → Order → RunFault → (steps steps' : ℕ) → (calls calls' : Calls) → Type 0
 TookUntil from place order Visitor steps steps' calls calls' = Unit {0}
 TookUntil from place order Ended steps steps' calls calls' = (steps' ≡ steps) × (calls' ≡ calls)

@@ -1,4 +1,4 @@
--- No public clause cites this file. What holds of a workdesk and of keepers while marks are set and got.
+-- No public clause cites this file. What holds of a desk and of keepers while marks are set and fetched.
 use Rattle.std.specs.Prelude.{◌≡◌, ◌≢◌, ℕ, ◌+◌, ◌<◌, List, length, slice_index_or, Option, Result, Err, OnOk, IfOk, IfErr}
 use Rattle.keepers.specs.Told.{Location, Images}
 use Rattle.level_book.specs.declared.book.Slots.TheVariants.{Count}
@@ -25,27 +25,27 @@ pub record AreSet (p : MarkPlan) (i : ℕ) (store : List ShelfState) : Type 0 wh
   pub levels : length store ≡ length p.slots
   pub each : (k : ℕ) → k < length store → IsLevelLaidOut (span p) (slice_index_or p.slots k (Count 0)) (marked_on p i k) (level_of store k)
 
--- and the level of each mark stands for their images in a run
+-- and the level of each mark has its image in a run
 abbrev pub StandAt : MachineState → List (List ℕ) → MarkPlan → ℕ → List ShelfState → (ℕ → Option Images) → Type 0
 StandAt first journal p i store told =
     (k j : ℕ) → j < mark_count p → mark_level p j ≡ k → LevelStandsAt (state_number first journal) (marked_on p i k) (level_of store k) (told k)
 
--- of the first i marks a store keeps what their images in a run are
+-- of the first i marks a store keeps the length and digest of their images in a run
 abbrev pub AreKept : MachineState → List (List ℕ) → MarkPlan → ℕ → List ShelfState → Type 0
 AreKept first journal p i store = (j : ℕ) → j < i → IsMarkKept first journal p store j
 
--- marks can be got: all are set, and there are keepers with so many slots
+-- marks can be fetched: all are set, and there are keepers with so many slots
 pub record IsReady (p : MarkPlan) (w : Desk) (counts : List ℕ) : Type 0 where
   pub set : AreSet p (mark_count p) w.store
   pub room : HaveRoom (span p) p.slots counts
   pub fits : Fits w
   pub short : AreShort (image_room w.work) w.store
 
--- where states come from that are got from a workdesk
+-- where states come from that are fetched onto a desk
 abbrev pub source : MarkPlan → List (List ℕ) → Desk → (ℕ → Option Images) → Source
 source p journal w told = record { plan = p; journal = journal; levels = levels_in w told; machine = w.work }
 
--- these marks were got, and nothing else was done
+-- these marks were fetched, and nothing else was done
 pub record Reads {K : Type 0} (told : K → Option Images) (puts gets frees slots : K → ℕ) (places : K → Location) (faults : K → ℕ) (rooms : K → Option ℕ)
     (p : MarkPlan) (marks : List ℕ) (w w' : Desk) (old new : List K) : Type 0 where
   pub machine : SamePages w'.work w.work
@@ -56,8 +56,8 @@ pub record Reads {K : Type 0} (told : K → Option Images) (puts gets frees slot
   pub keepers : KeepersStay slots places faults p old new
   pub rooms_same : SameRooms (rooms_by rooms old) (rooms_by rooms new)
 
--- What a call did that gets these marks. A refusal has its cause; none says damage where the marks stand for a run, and none wants memory
--- over keepers with room for the images.
+-- What a call did that fetches these marks. A refusal has its cause. If the marks represent a run, none is damage. Over
+-- keepers with room for the images, memory doesn't run out.
 pub record Gets {K T : Type 0} (told : K → Option Images) (puts gets frees slots : K → ℕ) (places : K → Location) (faults : K → ℕ) (rooms : K → Option ℕ)
     (p : MarkPlan) (journal : List (List ℕ)) (marks : List ℕ) (result : Result T RunFault) (w w' : Desk) (old new : List K) : Type 0 where
   pub reads : Reads told puts gets frees slots places faults rooms p marks w w' old new
@@ -68,7 +68,7 @@ pub record Gets {K T : Type 0} (told : K → Option Images) (puts gets frees slo
       (k : ℕ) (put got : List ℕ) → result ≢ Err (Damaged k put got)
   pub roomy : AreRoomy (image_room w.work) (length p.slots) (rooms_by rooms old) → result ≢ Err Memory
 
--- What a call did that looks for a place: how it looks, and where it may break off, by its answer.
+-- What a search for a place did: how it looks, and where it may stop, by its answer.
 pub record Looks {K : Type 0} (told : K → Option Images) (puts gets frees slots : K → ℕ) (places : K → Location) (faults : K → ℕ) (rooms : K → Option ℕ)
     (p : MarkPlan) (journal : List (List ℕ)) (how : Option ℕ → Effort) (Breaks : ℕ → Effort → Type 0)
     (result : Result (Option ℕ) RunFault) (w w' : Desk) (old new : List K) (steps steps' : ℕ) : Type 0 where

@@ -1,5 +1,5 @@
--- Which bytes are a script, and which orders it gives. Each line is blank, a comment, or an order: a command, and a number or
--- an address behind it.
+-- Which bytes are a script, and which orders it has. Each line is blank, a comment, or an order. An order is a command,
+-- and a number or an address after it.
 use Rattle.std.specs.Prelude.{◌≡◌, ◌≤◌, ◌⊎◌, ℕ, true, List, [], ◌∷◌, ◌++◌, codes, decimal}
 use Rattle.plan_types.specs.declared.limits.TheConstants.{MOST_STEPS}
 use Rattle.action_text.specs.Tokens.{Token}
@@ -22,7 +22,7 @@ command_word command.RunTo = codes "run-to"
 command_word command.BackChange = codes "back-change"
 command_word command.BackWrite = codes "back-write"
 
--- the order of a command, with the number or the address behind it
+-- the order of a command with this number or address
 abbrev pub order_with : Command → ℕ → Order
 order_with command.Back n = Back n
 order_with command.Step n = Step n
@@ -36,7 +36,7 @@ order_with command.BackWrite n = BackWrite n
 abbrev pub address_word : ℕ → List ℕ
 address_word n = codes "0x" ++ hex_word n
 
--- what stands behind a command: a number in decimal digits without a leading zero, or an address
+-- an operand: a number in decimal digits without a leading zero, or an address
 abbrev pub operand_word : Command → ℕ → List ℕ
 operand_word command.Back n = decimal n
 operand_word command.Step n = decimal n
@@ -54,8 +54,8 @@ greatest _ = 0xFFFFFFFF
 abbrev pub IsOperand : Command → List ℕ → ℕ → Type 0
 IsOperand c text n = (n ≤ greatest c) × (text ≡ operand_word c n)
 
--- The texts of a line's words give an order, in a run of so many steps: they are a command and its operand, and the order may
--- be given in this run.
+-- The words of a line mean an order in a run of so many steps. They are a command and its operand, and this run allows
+-- the order.
 pub record Says (count : ℕ) (texts : List (List ℕ)) (order : Order) : Type 0 where
   pub begins : Command
   pub behind : List ℕ
@@ -65,16 +65,16 @@ pub record Says (count : ℕ) (texts : List (List ℕ)) (order : Order) : Type 0
   pub is : order ≡ order_with begins number
   pub allowed : IsOrder count order
 
--- words that say nothing: there are none, or a comment begins with the first
+-- words that mean nothing: there are none, or a comment begins with the first
 abbrev pub SayNothing : List Token → Type 0
 SayNothing [] = Unit {0}
 SayNothing (w ∷ ws) = begins_comment w.text ≡ true
 
--- a line that says nothing
+-- a line that means nothing
 abbrev pub IsPassed : List ℕ → Type 0
 IsPassed line = SayNothing (words 1 line)
 
--- each line says nothing, or the next order of the list, and no order is left
+-- each line means nothing, or the next order of the list, and no order is left
 abbrev pub LinesSay : ℕ → List (List ℕ) → List Order → Type 0
 LinesSay count [] [] = Unit {0}
 LinesSay count [] (o ∷ orders) = ⊥
@@ -82,6 +82,6 @@ LinesSay count (line ∷ rest) [] = IsPassed line × LinesSay count rest []
 LinesSay count (line ∷ rest) (o ∷ orders) =
     (IsPassed line × LinesSay count rest (o ∷ orders)) ⊎ (Says count (texts line) o × LinesSay count rest orders)
 
--- the bytes give these orders
+-- the bytes mean these orders
 abbrev pub IsScript : ℕ → List ℕ → List Order → Type 0
 IsScript count bytes orders = LinesSay count (lines bytes) orders

@@ -1,5 +1,5 @@
--- What the orders of a script answer, one after the other, and what is written of it: by the bytes that were fetched, and in
--- the run for which a console stands.
+-- What the orders of a script answer, and what is written. Both are stated by the fetched bytes, and in the run that a
+-- console represents.
 use Rattle.std.specs.Prelude.{◌≡◌, ℕ, ◌-◌, ◌<◌, Bool, true, false, List, [], ◌∷◌, ◌++◌, take, slice_get, Option, Some, None, codes}
 use Rattle.std.specs.List.{flat_map}
 use Rattle.keepers.specs.Counts.{raised}
@@ -24,7 +24,7 @@ place_after place None = place
 
 -- ---- by the bytes
 
--- between two orders: the place, how many steps were taken, how often the keepers were called, and how often the sink was
+-- between two orders: the place, and so far the steps, and the calls of keepers and of the sink
 pub record Moment : Type 0 where
   pub place : ℕ
   pub steps : ℕ
@@ -34,12 +34,12 @@ pub record Moment : Type 0 where
 abbrev pub moment : ConsoleState → ℕ → Calls → ℕ → Moment
 moment c steps calls writes = record { place = c.place; steps = steps; calls = calls; writes = writes }
 
--- what is written of an answer: the line of a state that came from the mark of the new place, with its number, or `none`
+-- what is written for an answer: the line of the new state, which came from its mark, or `none`
 abbrev pub IsTextOf : Source → Option ℕ → List ℕ → Type 0
 IsTextOf from (Some n) text = (s : MachineState) × (ComesFrom from (mark_of from.plan n) n s × (text ≡ line n s ++ 10 ∷ []))
 IsTextOf from None text = text ≡ codes "none\n"
 
--- the line was written where there is a new place, in one call, and else nothing
+-- the line was written in one call if there is a new place, and nothing otherwise
 abbrev pub IsShown : Source → Option ℕ → Bool → ℕ → ℕ → Option (List ℕ) → Option (List ℕ) → Type 0
 IsShown from (Some n) found writes writes' before after =
     (found ≡ true) × (writes' ≡ raised writes 1) × ((text : List ℕ) × (IsTextOf from (Some n) text × Tells before after (λ x y. y ≡ x ++ text)))
@@ -78,7 +78,7 @@ pub record AreWritten (from : Source) (orders : List Order) (old new : Moment) (
   pub are : AreAnswered from orders answers text old new
   pub written : Tells before after (λ x y. y ≡ x ++ text)
 
--- An order had an answer, and a part of its text was written behind what was written before: the sink failed.
+-- An order had an answer. The sink failed after a part of its text.
 pub record StopsWriting (from : Source) (order : Order) (text : List ℕ) (old new : Moment) (before after : Option (List ℕ)) : Type 0 where
   pub answer : Option ℕ
   pub piece : List ℕ
@@ -88,7 +88,7 @@ pub record StopsWriting (from : Source) (order : Order) (text : List ℕ) (old n
   pub wrote : new.writes ≡ raised old.writes 1
   pub part : Tells before after (λ x y. AddsPrefix piece (x ++ text) y)
 
--- An order broke off at a mark that couldn't be got, and nothing was written of it.
+-- An order stopped at a mark that couldn't be fetched, and wrote nothing.
 pub record StopsGetting (from : Source) (order : Order) (fault : RunFault) (text : List ℕ) (old new : Moment) (before after : Option (List ℕ)) : Type 0 where
   pub stops : StopsAt from old.place order fault old.steps new.steps old.calls new.calls
   pub none : new.writes ≡ old.writes
@@ -98,7 +98,7 @@ abbrev pub BreaksOff : Source → Order → RunFault → List ℕ → Moment →
 BreaksOff from order Visitor text old new before after = StopsWriting from order text old new before after
 BreaksOff from order fault text old new before after = StopsGetting from order fault text old new before after
 
--- The orders before this one were answered, and it was not; they are counted from 1.
+-- The orders before this one were answered, and this one was not. Orders are counted from 1.
 pub record IsBrokenOff (from : Source) (orders : List Order) (at : ℕ) (fault : RunFault) (old new : Moment) (before after : Option (List ℕ)) : Type 0 where
   pub from_one : 0 < at
   pub order : Order
@@ -112,7 +112,7 @@ pub record IsBrokenOff (from : Source) (orders : List Order) (at : ℕ) (fault :
 
 -- ---- in a run
 
--- The answers to orders, each from the place where the one before it led, and the place after them. The answers are those of
+-- The answers to orders, each from the place where the one before it led, and the last place. The answers are those of
 -- an index into the states of the run.
 abbrev pub AreAnswers : MachineState → List (List ℕ) → ℕ → ℕ → List Order → List (Option ℕ) → ℕ → Type 0
 AreAnswers first journal count place [] answers end = (answers ≡ []) × (end ≡ place)
@@ -136,14 +136,14 @@ pub record AreWrittenIn (first : MachineState) (journal : List (List ℕ)) (coun
   pub are : AreAnswers first journal count place orders answers end
   pub written : Tells before after (λ x y. y ≡ x ++ script_text first journal answers)
 
--- where the sink failed, a part of the next answer was written after them, and else nothing
+-- if the sink failed, a part of the next answer was written after them, and nothing otherwise
 abbrev pub BreaksOffIn : MachineState → List (List ℕ) → ℕ → ℕ → Order → RunFault → List (Option ℕ) → Option (List ℕ) → Option (List ℕ) → Type 0
 BreaksOffIn first journal count place order Visitor answers before after =
     (answer : Option ℕ) × (IsAnswer first journal count place order answer
     × Tells before after (λ x y. AddsPrefix (answer_text first journal answer) (x ++ script_text first journal answers) y))
 BreaksOffIn first journal count place order _ answers before after = Tells before after (λ x y. y ≡ x ++ script_text first journal answers)
 
--- The orders before this one were answered, and it was not; they are counted from 1.
+-- The orders before this one were answered, and this one was not. Orders are counted from 1.
 pub record IsBrokenOffIn (first : MachineState) (journal : List (List ℕ)) (count place : ℕ) (orders : List Order)
     (at : ℕ) (fault : RunFault) (end : ℕ) (before after : Option (List ℕ)) : Type 0 where
   pub from_one : 0 < at

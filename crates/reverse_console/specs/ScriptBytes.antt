@@ -1,4 +1,4 @@
--- No public clause cites this file. Where the first word and the first line lie in bytes.
+-- No public clause cites this file. Where the first word and the first line are in bytes.
 use Rattle.std.specs.Prelude.{ℕ, ◌+◌, ◌==◌, List, [], ◌∷◌, if◌then◌else◌}
 use Rattle.action_text.specs.Tokens.{Token, is_blank}
 

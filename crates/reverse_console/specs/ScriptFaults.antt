@@ -18,33 +18,33 @@ use Rattle.reverse_console.specs.ScriptWords.{words}
 abbrev pub broken : Rule → ℕ → LineFault
 broken r column = record { rule = r; column = column }
 
--- the rule that another text breaks in the place of an operand
+-- the rule that a wrong operand of this command breaks
 abbrev pub rule_of : Command → Rule
 rule_of command.Back = rule.Number
 rule_of command.Step = rule.Number
 rule_of command.Goto = rule.Number
 rule_of _ = rule.Address
 
--- What is wrong with the words of a line, in a run of so many steps: the first of them that fits nothing that may stand there.
--- `end` is the column one past the line's bytes.
+-- The first of a line's words that doesn't fit, in a run of so many steps. `end` is the column one past the line's
+-- bytes.
 pub data IsFault (count end : ℕ) (ws : List Token) (fault : LineFault) : Type 0 where
   -- the first word is no command
   no_command : (first : Token) (others : List Token) → ws ≡ first ∷ others → ((c : Command) → first.text ≢ command_word c) →
       fault ≡ broken rule.NotCommand first.column → IsFault count end ws fault
-  -- nothing stands behind a command
+  -- nothing comes after a command
   no_operand : (c : Command) (first : Token) → ws ≡ first ∷ [] → first.text ≡ command_word c →
       fault ≡ broken rule.NotCommand end → IsFault count end ws fault
-  -- what stands behind it is no number, or no address
+  -- what comes after it is no number, or no address
   other_operand : (c : Command) (first second : Token) (others : List Token) → ws ≡ first ∷ second ∷ others → first.text ≡ command_word c →
       ((n : ℕ) → IsOperand c second.text n → ⊥) → fault ≡ broken (rule_of c) second.column → IsFault count end ws fault
-  -- it is one that may not stand there in this run
+  -- it is one that this run doesn't allow
   out_of_range : (c : Command) (first second : Token) (others : List Token) → ws ≡ first ∷ second ∷ others → first.text ≡ command_word c →
       (n : ℕ) → IsOperand c second.text n → (IsOrder count (order_with c n) → ⊥) → fault ≡ broken rule.Range second.column → IsFault count end ws fault
-  -- a further word stands behind it
+  -- another word comes after it
   further_word : (c : Command) (first second third : Token) (others : List Token) → ws ≡ first ∷ second ∷ third ∷ others → first.text ≡ command_word c →
       (n : ℕ) → IsOperand c second.text n → IsOrder count (order_with c n) → fault ≡ broken rule.NotCommand third.column → IsFault count end ws fault
 
--- the fault of a line, which isn't passed over
+-- the fault of a line that isn't ignored
 abbrev pub FaultIn : ℕ → List ℕ → LineFault → Type 0
 FaultIn count line fault = (IsPassed line → ⊥) × IsFault count (length line + 1) (words 1 line) fault
 
@@ -58,7 +58,7 @@ number_of_rule rule.Range = 4
 abbrev pub fault_at : ℕ → LineFault → ScriptFault
 fault_at line fault = At (number_of_rule fault.rule) line fault.column
 
--- the lines before one give some orders or none, and it has a fault; lines are counted from 1
+-- The lines before this one mean orders or nothing, and this one has the fault. Lines are counted from 1.
 pub record IsFirstFault (count : ℕ) (bytes : List ℕ) (fault : ScriptFault) : Type 0 where
   pub before : List (List ℕ)
   pub here : List ℕ
@@ -70,7 +70,7 @@ pub record IsFirstFault (count : ℕ) (bytes : List ℕ) (fault : ScriptFault) :
   pub met : FaultIn count here of_line
   pub is : fault ≡ fault_at (length before + 1) of_line
 
--- want of memory is no fault of the bytes
+-- a lack of memory is no fault of the bytes
 abbrev pub HasFirstFault : ℕ → List ℕ → ScriptFault → Type 0
 HasFirstFault count bytes (At r line column) = IsFirstFault count bytes (At r line column)
 HasFirstFault count bytes Memory = ⊥

@@ -5,7 +5,7 @@ use Rattle.reverse_console.specs.declared.fault.ScriptFault.{ScriptFault}
 use Rattle.reverse_console.specs.Script.{IsScript}
 use Rattle.reverse_console.specs.ScriptFaults.{HasFirstFault}
 
--- bytes give one list of orders at most
+-- bytes mean at most one list of orders
 abbrev pub OneScript : Type 0
 OneScript = (count : ℕ) (bytes : List ℕ) (a b : List Order) → IsScript count bytes a → IsScript count bytes b → a ≡ b
 

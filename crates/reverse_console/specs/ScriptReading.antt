@@ -35,7 +35,7 @@ command_of text =
     else (if bytes_eq text (codes "back-write") then Some command.BackWrite
     else None))))))
 
--- the address of eight digits: they are those of four bytes, and are spelled so
+-- the address of eight digits, which are the spelling of four bytes
 abbrev pub spelled : List ℕ → List ℕ → Option ℕ
 spelled digits bytes = if bytes_eq (hex_word (from_be_bytes w32 bytes)) digits then Some (from_be_bytes w32 bytes) else None
 
@@ -78,13 +78,13 @@ given_by count c column (Some n) = in_range count (order_with c n) column
 unfoldable pub given : ℕ → Command → ℕ → List ℕ → Result Order LineFault
 given count c column text = given_by count c column (operand_of c text)
 
--- the same, with the words behind the operand
+-- the order of a command and its operand, if no word comes after the operand
 abbrev pub alone : List Token → Result Order LineFault → Result (Option Order) LineFault
 alone ws (Err fault) = Err fault
 alone [] (Ok order) = Ok (Some order)
 alone (w ∷ ws) (Ok order) = Err (not_command w.column)
 
--- a command with the words behind it
+-- a command with the words after it
 abbrev pub behind_command : ℕ → ℕ → Command → List Token → Result (Option Order) LineFault
 behind_command count end c [] = Err (not_command end)
 behind_command count end c (w ∷ ws) = alone ws (given count c w.column w.text)
@@ -101,7 +101,7 @@ line_of count end (w ∷ ws) = if begins_comment w.text then Ok None else with_c
 -- ---- the text
 
 infixl 10 ◌>>=◌
--- what comes behind a line that has no fault
+-- what comes after a line without a fault
 abbrev pub ◌>>=◌ : {A B F : Type 0} → Result A F → (A → Result B F) → Result B F
 (Ok x) >>= f = f x
 (Err e) >>= f = Err e
@@ -111,7 +111,7 @@ abbrev pub in_line : {A : Type 0} → ℕ → Result A LineFault → Result A Sc
 in_line line (Ok x) = Ok x
 in_line line (Err fault) = Err (fault_at line fault)
 
--- the orders of lines behind a list, where the first has this number
+-- the orders of lines after a list; the first line has this number
 unfoldable pub orders_from : ℕ → List Order → ℕ → List (List ℕ) → Result (List Order) ScriptFault
 orders_from count orders line [] = Ok orders
 orders_from count orders line (l ∷ ls) =
@@ -120,7 +120,7 @@ orders_from count orders line (l ∷ ls) =
 unfoldable pub script_of : ℕ → List ℕ → Result (List Order) ScriptFault
 script_of count bytes = orders_from count [] 1 (lines bytes)
 
--- what a function returned, seen by view, is what is read, unless memory ran out
+-- a function's result, seen through `view`, is what is read, unless memory ran out
 abbrev pub Fails : {Y : Type 0} → ScriptFault → Result Y ScriptFault → Type 0
 Fails Memory read = Unit {0}
 Fails (At r line column) read = read ≡ Err (At r line column)

@@ -1,4 +1,4 @@
-// The words of an order: its command, and what stands behind it.
+// The words of an order: its command and its operand.
 ghost use Rattle.std.specs.Prelude.{◌≡◌, ◌≤◌, IfSome};
 ghost use Rattle.plan_types.specs.declared.limits.TheConstants.{MOST_STEPS};
 ghost use Rattle.action_text.specs.Reading.{GivesSome, digits_at, number_at, number_of as number_in};
@@ -22,7 +22,7 @@ pub(crate) enum Command {
     BackWrite,
 }
 
-// The command that a word is.
+// The command that a word names.
 #[tactic(auto, unfolding(crate::specs::ScriptReading::command_of))]
 pub(crate) fn command_of(word: &[u8]) -> Option<Command>
     ensures { result ≡ command_in word.now }
@@ -61,7 +61,7 @@ pub(crate) fn order_with(command: Command, operand: u32) -> Order
     }
 }
 
-// Whether the order may be given in a run of so many steps.
+// Whether a run of so many steps allows the order.
 pub(crate) fn may_be_given(order: &Order, count: u32) -> bool
     ensures { result ≡ is_given count order.now }
 {
@@ -73,7 +73,7 @@ pub(crate) fn may_be_given(order: &Order, count: u32) -> bool
     }
 }
 
-// The rule that another word breaks in the place of what stands behind a command.
+// The rule that a wrong operand of this command breaks.
 pub(crate) fn rule_of(command: Command) -> Rule
     ensures { result ≡ rule_of_command command }
 {
@@ -83,7 +83,7 @@ pub(crate) fn rule_of(command: Command) -> Rule
     }
 }
 
-// The number or the address that a word is behind a command.
+// The number or the address that a command's operand spells.
 pub(crate) fn operand_of(command: Command, word: &[u8]) -> Option<u32>
     ensures { result ≡ operand_in command word.now }
 {
@@ -93,7 +93,7 @@ pub(crate) fn operand_of(command: Command, word: &[u8]) -> Option<u32>
     }
 }
 
-// The number that the digits at the front of the bytes make, and the bytes after them, unless it is above 1,000,000.
+// The number of the digits at the front, and the bytes after them. None above 1,000,000.
 #[tactic(auto, unfolding(action_text::specs::Reading::digits_at))]
 fn digits(bytes: &[u8]) -> Option<(u32, &[u8])>
     ensures { GivesSome (λ x. (x.0, x.1.now)) result (digits_at MOST_STEPS 0 bytes.now) }
@@ -111,7 +111,7 @@ fn digits(bytes: &[u8]) -> Option<(u32, &[u8])>
     Some((n, rest))
 }
 
-// The same, without a leading zero.
+// The number at the front of the bytes, written without a leading zero, and the bytes after it.
 #[tactic(auto, unfolding(action_text::specs::Reading::number_at))]
 fn number_at(bytes: &[u8]) -> Option<(u32, &[u8])>
     ensures { GivesSome (λ x. (x.0, x.1.now)) result (number_at MOST_STEPS bytes.now) }
@@ -124,7 +124,7 @@ fn number_at(bytes: &[u8]) -> Option<(u32, &[u8])>
     }
 }
 
-// The number that a word is: decimal digits without a leading zero, and nothing behind them.
+// The number that a word spells: decimal digits without a leading zero, and nothing after them.
 #[tactic(auto, unfolding(action_text::specs::Reading::number_of))]
 fn number_of(word: &[u8]) -> Option<u32>
     ensures { result ≡ number_in word.now }

@@ -11,7 +11,7 @@ ghost use Rattle.reverse_runner.specs.Rooms.{image_room, rooms_by, AreRoomy, Sam
 ghost use Rattle.reverse_runner.specs.SessionState.{SamePages};
 ghost use Rattle.reverse_console.specs.Answer.{IsAnswer, IsOrder, IsGiven, found_at};
 ghost use Rattle.reverse_console.specs.ConsoleState.{GoesOn, source_of};
-ghost use Rattle.reverse_console.specs.Costs.{puts_of, effort_of, looking, BreaksLooking, Takes, TookUntil};
+ghost use Rattle.reverse_console.specs.Costs.{puts_of, StopsPutting, effort_of, looking, BreaksLooking, Takes, TookUntil};
 ghost use Rattle.reverse_console.specs.Marks.{MarkPlan, span, stride, marked, mark, mark_count, mark_of};
 ghost use Rattle.reverse_console.specs.Handling.{IsReady, source, Gets, Looks};
 ghost use Rattle.reverse_console.specs.Refusals.{IsOfPutting};
@@ -33,7 +33,7 @@ use std::alloc::Global;
 use std::marker::Model;
 use std::sync::ledger::Ledger;
 
-/// A run that is moved about in.
+/// A run, a place in it, and its marks.
 #[derive(Drop)]
 pub struct Console {
     marks: Marks,
@@ -72,13 +72,13 @@ impl Console {
         requires slots { 1 ≤ total_room book (max count 1) }
         requires room { HaveRoom (max count 1) (slots_of book) (map K.slot_count keepers.old.items) }
 
-        // It is at state 0, and stands for the run over keepers that tell.
+        // It is at state 0, and represents the run over keepers that claim their content.
         ensures begun { IfOk result (λ c. (c.plan ≡ (record { slots = slots_of book; count = count })) × (c.journal ≡ journal) × (c.place ≡ 0)
             × (c.ended ≡ false)) }
         ensures stands { MarksTell (record { slots = slots_of book; count = count }) (told_by K.told keepers.old.items) →
             IfOk result (λ c. Stands start c (told_by K.told keepers.new.items)) }
 
-        // Of each mark it keeps what the image of its state is, over any keepers.
+        // It keeps the length and digest of each mark's image, over any keepers.
         ensures marks { IfOk result (λ c. KeepsMarks start (source_of c (told_by K.told keepers.new.items))) }
 
         // It puts each mark on its level, and takes the steps to the last one.
@@ -88,7 +88,7 @@ impl Console {
             (mark_count (record { slots = slots_of book; count = count }))) (calls_to K.put_count K.get_count K.free_count keepers.old.items)
             (calls_to K.put_count K.get_count K.free_count keepers.new.items)) }
 
-        // What was done up to a refusal, and its cause.
+        // What was done before a refusal, and its cause.
         ensures counted_at_most { (steps.old ≤ steps.new)
             × (steps.new ≤ steps.old + marked (record { slots = slots_of book; count = count })
             (mark_count (record { slots = slots_of book; count = count }) - 1)) }
@@ -96,17 +96,19 @@ impl Console {
             (mark_count (record { slots = slots_of book; count = count }))) (calls_to K.put_count K.get_count K.free_count keepers.old.items)
             (calls_to K.put_count K.get_count K.free_count keepers.new.items) }
         ensures putting { IfErr result (IsOfPutting (record { slots = slots_of book; count = count })) }
+        ensures put_until { (k : ℕ) → result ≡ Err (RunFault.Keeper k) → StopsPutting (record { slots = slots_of book; count = count }) k steps.old steps.new
+            (calls_to K.put_count K.get_count K.free_count keepers.old.items) (calls_to K.put_count K.get_count K.free_count keepers.new.items) }
         ensures keeper_cause { (k : ℕ) → result ≡ Err (RunFault.Keeper k) → (k < length (slots_of book))
             × Rose (by_number 0 K.fault_count keepers.old.items k) (by_number 0 K.fault_count keepers.new.items k) }
-        ensures keepers_quiet { ((k : ℕ) → result ≢ Err (RunFault.Keeper k)) → (j : ℕ) →
+        ensures keepers_quiet { (j : ℕ) → result ≢ Err (RunFault.Keeper j) →
             by_number 0 K.fault_count keepers.new.items j ≡ by_number 0 K.fault_count keepers.old.items j }
         ensures keepers_later { (k : ℕ) → by_number 0 K.fault_count keepers.old.items k ≤ by_number 0 K.fault_count keepers.new.items k }
 
-        // Over keepers with room for the images it wants memory before anything else is done.
+        // Over keepers with room for the images it runs out of memory only before anything else is done.
         ensures roomy { AreRoomy (image_room start) (length (slots_of book)) (rooms_by K.room_bytes keepers.old.items) → result ≡ Err RunFault.Memory →
             (keepers.new ≡ keepers.old) × (steps.new ≡ steps.old) }
 
-        // The keepers have the slots and the rooms that they had, and those past the levels of the book are as they were.
+        // The keepers have the same slots and rooms. Those past the levels of the book are unchanged.
         ensures slots { map K.slot_count keepers.new.items ≡ map K.slot_count keepers.old.items }
         ensures rooms { SameRooms (rooms_by K.room_bytes keepers.old.items) (rooms_by K.room_bytes keepers.new.items) }
         ensures places { map K.place keepers.new.items ≡ map K.place keepers.old.items }
@@ -135,8 +137,8 @@ impl Console {
         self.place
     }
 
-    /// Does nothing. Its contract is a law: where the console stands for a run, the states that come from marks are those of
-    /// the run with their numbers, and the answers that are seen are those of the run.
+    /// Does nothing. Its contract is a law. If the console represents a run, states from marks are the run's with their
+    /// numbers. The answers seen are the run's.
     pub fn sees_its_run(&self)
         ensures states { (first : MachineState) (told : ℕ → Option Images) → IsMachineState first → Stands first self.now told →
             (i n : ℕ) (s : MachineState) → ComesFrom (source_of self.now told) i n s → s ≡ state_number first self.now.journal n }
@@ -149,7 +151,7 @@ impl Console {
         self.journal.is_recorded();
     }
 
-    /// Answers an order.
+    /// Answers an order: goes to its new place, if there is one, and gives the visitor the state there.
     pub fn perform<K: Keeper, V: Visitor, L: Ledger>(
         &mut self,
         order: &Order,
@@ -165,7 +167,7 @@ impl Console {
         ensures inert { result ≡ Err RunFault.Ended → (self.new ≡ self.old) × (keepers.new ≡ keepers.old) × (visitor.new ≡ visitor.old)
             × (steps.new ≡ steps.old) }
 
-        // The answer, where the console stands for a run, and that it stands for it from then on.
+        // The answer, if the console represents a run, and that it still represents it.
         ensures answer { (first : MachineState) → IsMachineState first → Stands first self.old (told_by K.told keepers.old.items) →
             IfOk result (λ found. (new : Option ℕ) × (IsAnswer first self.old.journal self.old.plan.count self.old.place order.now new
             × IsGiven (λ before n s after. V.got before n s self.old.journal after) (λ n s. s ≡ state_number first self.old.journal n) new found
@@ -173,7 +175,7 @@ impl Console {
         ensures stands { (first : MachineState) → IsMachineState first → Stands first self.old (told_by K.told keepers.old.items) →
             OnOk result (Stands first self.new (told_by K.told keepers.new.items)) }
 
-        // The answer by the bytes that were fetched, also where it stands for none.
+        // The answer by the fetched bytes, also if it represents no run.
         ensures seen { IfOk result (λ found. (new : Option ℕ)
             × (IsAnswerSeen (source_of self.old (told_by K.told keepers.old.items)) self.old.place order.now new
             × IsGiven (λ before n s after. V.got before n s self.old.journal after)
@@ -186,7 +188,7 @@ impl Console {
             (calls_to K.put_count K.get_count K.free_count keepers.new.items)) }
         ensures goes_on { OnOk result (GoesOn self.old self.new × (self.new.ended ≡ false)) }
 
-        // What stands after a refusal.
+        // The console after a refusal.
         ensures over { OnErr result (GoesOn self.old self.new × (self.new.place ≡ self.old.place) × (self.new.ended ≡ true)) }
         ensures took_until { IfErr result (λ fault. TookUntil (source_of self.old (told_by K.told keepers.old.items)) self.old.place order.now fault steps.old
             steps.new (calls_to K.put_count K.get_count K.free_count keepers.old.items) (calls_to K.put_count K.get_count K.free_count keepers.new.items)) }
@@ -205,7 +207,7 @@ impl Console {
         // The cause of each refusal.
         ensures keeper_cause { (k : ℕ) → result ≡ Err (RunFault.Keeper k) → (k < length self.old.plan.slots)
             × Rose (by_number 0 K.fault_count keepers.old.items k) (by_number 0 K.fault_count keepers.new.items k) }
-        ensures keepers_quiet { ((k : ℕ) → result ≢ Err (RunFault.Keeper k)) → (j : ℕ) →
+        ensures keepers_quiet { (j : ℕ) → result ≢ Err (RunFault.Keeper j) →
             by_number 0 K.fault_count keepers.new.items j ≡ by_number 0 K.fault_count keepers.old.items j }
         ensures keepers_later { (k : ℕ) → by_number 0 K.fault_count keepers.old.items k ≤ by_number 0 K.fault_count keepers.new.items k }
         ensures undamaged { (first : MachineState) → IsMachineState first → Stands first self.old (told_by K.told keepers.old.items) →
@@ -214,11 +216,12 @@ impl Console {
         ensures quiet { result ≢ Err RunFault.Visitor → V.fault_count visitor.new ≡ V.fault_count visitor.old }
         ensures later { V.fault_count visitor.old ≤ V.fault_count visitor.new }
 
-        // Over keepers with room for the images no order wants memory.
+        // Over keepers with room for the images no order runs out of memory.
         ensures roomy { AreRoomy (image_room self.old.work) (length self.old.plan.slots) (rooms_by K.room_bytes keepers.old.items) →
             result ≢ Err RunFault.Memory }
 
-        // The keepers tell what they told and have the slots and rooms that they had, and those past the levels of the book are as they were.
+        // The keepers claim what they claimed, and have the same slots and rooms. Those past the levels of the book are
+        // unchanged.
         ensures same { (k : ℕ) → told_by K.told keepers.new.items k ≡ told_by K.told keepers.old.items k }
         ensures slots { map K.slot_count keepers.new.items ≡ map K.slot_count keepers.old.items }
         ensures rooms { SameRooms (rooms_by K.room_bytes keepers.old.items) (rooms_by K.room_bytes keepers.new.items) }
@@ -246,7 +249,7 @@ impl Console {
     }
 }
 
-// Finds the new place of an order, and goes there, where there is one.
+// Finds the new place of an order, and goes there, if there is one.
 fn answer<K: Keeper, V: Visitor, L: Ledger>(
     desk: &mut Desk,
     marks: &Marks,
@@ -297,7 +300,7 @@ fn answer<K: Keeper, V: Visitor, L: Ledger>(
     }
 }
 
-// The new place of an order, where there is one.
+// The new place of an order, if there is one.
 fn new_place<K: Keeper, L: Ledger>(
     desk: &mut Desk,
     marks: &Marks,

@@ -1,4 +1,4 @@
-// What a console works with: a state of the machine, and the images that its levels keep.
+// What a console works with: a state of the machine, and the images on its levels.
 ghost use Rattle.std.specs.Prelude.{◌≡◌, ◌≢◌, ◌+◌, ◌*◌, ◌<◌, ◌≤◌, ◌^◌, ℕ, List, length, map, Err, IfOk, IfErr, OnOk, OnErr, IsSome, None};
 ghost use Rattle.std.specs.Vec.{vec_len, vec_capacity};
 ghost use Rattle.sha2.specs.Sha256.{sha256};
@@ -27,7 +27,7 @@ use state_image::{encode_image, max_image};
 use std::alloc::{AllocError, Global};
 use std::sync::ledger::Ledger;
 
-// The state in work, which images the levels keep, and a buffer for the bytes of one image.
+// The state in work, the images of the levels, and a buffer for one image.
 #[derive(Drop)]
 pub(crate) struct Desk {
     pub work: KnownState,
@@ -49,7 +49,7 @@ fn on(level: u8, fault: StoreFault) -> RunFault
 impl Desk {
     ghost use Rattle.reverse_console.specs.Desks.{Fits, levels_in};
 
-    // A desk with a state in work, and no images, with room on each level for those of a run of so many steps.
+    // A desk with a state in work and no images. Each level has room for those of a run of so many steps.
     pub fn begin(alloc: Global, start: State, book: &Book, steps: u32) -> Result<Desk, AllocError>
         ensures work { IfOk result (λ w. w.work ≡ start) }
         ensures store { IfOk result (λ w. w.store ≡ no_pairs_on (slots_of book.now) steps) }
@@ -75,7 +75,7 @@ impl Desk {
         self.work.advance(journal, count, steps);
     }
 
-    // Writes the image of the state in work into the buffer, and gives its digest.
+    // Writes the image of the state in work into the buffer, and returns its digest.
     pub fn encode(&mut self) -> [u8; 32]
         requires { Fits self.old }
         ensures digest { result ≡ sha256 self.new.buffer.items }
@@ -90,7 +90,7 @@ impl Desk {
         Sha256::digest(self.buffer.as_slice())
     }
 
-    // Makes the state in work the one whose image stands in the buffer, which came from a level and has this digest.
+    // Makes the state in work that of the image in the buffer. The image came from a level and has this digest.
     pub fn decode(&mut self, level: u8, digest: &[u8; 32]) -> Result<(), RunFault>
         requires fits { Fits self.old }
         requires digest { digest.now ≡ sha256 self.old.buffer.items }
@@ -152,7 +152,7 @@ impl Desk {
         }
     }
 
-    // Gets the bytes of a held pair into the buffer, and gives their digest.
+    // Gets the bytes of a held pair into the buffer, and returns their digest.
     pub fn fetch<K: Keeper>(
         &mut self,
         keepers: &mut Vec<K>,

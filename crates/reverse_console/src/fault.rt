@@ -8,8 +8,8 @@ use thiserror::Error;
 /// The first fault of a script.
 #[derive(Clone, Copy, Debug, PartialEq, Eq, Error)]
 pub enum ScriptFault {
-    /// The rule that is broken (1 NotCommand, 2 Number, 3 Address, 4 Range), and where it is met: lines and columns are
-    /// counted from 1, columns in bytes.
+    /// The broken rule (1 NotCommand, 2 Number, 3 Address, 4 Range), and where. Lines and columns count from 1, columns
+    /// in bytes.
     #[error("line {line}, column {column}: rule {rule}")]
     At { rule: u8, line: u32, column: u32 },
     /// There was no memory.
@@ -48,7 +48,7 @@ pub(crate) enum Rule {
     Range,
 }
 
-// A fault of a line that is known.
+// A fault within a line.
 #[derive(Clone, Copy)]
 pub(crate) struct LineFault {
     pub rule: Rule,
@@ -56,7 +56,7 @@ pub(crate) struct LineFault {
 }
 
 impl LineFault {
-    // The same, in the line with this number.
+    // A fault of a line, as one of the script whose line has this number.
     pub(crate) fn at(self, line: u32) -> ScriptFault
         ensures { result ≡ fault_at line self }
     {

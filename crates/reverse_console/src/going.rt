@@ -1,4 +1,4 @@
-// How marks are set, and how a state is gone to from its mark.
+// Setting marks, and reaching a state from its mark.
 ghost use Rattle.std.specs.Prelude.{◌≡◌, ◌≢◌, ◌+◌, ◌-◌, ◌<◌, ◌≤◌, ℕ, List, [], ◌∷◌, length, map, Option, Ok, Err, OnOk, OnErr, IfErr, IsSome};
 ghost use Rattle.keepers.specs.Counts.{Rose};
 ghost use Rattle.input_journal.specs.Form.{IsRecorded};
@@ -11,7 +11,7 @@ ghost use Rattle.reverse_runner.specs.SessionState.{SamePages};
 ghost use Rattle.reverse_runner.specs.Rooms.{image_room, rooms_by, AreRoomy, AreShort, SameRooms};
 ghost use Rattle.reverse_runner.specs.Touching.{one_put};
 ghost use Rattle.reverse_console.specs.Desks.{Fits, levels_in};
-ghost use Rattle.reverse_console.specs.Costs.{puts_of, way};
+ghost use Rattle.reverse_console.specs.Costs.{puts_of, StopsPutting, way};
 ghost use Rattle.reverse_console.specs.Marks.{span, stride, marked, mark, mark_count, mark_of, mark_level};
 ghost use Rattle.reverse_console.specs.Causes.{KeepersStay, Quiet, HasCause};
 ghost use Rattle.reverse_console.specs.Handling.{AreSet, AreKept, StandAt, IsReady, source, Gets};
@@ -52,6 +52,7 @@ fn set_mark<K: Keeper>(
     ensures quiet { OnOk result (Quiet K.fault_count keepers.old.items keepers.new.items) }
     ensures cause { IfErr result (HasCause K.fault_count marks.now keepers.old.items keepers.new.items) }
     ensures putting { IfErr result (IsOfPutting marks.now) }
+    ensures on_level { (k : ℕ) → result ≡ Err (RunFault.Keeper k) → mark_level marks.now mark ≡ k }
     ensures short { AreShort (image_room desk.old.work) desk.old.store → OnOk result (AreShort (image_room desk.old.work) desk.new.store) }
     ensures roomy { AreRoomy (image_room desk.old.work) (length marks.now.slots) (rooms_by K.room_bytes keepers.old.items) → result ≢ Err RunFault.Memory }
     ensures rooms { SameRooms (rooms_by K.room_bytes keepers.old.items) (rooms_by K.room_bytes keepers.new.items) }
@@ -91,6 +92,7 @@ fn set_next<K: Keeper, L: Ledger>(
     ensures quiet { OnOk result (Quiet K.fault_count keepers.old.items keepers.new.items) }
     ensures cause { IfErr result (HasCause K.fault_count marks.now keepers.old.items keepers.new.items) }
     ensures putting { IfErr result (IsOfPutting marks.now) }
+    ensures on_level { (k : ℕ) → result ≡ Err (RunFault.Keeper k) → mark_level marks.now mark ≡ k }
     ensures short { AreShort (image_room desk.old.work) desk.old.store → OnOk result (AreShort (image_room desk.old.work) desk.new.store) }
     ensures roomy { AreRoomy (image_room desk.old.work) (length marks.now.slots) (rooms_by K.room_bytes keepers.old.items) → result ≢ Err RunFault.Memory }
     ensures rooms { SameRooms (rooms_by K.room_bytes keepers.old.items) (rooms_by K.room_bytes keepers.new.items) }
@@ -126,6 +128,8 @@ pub(crate) fn set_marks<K: Keeper, L: Ledger>(
     ensures quiet { OnOk result (Quiet K.fault_count keepers.old.items keepers.new.items) }
     ensures cause { IfErr result (HasCause K.fault_count marks.now keepers.old.items keepers.new.items) }
     ensures putting { IfErr result (IsOfPutting marks.now) }
+    ensures put_until { (k : ℕ) → result ≡ Err (RunFault.Keeper k) → StopsPutting marks.now k steps.old steps.new
+        (calls_to K.put_count K.get_count K.free_count keepers.old.items) (calls_to K.put_count K.get_count K.free_count keepers.new.items) }
     ensures short { AreShort (image_room desk.old.work) desk.old.store → OnOk result (AreShort (image_room desk.old.work) desk.new.store) }
     ensures roomy { AreRoomy (image_room desk.old.work) (length marks.now.slots) (rooms_by K.room_bytes keepers.old.items) → result ≢ Err RunFault.Memory }
     ensures rooms { SameRooms (rooms_by K.room_bytes keepers.old.items) (rooms_by K.room_bytes keepers.new.items) }

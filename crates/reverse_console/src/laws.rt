@@ -16,35 +16,34 @@ ghost use Rattle.reverse_console.specs.ScriptLaws.{OneScript, OneFault, ScriptsH
 
 use revolve_gen::laws::books_are_roomy;
 
-/// From one mark to the next it is the least number of steps, at least 1, with which as many marks as there is room for
-/// reach over the run.
+/// The stride is the least number of steps, at least 1, with which the available marks span the run.
 pub fn the_stride_is_the_least()
     ensures { (p : MarkPlan) → 1 ≤ capacity p → IsLeastStride p }
 {}
 
-/// The marks are those whose states stand below the number of steps, or state 0 where there are none.
+/// The marks are those whose states are below the number of steps. State 0 is one even without steps.
 pub fn the_marks_stand_below_the_steps()
     ensures { (p : MarkPlan) → AreBelow p }
 {}
 
-/// The mark of a state is the greatest that isn't above it.
+/// The mark of a state is the last whose state isn't above it.
 pub fn the_mark_is_the_greatest()
     ensures { (p : MarkPlan) → IsGreatestMark p }
 {}
 
-/// Where the levels of a book have room for a mark, each mark is on one of them.
+/// If the levels of a book have room for a mark, each mark is on one of them.
 pub fn the_marks_have_levels()
     ensures { (book : BookCosts) (count : ℕ) → 1 ≤ total_room book (max count 1) → HaveLevels (record { slots = slots_of book; count = count }) }
 {
     books_are_roomy();
 }
 
-/// Bytes give one list of orders at most.
+/// Bytes mean at most one list of orders.
 pub fn scripts_give_one_list()
     ensures { OneScript }
 {}
 
-/// Bytes have one first fault at most, and none where they are a script.
+/// Bytes have at most one first fault, and those of a script have none.
 pub fn script_faults_are_unique()
     ensures one { OneFault }
     ensures none { ScriptsHaveNoFault }
@@ -55,9 +54,9 @@ pub fn bytes_are_a_script_or_have_a_fault()
     ensures { ScriptOrFault }
 {}
 
-/// Over any keepers, also those that don't tell: where the digests of a run's marks are kept, a state that came from a mark is the
-/// run's with its number, an answer is that of an index into the states of the run, and its text is the line of the run's state; or
-/// bytes came back of a mark that are others than the image of its state in the run, and both have one SHA-256.
+/// Over any keepers, let the digests of a run's marks be kept. A state from a mark is the run's with its number. An
+/// answer is that of an index into the run's states. Its text is the line of the run's state. Otherwise a collision
+/// came back for a mark: bytes other than its image, with the same SHA-256.
 pub fn marks_tell_the_run_or_collide()
     ensures state { (first : MachineState) (from : Source) → IsMachineState first → IsRecorded from.journal → KeepsMarks first from →
         (i n : ℕ) (s : MachineState) (came : ComesFrom from i n s) → (s ≡ state_number first from.journal n) ⊎ Collides first from i n s came }

@@ -1,10 +1,17 @@
-//! A console that moves about in a run: it keeps marks of the run in storage, and answers each order by a state with its
-//! number. It also reads scripts of orders, and writes their answers. It stands on the image store, on the runner, whose
-//! states in work, visitors and faults it takes, and on what the questions say of steps that write. `requests`, which has the
-//! faults of scripts among its endings, and the top call stand on it. `specs/Marks.antt` says where the marks stand, `Answer`
-//! what an order answers, `Seen` the same by the bytes that were fetched, `Costs` what an order takes, and `Standing` when a
-//! console stands for a run. `Script` says which bytes are a script, after `ScriptWords`; `ScriptFaults` its first fault; and
-//! `ScriptAnswers` what is written of it.
+//! A console that moves about in a run and answers each order by a state with its number. It uses `image_store`,
+//! `reverse_runner`, `reverse_queries` and `action_text`. `requests` and `reversal` use it. It keeps marks of the run
+//! in storage. It also reads scripts of orders, and writes their answers.
+//!
+//! In `specs/`:
+//!
+//! - `Marks`: where the marks are.
+//! - `Answer`: what an order answers.
+//! - `Seen`: what it answers by the fetched bytes.
+//! - `Costs`: what an order takes.
+//! - `Standing`: when a console represents a run.
+//! - `ScriptWords`, `Script`: which bytes are a script.
+//! - `ScriptFaults`: the first fault of other bytes.
+//! - `ScriptAnswers`: what is written for a script.
 #![tactic(auto)]
 
 mod command;

@@ -1,4 +1,4 @@
-// What a line of a script gives.
+// What a line of a script means.
 ghost use Rattle.std.specs.Prelude.{◌≡◌, ◌<◌, ◌^◌, ◌+◌, length};
 ghost use Rattle.reverse_console.specs.ScriptWords.{words as words_of, begins_comment as comment_begins};
 ghost use Rattle.reverse_console.specs.ScriptReading.{line_of, not_command as not_a_command, given as given_with};
@@ -8,7 +8,7 @@ use crate::fault::{LineFault, Rule};
 use crate::order::Order;
 use crate::text::{Word, Words};
 
-// The order of a line, or none, in a run of so many steps.
+// The order of a line, if any, in a run of so many steps.
 #[tactic(auto, unfolding(crate::specs::ScriptReading::line_of))]
 pub(crate) fn line(bytes: &[u8], count: u32) -> Result<Option<Order>, LineFault>
     requires { length bytes.now < 2 ^ 31 }
@@ -48,7 +48,7 @@ fn begins_comment(word: &[u8]) -> bool
     }
 }
 
-// A word that fits nothing, or that isn't there, in this column.
+// The fault of a word that doesn't fit or is missing, in this column.
 fn not_command(column: u32) -> LineFault
     ensures { result ≡ not_a_command column }
 {
@@ -58,7 +58,7 @@ fn not_command(column: u32) -> LineFault
     }
 }
 
-// The order of a command with the word behind it.
+// The order of a command with its operand.
 #[tactic(auto, unfolding(crate::specs::ScriptReading::given))]
 fn given(command: Command, operand: Word, count: u32) -> Result<Order, LineFault>
     ensures { result ≡ given_with count command operand.entry.column operand.entry.text.now }

@@ -16,22 +16,22 @@ use crate::order::Order;
 use crate::text::Lines;
 use std::alloc::Global;
 
-/// The orders of a script, for a console in a run of so many steps, or the first fault. It goes through the text once, and
+/// The orders of a script, for a console in a run of so many steps, or its first fault. It reads the text once, and
 /// takes memory for the list alone.
 pub fn read_orders(alloc: Global, bytes: &[u8], count: u32) -> Result<Vec<Order>, ScriptFault>
     requires few { length bytes.now < 2 ^ 31 }
     requires count { count ≤ MOST_STEPS }
-    // What is read is said so, and what is said so is read, unless memory runs out.
+    // The script means the orders that are read. A script that means orders is read, unless memory runs out.
     ensures found { IfOk result (λ orders. IsScript count bytes.now orders.items) }
     ensures only { (orders : List AnOrder) → IsScript count bytes.now orders →
         MatchResult result (λ v. v.items ≡ orders) (λ e. e ≡ ScriptFault.Memory) }
 
-    // What is refused has that fault first, and what has a fault is refused for it, unless memory runs out.
+    // A refusal has the first fault. Bytes with a fault are refused for it, unless memory runs out.
     ensures refused { IfErr result (λ e. e ≢ ScriptFault.Memory → HasFirstFault count bytes.now e) }
     ensures first { (e : AFault) → HasFirstFault count bytes.now e →
         MatchResult result (λ _. ⊥) (λ answer. (answer ≡ e) ⊎ (answer ≡ ScriptFault.Memory)) }
 
-    // Each order may be given to the console, and there are no more than can be counted.
+    // Each order is allowed for the console, and a count of orders fits.
     ensures orders { IfOk result (λ orders. (i : ℕ) (order : AnOrder) → slice_get orders.items i ≡ Some order → IsOrder count order) }
     ensures few { IfOk result (λ orders. vec_len orders < 2 ^ 32) }
 {

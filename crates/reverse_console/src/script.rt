@@ -22,14 +22,14 @@ use reverse_runner::{LineWriter, RunFault};
 use rv_machine::Steps;
 use std::sync::ledger::Ledger;
 
-/// The order that was refused, counted from 1, and why. Visitor says that the sink failed.
+/// The order that was refused, counted from 1, and why. Visitor means that the sink failed.
 #[derive(Clone, Copy, Debug, PartialEq, Eq)]
 pub struct Stop {
     pub order: u32,
     pub fault: RunFault,
 }
 
-// Answers an order, and writes the line of the state that is gone to, where there is one.
+// Answers an order, and writes the line of the new state, if any.
 fn show<K: Keeper, O: Sink, L: Ledger>(
     console: &mut Console,
     order: &Order,
@@ -132,7 +132,7 @@ fn answer_line<K: Keeper, O: Sink, L: Ledger>(
     }
 }
 
-/// Answers the orders of a script, one after the other, and writes the answers, each in one call of the sink.
+/// Answers the orders of a script one by one, and writes each answer in one call of the sink.
 pub fn answer_all<K: Keeper, O: Sink, L: Ledger>(
     console: &mut Console,
     orders: &[Order],
@@ -145,7 +145,7 @@ pub fn answer_all<K: Keeper, O: Sink, L: Ledger>(
     requires orders { (i : ℕ) (order : AnOrder) → slice_get orders.now i ≡ Some order → IsOrder console.old.plan.count order }
     requires room { HaveRoom (span console.old.plan) console.old.plan.slots (map K.slot_count keepers.old.items) }
 
-    // What was answered and written, by the bytes that were fetched.
+    // What was answered and written, by the fetched bytes.
     ensures written { OnOk result (AreWritten (source_of console.old (told_by K.told keepers.old.items)) orders.now
         (moment console.old steps.old (calls_to K.put_count K.get_count K.free_count keepers.old.items) (O.call_count out.old))
         (moment console.new steps.new (calls_to K.put_count K.get_count K.free_count keepers.new.items) (O.call_count out.new))
@@ -155,7 +155,7 @@ pub fn answer_all<K: Keeper, O: Sink, L: Ledger>(
         (moment console.new steps.new (calls_to K.put_count K.get_count K.free_count keepers.new.items) (O.call_count out.new))
         (O.told out.old) (O.told out.new)) }
 
-    // The same where the console stands for a run, which it does from then on.
+    // If the console represents a run, the answers are those in the run, and it represents the run afterwards.
     ensures written_in_run { (first : MachineState) → IsMachineState first → Stands first console.old (told_by K.told keepers.old.items) →
         OnOk result (AreWrittenIn first console.old.journal console.old.plan.count console.old.place orders.now console.new.place (O.told out.old)
         (O.told out.new)) }
@@ -167,7 +167,7 @@ pub fn answer_all<K: Keeper, O: Sink, L: Ledger>(
     ensures goes_on { GoesOn console.old console.new }
     ensures lasts { OnOk result (console.new.ended ≡ false) }
 
-    // The cause of each refusal; no fault says that the console had ended.
+    // The cause of each refusal. No fault says that the console had ended.
     ensures cause { IfErr result (λ stop. HasCause K.fault_count console.old.plan keepers.old.items keepers.new.items stop.fault) }
     ensures quiet { OnOk result (Quiet K.fault_count keepers.old.items keepers.new.items) }
     ensures undamaged { (first : MachineState) → IsMachineState first → Stands first console.old (told_by K.told keepers.old.items) →
@@ -177,12 +177,12 @@ pub fn answer_all<K: Keeper, O: Sink, L: Ledger>(
     ensures sink_still { OnOk result (O.fault_count out.new ≡ O.fault_count out.old) }
     ensures sink_later { O.fault_count out.old ≤ O.fault_count out.new }
 
-    // Over keepers with room for the images no order wants memory.
+    // Over keepers with room for the images no order runs out of memory.
     ensures roomy { AreRoomy (image_room console.old.work) (length console.old.plan.slots) (rooms_by K.room_bytes keepers.old.items) →
         IfErr result (λ stop. stop.fault ≢ RunFault.Memory) }
     ensures rooms { SameRooms (rooms_by K.room_bytes keepers.old.items) (rooms_by K.room_bytes keepers.new.items) }
 
-    // The keepers tell what they told.
+    // The keepers claim what they claimed.
     ensures same { (k : ℕ) → told_by K.told keepers.new.items k ≡ told_by K.told keepers.old.items k }
     ensures stay { KeepersStay K.slot_count K.place K.fault_count console.old.plan keepers.old.items keepers.new.items }
 {

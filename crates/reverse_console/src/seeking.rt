@@ -1,4 +1,4 @@
-// How a state is sought in a run from its marks.
+// Searching a run for a state from its marks.
 ghost use Rattle.std.specs.Prelude.{◌≡◌, ◌≢◌, ◌+◌, ◌-◌, ◌<◌, ◌≤◌, ◌↔◌, ℕ, List, length, map, unwrap_or, Err, OnOk, IfOk, IfErr, IsTrue};
 ghost use Rattle.rv_machine.specs.MachineState.{MachineState, IsMachineState};
 ghost use Rattle.rv_machine.specs.States.{state_number};
@@ -24,7 +24,7 @@ use reverse_runner::{KnownState, RunFault};
 use rv_machine::{Steps, wrote};
 use std::sync::ledger::Ledger;
 
-// Takes a step, and says whether what is sought holds of the state before it.
+// Takes a step, and returns whether the state before it has the wanted property.
 fn step_seeking<L: Ledger>(
     work: &mut KnownState,
     journal: &Journal,
@@ -56,7 +56,7 @@ fn step_seeking<L: Ledger>(
     }
 }
 
-// The last state from one number on and below another of which what is sought holds. The state in work has the first number
+// The last state with the wanted property from one number up to below another. The state in work has the first number
 // before, and the other one after it.
 fn seek_last<L: Ledger>(
     work: &mut KnownState,
@@ -81,7 +81,7 @@ fn seek_last<L: Ledger>(
     last
 }
 
-// The first state above one number and up to another whose next instruction stands at an address. The state in work has the
+// The first state above one number, up to another, whose next instruction is at an address. The state in work has the
 // first number before.
 fn seek_first<L: Ledger>(
     work: &mut KnownState,
@@ -105,7 +105,7 @@ fn seek_first<L: Ledger>(
     None
 }
 
-// The last state below a place of which what is sought holds.
+// The last state below a place with the wanted property.
 pub(crate) fn last_before<K: Keeper, L: Ledger>(
     desk: &mut Desk,
     marks: &Marks,
@@ -138,7 +138,7 @@ pub(crate) fn last_before<K: Keeper, L: Ledger>(
     Ok(None)
 }
 
-// The first state above a place, which isn't the last, whose next instruction stands at an address.
+// The first state above a place, which isn't the last, whose next instruction is at an address.
 pub(crate) fn first_after<K: Keeper, L: Ledger>(
     desk: &mut Desk,
     marks: &Marks,

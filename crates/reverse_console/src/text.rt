@@ -46,7 +46,7 @@ impl<'a> Words<'a> {
         }
     }
 
-    // Goes past the next word.
+    // Reads the next word.
     pub(crate) fn next(&mut self) -> Option<Word<'a>>
         ensures { MatchOption result ((self.old ≡ []) × (self.new ≡ []))
             (λ w. self.old ≡ word_of w.column w.text.now ∷ self.new) }
@@ -80,7 +80,7 @@ fn after_blanks(bytes: &[u8]) -> &[u8]
     rest
 }
 
-// Most bytes come after all blanks, so that one comparison tells it of them.
+// Most bytes are above all blanks, so one comparison rules them out.
 fn is_blank(b: u8) -> bool
     ensures { result ≡ blank b }
 {
@@ -100,7 +100,7 @@ fn word_length(bytes: &[u8]) -> usize
     bytes.len()
 }
 
-// The lines of bytes that are left; the last has no end behind it.
+// The lines of the bytes that are left. The last has no line end.
 #[derive(Drop)]
 pub(crate) struct Lines<'a> {
     rest: &'a [u8],
@@ -130,7 +130,7 @@ impl<'a> Lines<'a> {
         }
     }
 
-    // Goes past the next line.
+    // Reads the next line.
     pub(crate) fn next(&mut self) -> Option<&'a [u8]>
         ensures value { MatchOption result ((self.old ≡ []) × (self.new ≡ []))
             (λ line. self.old ≡ line.now ∷ self.new) }
@@ -159,7 +159,7 @@ fn line_length(bytes: &[u8]) -> usize
     bytes.len()
 }
 
-// The bytes behind the first one.
+// The bytes after the first one.
 fn without_first(bytes: &[u8]) -> &[u8]
     ensures { result.now ≡ drop 1 bytes.now }
 {

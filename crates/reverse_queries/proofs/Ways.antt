@@ -308,7 +308,7 @@ pub ok_kept : {A K : Type 0} (slots : K → ℕ) (places : K → Location) (faul
     KeepersAfter slots places faults Untouched (Ok x) ks ls
 ok_kept slots places faults Untouched x ks ls quiet room there others = record {
   keeper_cause = λ k e. absurd cc;
-  keepers_quiet = λ never. quiet;
+  keepers_quiet = λ j never. quiet j;
   keepers_later = λ k. (let same = quiet k in omega (arith, same));
   slots = room;
   places = there;

@@ -1,4 +1,4 @@
--- No public clause cites this file. What is looked for in the states that a session hands out, and what is kept of them.
+-- No public clause cites this file. What is looked for in the states that a session gives, and what is kept of them.
 use Rattle.std.specs.Prelude.{◌≡◌, ◌⊎◌, ℕ, ◌+◌, ◌<◌, ◌≤◌, List, [], ◌∷◌, slice_index_or, Option, None, Some, Any, IsSome}
 use Rattle.rv_pages.specs.Memory.{Memory, byte_at}
 use Rattle.rv_machine.specs.MachineState.{MachineState}
@@ -16,17 +16,17 @@ word_bytes m word = byte_at m word ∷ byte_at m (word + 1) ∷ byte_at m (word 
 abbrev pub SomeDiffer : List (Option ℕ) → List (Option ℕ) → Type 0
 SomeDiffer before after = (k : ℕ) × ((k < 4) × Differ (slice_index_or before k None) (slice_index_or after k None))
 
--- the step of state m does what is asked
+-- the step of state m has the wanted property
 abbrev pub DoesWhatIsAsked : Sought → List (List ℕ) → ℕ → (ℕ → MachineState) → ℕ → Type 0
 DoesWhatIsAsked Write journal word states m = WritesIn states journal word m
 DoesWhatIsAsked Change journal word states m = ChangesIn states word m
 
--- the next step of a state does it, where the word has these bytes in the state after it
+-- the next step of a state has it; the word has these bytes in the state after it
 abbrev pub Finds : Sought → ℕ → List (Option ℕ) → MachineState → List (List ℕ) → Type 0
 Finds Write word later s journal = Any (λ at. (word ≤ at) × (at < word + 4)) (written s journal)
 Finds Change word later s journal = SomeDiffer (word_bytes s.memory word) later
 
--- a finder without an answer got a state: where its step does what is asked, its number is the answer
+-- a finder without an answer got a state; if its step has the property, its number is the answer
 pub record Looked (old : Finder) (n : ℕ) (s : MachineState) (journal : List (List ℕ)) (new : Finder) : Type 0 where
   pub question : new.question ≡ old.question
   pub word : new.word ≡ old.word

@@ -1,4 +1,4 @@
--- What becomes of a session that performs the actions of a list one after the other: of all of them, or up to a refusal.
+-- What becomes of a session that performs a list, to its end or up to a refusal.
 use Rattle.std.specs.Prelude.{◌≡◌, ℕ, zero, suc, ◌+◌, ◌*◌, ◌-◌, ◌^◌, ◌<◌, false, true, min, List, length, take, count_by, slice_get, Option, Some}
 use Rattle.keepers.specs.Told.{Images}
 use Rattle.plan_types.specs.declared.action.Action.{Action}
@@ -20,7 +20,7 @@ use Rattle.reverse_queries.specs.OnTheWay.{GoesThrough}
 abbrev pub calls_of_all : List Action → Calls
 calls_of_all list = record { puts = λ k. writes k list; gets = λ k. reads k list; frees = λ k. count_by (is_release k) list }
 
--- a count of performed actions after so many more: at the end of its type, the greatest u64, it stands still
+-- a count of performed actions after so many more; it stops at the greatest u64
 abbrev pub done_after : ℕ → ℕ → ℕ
 done_after done zero = done
 done_after done (suc n) = min (done + suc n) (2 ^ 64 - 1)
@@ -39,13 +39,13 @@ pub record PerformsAll (old : SessionState) (list : List Action) (new : SessionS
 abbrev pub CallsKeeper : Action → ℕ → Type 0
 CallsKeeper a k = 0 < (calls_of a).puts k + (calls_of a).gets k + (calls_of a).frees k
 
--- an action hands out a state, of what is held before it, with this number
+-- an action gives a state with this number, from what is held before it
 pub record IsOut (unit steps n : ℕ) (s : MachineState) (a : Action) (held : Holdings) : Type 0 where
   pub place : ℕ
   pub number : slice_get (handed_by unit steps a) place ≡ Some n
   pub state : slice_get (states_out a held.work held.tape.states) place ≡ Some s
 
--- where a session stands at its start, this is state n of its run
+-- if a session is at its start, this is state n of its run
 abbrev pub IsOfRun : SessionState → (ℕ → Option Images) → ℕ → MachineState → Type 0
 IsOfRun session told n s = (first : MachineState) → IsMachineState first → StandsAt first session told → s ≡ state_number first session.journal n
 
@@ -55,7 +55,7 @@ pub record GetsState {V : Type 0} (got : V → ℕ → MachineState → List (Li
   pub gets : got old n (states n) session.journal new
   pub of_run : IsOfRun session told n (states n)
 
--- a visitor missed state n, which an action hands out of what is held before it
+-- a visitor missed state n, which an action gives from what is held before it
 pub record MissesState {V : Type 0} (missed : V → ℕ → MachineState → List (List ℕ) → V → Type 0) (session : SessionState) (told : ℕ → Option Images)
     (n : ℕ) (old new : V) (a : Action) (held : Holdings) : Type 0 where
   pub state : MachineState
@@ -63,9 +63,9 @@ pub record MissesState {V : Type 0} (missed : V → ℕ → MachineState → Lis
   pub misses : missed old n state session.journal new
   pub of_run : IsOfRun session told n state
 
--- A fault fits an action that does what failed, over what is held before it. It calls the keeper of the level; got bytes of an
--- image of the level that are damaged; misses to give the visitor a state; or calls some keeper. No action fits the fault of
--- a session that has ended. Which states the visitor can miss is said by the question.
+-- A fault fits an action that does what failed, over what is held before it. The action calls the level's keeper, got
+-- damaged bytes there, failed to give a state, or calls a keeper. No action fits the fault of a session that has ended.
+-- The question says which states the visitor can miss.
 abbrev pub FaultFits : (Action → Holdings → Type 0) → RunFault → Action → Holdings → Type 0
 FaultFits Misses (Keeper k) a held = CallsKeeper a k
 FaultFits Misses (Damaged k put got) a held = IsDamage a held k put got
@@ -73,17 +73,18 @@ FaultFits Misses Visitor a held = Misses a held
 FaultFits Misses Memory a held = (k : ℕ) × CallsKeeper a k
 FaultFits Misses Ended a held = ⊥
 
--- The next action of a list was refused with a fault that fits it: those before it were performed, the count of steps of the
--- machine rose by theirs, and the keepers were called as often as those before it call them, and at most as those up to it do.
+-- The next action of a list was refused with a fault that fits it. The actions before it were performed, and the count
+-- of machine steps rose by theirs. The keepers were called as often as those actions do, and at most as with the next
+-- one.
 pub record RefusedIn (Misses : Action → Holdings → Type 0) (list : List Action) (fault : RunFault) (old new : SessionState) (told : ℕ → Option Images)
     (steps steps' : ℕ) (calls calls' : Calls) : Type 0 where
-  -- how many actions stand before the refused one
+  -- how many actions come before the refused one
   pub place : ℕ
   pub within : place < length list
   -- the refused one
   pub next : Action
   pub there : slice_get list place ≡ Some next
-  -- what was held before it: the actions before it lead there by the bytes that were fetched
+  -- what was held before it: the earlier actions lead there, by the fetched bytes
   pub held : Holdings
   pub states : ℕ → MachineState
   pub through : GoesThrough old.unit old.situation.steps old.journal (take place list) (holdings_of old told) held states

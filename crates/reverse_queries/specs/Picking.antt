@@ -3,7 +3,7 @@ use Rattle.std.specs.Prelude.{◌≡◌, ◌≢◌, ℕ, true, List}
 use Rattle.rv_machine.specs.MachineState.{MachineState}
 use Rattle.reverse_queries.specs.declared.picked.Picked.{Picked}
 
--- it got a state: it passes it on where it has the number, and else it is as before
+-- it got a state: it passes on the one with the number, and is otherwise unchanged
 pub record PassesOn {V : Type 0} (got : V → ℕ → MachineState → List (List ℕ) → V → Type 0) (old : Picked V) (n : ℕ) (s : MachineState)
     (journal : List (List ℕ)) (new : Picked V) : Type 0 where
   pub same_place : new.place ≡ old.place

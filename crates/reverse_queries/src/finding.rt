@@ -1,4 +1,4 @@
-// The last step of a run that does something to a word.
+// The last step of a run that writes or changes a word.
 ghost use Rattle.std.specs.Prelude.{◌≡◌, ◌≢◌, ◌+◌, ◌*◌, ◌≤◌, ◌<◌, ◌↔◌, ℕ, List, false, length, map, slice_get, Option, Some, None, Ok, Err, IfOk, IfErr, OnOk, IsTrue};
 ghost use Rattle.level_book.specs.Configuration.{start};
 ghost use Rattle.level_book.specs.Valid.{Valid};
@@ -24,7 +24,7 @@ use rv_machine::{State, Steps, wrote};
 use std::sync::ledger::Ledger;
 
 impl Finder {
-    // A finder that has got no state.
+    // A finder that has no state yet.
     pub fn new(question: Sought, word: u32, last: u32) -> Finder
         requires { word ≤ 0xFFFFFFFC }
         ensures question { result.question ≡ question }
@@ -41,7 +41,7 @@ impl Finder {
         }
     }
 
-    // Whether the next step of a state does what is asked, where the word has these bytes.
+    // Whether the next step of a state has the wanted property. The word has these bytes afterwards.
     fn finds(&self, state: &State, journal: &Journal, bytes: &[Option<u8>; 4]) -> bool
         requires { bytes.now ≡ word_bytes state.now.memory self.now.word }
         ensures { IsTrue result ↔ Finds self.now.question self.now.word self.now.later state.now journal.now }
@@ -87,7 +87,7 @@ fn bytes_of_word(state: &State, word: u32) -> [Option<u8>; 4]
     ]
 }
 
-// Whether two bytes are mapped and are not the same.
+// Whether two bytes are mapped and differ.
 fn differ(before: Option<u8>, after: Option<u8>) -> bool
     ensures { IsTrue result ↔ Differ before after }
 {
@@ -109,7 +109,7 @@ fn some_differ(before: &[Option<u8>; 4], after: &[Option<u8>; 4]) -> bool
     false
 }
 
-// Performs the actions of a list up to the state whose step is the last that does what is asked, and gives its number.
+// Performs a list up to the last state whose step has the wanted property, and returns its number.
 pub(crate) fn find_last<K: Keeper, L: Ledger>(
     session: &mut Session,
     list: &[Action],
@@ -124,12 +124,12 @@ pub(crate) fn find_last<K: Keeper, L: Ledger>(
     requires room { HaveRoom session.old.situation.steps session.old.situation.slots (map K.slot_count keepers.old.items) }
     requires word { word ≤ 0xFFFFFFFC }
 
-    // The answer, where the session stands at its start.
+    // The answer, if the session is at its start.
     ensures answer { (first : MachineState) → IsMachineState first → StandsAt first session.old (told_by K.told keepers.old.items) →
         IfOk result (IsLast (DoesWhatIsAsked question session.old.journal word (state_number first session.old.journal))
         (session.old.unit * session.old.situation.steps)) }
 
-    // The same by the states that were handed out on the way, also where nothing stands.
+    // The answer by the states that were given on the way, over any keepers.
     ensures found { IfOk result (λ answer. IsFoundOn
         (λ states. IsLast (DoesWhatIsAsked question session.old.journal word states) (session.old.unit * session.old.situation.steps) answer)
         session.old.unit session.old.situation.steps session.old.journal (up_to session.old.unit session.old.situation.steps answer list.now)
@@ -141,7 +141,7 @@ pub(crate) fn find_last<K: Keeper, L: Ledger>(
         (calls_to K.put_count K.get_count K.free_count keepers.new.items)) }
     ensures stays { OnOk result (Stays session.old (told_by K.told keepers.old.items) session.new (told_by K.told keepers.new.items)) }
 
-    // What stands after a refusal, and its cause.
+    // The session after a refusal, and its cause.
     ensures refused { IfErr result (λ fault. RefusedIn (λ action held. ⊥) list.now fault session.old session.new (told_by K.told keepers.old.items)
         steps.old steps.new (calls_to K.put_count K.get_count K.free_count keepers.old.items)
         (calls_to K.put_count K.get_count K.free_count keepers.new.items)) }

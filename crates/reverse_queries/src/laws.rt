@@ -1,4 +1,4 @@
-// Laws of lists that are gone through. Each function does nothing; its contract is the law.
+// Laws of performed lists. Each function does nothing; its contract is the law.
 ghost use Rattle.std.specs.Prelude.{◌≡◌, ◌⊎◌, ℕ, ◌*◌, ◌≤◌, List, Option, Contains};
 ghost use Rattle.keepers.specs.Told.{Images};
 ghost use Rattle.plan_types.specs.declared.action.Action.{Action};
@@ -18,9 +18,9 @@ ghost use Rattle.reverse_queries.specs.Collision.{CollidesOn};
 ghost use Rattle.reverse_queries.specs.Queries.{WritesIn, ChangesIn, WritesWord, ChangesWord, IsLast, front_to, up_to};
 ghost use Rattle.reverse_queries.specs.OnTheWay.{GoesThrough};
 
-/// Over any keepers, also those that don't tell: where a list was gone through from the start of a run, each state that was handed
-/// out is the run's with its number, and what is held stands so by the digests that are kept; or an action took a state into work
-/// whose image is other bytes than that of the run's state with its number, and both have one SHA-256.
+/// Over any keepers, let a list be performed from the start of a run. Each state given is the run's with its number,
+/// and the held images are right by their digests. Otherwise an action fetched a collision: an image other than the
+/// run's state has, with the same SHA-256.
 pub fn lists_hand_out_the_run_or_collide()
     ensures { (first : MachineState) (journal : List (List ℕ)) (unit steps : ℕ) (slots : List Slots) (list : List Action) (c : Configuration)
         (told : ℕ → Option Images) (last : Holdings) (states : ℕ → MachineState) →
@@ -30,9 +30,9 @@ pub fn lists_hand_out_the_run_or_collide()
         ⊎ CollidesOn (unit_states first journal unit) list through.held }
 {}
 
-/// The same of what is performed for an answer: where a valid list was gone through as far as it takes, the state with the place
-/// that was asked for is the run's, and the last step that writes or changes a word by the states that were handed out is that of the
-/// run; or an action took such a state into work.
+/// Over any keepers, let a valid list be performed as far as an answer needs. The state at the wanted place is the
+/// run's. The last step that writes or changes a word, by the given states, is that of the run. Otherwise an action
+/// fetched a collision.
 pub fn answers_are_of_the_run_or_collide()
     ensures state { (first : MachineState) (journal : List (List ℕ)) (unit steps : ℕ) (slots : List Slots) (list : List Action)
         (told : ℕ → Option Images) (last : Holdings) (states : ℕ → MachineState) →

@@ -1,7 +1,12 @@
-//! Questions on a run that a session goes through: a state by its number, the last step that wrote a word, and the last
-//! that changed it. Each performs a list of actions from its start, up to the state that answers. It stands on the runner,
-//! and below the top call. `specs/Queries.antt` says what is asked and how much of a list is performed,
-//! `specs/Performing.antt` what that does to a session, and `specs/OnTheWay.antt` which states are handed out then.
+//! Answers questions on a run: a state by number, and the last step that wrote or changed a word. It uses
+//! `schedule_rules` and `reverse_runner`. `reverse_console` and `reversal` use it. Each question performs a list from a
+//! session's start, up to the state that answers.
+//!
+//! In `specs/`:
+//!
+//! - `Queries`: what is asked, and how much of a list is performed.
+//! - `Performing`: what that does to a session.
+//! - `OnTheWay`: which states are given on the way.
 #![tactic(auto)]
 
 mod finder;

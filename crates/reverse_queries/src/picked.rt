@@ -5,7 +5,7 @@ ghost use Rattle.reverse_queries.specs.Picking.{PassesOn};
 use input_journal::Journal;
 use reverse_runner::{KnownState, VisitFault, Visitor};
 
-// It gives a visitor the state with one number, and no other.
+// Passes on the state with one number, and no other.
 #[derive(Drop)]
 pub(crate) struct Picked<'a, V: Visitor> {
     pub place: u32,
@@ -14,7 +14,7 @@ pub(crate) struct Picked<'a, V: Visitor> {
 }
 
 impl<'a, V: Visitor> Picked<'a, V> {
-    // One that has passed on nothing.
+    // A visitor that has passed on nothing yet.
     pub fn new(place: u32, visitor: &'a mut V) -> Picked<'a, V>
         ensures place { result.place ≡ place }
         ensures same_reference { result.visitor.ghost_name ≡ visitor.entry.ghost_name }

@@ -22,8 +22,8 @@ use reverse_runner::{RunFault, Session, Visitor};
 use rv_machine::Steps;
 use std::sync::ledger::Ledger;
 
-/// Performs a valid list from the start of a session, up to the action that hands out the state with a number, and gives
-/// the visitor that state alone.
+/// Performs a valid list from a session's start, up to the action that gives the state with a number. The visitor gets
+/// only that state.
 pub fn state_at<K: Keeper, V: Visitor, L: Ledger>(
     session: &mut Session,
     list: &[Action],
@@ -38,8 +38,8 @@ pub fn state_at<K: Keeper, V: Visitor, L: Ledger>(
     requires room { HaveRoom session.old.situation.steps session.old.situation.slots (map K.slot_count keepers.old.items) }
     requires place { place ≤ session.old.unit * session.old.situation.steps }
 
-    // The visitor gets one state under this number, among those that were handed out on the way: that of the run where the
-    // session stands at its start.
+    // The visitor gets one state under this number, among those given on the way. If the session is at its start, that
+    // is the run's state.
     ensures gets { OnOk result (IsFoundOn (GetsState V.got session.old (told_by K.told keepers.old.items) place visitor.old visitor.new)
         session.old.unit session.old.situation.steps session.old.journal (front_to session.old.unit session.old.situation.steps place list.now)
         (holdings_of session.old (told_by K.told keepers.old.items)) (holdings_of session.new (told_by K.told keepers.new.items))) }
@@ -50,7 +50,7 @@ pub fn state_at<K: Keeper, V: Visitor, L: Ledger>(
         (calls_to K.put_count K.get_count K.free_count keepers.new.items)) }
     ensures stays { OnOk result (Stays session.old (told_by K.told keepers.old.items) session.new (told_by K.told keepers.new.items)) }
 
-    // What stands after a refusal, and its cause.
+    // The session after a refusal, and its cause.
     ensures refused { IfErr result (λ fault. RefusedIn
         (MissesState V.missed session.old (told_by K.told keepers.old.items) place visitor.old visitor.new)
         (front_to session.old.unit session.old.situation.steps place list.now) fault session.old session.new (told_by K.told keepers.old.items)
@@ -70,8 +70,8 @@ pub fn state_at<K: Keeper, V: Visitor, L: Ledger>(
     unreachable!()
 }
 
-/// Performs a valid list from the start of a session, and gives the number of the last step that writes a byte of a word,
-/// where there is one. It stops after the action that hands out the state before that step.
+/// Performs a valid list from a session's start. Returns the number of the last step that writes a byte of a word, if
+/// any. It stops after the action that gives the state before that step.
 pub fn last_write<K: Keeper, L: Ledger>(
     session: &mut Session,
     list: &[Action],
@@ -85,11 +85,11 @@ pub fn last_write<K: Keeper, L: Ledger>(
     requires room { HaveRoom session.old.situation.steps session.old.situation.slots (map K.slot_count keepers.old.items) }
     requires word { word ≤ 0xFFFFFFFC }
 
-    // The answer, where the session stands at its start.
+    // The answer, if the session is at its start.
     ensures answer { (first : MachineState) → IsMachineState first → StandsAt first session.old (told_by K.told keepers.old.items) →
         IfOk result (IsLast (WritesWord first session.old.journal word) (session.old.unit * session.old.situation.steps)) }
 
-    // The same by the states that were handed out on the way, also where it doesn't stand there.
+    // The answer by the states that were given on the way, also if the session isn't at its start.
     ensures found { IfOk result (λ answer. IsFoundOn
         (λ states. IsLast (WritesIn states session.old.journal word) (session.old.unit * session.old.situation.steps) answer) session.old.unit
         session.old.situation.steps session.old.journal (up_to session.old.unit session.old.situation.steps answer list.now)
@@ -101,7 +101,7 @@ pub fn last_write<K: Keeper, L: Ledger>(
         (calls_to K.put_count K.get_count K.free_count keepers.new.items)) }
     ensures stays { OnOk result (Stays session.old (told_by K.told keepers.old.items) session.new (told_by K.told keepers.new.items)) }
 
-    // What stands after a refusal, and its cause.
+    // The session after a refusal, and its cause.
     ensures refused { IfErr result (λ fault. RefusedIn (λ action held. ⊥) list.now fault session.old session.new (told_by K.told keepers.old.items)
         steps.old steps.new (calls_to K.put_count K.get_count K.free_count keepers.old.items)
         (calls_to K.put_count K.get_count K.free_count keepers.new.items)) }
@@ -112,8 +112,8 @@ pub fn last_write<K: Keeper, L: Ledger>(
     find_last(session, list, keepers, Sought::Write, word, steps)
 }
 
-/// Performs a valid list from the start of a session, and gives the number of the last step that changes a byte of a word,
-/// where there is one. It stops after the action that hands out the state before that step.
+/// Performs a valid list from a session's start. Returns the number of the last step that changes a byte of a word, if
+/// any. It stops after the action that gives the state before that step.
 pub fn last_change<K: Keeper, L: Ledger>(
     session: &mut Session,
     list: &[Action],
@@ -127,11 +127,11 @@ pub fn last_change<K: Keeper, L: Ledger>(
     requires room { HaveRoom session.old.situation.steps session.old.situation.slots (map K.slot_count keepers.old.items) }
     requires word { word ≤ 0xFFFFFFFC }
 
-    // The answer, where the session stands at its start.
+    // The answer, if the session is at its start.
     ensures answer { (first : MachineState) → IsMachineState first → StandsAt first session.old (told_by K.told keepers.old.items) →
         IfOk result (IsLast (ChangesWord first session.old.journal word) (session.old.unit * session.old.situation.steps)) }
 
-    // The same by the states that were handed out on the way, also where it doesn't stand there.
+    // The answer by the states that were given on the way, also if the session isn't at its start.
     ensures found { IfOk result (λ answer. IsFoundOn
         (λ states. IsLast (ChangesIn states word) (session.old.unit * session.old.situation.steps) answer) session.old.unit
         session.old.situation.steps session.old.journal (up_to session.old.unit session.old.situation.steps answer list.now)
@@ -143,7 +143,7 @@ pub fn last_change<K: Keeper, L: Ledger>(
         (calls_to K.put_count K.get_count K.free_count keepers.new.items)) }
     ensures stays { OnOk result (Stays session.old (told_by K.told keepers.old.items) session.new (told_by K.told keepers.new.items)) }
 
-    // What stands after a refusal, and its cause.
+    // The session after a refusal, and its cause.
     ensures refused { IfErr result (λ fault. RefusedIn (λ action held. ⊥) list.now fault session.old session.new (told_by K.told keepers.old.items)
         steps.old steps.new (calls_to K.put_count K.get_count K.free_count keepers.old.items)
         (calls_to K.put_count K.get_count K.free_count keepers.new.items)) }

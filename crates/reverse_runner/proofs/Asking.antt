@@ -249,7 +249,7 @@ called_move_then n k dest a b c copied freed =
 -- a cause stays where nothing was counted before
 pub caused_then : {K : Type 0} (faults : K → ℕ) (a b c : List K) (r : Result Unit RunFault) → ((j : ℕ) → by_number 0 faults b j ≡ by_number 0 faults a j) → IsCaused faults b c r → IsCaused faults a c r
 caused_then faults a b c (Ok x) same h = λ j. h j ∙ same j
-caused_then faults a b c (Err (Keeper k)) same h = omega (arith, h, same k)
+caused_then faults a b c (Err (Keeper k)) same h = record { rose = (let rose = h.rose in omega (arith, rose, same k)); others = λ j ne. h.others j ne ∙ same j }
 caused_then faults a b c (Err (Damaged k put got)) same h = λ j. h j ∙ same j
 caused_then faults a b c (Err Visitor) same h = λ j. h j ∙ same j
 caused_then faults a b c (Err Memory) same h = λ j. h j ∙ same j

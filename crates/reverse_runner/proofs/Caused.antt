@@ -1,5 +1,5 @@
 -- What the cause of a refusal says of the counts of faults of the keepers.
-use Rattle.std.proofs.Common.{◌≡◌, ◌≢◌, ℕ, List, slice_get, Result, Ok, Err, refl, subst}
+use Rattle.std.proofs.Common.{◌≡◌, ◌≢◌, ℕ, List, slice_get, Result, Ok, Err, sym, ap, subst}
 use Rattle.keepers.specs.Told.{Location}
 use Rattle.keepers.specs.Counts.{Rose}
 use Rattle.reverse_runner.specs.declared.fault.RunFault.{RunFault}
@@ -9,16 +9,16 @@ use Rattle.reverse_runner.specs.Touching.{IsCaused, Remain}
 use Rattle.reverse_runner.specs.After.{KeepersAfter}
 
 pub caused_rose : {K A : Type 0} (faults : K → ℕ) (ks ls : List K) (r : Result A RunFault) → IsCaused faults ks ls r → (k : ℕ) → r ≡ Err (Keeper k) → Rose (by_number 0 faults ks k) (by_number 0 faults ls k)
-caused_rose faults ks ls (Err (Keeper j)) h k e = let same : j ≡ k = cc in subst (λ n. Rose (by_number 0 faults ks n) (by_number 0 faults ls n)) same h
+caused_rose faults ks ls (Err (Keeper j)) h k e = let same : j ≡ k = cc in subst (λ n. Rose (by_number 0 faults ks n) (by_number 0 faults ls n)) same h.rose
 caused_rose faults ks ls other h k e = absurd cc
 
-pub caused_quiet : {K A : Type 0} (faults : K → ℕ) (ks ls : List K) (r : Result A RunFault) → IsCaused faults ks ls r → ((k : ℕ) → r ≢ Err (Keeper k)) → (j : ℕ) → by_number 0 faults ls j ≡ by_number 0 faults ks j
-caused_quiet faults ks ls (Err (Keeper k)) h never j = absurd (never k refl)
-caused_quiet faults ks ls (Err (Damaged k put got)) h never j = h j
-caused_quiet faults ks ls (Err Visitor) h never j = h j
-caused_quiet faults ks ls (Err Memory) h never j = h j
-caused_quiet faults ks ls (Err Ended) h never j = h j
-caused_quiet faults ks ls (Ok x) h never j = h j
+pub caused_quiet : {K A : Type 0} (faults : K → ℕ) (ks ls : List K) (r : Result A RunFault) → IsCaused faults ks ls r → (j : ℕ) → r ≢ Err (Keeper j) → by_number 0 faults ls j ≡ by_number 0 faults ks j
+caused_quiet faults ks ls (Err (Keeper k)) h j never = h.others j (λ e. never (ap (λ i. Err (Keeper i)) (sym e)))
+caused_quiet faults ks ls (Err (Damaged k put got)) h j never = h j
+caused_quiet faults ks ls (Err Visitor) h j never = h j
+caused_quiet faults ks ls (Err Memory) h j never = h j
+caused_quiet faults ks ls (Err Ended) h j never = h j
+caused_quiet faults ks ls (Ok x) h j never = h j
 
 -- what becomes of the keepers, from what a call said of them
 pub kept_by : {K : Type 0} (slots : K → ℕ) (places : K → Location) (faults : K → ℕ) (Untouched : ℕ → Type 0) (r : Result Unit RunFault) (ks ls : List K) → Remain slots places faults ks ls → IsCaused faults ks ls r →

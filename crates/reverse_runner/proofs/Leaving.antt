@@ -20,7 +20,7 @@ use Rattle.image_store.proofs.Sharing.{is_within, held_less}
 use Rattle.image_store.proofs.Stands.{not_inserted}
 use Rattle.reverse_runner.specs.Acts.{Levels, Holdings, IsAsBefore, Acts}
 use Rattle.reverse_runner.specs.KeepersSeen.{is_release}
-use Rattle.reverse_runner.specs.Left.{Spares, MayLeave}
+use Rattle.reverse_runner.specs.Left.{Spares, MayLeave, NotReached}
 use Rattle.reverse_runner.specs.Standing.{pair_read}
 
 -- ---- a level with room has a slot that no pair has
@@ -197,6 +197,26 @@ leaves_copied n from to dest old mid told is same_level same left others =
 source_is_spared : (n from : ℕ) (dest : Dest) → ((j : ℕ) → dest ≡ Level j → j ≢ from) → is_write from (Copy n from dest) ≡ false
 source_is_spared n from Work apart = refl
 source_is_spared n from (Level to) apart = ne_eqb to from (apart to refl)
+
+-- a Copy whose put failed came to each level
+pub copy_came : (n from to k j : ℕ) (dest : Dest) → dest ≡ Level to → to ≢ from → k ≡ to → NotReached (Copy n from dest) k j → ⊥
+copy_came n from to k j dest is apart on un =
+    let P : Dest → Type 0 = λ d. NotReached (Copy n from d) k j in
+    let at = subst P is un in
+    apart (sym on ∙ at.0)
+
+-- a Move whose release failed came to each level
+pub move_came : (n from k j : ℕ) (dest : Dest) → ((i : ℕ) → dest ≡ Level i → i ≢ from) → k ≡ from → NotReached (Move n from dest) k j → ⊥
+move_came n from k j Work apart on un = un
+move_came n from k j (Level to) apart on un = apart to refl (sym un.0 ∙ on)
+
+-- a Move whose Copy was refused left the level that it reads
+pub move_unreached : (n from k j : ℕ) (dest : Dest) (old : Levels) (told : ℕ → Option Images) → ((i : ℕ) → dest ≡ Level i → i ≢ from) → MayLeave (Copy n from dest) old told → NotReached (Move n from dest) k j →
+    told j ≡ old.told j
+move_unreached n from k j Work old told apart left un = absurd un
+move_unreached n from k j (Level to) old told apart left un =
+    let K : ℕ → Type 0 = λ i. told i ≡ old.told i in
+    subst K (sym un.1) (left.spared from (source_is_spared n from (Level to) apart, refl))
 
 -- a Move writes where a Copy does
 copies_where : (n from : ℕ) (dest : Dest) (k : ℕ) → is_write k (Copy n from dest) ≡ is_write k (Move n from dest)

@@ -101,7 +101,7 @@ module _ {K : Type 0} (ks : List K) (k : ℕ) (x y : K) (within : k < length ks)
   module _ (faults : K → ℕ) where
     pub caused : (A : Type 0) (e : StoreFault) → (e ≡ store.Keeper → Rose (faults x) (faults y)) → ((e ≡ store.Keeper → ⊥) → faults y ≡ faults x) →
         IsCaused {A = A} faults ks (set ks k y) (Err (fault_on k e))
-    caused A store.Keeper rose quiet = omega (arith, rose refl, seen_there 0 faults, seen_before 0 faults)
+    caused A store.Keeper rose quiet = record { rose = omega (arith, rose refl, seen_there 0 faults, seen_before 0 faults); others = seen_else 0 faults }
     caused A (store.Damaged put got) rose quiet = seen_same 0 faults (quiet (λ e. cc))
     caused A store.Memory rose quiet = seen_same 0 faults (quiet (λ e. cc))
 

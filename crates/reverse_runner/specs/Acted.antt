@@ -1,4 +1,4 @@
--- What an action did where it was performed, what it leaves where it was refused, and which faults come: relations that contracts share.
+-- What a performed action did, what a refused one leaves, and which faults occur: relations that contracts share.
 use Rattle.std.specs.Prelude.{◌≡◌, ◌≢◌, ℕ, ◌+◌, ◌*◌, List, Option, Result, Err, IsTrue, Contains}
 use Rattle.keepers.specs.Told.{Images}
 use Rattle.plan_types.specs.declared.action.Action.{Action}
@@ -10,35 +10,38 @@ use Rattle.reverse_runner.specs.declared.fault.RunFault.{RunFault}
 use Rattle.reverse_runner.specs.declared.fault.RunFault.TheVariants.{Keeper, Damaged, Memory}
 use Rattle.reverse_runner.specs.Acts.{Levels, Holdings, Acts}
 use Rattle.reverse_runner.specs.KeepersSeen.{Calls, calls_of, Called, CalledAtMost}
-use Rattle.reverse_runner.specs.Left.{MayLeave}
+use Rattle.reverse_runner.specs.Left.{MayLeave, NotReached}
 use Rattle.reverse_runner.specs.LevelsStand.{HoldingsStandAt}
 use Rattle.reverse_runner.specs.Performed.{calls_keepers}
 use Rattle.reverse_runner.specs.Rooms.{image_room, AreRoomy}
 use Rattle.reverse_runner.specs.Standing.{IsDamage}
 
--- An action was performed: the holdings became what it makes of them, the count of steps of the machine rose by its own, and the
--- keepers were called as it calls them.
+-- An action was performed. The holdings became what it makes of them. The count of machine steps rose by its own, and
+-- the keepers were called as it calls them.
 pub record Acted (unit : ℕ) (journal : List (List ℕ)) (action : Action) (old new : Holdings) (steps steps' : ℕ) (calls calls' : Calls) : Type 0 where
   pub acts : Acts unit journal action old new
   pub counted : steps' ≡ steps + unit * steps_of action
   pub called : Called (calls_of action) calls calls'
 
--- An action was refused: the levels are left as it may leave them, no step of the machine was counted, and at most its own calls were made.
+-- An action was refused. The levels are as it may leave them. No machine step was counted, and at most its own calls
+-- were made.
 pub record Leaves (action : Action) (old : Levels) (told : ℕ → Option Images) (steps steps' : ℕ) (calls calls' : Calls) : Type 0 where
   pub left : MayLeave action old told
   pub uncounted : steps' ≡ steps
   pub called_at_most : CalledAtMost (calls_of action) calls calls'
 
--- A fault has its reason in the action. A keeper that failed is that of a level which it names. Bytes that are damaged are those of the pair
--- that it reads, and then the keepers tell what they told. Memory is wanted only where it calls keepers.
+-- A fault has its reason in the action. A keeper that failed is that of a level which the action names, and the levels
+-- that the action didn't reach are unchanged. Damaged bytes are those of the pair that it reads, and what the keepers
+-- claim is unchanged. Memory runs out only if it calls keepers.
 pub record HasReason {A : Type 0} (result : Result A RunFault) (action : Action) (old : Holdings) (told : ℕ → Option Images) : Type 0 where
   pub named : (k : ℕ) → result ≡ Err (Keeper k) → Contains (levels_named action) k
   pub damaged : (k : ℕ) (put got : List ℕ) → result ≡ Err (Damaged k put got) → IsDamage action old k put got
+  pub unreached : (k j : ℕ) → result ≡ Err (Keeper k) → NotReached action k j → told j ≡ old.levels.told j
   pub whole : (k : ℕ) (put got : List ℕ) → result ≡ Err (Damaged k put got) → (j : ℕ) → told j ≡ old.levels.told j
   pub wants : result ≡ Err Memory → IsTrue (calls_keepers action)
 
--- No memory is wanted over keepers with room for the images, by the rooms of the keepers of so many levels. No bytes are damaged where the
--- holdings stand at a configuration.
+-- Over keepers with room for the images, memory doesn't run out. If the holdings are at a configuration, no bytes are
+-- damaged.
 pub record IsSafe {A : Type 0} (result : Result A RunFault) (journal : List (List ℕ)) (unit : ℕ) (at : Configuration) (old : Holdings)
     (levels : ℕ) (rooms : ℕ → Option ℕ) : Type 0 where
   pub roomy : AreRoomy (image_room old.work) levels rooms → result ≢ Err Memory

@@ -1,5 +1,5 @@
--- What an action does to the states of a session and to the levels of its store, by the bytes that were fetched. It says
--- so also where nothing stands; what a keeper tells comes in only where it tells.
+-- What an action does to a session's states and to its store's levels, by the fetched bytes. It holds over any keepers.
+-- What a keeper claims matters only if it claims its content.
 use Rattle.std.specs.Prelude.{◌≡◌, ◌≢◌, ℕ, ◌-◌, ◌*◌, ◌≤◌, List, [], length, Option, Some}
 use Rattle.sha2.specs.Sha256.{sha256}
 use Rattle.keepers.specs.Told.{Images}
@@ -16,7 +16,7 @@ use Rattle.image_store.specs.declared.shelf.Kept.{Kept}
 use Rattle.image_store.specs.Shelves.{ShelfState, level_of, kept_at}
 use Rattle.image_store.specs.Calls.{IsKept, IsGot, IsFreed, without_pair}
 
--- the levels of a session: the pairs of its store, and what their keepers tell, by the numbers of the levels
+-- the levels of a session: the pairs of its store, and what their keepers claim, by level
 pub record Levels : Type 0 where
   pub store : List ShelfState
   pub told : ℕ → Option Images
@@ -36,8 +36,8 @@ pub record Holdings : Type 0 where
 abbrev pub IsAsBefore : Levels → Levels → ℕ → Type 0
 IsAsBefore old new k = (level_of new.store k ≡ level_of old.store k) × (new.told k ≡ old.told k)
 
--- The bytes of a pair were fetched: they are no more than were put, and have their digest. Where the keeper tells, they
--- are what it tells.
+-- The bytes of a pair were fetched. They are no more than were put, and have their digest. If the keeper claims its
+-- content, they are what it claims.
 abbrev pub IsFetched : Levels → ℕ → ℕ → List ℕ → Type 0
 IsFetched old k n got =
     (kept : Kept) × (kept_at old.store k n ≡ Some kept) × IsGot kept (old.told k) got × (length got ≤ kept.length) × (sha256 got ≡ kept.digest)
@@ -52,12 +52,12 @@ Releases old new k n =
     (level_of new.store k ≡ without_pair (level_of old.store k) n)
     × ((kept : Kept) × (kept_at old.store k n ≡ Some kept) × IsFreed kept (old.told k) (new.told k))
 
--- a state that a machine can be in became one whose image these bytes are, with the same pages
+-- a machine state became one whose image these bytes are, with the same pages
 abbrev pub IsDecoded : MachineState → MachineState → List ℕ → Type 0
 IsDecoded before after bytes = IsMachineState after × (image after ≡ bytes) × (page_numbers after.memory ≡ page_numbers before.memory)
 
--- By the actions, where a step of the schedule is so many steps of the machine. An action that may be done has from < to at a
--- Forward, so that to - from isn't cut.
+-- By the actions. A step of the schedule is so many steps of the machine. An allowed Forward has from < to, so to -
+-- from doesn't truncate.
 abbrev pub Does : ℕ → List (List ℕ) → Action → Holdings → Holdings → Type 0
 Does unit journal (Forward from to Nothing) old new =
     (new.work ≡ state_number old.work journal (unit * (to - from))) × (new.tape ≡ old.tape) × ((k : ℕ) → IsAsBefore old.levels new.levels k)
@@ -83,7 +83,7 @@ Does unit journal (Move n k (Level j)) old new =
 Does unit journal EndForward old new = (new.work ≡ old.work) × (new.tape ≡ old.tape) × ((k : ℕ) → IsAsBefore old.levels new.levels k)
 Does unit journal EndReverse old new = (new.work ≡ old.work) × (new.tape ≡ old.tape) × ((k : ℕ) → IsAsBefore old.levels new.levels k)
 
--- what becomes of the holdings of a session where an action was performed
+-- what becomes of a session's holdings after an action
 pub record Acts (unit : ℕ) (journal : List (List ℕ)) (action : Action) (old new : Holdings) : Type 0 where
   pub count : length new.levels.store ≡ length old.levels.store
   pub does : Does unit journal action old new

@@ -1,22 +1,21 @@
--- Which states a list hands out, in order, where a step of the schedule is so many steps of the machine.
+-- Which states a list gives, in order. A step of the schedule is so many steps of the machine.
 use Rattle.std.specs.Prelude.{ℕ, zero, suc, ◌+◌, ◌*◌, List, [], ◌∷◌}
 use Rattle.std.specs.List.{flat_map}
 use Rattle.plan_types.specs.declared.action.Action.{Action}
 use Rattle.plan_types.specs.declared.action.Action.TheVariants.{Reverse, EndForward}
 
--- so many numbers from one on, the last one first
+-- so many numbers from one on, in descending order
 abbrev pub numbers_from : ℕ → ℕ → List ℕ
 numbers_from from zero = []
 numbers_from from (suc n) = (from + n) ∷ numbers_from from n
 
--- the numbers of the states that an action hands out: EndForward the last, a Reverse those of the unit that it leads back
--- over
+-- the numbers of the states that an action gives: EndForward the last, a Reverse those of its unit
 abbrev pub handed_by : ℕ → ℕ → Action → List ℕ
 handed_by unit steps EndForward = (unit * steps) ∷ []
 handed_by unit steps (Reverse from to) = numbers_from (unit * to) unit
 handed_by unit steps _ = []
 
--- the numbers of the states that a list hands out, for so many steps
+-- the numbers of the states that a list gives, for so many steps
 abbrev pub handed : ℕ → ℕ → List Action → List ℕ
 handed unit steps list = flat_map (handed_by unit steps) list
 

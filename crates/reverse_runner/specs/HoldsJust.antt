@@ -1,4 +1,4 @@
--- A keeper holds just the images of some states of a run: each in a slot of its own, and nothing else.
+-- A keeper holds just the images of some states of a run, each in its own slot.
 use Rattle.std.specs.Prelude.{◌≡◌, ℕ, true, Some, IsSome}
 use Rattle.std.specs.FinSet as set
 use Rattle.std.specs.FinMap as finmap

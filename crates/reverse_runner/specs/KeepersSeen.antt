@@ -1,7 +1,7 @@
--- What is seen of the keepers of a session, by the numbers of their levels: what they tell, and how often they were called.
-use Rattle.std.specs.Prelude.{◌≡◌, ℕ, ◌==◌, ◌<◌, ◌≤◌, Bool, false, cond, List, length, slice_get, slice_index_or, Option, None}
+-- The keepers of a session by level: what they claim, and how often they were called.
+use Rattle.std.specs.Prelude.{◌≡◌, ◌≢◌, ℕ, ◌==◌, ◌<◌, ◌≤◌, Bool, false, cond, List, length, slice_get, slice_index_or, Option, None}
 use Rattle.std.specs.Option.{option_map_or}
-use Rattle.keepers.specs.Counts.{raised}
+use Rattle.keepers.specs.Counts.{raised, Rose}
 use Rattle.keepers.specs.Told.{Images}
 use Rattle.plan_types.specs.declared.action.Action.{Action}
 use Rattle.plan_types.specs.declared.action.Action.TheVariants.{Move}
@@ -10,16 +10,21 @@ use Rattle.level_book.specs.declared.book.Slots.TheVariants.{Count}
 use Rattle.level_book.specs.BookCosts.{least}
 use Rattle.level_book.specs.CostFold.{is_write, is_read}
 
--- what is seen of the keeper with this number; past the last one it is nothing
+-- a fact about the keeper with this number; a default past the last one
 abbrev pub by_number : {K A : Type 0} → A → (K → A) → List K → ℕ → A
 by_number nothing seen keepers k = option_map_or seen (slice_get keepers k) nothing
 
--- what the keepers tell
+-- The fault count of keeper k rose, and no other one changed.
+pub record FailsAlone {K : Type 0} (faults : K → ℕ) (k : ℕ) (old new : List K) : Type 0 where
+  pub rose : Rose (by_number 0 faults old k) (by_number 0 faults new k)
+  pub others : (j : ℕ) → j ≢ k → by_number 0 faults new j ≡ by_number 0 faults old j
+
+-- what the keepers claim
 abbrev pub told_by : {K : Type 0} → (K → Option Images) → List K → ℕ → Option Images
 told_by told keepers = by_number None told keepers
 
--- Each level of a book has a keeper, with as many slots as a run of so many steps can use there. The keepers are given by
--- the numbers of their slots.
+-- Each level of a book has a keeper. It has as many slots as a run of so many steps can use there. The keepers are
+-- given by their numbers of slots.
 abbrev pub HaveRoom : ℕ → List Slots → List ℕ → Type 0
 HaveRoom steps slots counts =
     (k : ℕ) → k < length slots → (k < length counts) × (least (slice_index_or slots k (Count 0)) steps ≤ slice_index_or counts k 0)
@@ -42,8 +47,8 @@ is_release k _ = false
 abbrev pub one_if : Bool → ℕ
 one_if b = cond b 1 0
 
--- An action puts an image on each level that it writes, gets one of each that it reads, and empties a slot of that which a
--- Move takes from.
+-- An action puts an image on each level that it writes, and gets one of each that it reads. A Move also empties a slot
+-- of its level.
 abbrev pub calls_of : Action → Calls
 calls_of a = record { puts = λ k. one_if (is_write k a); gets = λ k. one_if (is_read k a); frees = λ k. one_if (is_release k a) }
 

@@ -1,5 +1,5 @@
--- At which configuration of a run the holdings of a session stand: the states in work and on the tape are those of the
--- run, by their numbers, and each level stands for the images of the states that it holds.
+-- At which configuration of a run the holdings of a session are. The states in work and on the tape are the run's, by
+-- their numbers. Each level has the images of the states that it holds.
 use Rattle.std.specs.Prelude.{◌≡◌, ℕ, ◌+◌, ◌<◌, cond, false, List, length, slice_index_or, Option, None, Some, is_some, MatchOption}
 use Rattle.std.specs.Ordering.{nat_cmp}
 use Rattle.std.specs.FinSet as set
@@ -26,11 +26,11 @@ Numbers = set.FinSet nat_cmp
 abbrev pub AreImages : (ℕ → MachineState) → Numbers → Images → Type 0
 AreImages states numbers images = (n : ℕ) → finmap.get images n ≡ cond (set.contains numbers n) (Some (image (states n))) None
 
--- a level that holds these numbers stands for their images
+-- a level that holds these numbers has their images
 abbrev pub LevelStandsAt : (ℕ → MachineState) → Numbers → ShelfState → Option Images → Type 0
 LevelStandsAt states numbers level told = (images : Images) × (AreImages states numbers images × LevelStands level told images)
 
--- on the tape is the unit with a number: the states from which its steps are made, and the state after them
+-- On the tape is the unit with a number: the states before its steps, and the state after them.
 pub record IsUnit (first : MachineState) (journal : List (List ℕ)) (unit n : ℕ) (tape : TapeState) : Type 0 where
   pub states : tape.states ≡ states_below (unit_states first journal unit n) journal unit
   pub after : tape.after ≡ unit_states first journal unit (n + 1)
@@ -44,8 +44,8 @@ pub record HoldingsStandAt (first : MachineState) (journal : List (List ℕ)) (u
 abbrev pub AreAlone : Levels → Type 0
 AreAlone s = (k : ℕ) → k < length s.store → LevelAlone (level_of s.store k) (s.told k)
 
--- a level that holds these numbers: it has a pair for each of them, and no more; there is a place for each state of a run
--- of so many steps, and room for as many pairs as such a run can hold there, which never holds the last state
+-- A level that holds these numbers, with exactly a pair for each. It has a place for each state of a run of so many
+-- steps. It has room for as many pairs as such a run can hold there. The last state is never held.
 pub record IsLevelLaidOut (steps : ℕ) (slots : Slots) (numbers : Numbers) (level : ShelfState) : Type 0 where
   pub places : length level.pairs ≡ steps + 1
   pub room : level.room ≡ least slots steps

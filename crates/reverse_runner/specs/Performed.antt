@@ -1,18 +1,18 @@
--- What the visitor of a session gets of an action, and which actions call keepers. The states are those of the session.
+-- What the visitor of a session gets from an action, and which actions call keepers. The states are the session's.
 use Rattle.std.specs.Prelude.{◌≡◌, ◌⊎◌, ℕ, Bool, true, false, List, [], ◌∷◌}
 use Rattle.plan_types.specs.declared.action.Keep.TheVariants.{Store}
 use Rattle.plan_types.specs.declared.action.Action.{Action}
 use Rattle.plan_types.specs.declared.action.Action.TheVariants.{Forward, Reverse, Copy, Move, EndForward}
 use Rattle.rv_machine.specs.MachineState.{MachineState}
 
--- whether an action calls a keeper; no other action is refused for want of memory
+-- whether an action calls a keeper; no other action can run out of memory
 abbrev pub calls_keepers : Action → Bool
 calls_keepers (Forward from to (Store k)) = true
 calls_keepers (Copy n k to) = true
 calls_keepers (Move n k to) = true
 calls_keepers _ = false
 
--- the states that an action hands out: EndForward the one in work, a Reverse those on the tape
+-- the states that an action gives: EndForward the one in work, a Reverse those on the tape
 abbrev pub states_out : Action → MachineState → List MachineState → List MachineState
 states_out EndForward work tape = work ∷ []
 states_out (Reverse from to) work tape = tape

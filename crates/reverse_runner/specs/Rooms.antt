@@ -1,4 +1,4 @@
--- Over keepers with a room no action wants memory: how much room they need, and how long the images are that levels keep.
+-- When no action runs out of memory: how much room the keepers need, and how long stored images are.
 use Rattle.std.specs.Prelude.{◌≡◌, ℕ, ◌+◌, ◌*◌, ◌<◌, ◌≤◌, List, length, Option, None, Some}
 use Rattle.rv_pages.specs.Memory.{page_numbers}
 use Rattle.rv_machine.specs.MachineState.{MachineState}
@@ -6,7 +6,7 @@ use Rattle.image_store.specs.declared.shelf.Kept.{Kept}
 use Rattle.image_store.specs.Shelves.{ShelfState, kept_at}
 use Rattle.reverse_runner.specs.KeepersSeen.{by_number}
 
--- the most bytes of an image of a state that maps the pages of this one
+-- the most bytes of an image of a state with this one's pages
 abbrev pub image_room : MachineState → ℕ
 image_room s = 164 + 4100 * length (page_numbers s.memory)
 
@@ -23,7 +23,7 @@ rooms_by room keepers = by_number None room keepers
 abbrev pub AreRoomy : ℕ → ℕ → (ℕ → Option ℕ) → Type 0
 AreRoomy bytes levels rooms = (k : ℕ) → k < levels → IsRoomy bytes (rooms k)
 
--- the keepers have the rooms that they had
+-- the keepers' rooms are unchanged
 abbrev pub SameRooms : (ℕ → Option ℕ) → (ℕ → Option ℕ) → Type 0
 SameRooms old new = (k : ℕ) → new k ≡ old k
 

@@ -18,8 +18,8 @@ session_state s = record {
   ended = s.ended;
 }
 
--- The levels hold the pairs that the configuration names, up to a refusal, and a tape that isn't empty holds a unit. The
--- undo list was made for the recorded input. No image that a level keeps is longer than one of the state in work can be.
+-- The levels hold the pairs of the configuration, up to a refusal. A tape that isn't empty holds a unit. The undo list
+-- was made for the recorded input. No stored image is longer than one of the state in work can be.
 pub record IsSession (s : Inside) : Type 0 where
   pub fits : IsInOrder s.space
   pub laid : s.ended ≡ false → IsLaidOut s.config.steps s.config.slots s.config.at s.space.store

@@ -1,4 +1,4 @@
--- A session as it is seen: where it stands, its states, the pairs of its levels, and whether it has ended.
+-- The model of a session: its configuration, its states, the pairs of its levels, and whether it has ended.
 use Rattle.std.specs.Prelude.{◌≡◌, ℕ, Bool, List, Option, refl}
 use Rattle.std.specs.Coded.{Coded, code_by, coded×, coded_ℕ, coded_bool, coded_list, coded_option}
 use Rattle.keepers.specs.Told.{Images}
@@ -28,7 +28,7 @@ pub record SessionState : Type 0 where
   -- whether an action was refused
   pub ended : Bool
 
--- the levels of a session over what its keepers tell, and all that it holds
+-- the levels of a session over what its keepers claim, and all that it holds
 abbrev pub levels_of : SessionState → (ℕ → Option Images) → Levels
 levels_of s told = record { store = s.store; told = told }
 

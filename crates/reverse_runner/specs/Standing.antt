@@ -1,4 +1,4 @@
--- At which configuration of a run a session stands, and what becomes of it as actions are performed.
+-- At which configuration of a run a session is, and what becomes of it through actions.
 use Rattle.std.specs.Prelude.{◌≡◌, ◌≢◌, ◌⊎◌, ℕ, ◌+◌, ◌^◌, ◌-◌, true, false, min, List, [], Option, None, Some}
 use Rattle.sha2.specs.Sha256.{sha256}
 use Rattle.keepers.specs.Told.{Images}
@@ -29,7 +29,7 @@ begun first journal unit steps slots = record {
   ended = false;
 }
 
--- where a session goes when an action was performed; what becomes of its states and levels is said by `Acts`
+-- The next configuration of a session after an action. `Acts` says what becomes of its states and levels.
 pub record Performs (old : SessionState) (action : Action) (new : SessionState) : Type 0 where
   pub goes : Goes old.situation.steps old.situation.slots old.situation.at action new.situation.at
   pub steps : new.situation.steps ≡ old.situation.steps
@@ -39,7 +39,7 @@ pub record Performs (old : SessionState) (action : Action) (new : SessionState) 
   pub done : new.done ≡ min (old.done + 1) (2 ^ 64 - 1)
   pub lasts : new.ended ≡ false
 
--- an action was refused: the session has ended where it stood
+-- an action was refused: the session has ended, at the same configuration
 pub record SessionEnds (old new : SessionState) : Type 0 where
   pub situation : new.situation ≡ old.situation
   pub unit : new.unit ≡ old.unit
@@ -47,8 +47,8 @@ pub record SessionEnds (old new : SessionState) : Type 0 where
   pub done : new.done ≡ old.done
   pub over : new.ended ≡ true
 
--- Over what its keepers tell, a session stands at its configuration of the run from `first`: its states are those of the
--- run, and its levels stand for the images of the states that they hold.
+-- Over what its keepers claim, a session is at its configuration of the run from `first`. Its states are the run's. Its
+-- levels have the images of the states that they hold.
 abbrev pub StandsAt : MachineState → SessionState → (ℕ → Option Images) → Type 0
 StandsAt first s told = HoldingsStandAt first s.journal s.unit s.situation.at (holdings_of s told)
 
@@ -58,12 +58,12 @@ pair_read (Copy n k to) = Some (n, k)
 pair_read (Move n k to) = Some (n, k)
 pair_read _ = None
 
--- no state that a machine can be in, with the pages of this one, has these bytes as its image
+-- these bytes are the image of no machine state with this one's pages
 abbrev pub IsNoImage : MachineState → List ℕ → Type 0
 IsNoImage s bytes = (state : MachineState) → IsMachineState state → SamePages state s → image state ≢ bytes
 
--- The bytes that were got of the pair that an action reads have another digest than those that were put, or the same one,
--- and are no image.
+-- The bytes of the pair that an action reads have another digest than those that were put. Or they have the same
+-- digest, and are no image.
 pub record IsDamage (action : Action) (s : Holdings) (k : ℕ) (put got : List ℕ) : Type 0 where
   pub number : ℕ
   pub pair : pair_read action ≡ Some (number, k)

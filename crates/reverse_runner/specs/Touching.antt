@@ -1,8 +1,6 @@
--- No public clause cites this file. What a call on the keeper of one level does to the keepers of a session or of a console, and how it is
--- refused.
+-- No public clause cites this file. What a call on one level's keeper does to all keepers, and how it is refused.
 use Rattle.std.specs.Prelude.{◌≡◌, ◌≢◌, ℕ, ◌==◌, ◌≤◌, List, map, slice_get, Some, Result, Ok, Err}
 use Rattle.keepers.specs.Told.{Location}
-use Rattle.keepers.specs.Counts.{Rose}
 use Rattle.sha2.specs.Sha256.{sha256}
 use Rattle.image_store.specs.declared.shelf.Kept.{Kept}
 use Rattle.image_store.specs.Shelves.{kept_at}
@@ -12,7 +10,7 @@ use Rattle.image_store.specs.declared.shelf.StoreFault.TheVariants as store
 use Rattle.reverse_runner.specs.declared.fault.RunFault.{RunFault}
 use Rattle.reverse_runner.specs.declared.fault.RunFault.TheVariants.{Keeper, Damaged, Visitor, Memory, Ended}
 use Rattle.reverse_runner.specs.Acts.{Levels}
-use Rattle.reverse_runner.specs.KeepersSeen.{Calls, one_if, by_number}
+use Rattle.reverse_runner.specs.KeepersSeen.{Calls, one_if, by_number, FailsAlone}
 
 -- one put on level k, one get from it, one free there
 abbrev pub one_put : ℕ → Calls
@@ -24,19 +22,19 @@ one_get k = record { puts = λ _. 0; gets = λ j. one_if (k == j); frees = λ _.
 abbrev pub one_free : ℕ → Calls
 one_free k = record { puts = λ _. 0; gets = λ _. 0; frees = λ j. one_if (k == j) }
 
--- the keepers have the slots that they had, in the places where they were, and no count of faults fell
+-- the keepers have the same slots, in the same places, and no count of faults fell
 pub record Remain {K : Type 0} (slots : K → ℕ) (places : K → Location) (faults : K → ℕ) (old new : List K) : Type 0 where
   pub slots_same : map slots new ≡ map slots old
   pub places_same : map places new ≡ map places old
   pub later : (k : ℕ) → by_number 0 faults old k ≤ by_number 0 faults new k
 
--- all keepers but that of level k are as they were
+-- all keepers but that of level k are unchanged
 abbrev pub OthersRemain : {K : Type 0} → ℕ → List K → List K → Type 0
 OthersRemain k old new = (j : ℕ) → j ≢ k → slice_get new j ≡ slice_get old j
 
--- where a keeper is said to have failed its count rose, and else no count did
+-- the count of a keeper that is said to have failed rose, and no other did
 abbrev pub IsCaused : {K A : Type 0} → (K → ℕ) → List K → List K → Result A RunFault → Type 0
-IsCaused faults old new (Err (Keeper k)) = Rose (by_number 0 faults old k) (by_number 0 faults new k)
+IsCaused faults old new (Err (Keeper k)) = FailsAlone faults k old new
 IsCaused faults old new (Err (Damaged k put got)) = (j : ℕ) → by_number 0 faults new j ≡ by_number 0 faults old j
 IsCaused faults old new (Err Visitor) = (j : ℕ) → by_number 0 faults new j ≡ by_number 0 faults old j
 IsCaused faults old new (Err Memory) = (j : ℕ) → by_number 0 faults new j ≡ by_number 0 faults old j

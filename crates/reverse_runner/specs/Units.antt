@@ -1,4 +1,4 @@
--- The states of a run at the ends of units of so many steps, by the numbers of the units.
+-- The states of a run at the ends of units of so many steps, by unit.
 use Rattle.std.specs.Prelude.{ℕ, ◌*◌, List}
 use Rattle.rv_machine.specs.MachineState.{MachineState}
 use Rattle.rv_machine.specs.States.{state_number}

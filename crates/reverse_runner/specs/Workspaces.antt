@@ -16,7 +16,7 @@ use Rattle.reverse_runner.specs.LevelsStand.{IsLaidOut}
 use Rattle.reverse_runner.specs.Rooms.{image_room, AreShort}
 use Rattle.reverse_runner.specs.SessionState.{SamePages}
 
--- its levels over what the keepers tell, and all that it holds
+-- its levels over what the keepers claim, and all that it holds
 abbrev pub levels_in : Workspace → (ℕ → Option Images) → Levels
 levels_in w told = record { store = w.store; told = told }
 
@@ -31,8 +31,8 @@ IsTaped unit c w = MatchOption c.tape (Unit {0}) (λ n. length w.undo.entries �
 abbrev pub holdings_in : Workspace → (ℕ → Option Images) → Holdings
 holdings_in w told = record { work = w.work; tape = tape_in w; levels = levels_in w told }
 
--- Its states map the same pages, the buffer was reserved for the image of each, and the undo list leads back from the tape. A digest
--- that is known of a state on the tape is that of its image, and there is room for those of a whole unit.
+-- Its states map the same pages. The buffer has room for the image of each. The undo list leads back from the tape. A
+-- known digest of a state on the tape is that of its image. There is room for the digests of a whole unit.
 pub record IsInOrder (w : Workspace) : Type 0 where
   pub pages : SamePages w.tape w.work
   pub few : length (page_numbers w.work.memory) ≤ 4096
@@ -42,22 +42,22 @@ pub record IsInOrder (w : Workspace) : Type 0 where
   pub room : w.undo.unit ≤ vec_capacity w.known
   pub buffer : 164 + 4100 * length (page_numbers w.work.memory) ≤ vec_capacity w.buffer
 
--- A workspace stays in order: its states map the pages that they mapped, and no image that a level keeps is longer than one of the
--- state in work can be, if none was.
+-- A workspace stays in order. Its states map the same pages as before. No stored image becomes longer than one of the
+-- state in work can be.
 pub record StaysInOrder (old new : Workspace) : Type 0 where
   pub fits : IsInOrder new
   pub pages : SamePages old.work new.work
   pub short : AreShort (image_room old.work) old.store → AreShort (image_room old.work) new.store
 
--- An action may be done at a configuration: it is sound, the levels hold the pairs that it names, and there are keepers
--- with so many slots.
+-- An action is allowed at a sound configuration. The levels hold the configuration's pairs, and there are keepers with
+-- so many slots.
 pub record IsReady (steps : ℕ) (slots : List Slots) (c : Configuration) (w : Workspace) (counts : List ℕ) : Type 0 where
   pub sound : IsSound steps slots c
   pub laid : IsLaidOut steps slots c w.store
   pub room : HaveRoom steps slots counts
   pub fits : IsInOrder w
 
--- The undo list is made for units of so many steps with this recorded input, and holds one where the tape isn't empty.
+-- The undo list is made for units of so many steps with this recorded input. It holds one if the tape isn't empty.
 pub record HasUnits (unit : ℕ) (journal : List (List ℕ)) (steps : ℕ) (c : Configuration) (w : Workspace) : Type 0 where
   pub taped : IsTaped unit c w
   pub made : IsMadeFor journal w.undo

@@ -23,7 +23,7 @@ use rv_machine::Steps;
 use schedule_rules::Config;
 use std::sync::ledger::Ledger;
 
-/// Does what an action does, and hands out what it hands out.
+/// Does what an action does, and gives its states to the visitor.
 pub(crate) fn act<K: Keeper, V: Visitor, L: Ledger>(
     space: &mut Workspace,
     config: &Config,
@@ -156,7 +156,7 @@ fn copy<K: Keeper>(
     }
 }
 
-// Does the same, and then releases the image where it came from.
+// Copies it, and then releases the image where it came from.
 fn move_<K: Keeper>(
     space: &mut Workspace,
     config: &Config,

@@ -11,7 +11,8 @@ pub enum RunFault {
     /// The keeper of this level failed.
     #[error("the storage of level {0} failed")]
     Keeper(u8),
-    /// The bytes that a level gave aren't those that were put there, or are no image of this machine: the SHA-256 of both.
+    /// The bytes from a level aren't those that were put there, or are no image of this machine. Has the SHA-256 of
+    /// both.
     #[error("an image from level {level} is damaged")]
     Damaged {
         level: u8,

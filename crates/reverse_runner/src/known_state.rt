@@ -21,8 +21,8 @@ use std::marker::Model;
 use std::sync::ledger::Ledger;
 use unit_undo::Undo;
 
-/// A state of the machine, with the SHA-256 of its image where that is known: it was made from these bytes. So the digest of a
-/// state that was fetched isn't taken again. Contracts see the state alone.
+/// A state of the machine, with the SHA-256 of its image if that is known. So the digest of a fetched state isn't taken
+/// again. Contracts mention the state alone.
 #[derive(Drop)]
 pub struct KnownState {
     state: State,
@@ -44,7 +44,7 @@ impl Model for KnownState {
 }
 
 impl KnownState {
-    /// A state of which no digest is known.
+    /// A state with an unknown digest.
     pub fn new(state: State) -> KnownState
         ensures { result ≡ state }
     {
@@ -61,7 +61,7 @@ impl KnownState {
         &self.state
     }
 
-    /// The SHA-256 of its image. It takes no memory, and where it is known no time.
+    /// The SHA-256 of its image. It takes no memory. If it is known, it takes no time.
     pub fn digest(&self) -> [u8; 32]
         ensures { result ≡ sha256 (image self.now) }
     {
@@ -71,7 +71,7 @@ impl KnownState {
         }
     }
 
-    /// Writes the line of the state with the number `n`, in place of what was in `text`. It takes no memory.
+    /// Replaces `text` by the line of the state with the number `n`. It takes no memory.
     pub fn show(&self, n: u32, text: &mut Line)
         ensures text { text.new ≡ line n self.now }
         ensures short { length text.new ≤ 420 }
@@ -87,7 +87,7 @@ impl KnownState {
         self.digest
     }
 
-    /// Takes so many steps of the machine. Without a step a digest that is known stays known.
+    /// Takes so many steps of the machine. Zero steps keep a known digest.
     pub fn advance<L: Ledger>(&mut self, journal: &Journal, count: u32, steps: &mut Steps<L>)
         ensures states { self.new ≡ state_number self.old journal.now count }
         ensures counted { steps.new ≡ steps.old + count }
@@ -99,7 +99,7 @@ impl KnownState {
         }
     }
 
-    /// The same, and a watch looks at each step before it is taken.
+    /// Takes so many steps, and a watcher looks at each before it is taken.
     pub(crate) fn advance_watched<L: Ledger, W: Watch>(
         &mut self,
         journal: &Journal,
@@ -117,7 +117,7 @@ impl KnownState {
         advance_watched(&mut self.state, journal, count, steps, watch);
     }
 
-    /// Makes this state the other one, which has the same pages.
+    /// Copies another state with the same pages into this one.
     pub(crate) fn copy_from(&mut self, other: &KnownState)
         requires { page_numbers self.old.memory ≡ page_numbers other.now.memory }
         ensures { self.new ≡ other.now }
@@ -126,8 +126,8 @@ impl KnownState {
         self.digest = other.digest;
     }
 
-    /// Undoes the step of the last entry of an undo list, and takes the entry away. `known` has the digests that are known of the
-    /// states of the list, in the order of the run.
+    /// Undoes the step of the last entry of an undo list, and removes the entry. `known` has the known digests of the
+    /// list's states, in the order of the run.
     pub(crate) fn back(&mut self, undo: &mut Undo, known: &[Option<[u8; 32]>])
         requires back { CanGoBack undo.old.entries self.old }
         requires known { AreDigests known.now (states_of undo.old.entries self.old) }
@@ -138,7 +138,7 @@ impl KnownState {
         self.digest = digest_at(known, undo.count());
     }
 
-    /// Makes this state the one of an image with a digest. After a refusal it is as before.
+    /// Replaces this state by that of an image with a digest. After a refusal it is unchanged.
     pub fn decode(&mut self, bytes: &[u8], digest: &[u8; 32]) -> Result<(), ImageFault>
         requires { digest.now ≡ sha256 bytes.now }
         ensures not_image { (at : ℕ) → (result ≡ Err (ImageFault.NotImage at)) ↔ (first_wrong bytes.now ≡ Some at) }

@@ -1,4 +1,4 @@
-// Laws of what lists hand out, and of levels. Each function does nothing; its contract is the law.
+// Laws of lists and of levels. Each function does nothing; its contract is the law.
 ghost use Rattle.std.specs.Prelude.{◌≡◌, ◌⊎◌, ℕ, ◌*◌, ◌<◌, true, List, length, Option, Some};
 ghost use Rattle.std.specs.FinSet as set;
 ghost use Rattle.plan_types.specs.declared.action.Action.{Action};
@@ -22,14 +22,14 @@ ghost use Rattle.reverse_runner.specs.Standing.{pair_read};
 ghost use Rattle.reverse_runner.specs.Units.{unit_states};
 ghost use Rattle.reverse_runner.specs.Handed.{handed, countdown};
 
-/// A valid list hands out the states from the last one to state 0, each once.
+/// A valid list gives the visitor all states from the last to state 0, each once.
 pub fn valid_lists_hand_out_all()
     ensures { (unit steps : ℕ) (slots : List Slots) (list : List Action) → Valid steps slots list → handed unit steps list ≡ countdown (unit * steps) }
 {}
 
-/// Where the levels of a session hold what its configuration names, they do so after every action, by what the action does
-/// to them. Where they stand at the configuration of a run, they stand after it at the one that the action leads to, and
-/// where no keeper has another image than theirs, none has one after it.
+/// If the levels of a session hold what its configuration names, they do so after every action. If they are at a run's
+/// configuration, they are at the action's next one after it. If no keeper has other images than these, none has any
+/// afterwards.
 pub fn levels_follow_the_actions()
     ensures laid_out { (journal : List (List ℕ)) (unit steps : ℕ) (slots : List Slots) (c : Configuration) (a : Action) (d : Configuration)
         (old new : Holdings) →
@@ -45,9 +45,9 @@ pub fn levels_follow_the_actions()
         AreAlone old.levels → AreAlone new.levels }
 {}
 
-/// Over any keepers, also those that don't tell: where a session stands at a configuration of a run by the digests that its levels
-/// keep, it stands so after an action at the one that the action leads to; or the action took a state into work whose image is other
-/// bytes than that of the run's state with its number, and both have one SHA-256.
+/// Over any keepers, let a session be at a run's configuration by the digests that its levels keep. After an action it
+/// is at the action's next configuration. Otherwise the action fetched a collision: an image other than the run's state
+/// has, with the same SHA-256.
 pub fn digests_follow_the_actions_or_collide()
     ensures { (first : MachineState) (journal : List (List ℕ)) (unit steps : ℕ) (slots : List Slots) (c : Configuration) (a : Action) (d : Configuration)
         (old new : Holdings) →
@@ -56,17 +56,15 @@ pub fn digests_follow_the_actions_or_collide()
         StandsByDigests first journal unit c old → StandsByDigests first journal unit d new ⊎ Collides (unit_states first journal unit) a new.work }
 {}
 
-/// Where the levels of a session stand and no keeper has another image than theirs, each keeper holds just the images of
-/// the states that its level holds.
+/// If a session's levels are right and no keeper has other images, each keeper holds exactly its level's images.
 pub fn levels_hold_just_their_images()
     ensures { (first : MachineState) (journal : List (List ℕ)) (unit : ℕ) (c : Configuration) (s : Holdings) →
         HoldingsStandAt first journal unit c s → AreAlone s.levels →
         (k : ℕ) → k < length s.levels.store → IsToldAnd (s.levels.told k) (HoldsJust (unit_states first journal unit) (held_on c k)) }
 {}
 
-/// Where they stand so and an action is refused, each keeper still holds the images of the states that its level holds: on a
-/// level to which the action puts an image one more slot may hold anything, and where it releases an image this one may be
-/// gone.
+/// If they are right and an action is refused, each keeper still holds its level's images. On a level to which the
+/// action puts an image, one more slot may hold anything. An image that the action releases may be gone.
 pub fn refused_actions_leave_their_images()
     ensures spared { (first : MachineState) (journal : List (List ℕ)) (unit : ℕ) (c : Configuration) (a : Action) (s : Holdings) (told : ℕ → Option Images) →
         HoldingsStandAt first journal unit c s → AreAlone s.levels → MayLeave a s.levels told →

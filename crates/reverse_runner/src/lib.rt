@@ -1,7 +1,12 @@
-//! The runner: a session that performs the actions of a schedule over a machine, keeps the images of its states in
-//! storage, and hands out its states. It stands on the validator, the machine, the images and the store; the top call
-//! stands on it. `specs/Handed.antt` says which states a list hands out, `specs/Acts.antt` what an action does by the bytes
-//! that were fetched, `specs/Standing.antt` at which configuration of a run a session stands. It knows nothing of text.
+//! The runner: a session that performs a schedule over a machine, stores images, and gives its states to a visitor. It
+//! uses `schedule_rules`, `rv_machine`, `unit_undo`, `unit_digests` and `image_store`. `reverse_queries`,
+//! `reverse_console` and `reversal` use it. It knows nothing of text.
+//!
+//! In `specs/`:
+//!
+//! - `Handed`: which states a list gives.
+//! - `Acts`: what an action does, by the fetched bytes.
+//! - `Standing`: at which configuration of a run a session is.
 #![tactic(auto)]
 
 mod acting;

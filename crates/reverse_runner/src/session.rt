@@ -1,4 +1,4 @@
-// A session: a run that is gone through by the actions of a schedule.
+// A session: a run that the actions of a schedule go over.
 ghost use Rattle.std.specs.Prelude.{◌≡◌, ◌≢◌, ◌*◌, ◌<◌, ◌≤◌, ◌↔◌, ℕ, true, false, length, map, Option, Some, Err, IfOk, OnOk, OnErr, IsErrOf, IsSome, Contains};
 ghost use Rattle.std.specs.FinMap as finmap;
 ghost use Rattle.std.specs.List.{AllByRecursion};
@@ -33,7 +33,7 @@ use std::sync::ledger::Ledger;
 use std::thread::Threads;
 use unit_digests::Digesters;
 
-/// A run of the machine that is gone through by the actions of a schedule.
+/// A run of the machine that the actions of a schedule go over.
 #[derive(Drop)]
 pub struct Session {
     config: Config,
@@ -60,8 +60,8 @@ impl Model for Session {
 }
 
 impl Session {
-    /// A session at its start, over the run from a state with recorded input, for a number of steps and a book. It takes
-    /// all the memory that the session ever needs, but for what keepers ask for.
+    /// A session at the start of a run: a state, recorded input, a number of steps, and a book. It takes all memory
+    /// that the session ever needs, except the keepers' own.
     pub fn begin(
         alloc: Global,
         start: State,
@@ -74,7 +74,7 @@ impl Session {
         requires unit { (1 ≤ unit) × (unit ≤ 1024) }
         requires few { unit * steps ≤ MOST_STEPS }
         ensures begun { IfOk result (λ session. session ≡ begun start journal unit steps (slots_of book)) }
-        // It stands at its start over all keepers that tell, and no keeper has another image where they are empty.
+        // It is at its start over all keepers that claim their content. Empty keepers have no other image.
         ensures stands { IfOk result (λ session. (told : ℕ → Option Images) → ((k : ℕ) → k < length (slots_of book) → IsSome (told k)) →
             StandsAt start session told) }
         ensures alone { IfOk result (λ session. (told : ℕ → Option Images) → ((k : ℕ) → k < length (slots_of book) → told k ≡ Some finmap.empty) →
@@ -92,14 +92,14 @@ impl Session {
         })
     }
 
-    /// Where the session stands.
+    /// The configuration of the session.
     pub fn config(&self) -> &Config
         ensures { result.now ≡ self.now.situation }
     {
         &self.config
     }
 
-    /// How many steps of the machine a step of the schedule has. The last state of the run fits a count of steps.
+    /// The machine steps in a step of the schedule. The number of the last state fits a count of steps.
     pub fn unit(&self) -> u32
         ensures value { result ≡ self.now.unit }
         ensures few { self.now.ended ≡ false → result * self.now.situation.steps ≤ MOST_STEPS }
@@ -107,15 +107,15 @@ impl Session {
         self.unit
     }
 
-    /// How many actions were performed. At the end of its type the count stands still.
+    /// How many actions were performed. The count stops at the end of its type.
     pub fn done(&self) -> u64
         ensures { result ≡ self.now.done }
     {
         self.done
     }
 
-    /// Takes the digests of the states on the tape by workers side by side, so that their lines want none when they are handed out.
-    /// Nothing else is done: contracts don't see which digests are known.
+    /// Takes the digests of the states on the tape, with workers in parallel, so that their lines need not. It does
+    /// nothing else: contracts don't mention which digests are known.
     pub fn digest_tape<R: Threads + Sync>(&mut self, rt: &R, digesters: &mut Digesters)
         requires { AllByRecursion (HasPages self.old.work) digesters.old }
         ensures session { self.new ≡ self.old }
@@ -124,8 +124,8 @@ impl Session {
         self.space.digest_tape(rt, digesters);
     }
 
-    /// Performs an action that may be done, over keepers with room for its images: one for each level of the book, in
-    /// their order. Over keepers with a room of `max_image` bytes it takes no memory.
+    /// Performs an allowed action, over keepers with room for its images. There is one for each level of the book, in
+    /// order. Over keepers with a room of `max_image` bytes it takes no memory.
     pub fn perform<K: Keeper, V: Visitor, L: Ledger>(
         &mut self,
         action: &Action,
@@ -141,7 +141,7 @@ impl Session {
         ensures inert { result ≡ Err RunFault.Ended →
             (self.new ≡ self.old) × (keepers.new ≡ keepers.old) × (visitor.new ≡ visitor.old) × (steps.new ≡ steps.old) }
 
-        // What was done: where the session goes, and what becomes of its states and levels, by the bytes that were fetched.
+        // What was done to the configuration, the states and the levels, by the fetched bytes.
         ensures performs { OnOk result (Performs self.old action.now self.new) }
         ensures acted { OnOk result (Acted self.old.unit self.old.journal action.now
             (holdings_of self.old (told_by K.told keepers.old.items)) (holdings_of self.new (told_by K.told keepers.new.items)) steps.old steps.new
@@ -149,7 +149,7 @@ impl Session {
         ensures gets { OnOk result (GetsAll V.got self.old.journal (handed_by self.old.unit self.old.situation.steps action.now)
             (states_out action.now self.old.work self.old.tape.states) visitor.old visitor.new) }
 
-        // Where the session stood before, it stands where it went.
+        // If the session was at its configuration before, it is at its new one.
         ensures stays { OnOk result (Stays self.old (told_by K.told keepers.old.items) self.new (told_by K.told keepers.new.items)) }
 
         // A refusal ends the session, and this is what it leaves.
@@ -161,16 +161,16 @@ impl Session {
             MissesOne V.got V.missed self.old.journal (handed_by self.old.unit self.old.situation.steps action.now)
             (states_out action.now self.old.work self.old.tape.states) visitor.old visitor.new }
 
-        // The cause of each refusal, and which refusals don't come.
+        // The cause of each refusal, and which refusals can't happen.
         ensures caused { HasReason result action.now (holdings_of self.old (told_by K.told keepers.old.items)) (told_by K.told keepers.new.items) }
         ensures spared { IsSafe result self.old.journal self.old.unit self.old.situation.at (holdings_of self.old (told_by K.told keepers.old.items))
             (length self.old.situation.slots) (rooms_by K.room_bytes keepers.old.items) }
         ensures seen { VisitorAfter V.fault_count result visitor.old visitor.new }
 
-        // The states map the pages that they mapped.
+        // The states map the same pages as before.
         ensures pages { SamePages self.old.work self.new.work }
 
-        // The keepers, of which those of levels that the action doesn't name are as they were. They have the rooms that they had.
+        // The keepers keep their rooms. Those of levels that the action doesn't name are unchanged.
         ensures kept { KeepersAfter K.slot_count K.place K.fault_count (λ k. Contains (levels_named action.now) k → ⊥) result keepers.old.items keepers.new.items }
         ensures rooms { SameRooms (rooms_by K.room_bytes keepers.old.items) (rooms_by K.room_bytes keepers.new.items) }
     {

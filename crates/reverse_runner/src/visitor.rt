@@ -1,4 +1,4 @@
-// What gets the states that a session hands out.
+// The trait of visitors, which get the states of a session.
 ghost use Rattle.std.specs.Prelude.{◌≡◌, ℕ, ◌≤◌, List, Err, OnOk, OnErr};
 ghost use Rattle.keepers.specs.Counts.{Rose};
 ghost use Rattle.rv_machine.specs.MachineState.{MachineState};
@@ -11,16 +11,16 @@ use thiserror::Error;
 /// Why a visitor refuses a state.
 #[derive(Clone, Copy, Debug, PartialEq, Eq, Error)]
 pub enum VisitFault {
-    /// It failed.
+    /// The visit failed.
     #[error("the visitor failed")]
     Failed,
 }
 
-/// Gets the states that a session hands out, each with its number and the session's journal.
+/// Gets the states of a session, each with its number and the session's journal.
 pub trait Visitor {
-    /// The visitor before a call, a number, a state and a journal, and the visitor after it: after Ok.
+    /// Relates the visitor before an Ok call, the number, the state, the journal, and the visitor after it.
     ghost got: { Self → ℕ → MachineState → List (List ℕ) → Self → Type 0 };
-    /// The same after Failed.
+    /// What a visit that failed with `Failed` does.
     ghost missed: { Self → ℕ → MachineState → List (List ℕ) → Self → Type 0 };
 
     ghost fault_count: { Self → ℕ };
@@ -34,7 +34,7 @@ pub trait Visitor {
         ensures cause { OnErr result (Rose (fault_count self.old) (fault_count self.new)) };
 }
 
-// Hands a state out.
+// Gives a state to the visitor.
 pub(crate) fn hand_out<V: Visitor>(
     visitor: &mut V,
     n: u32,

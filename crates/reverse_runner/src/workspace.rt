@@ -1,4 +1,4 @@
-// What a session works with: its states, and the images that its levels keep.
+// What a session works with: its states, and the images on its levels.
 ghost use Rattle.std.specs.Prelude.{◌≡◌, ◌≢◌, ◌+◌, ◌*◌, ◌<◌, ◌≤◌, ◌^◌, ◌∷◌, ℕ, List, [], length, map, Err, IfOk, IfErr, OnOk, OnErr, IsSome, None, Some};
 ghost use Rattle.std.specs.Vec.{vec_len, vec_capacity};
 ghost use Rattle.level_book.specs.BookCosts.{slots_of};
@@ -42,8 +42,8 @@ use std::thread::Threads;
 use unit_digests::Digesters;
 use unit_undo::Undo;
 
-/// The state in work, the tape, which images the levels keep, and a buffer for the bytes of one image. On the tape are the
-/// states of a unit: the state after them, and the undo list that leads back over them.
+/// The state in work, the tape, the images of the levels, and a buffer for one image. The tape has a unit: the state
+/// after it, and the undo list that leads back over its states.
 #[derive(Drop)]
 pub(crate) struct Workspace {
     pub work: KnownState,
@@ -58,7 +58,7 @@ pub(crate) struct Workspace {
 impl Workspace {
     ghost use Rattle.reverse_runner.specs.Workspaces.{IsInOrder, tape_in, levels_in};
 
-    /// A workspace with a state in work, and no images. It takes all the memory that it ever needs.
+    /// A workspace with a state in work, and no images. It takes all memory that it ever needs.
     pub fn begin(
         alloc: Global,
         start: State,
@@ -103,7 +103,7 @@ impl Workspace {
         self.work.advance(journal, count, steps);
     }
 
-    /// Takes the steps of a unit of the machine, and puts the states before them on the tape.
+    /// Takes the machine steps of a unit, and puts the states before them on the tape.
     pub fn advance_on_tape<L: Ledger>(
         &mut self,
         journal: &Journal,
@@ -132,7 +132,8 @@ impl Workspace {
         self.tape.copy_from(&self.work);
     }
 
-    /// Hands out the states on the tape, from the last to the first, and leaves none. The first has this number.
+    /// Gives the states on the tape to the visitor, from the last to the first, and empties the tape. The first has
+    /// this number.
     pub fn hand_back<V: Visitor>(
         &mut self,
         first: u32,
@@ -167,7 +168,8 @@ impl Workspace {
         Ok(())
     }
 
-    /// Takes the digests of the states on the tape by workers side by side. Where there are workers, all of them are known then.
+    /// Takes the digests of the states on the tape, with workers in parallel. If there are workers, all digests are
+    /// known afterwards.
     pub fn digest_tape<R: Threads + Sync>(&mut self, rt: &R, digesters: &mut Digesters)
         requires fits { IsInOrder self.old }
         requires pages { AllByRecursion (HasPages self.old.work) digesters.old }
@@ -184,7 +186,7 @@ impl Workspace {
         digesters.digest(rt, self.tape.state(), &self.undo, &mut self.known);
     }
 
-    /// Writes the image of the state in work into the buffer, and gives its digest.
+    /// Writes the image of the state in work into the buffer, and returns its digest.
     pub fn encode(&mut self) -> [u8; 32]
         requires { IsInOrder self.old }
         ensures digest { result ≡ sha256 self.new.buffer.items }
@@ -204,7 +206,7 @@ impl Workspace {
         }
     }
 
-    /// Makes the state in work the one whose image stands in the buffer, which came from a level and has this digest.
+    /// Makes the state in work that of the image in the buffer. The image came from a level and has this digest.
     pub fn decode(&mut self, level: u8, digest: &[u8; 32]) -> Result<(), RunFault>
         requires fits { IsInOrder self.old }
         requires digest { digest.now ≡ sha256 self.old.buffer.items }
@@ -270,7 +272,7 @@ impl Workspace {
         }
     }
 
-    /// Gets the bytes of a held pair into the buffer, and gives their digest.
+    /// Gets the bytes of a held pair into the buffer, and returns their digest.
     pub fn fetch<K: Keeper>(
         &mut self,
         keepers: &mut Vec<K>,
@@ -348,7 +350,7 @@ impl Workspace {
     }
 }
 
-// Makes the digest of the first state on a tape, where it is known, the only one that is known.
+// Keeps only the digest of the first state on a tape, if it is known.
 fn know_first(first: Option<[u8; 32]>, known: &mut Vec<Option<[u8; 32]>>)
     requires { 1 ≤ vec_capacity known.old }
     ensures known { known.new.items ≡ first ∷ [] }

@@ -51,7 +51,7 @@ returns-in-Ok-clause-works g c =
     let H : Holdings → Type 0 = λ h. GoesThrough session.unit session.situation.steps session.journal (front_to session.unit session.situation.steps place c.args.list.now) h end found.states in
     let through = subst H (ap (λ (s : SessionState). holdings_of s told) c.requires.begun) found.through in
     let quiet : NothingFails old (new c.state_at.new.visitor.out.now) =
-    record { sink = c.state_at.ensures.seen.quiet (λ e. cc) ∙ ap g.O.Sink.fault_count same; keepers = c.state_at.ensures.kept.keepers_quiet (λ k e. cc) } in
+    record { sink = c.state_at.ensures.seen.quiet (λ e. cc) ∙ ap g.O.Sink.fault_count same; keepers = λ j. c.state_at.ensures.kept.keepers_quiet j (λ e. cc) } in
     let P : g.row.O.Denot → Type 0 = λ o. Works (ask (State place) run) done old (new o) in
     let E : Ended → Type 0 = λ e. Works (ask (State place) run) e old (new c.out-1.given.0) in
     subst E (sym c.done.ensures) (subst P (sym last)
@@ -93,7 +93,7 @@ returns-in-Err-clause-works g c =
       sink = λ e. subst N (ap g.O.Sink.fault_count same) (all.seen.cause (is _ e));
       sink_quiet = λ ne. all.seen.quiet (isnt _ ne) ∙ ap g.O.Sink.fault_count same;
       keeper = λ k e. all.kept.keeper_cause k (is _ e);
-      keepers_quiet = λ ne. all.kept.keepers_quiet (λ k. isnt _ (ne k));
+      keepers_quiet = λ j ne. all.kept.keepers_quiet j (isnt _ ne);
     } in
     let P : g.row.O.Denot → Type 0 = λ o. Works (ask (State place) run) (fault_ending (refused.place + 1) fault) old (new o) in
     let E : Ended → Type 0 = λ e. Works (ask (State place) run) e old (new c.out-1.given.0) in

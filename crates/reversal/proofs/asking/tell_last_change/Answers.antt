@@ -22,7 +22,7 @@ returns-in-Ok-clause-works g c =
     let new = moment g.O.Sink.told g.O.Sink.call_count g.O.Sink.fault_count g.K.Keeper.told g.K.Keeper.put_count g.K.Keeper.get_count g.K.Keeper.free_count g.K.Keeper.fault_count c.write_answer.new.out c.last_change.new.keepers.items c.last_change.new.steps in
     let found = is_found (λ states. ChangesIn states c.args.address) session c.last_change.new.session c.args.list.now c.in-Ok.answer old new c.requires.begun ok.found in
     last_told run (λ states. ChangesIn states c.args.address) c.in-Ok.answer old new (found, λ tells. ok.answer session.work c.requires.state (c.requires.stands (told_by g.K.Keeper.told c.args.keepers.now.items) tells))
-    c.write_answer.ensures.calls ok.performed.counted ok.performed.called c.write_answer.result c.write_answer.ensures.ends (c.last_change.ensures.kept.keepers_quiet (λ k e. cc))
+    c.write_answer.ensures.calls ok.performed.counted ok.performed.called c.write_answer.result c.write_answer.ensures.ends (λ j. c.last_change.ensures.kept.keepers_quiet j (λ e. cc))
 
 pub returns-in-Ok-clause-others : goal.returns-in-Ok-clause-others
 returns-in-Ok-clause-others g c =
@@ -45,7 +45,7 @@ returns-in-Err-clause-works g c =
       sink = λ e. absurd (seen e);
       sink_quiet = λ ne. refl;
       keeper = λ k e. all.kept.keeper_cause k (is _ e);
-      keepers_quiet = λ ne. all.kept.keepers_quiet (λ k e. ne k (same_Err c.last_change.result _ _ c.in-Err.is e));
+      keepers_quiet = λ j ne. all.kept.keepers_quiet j (λ e. ne (same_Err c.last_change.result _ _ c.in-Err.is e));
     } in
     last_refused run (λ states. ChangesIn states c.args.address) fault c.last_change.new.session c.refused.result old new c.requires.few (subst R c.requires.begun c.in-Err.ensures.refused) c.refused.ensures refl refl seen
     (λ k put got e tells. all.spared.undamaged session.work c.requires.state (c.requires.stands told tells) k put got (is _ e)) counts

@@ -126,7 +126,7 @@ loop-action-preserved g c =
     let lines = all_written g.O.Sink.told g.O.Sink.call_count before.journal numbers states c.loop-action.writer c.perform.new.visitor ok.gets in
     let one = more g.O.Sink.told g.O.Sink.call_count first before list c.loop-action.place inv.so_far.0 c.loop-action.writer.out.now (old_of g p) (mid_of g p) c.in-Some.action (there g p) (record { tells = refl; counts = refl }) (here g p)
     (Got g.O.Sink.told g.O.Sink.call_count) after c.loop-action.writer c.perform.new.visitor c.perform.new.visitor.out.now new (record { tells = refl; counts = refl }) ok.performs ok.acted.acts ok.gets lines ok.acted.counted ok.acted.called
-    (ok.stays.stands first c.requires.state) ok.stays.alone (record { sink = c.perform.ensures.seen.quiet (λ e. cc); keepers = c.perform.ensures.kept.keepers_quiet (λ j e. cc) }) in
+    (ok.stays.stands first c.requires.state) ok.stays.alone (record { sink = c.perform.ensures.seen.quiet (λ e. cc); keepers = λ j. c.perform.ensures.kept.keepers_quiet j (λ e. cc) }) in
     let now : States = _ in
     let R : Run → Type 0 = λ r. SoFar r (c.loop-action.place + 1) now after (old_of g p) new in
     record {
@@ -185,6 +185,7 @@ returns-in-Err-clause-works g c =
       uncounted = leaves.uncounted;
       called = leaves.called_at_most;
       left = leaves.left;
+      unreached = λ k j e past. all.caused.unreached k j (is _ e) past;
       whole = λ k put got e. all.caused.whole k put got (is _ e);
       breaks = λ e. one_broken g.O.Sink.told g.O.Sink.call_count before.journal numbers states c.loop-action.writer c.perform.new.visitor (all.misses (is _ e));
       unseen = λ ne. ap (λ v. v.out.now) (err.seen.unseen (λ e. ne cc));
@@ -192,7 +193,7 @@ returns-in-Err-clause-works g c =
         sink = λ e. subst V (ap g.O.Sink.fault_count (sym last)) (all.seen.cause (is _ e));
         sink_quiet = λ ne. ap g.O.Sink.fault_count last ∙ all.seen.quiet (isnt _ ne);
         keeper = λ k e. all.kept.keeper_cause k (is _ e);
-        keepers_quiet = λ ne. all.kept.keepers_quiet (λ k. isnt _ (ne k));
+        keepers_quiet = λ j ne. all.kept.keepers_quiet j (isnt _ ne);
       };
       named = λ k e. all.caused.named k (is _ e);
       damaged = λ k put got e. all.caused.damaged k put got (is _ e);

@@ -11,7 +11,7 @@ use Rattle.reverse_console.specs.Causes.{HasCause}
 use Rattle.reverse_console.specs.Handling.{AreSet, AreKept, StandAt}
 use Rattle.reverse_console.specs.Refusals.{IsOfPutting}
 use Rattle.reverse_console.proofs.Calling.{stay_then, cause_then}
-use Rattle.reverse_runner.specs.declared.fault.RunFault.TheVariants.{Memory}
+use Rattle.reverse_runner.specs.declared.fault.RunFault.TheVariants.{Keeper, Memory}
 use Rattle.reverse_runner.specs.Rooms.{rooms_by, AreShort}
 use Rattle.reverse_runner.proofs.Rooms.{same_room, still_roomy}
 use Rattle.reverse_queries.proofs.Ways.{same_fault}
@@ -202,3 +202,34 @@ returns-in_err-set_next-clause-roomy g c has e =
 
 pub returns-in_err-set_next-clause-rooms : goal.returns-in_err-set_next-clause-rooms
 returns-in_err-set_next-clause-rooms g c k = c.set_next.ensures.rooms k ∙ c.loop-mark.invariant.rooms k
+
+pub returns-in_err-set_mark-clause-put_until : goal.returns-in_err-set_mark-clause-put_until
+returns-in_err-set_mark-clause-put_until g c k e =
+    let p = c.args.marks.now in
+    let q = err_from_is_err_and c.from_residual.result c.from_residual.ensures.1 in
+    let calls = calls_to g.K.Keeper.put_count g.K.Keeper.get_count g.K.Keeper.free_count in
+    let old = calls c.args.keepers.now.items in
+    let first = marked_first p in
+    record {
+      mark = 0;
+      known = first_known p;
+      level_is = c.set_mark.ensures.on_level k (same_fault c.set_mark.result c.from_residual.result _ _ (Keeper k) c.in_err-set_mark.was q.1 q.2 e);
+      counted = omega (arith, first);
+      called = puts_more p 0 old old (calls c.set_mark.new.keepers.items) (puts_none p old) c.set_mark.ensures.called;
+    }
+
+pub returns-in_err-set_next-clause-put_until : goal.returns-in_err-set_next-clause-put_until
+returns-in_err-set_next-clause-put_until g c k e =
+    let p = c.args.marks.now in
+    let i = c.loop-mark.mark in
+    let q = err_from_is_err_and c.from_residual-in_err-set_next.result c.from_residual-in_err-set_next.ensures.1 in
+    let calls = calls_to g.K.Keeper.put_count g.K.Keeper.get_count g.K.Keeper.free_count in
+    let some : 0 < i = omega arith in
+    let step = one_less p i some in
+    record {
+      mark = i;
+      known = omega (arith, c.number-mark-end.ensures);
+      level_is = c.set_next.ensures.on_level k (same_fault c.set_next.result c.from_residual-in_err-set_next.result _ _ (Keeper k) c.in_err-set_next.was q.1 q.2 e);
+      counted = omega (arith, c.loop-mark.invariant.counted, c.set_next.ensures.counted, step);
+      called = puts_more p i (calls c.args.keepers.now.items) (calls c.loop-mark.keepers.items) (calls c.set_next.new.keepers.items) c.loop-mark.invariant.called c.set_next.ensures.called;
+    }

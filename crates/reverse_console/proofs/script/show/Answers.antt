@@ -76,7 +76,7 @@ pub returns-clause-stay : goal.returns-clause-stay
 returns-clause-stay g c = record { slots_same = c.perform.ensures.slots; places_same = c.perform.ensures.places; later = c.perform.ensures.keepers_later; others = c.perform.ensures.others }
 
 pub returns-clause-quiet : goal.returns-clause-quiet
-returns-clause-quiet g c = quiet_if_ok c.perform.result c.perform.ensures.keepers_quiet
+returns-clause-quiet g c = quiet_if_ok g.K.Keeper.fault_count c.args.keepers.now.items c.perform.new.keepers.items c.perform.result c.perform.ensures.keepers_quiet
 
 pub returns-clause-cause : goal.returns-clause-cause
 returns-clause-cause g c =

@@ -151,8 +151,8 @@ returns-in_err-perform-clause-kept g c =
           (let same = same_fault c.perform.result c.from_residual.result _ _ (Keeper k) c.in_err-perform.was p.1 p.2 e in
           let Q : ℕ → Type 0 = λ n. Rose n (by_number 0 g.K.Keeper.fault_count c.perform.new.keepers.items k) in
           subst Q (so_far.way.quiet k) (c.perform.ensures.kept.keeper_cause k same));
-      keepers_quiet = λ never j.
-          c.perform.ensures.kept.keepers_quiet (λ k e. never k (same_fault c.from_residual.result c.perform.result _ _ (Keeper k) p.1 c.in_err-perform.was (sym p.2) e)) j ∙ so_far.way.quiet j;
+      keepers_quiet = λ j never.
+          c.perform.ensures.kept.keepers_quiet j (λ e. never (same_fault c.from_residual.result c.perform.result _ _ (Keeper j) p.1 c.in_err-perform.was (sym p.2) e)) ∙ so_far.way.quiet j;
       keepers_later = λ k. (let quiet = so_far.way.quiet k in let later = c.perform.ensures.kept.keepers_later k in omega (arith, quiet, later));
       slots = c.perform.ensures.kept.slots ∙ so_far.way.room;
       places = c.perform.ensures.kept.places ∙ so_far.way.places_same;
@@ -239,7 +239,7 @@ returns-in-Some-clause-performed g c =
       called = done.acted.called;
       room = c.perform.ensures.kept.slots;
       places_same = c.perform.ensures.kept.places;
-      quiet = c.perform.ensures.kept.keepers_quiet (λ k e. not_both c.perform.result _ (Keeper k) c.in_ok-perform.was e);
+      quiet = λ j. c.perform.ensures.kept.keepers_quiet j (λ e. not_both c.perform.result _ (Keeper j) c.in_ok-perform.was e);
       others = c.perform.ensures.kept.others;
       stands = done.stays.stands;
       alone = done.stays.alone;
@@ -268,7 +268,7 @@ returns-in-Some-clause-kept g c =
     let within : i < length list = omega arith in
     let at = at_place list i within in
     let rule_is = may_perform _ _ _ _ _ _ _ list i old mid _ _ _ _ a c.requires.start c.requires.valid at so_far.way in
-    let quiet = c.perform.ensures.kept.keepers_quiet (λ k e. not_both c.perform.result _ (Keeper k) c.in_ok-perform.was e) in
+    let quiet = λ (j : ℕ). c.perform.ensures.kept.keepers_quiet j (λ e. not_both c.perform.result _ (Keeper j) c.in_ok-perform.was e) in
     ok_kept _ _ _ _ _ _ _ (λ j. quiet j ∙ so_far.way.quiet j) (c.perform.ensures.kept.slots ∙ so_far.way.room) (c.perform.ensures.kept.places ∙ so_far.way.places_same)
     (λ k past. c.perform.ensures.kept.others k (past_levels old mid (take i list) a k so_far.way.performs rule_is past) ∙ so_far.way.others k past)
 
@@ -298,7 +298,7 @@ loop-action-preserved g c =
       called = done.acted.called;
       room = c.perform.ensures.kept.slots;
       places_same = c.perform.ensures.kept.places;
-      quiet = c.perform.ensures.kept.keepers_quiet (λ k e. not_both c.perform.result _ (Keeper k) c.in_ok-perform.was e);
+      quiet = λ j. c.perform.ensures.kept.keepers_quiet j (λ e. not_both c.perform.result _ (Keeper j) c.in_ok-perform.was e);
       others = c.perform.ensures.kept.others;
       stands = done.stays.stands;
       alone = done.stays.alone;

@@ -22,7 +22,7 @@ use Rattle.reverse_runner.proofs.Asking.{may_get, may_give, copies_held, copies_
 use Rattle.reverse_runner.proofs.AllCalls.{called_copy, at_most}
 use Rattle.reverse_runner.proofs.Taping.{same_tape}
 use Rattle.reverse_runner.proofs.Undamaged.{held_stands, fetched_image, state_of_run}
-use Rattle.reverse_runner.proofs.Leaving.{on_err, leaves_not_got, leaves_copied}
+use Rattle.reverse_runner.proofs.Leaving.{on_err, leaves_not_got, leaves_copied, copy_came}
 use Rattle.reverse_runner.specs.Rooms.{image_room, rooms_by}
 use Rattle.reverse_runner.proofs.Rooms.{roomy_still, short_same}
 use Rattle.reverse_runner.proofs.acting.copy.Goals as goal
@@ -49,6 +49,7 @@ returns-in_err-digest-clause-caused g c =
           let same : c.fetch.result ≡ Err (Damaged k put got) = cc in
           let other = c.fetch.ensures.damaged k put got same in
           damage_of (Copy c.args.n c.args.from c.args.dest) (holdings_in c.args.space.now (told_by g.K.Keeper.told c.args.keepers.now.items)) c.args.n c.args.from k put got refl other.0 other.1);
+      unreached = λ k j e un. (c.fetch.ensures.same j).1;
       whole = search rules;
       wants = search rules;
     }
@@ -175,6 +176,11 @@ returns-in-Level-clause-caused g c =
           let P : ℕ → Type 0 = λ j. Contains (levels_named (Copy c.args.n c.args.from c.args.dest)) j in
           subst P (sym on) (copy_names_target c.args.n c.args.from c.in-Level.to c.args.dest c.in-Level.is));
       damaged = search rules;
+      unreached = λ k j e un.
+          (let now = c.args.config.now in
+          let free = copies_free now.steps now.slots now.at c.args.n c.args.from c.in-Level.to c.args.dest c.requires.allowed c.in-Level.is in
+          let on = keeping_is_on c.in-Level.to k (Keeper k) (IfErr-at_err (IsKeeping c.in-Level.to) e c.keep.ensures.fault) refl in
+          absurd (copy_came c.args.n c.args.from c.in-Level.to k j c.args.dest c.in-Level.is free.0 on un));
       whole = search rules;
       wants = search rules;
     }

@@ -14,7 +14,7 @@ use Rattle.reverse_runner.proofs.Caused.{caused_rose, caused_quiet, no_keeper}
 use Rattle.reverse_runner.specs.Workspaces.{levels_in, holdings_in}
 use Rattle.reverse_runner.proofs.Asking.{has_keeper_same, may_give, copy_keeps_source, called_move_then, caused_then, moves_held, moves_apart, move_may_copy, move_names_copied, copy_names_source, not_named, keeping_is_on, damage_moves, moved}
 use Rattle.reverse_runner.proofs.Taping.{same_tape}
-use Rattle.reverse_runner.proofs.Leaving.{on_err, leaves_uncopied, leaves_moved}
+use Rattle.reverse_runner.proofs.Leaving.{on_err, leaves_uncopied, leaves_moved, move_came, move_unreached}
 use Rattle.reverse_runner.specs.Rooms.{image_room, rooms_by}
 use Rattle.reverse_runner.proofs.Rooms.{roomy_still}
 use Rattle.reverse_runner.proofs.acting.move_.Goals as goal
@@ -41,6 +41,12 @@ returns-in_err-copy-clause-caused g c =
           (let p = err_from_is_err_and c.from_residual.result c.from_residual.ensures.1 in
           let same : c.copy.result ≡ Err (Damaged k put got) = cc in
           damage_moves c.args.n c.args.from c.args.dest (holdings_in c.args.space.now (told_by g.K.Keeper.told c.args.keepers.now.items)) k put got (c.copy.ensures.caused.damaged k put got same));
+      unreached = λ k j e un.
+          (let now = c.args.config.now in
+          let told = g.K.Keeper.told in
+          let old = levels_in c.args.space.now (told_by told c.args.keepers.now.items) in
+          let apart = λ (i : ℕ) (at : c.args.dest ≡ Level i). moves_apart now.steps now.slots now.at c.args.n c.args.from i c.args.dest c.requires.allowed at in
+          move_unreached c.args.n c.args.from k j c.args.dest old (told_by told c.copy.new.keepers.items) apart (c.in_err-copy.ensures.leaves 0).left un);
       whole = search rules;
       wants = search rules;
     }
@@ -151,6 +157,11 @@ returns-clause-caused g c =
           let P : ℕ → Type 0 = λ j. Contains (levels_named (Move c.args.n c.args.from c.args.dest)) j in
           subst P (sym on) (move_names_copied c.args.n c.args.from c.args.dest c.args.from (copy_names_source c.args.n c.args.from c.args.dest)));
       damaged = search rules;
+      unreached = λ k j e un.
+          (let now = c.args.config.now in
+          let apart = λ (i : ℕ) (at : c.args.dest ≡ Level i). moves_apart now.steps now.slots now.at c.args.n c.args.from i c.args.dest c.requires.allowed at in
+          let on = keeping_is_on c.args.from k (Keeper k) (IfErr-at_err (IsKeeping c.args.from) e c.release.ensures.fault) refl in
+          absurd (move_came c.args.n c.args.from k j c.args.dest apart on un));
       whole = search rules;
       wants = search rules;
     }
@@ -172,7 +183,7 @@ pub returns-clause-kept : goal.returns-clause-kept
 returns-clause-kept g c =
     let faults = g.K.Keeper.fault_count in
     let caused : IsCaused faults c.args.keepers.now.items c.release.new.keepers.items c.release.result = caused_then faults c.args.keepers.now.items c.copy.new.keepers.items c.release.new.keepers.items c.release.result
-    (c.copy.ensures.kept.keepers_quiet (λ k. no_keeper c.copy.result _ k c.in_ok-copy.was)) c.release.ensures.caused in
+    (λ j. c.copy.ensures.kept.keepers_quiet j (no_keeper c.copy.result _ j c.in_ok-copy.was)) c.release.ensures.caused in
     let source = move_names_copied c.args.n c.args.from c.args.dest c.args.from (copy_names_source c.args.n c.args.from c.args.dest) in
     record {
       keeper_cause = caused_rose _ _ _ _ caused;

@@ -35,7 +35,8 @@ returns-in-Err-clause-works g c =
     subst E (sym c.fault_ending.ensures)
     (marks_refused m.start m.journal p m.orders.items a b refl refl c.begin.ensures.counted_at_most.0 c.begin.ensures.counted_at_most.1 c.begin.ensures.called_at_most refl fault c.in-Err.ensures.putting
     (λ k e. (c.begin.ensures.keeper_cause k (c.in-Err.is ∙ ap Err e)).1)
-    (λ never. c.begin.ensures.keepers_quiet (λ k e. never k (same_err c.begin.result fault (fault_is.Keeper k) c.in-Err.is e))))
+    (λ j never. c.begin.ensures.keepers_quiet j (λ e. never (same_err c.begin.result fault (fault_is.Keeper j) c.in-Err.is e)))
+    (λ k e. c.begin.ensures.put_until k (c.in-Err.is ∙ ap Err e)))
 
 pub returns-in-Err-clause-others : goal.returns-in-Err-clause-others
 returns-in-Err-clause-others g c = (record { slots_same = c.begin.ensures.slots; places_same = c.begin.ensures.places }, c.begin.ensures.others)
@@ -53,7 +54,7 @@ returns-in-Ok-answer_all-clause-works g c =
     let stands = λ (tells : MarksTell p a.images). if_ok_at (λ (x : ConsoleState). Stands m.start x told) c.begin.result console c.in-Ok.is (c.begin.ensures.stands tells) in
     let states = λ (tells : MarksTell p a.images). c.sees_its_run.ensures.states m.start told c.is_machine_state.ensures (stands tells) in
     let sees = λ (tells : MarksTell p a.images). c.sees_its_run.ensures.answers m.start told c.is_machine_state.ensures (stands tells) in
-    let quiet = c.begin.ensures.keepers_quiet (λ k e. absurd (cc (c.in-Ok.is, e))) in
+    let quiet = λ (j : ℕ). c.begin.ensures.keepers_quiet j (λ e. absurd (cc (c.in-Ok.is, e))) in
     let E : Ended → Type 0 = λ e. Works (moves m) e a b in
     let J : List Order → Type 0 = λ l. Works (move_about m.start m.journal p l) done a b in
     subst E (sym c.done.ensures) (subst J c.deref.ensures.value
@@ -85,7 +86,7 @@ returns-clause-works g c =
     let f = g.K.Keeper.fault_count in
     let before = c.begin.new.keepers.items in
     let after = c.answer_all.new.keepers.items in
-    let quiet = c.begin.ensures.keepers_quiet (λ k e. absurd (cc (c.in-Ok.is, e))) in
+    let quiet = λ (j : ℕ). c.begin.ensures.keepers_quiet j (λ e. absurd (cc (c.in-Ok.is, e))) in
     let cause = c.in-Err-answer_all.ensures.cause in
     let E : Ended → Type 0 = λ e. Works (moves m) e a b in
     let J : List Order → Type 0 = λ l. Works (move_about m.start m.journal p l) (fault_ending stop.order stop.fault) a b in
@@ -95,7 +96,7 @@ returns-clause-works g c =
     is c.in-Ok.ensures.begun.2 c.in-Ok.ensures.counted c.in-Ok.ensures.called states sees stop.order stop.fault c.in-Err-answer_all.ensures.broken_off
     (not_ended f console.plan before after stop.fault cause)
     (λ k e. (let rose = (keeper_cause f console.plan before after stop.fault k cause e).1 in let N : ℕ → Type 0 = λ n. Rose n (by_number 0 f after k) in subst N (quiet k) rose))
-    (λ never k. quiet_else f console.plan before after stop.fault cause never k ∙ quiet k)
+    (λ j never. quiet_else f console.plan before after stop.fault cause j never ∙ quiet j)
     c.in-Err-answer_all.ensures.sink_cause c.in-Err-answer_all.ensures.sink_quiet
     (λ tells. c.in-Err-answer_all.ensures.undamaged m.start c.is_machine_state.ensures (stands (λ i known. tells (mark_level p i) (c.the_marks_have_levels.ensures m.book m.steps c.requires.can_be_done.slots i known)))))))
 

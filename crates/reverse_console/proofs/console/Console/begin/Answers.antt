@@ -4,14 +4,15 @@ use Rattle.level_book.specs.declared.book.Slots.{Slots}
 use Rattle.rv_pages.specs.Memory.{page_numbers}
 use Rattle.rv_machine.specs.MachineState.{MachineState}
 use Rattle.image_store.specs.Shelves.{ShelfState, no_pairs_on}
-use Rattle.reverse_runner.specs.KeepersSeen.{told_by, HaveRoom}
+use Rattle.reverse_runner.specs.KeepersSeen.{told_by, calls_to, HaveRoom}
 use Rattle.reverse_console.specs.Marks.{MarkPlan, span, mark_count}
 use Rattle.level_book.specs.BookCosts.{slots_of}
-use Rattle.reverse_runner.specs.declared.fault.RunFault.TheVariants.{Memory}
+use Rattle.reverse_runner.specs.declared.fault.RunFault.TheVariants.{Keeper, Memory}
 use Rattle.reverse_runner.specs.Rooms.{image_room, rooms_by, AreShort}
 use Rattle.reverse_runner.proofs.Rooms.{begun_short, same_room, still_roomy}
 use Rattle.reverse_queries.proofs.Ways.{same_fault}
 use Rattle.reverse_console.specs.Causes.{HasCause}
+use Rattle.reverse_console.specs.Costs.{StopsPutting}
 use Rattle.reverse_console.specs.Handling.{AreSet, StandAt}
 use Rattle.reverse_console.specs.Refusals.{IsOfPutting}
 use Rattle.reverse_console.specs.Standing.{MarksTell, IsMarkKept}
@@ -30,10 +31,10 @@ pub set_marks-requires-clause-room : goal.set_marks-requires-clause-room
 set_marks-requires-clause-room g c = subst (λ (q : MarkPlan). HaveRoom (span q) q.slots (map g.K.Keeper.slot_count c.args.keepers.now.items)) (sym c.new-marks.ensures) c.requires.room
 
 pub returns-in_err-set_marks-clause-keepers_quiet : goal.returns-in_err-set_marks-clause-keepers_quiet
-returns-in_err-set_marks-clause-keepers_quiet g c never =
+returns-in_err-set_marks-clause-keepers_quiet g c j never =
     let q = err_from_is_err_and c.from_residual.result c.from_residual.ensures.1 in
     let H = HasCause g.K.Keeper.fault_count c.new-marks.result c.args.keepers.now.items c.set_marks.new.keepers.items in
-    quiet_else g.K.Keeper.fault_count c.new-marks.result c.args.keepers.now.items c.set_marks.new.keepers.items q.0 (subst H (sym q.2) (IfErr-at_err H c.in_err-set_marks.was c.set_marks.ensures.cause)) (λ k e. never k (q.1 ∙ ap Err e))
+    quiet_else g.K.Keeper.fault_count c.new-marks.result c.args.keepers.now.items c.set_marks.new.keepers.items q.0 (subst H (sym q.2) (IfErr-at_err H c.in_err-set_marks.was c.set_marks.ensures.cause)) j (λ e. never (q.1 ∙ ap Err e))
 
 pub returns-in_err-set_marks-clause-putting : goal.returns-in_err-set_marks-clause-putting
 returns-in_err-set_marks-clause-putting g c =
@@ -96,3 +97,10 @@ invariant_of-result g c =
       within = omega arith;
       short = subst (λ (m : ℕ). AreShort m new.store) (sym (same_room new.work desk.work c.set_marks.ensures.machine)) short;
     }
+
+pub returns-in_err-set_marks-clause-put_until : goal.returns-in_err-set_marks-clause-put_until
+returns-in_err-set_marks-clause-put_until g c k e =
+    let q = err_from_is_err_and c.from_residual.result c.from_residual.ensures.1 in
+    let calls = calls_to g.K.Keeper.put_count g.K.Keeper.get_count g.K.Keeper.free_count in
+    let P : MarkPlan → Type 0 = λ p. StopsPutting p k c.args.steps.now c.set_marks.new.steps (calls c.args.keepers.now.items) (calls c.set_marks.new.keepers.items) in
+    subst P c.new-marks.ensures (c.set_marks.ensures.put_until k (same_fault c.set_marks.result c.from_residual.result _ _ (Keeper k) c.in_err-set_marks.was q.1 q.2 e))

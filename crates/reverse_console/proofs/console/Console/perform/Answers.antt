@@ -143,6 +143,6 @@ returns-clause-roomy g c =
     subst P c.self.view_is c.answer-outcome.ensures.gets.1.roomy
 
 pub returns-clause-keepers_quiet : goal.returns-clause-keepers_quiet
-returns-clause-keepers_quiet g c never =
+returns-clause-keepers_quiet g c j never =
     let gets = c.answer-outcome.ensures.gets.1 in
-    quiet_unless g.K.Keeper.fault_count c.self.inside.marks c.args.keepers.now.items c.answer-outcome.new.keepers.items c.answer-outcome.result gets.quiet gets.cause never
+    quiet_unless g.K.Keeper.fault_count c.self.inside.marks c.args.keepers.now.items c.answer-outcome.new.keepers.items c.answer-outcome.result gets.quiet gets.cause j never
