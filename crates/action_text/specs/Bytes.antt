@@ -1,4 +1,4 @@
--- No public clause cites this file. Where the parts of a line lie in its bytes.
+-- No public clause cites this file. Where the parts of a line are in its bytes.
 use Rattle.std.specs.Prelude.{ℕ, ◌+◌, ◌==◌, ◌||◌, Bool, true, List, [], ◌∷◌, Option, Some, None, if◌then◌else◌}
 use Rattle.std.specs.Prelude.{◌≡◌, take, drop}
 use Rattle.std.specs.List.{list_all}
@@ -10,12 +10,12 @@ unfoldable pub without_blanks : List ℕ → List ℕ
 without_blanks [] = []
 without_blanks (b ∷ bs) = if is_blank b then without_blanks bs else b ∷ bs
 
--- the bytes behind the first one that ends a line
+-- the bytes after the first line end
 unfoldable pub behind_line : List ℕ → Option (List ℕ)
 behind_line [] = None
 behind_line (b ∷ bs) = if b == 10 then Some bs else behind_line bs
 
--- the bytes behind this one, where it is the first
+-- the bytes after this one, where it comes first
 abbrev pub past : ℕ → List ℕ → Option (List ℕ)
 past byte [] = None
 past byte (b ∷ bs) = if b == byte then Some bs else None
@@ -34,7 +34,7 @@ unfoldable pub run_length : List ℕ → ℕ
 run_length [] = 0
 run_length (b ∷ bs) = if is_run_byte b then run_length bs + 1 else 0
 
--- the run at the front of the bytes, and what stands behind it
+-- the run at the front of the bytes, and what comes after it
 abbrev pub run_of : List ℕ → List ℕ
 run_of bs = take (run_length bs) bs
 
@@ -46,11 +46,11 @@ pub record IsWord (word : List ℕ) : Type 0 where
   pub some : starts_run word ≡ true
   pub each : list_all is_run_byte word ≡ true
 
--- the bytes behind a word, where it is the run at the front
+-- the bytes after a word, where the run at the front is that word
 abbrev pub behind_word : List ℕ → List ℕ → Option (List ℕ)
 behind_word bs word = if bytes_eq (run_of bs) word then Some (behind_run bs) else None
 
--- the bytes behind other ones, where they begin with those
+-- the bytes after others, where they begin with those
 unfoldable pub behind_front : List ℕ → List ℕ → Option (List ℕ)
 behind_front bs [] = Some bs
 behind_front [] (w ∷ ws) = None

@@ -20,7 +20,7 @@ one_number before n after = before ++ decimal n ++ after
 abbrev pub name_of : List (List ℕ) → ℕ → List ℕ
 name_of names k = slice_index_or names k []
 
--- the last three arguments of a Forward; a place stands there also where nothing is kept
+-- the last three arguments of a Forward; there is a place even if nothing is kept
 abbrev pub keep_text : List (List ℕ) → Keep → List ℕ
 keep_text names Nothing = codes ", False, False, NONE)"
 keep_text names (Store k) = codes ", True, False, " ++ name_of names k ++ codes ")"
@@ -57,14 +57,14 @@ IsKeepOf names Nothing = Unit {0}
 IsKeepOf names (Store k) = IsLevelOf names k
 IsKeepOf names Tape = Unit {0}
 
--- a Forward can keep this: its level is there, and a Tape is of one step
+-- a Forward can keep this: its level exists, and a Tape is of one step
 abbrev pub CanKeep : List (List ℕ) → ℕ → ℕ → Keep → Type 0
 CanKeep names from to Nothing = Unit {0}
 CanKeep names from to (Store k) = IsLevelOf names k
 CanKeep names from to Tape = to ≡ from + 1
 
--- an action has a spelling where its numbers are at most 1,000,000, its levels are there, and a Tape or a Reverse is of one
--- step
+-- An action has a spelling if its numbers are at most 1,000,000 and its levels exist. A Tape or a Reverse must be of
+-- one step.
 abbrev pub HasSpelling : List (List ℕ) → Action → Type 0
 HasSpelling names (Forward from to keep) = (from ≤ MOST_STEPS) × (to ≤ MOST_STEPS) × CanKeep names from to keep
 HasSpelling names (Reverse from to) = (from ≤ MOST_STEPS) × (to ≤ MOST_STEPS) × (from ≡ to + 1)

@@ -9,7 +9,7 @@ use Rattle.action_text.specs.ScheduleText.{IsSchedule}
 use Rattle.action_text.specs.Faults.{HasFirstFault}
 use Rattle.action_text.specs.Canonical.{canonical, HasSpelling, text_of}
 
--- bytes say one schedule at most
+-- bytes mean one schedule at most
 abbrev pub OneSchedule : Type 0
 OneSchedule = (names : List (List ℕ)) → AreNames names → (bytes : List ℕ) (a b : List Action) → IsSchedule names bytes a → IsSchedule names bytes b → a ≡ b
 
@@ -26,20 +26,20 @@ abbrev pub ScheduleOrFault : Type 0
 ScheduleOrFault = (names : List (List ℕ)) → AreNames names → (bytes : List ℕ) →
     ((list : List Action) × IsSchedule names bytes list) ⊎ ((fault : TextFault) × HasFirstFault names bytes fault)
 
--- a line behind a list, as a certificate has it: it begins with `#!`, and byte 10 ends it and stands in it nowhere else
+-- A line after a list, as in a certificate. It begins with `#!`, and ends at its only byte 10.
 abbrev pub certificate_line : List ℕ → List ℕ
 certificate_line text = 35 ∷ 33 ∷ (text ++ 10 ∷ [])
 
 abbrev pub HasOneEnd : List ℕ → Type 0
 HasOneEnd text = AllByRecursion (λ b. b ≢ 10) text
 
--- the canonical text of a list, with such lines behind it, is read as that list
+-- the canonical text of a list, with such lines after it, is read as that list
 abbrev pub CanonicalIsRead : Type 0
 CanonicalIsRead =
     (names : List (List ℕ)) → AreNames names → (list : List Action) → length list ≤ MOST_ACTIONS → AllByRecursion (HasSpelling names) list →
     (texts : List (List ℕ)) → AllByRecursion HasOneEnd texts → IsSchedule names (text_of names list ++ flat_map certificate_line texts) list
 
--- two actions with one canonical spelling are one
+-- two actions with one canonical spelling are equal
 abbrev pub OneSpelling : Type 0
 OneSpelling =
     (names : List (List ℕ)) → AreNames names → (a b : Action) → HasSpelling names a → HasSpelling names b → canonical names a ≡ canonical names b → a ≡ b

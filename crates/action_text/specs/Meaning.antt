@@ -1,4 +1,4 @@
--- What the tokens of a line say: an action, or nothing.
+-- What the tokens of a line mean: an action, or nothing.
 use Rattle.std.specs.Prelude.{◌≡◌, ℕ, ◌+◌, ◌≤◌, ◌⊎◌, List, [], ◌∷◌, Some, codes, decimal, slice_get}
 use Rattle.plan_types.specs.declared.limits.TheConstants.{MOST_STEPS}
 use Rattle.plan_types.specs.declared.action.Keep.TheVariants.{Nothing, Store, Tape}
@@ -18,7 +18,8 @@ arguments (x ∷ y ∷ ys) = x ∷ codes "," ∷ arguments (y ∷ ys)
 abbrev pub call : List ℕ → List (List ℕ) → List (List ℕ)
 call name xs = name ∷ codes "(" ∷ arguments xs
 
--- the texts of a Forward's arguments: its numbers, whether it writes the state, whether it writes the tape, and the place
+-- The texts of a Forward's arguments: two numbers, two truth values, and the place. The truth values say whether it
+-- writes the state, and whether the tape.
 abbrev pub forward_call : ℕ → ℕ → List ℕ → List ℕ → List ℕ → List (List ℕ)
 forward_call from to state tape place = call (codes "Forward") (decimal from ∷ decimal to ∷ state ∷ tape ∷ place ∷ [])
 
@@ -27,7 +28,7 @@ abbrev pub NamesDest : List (List ℕ) → Dest → List ℕ → Type 0
 NamesDest names Work text = text ≡ codes "WORK"
 NamesDest names (Level k) text = slice_get names k ≡ Some text
 
--- the texts say this action, over levels with these names; a tape and a Reverse are of one step
+-- the texts mean this action, over levels with these names; a tape and a Reverse are of one step
 abbrev pub Says : List (List ℕ) → List (List ℕ) → Action → Type 0
 Says names texts (Forward from to Nothing) =
     (from ≤ MOST_STEPS) × (to ≤ MOST_STEPS)
@@ -51,7 +52,7 @@ Says names texts (Move n k dest) =
 Says names texts EndForward = texts ≡ call (codes "EndForward") []
 Says names texts EndReverse = texts ≡ call (codes "EndReverse") []
 
--- tokens that say nothing: there are none, or the first is `#`, which begins a comment
+-- tokens that mean nothing: there are none, or the first is `#`, which begins a comment
 abbrev pub SayNothing : List Token → Type 0
 SayNothing [] = Unit {0}
 SayNothing (t ∷ ts) = t.text ≡ codes "#"

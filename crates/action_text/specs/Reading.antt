@@ -1,5 +1,6 @@
--- No public clause cites this file. What the reader computes, as functions on lists: the tokens that are left of a line, and
--- what is taken from their front, or the fault that is met. The laws tie it to the definitions that clauses cite.
+-- No public clause cites this file. What the reader computes, as functions on lists. Each takes something from the
+-- front of a line's tokens, and gives it and the rest, or a fault. The laws tie it to the definitions that clauses
+-- cite.
 use Rattle.std.specs.Prelude.{◌≡◌, ◌+◌, ◌-◌, ◌*◌, ◌==◌, ◌++◌, ◌&&◌, ℕ, Bool, true, false, List, [], ◌∷◌, length, Option, Some, None, Result, Ok, Err, nat_lt, is_some, unwrap_or, slice_index_or, position, codes, if◌then◌else◌}
 use Rattle.std.specs.Char.{is_ascii_digit}
 use Rattle.std.specs.Option.{option_to_list}
@@ -29,12 +30,12 @@ abbrev pub ◌>>=◌ : {A B F : Type 0} → Result A F → (A → Result B F) �
 (Ok x) >>= f = f x
 (Err e) >>= f = Err e
 
--- what a function returned, seen by view, is what is read
+-- a function's result, seen through `view`, is what is read
 abbrev pub Gives : {X Y F : Type 0} → (X → Y) → Result X F → Result Y F → Type 0
 Gives view (Ok x) read = read ≡ Ok (view x)
 Gives view (Err e) read = read ≡ Err e
 
--- the same, unless memory ran out
+-- the fault, unless memory ran out
 abbrev pub Fails : {Y : Type 0} → TextFault → Result Y TextFault → Type 0
 Fails Memory read = Unit {0}
 Fails (At rule line column) read = read ≡ Err (At rule line column)
@@ -49,8 +50,8 @@ GivesSome view None read = read ≡ None
 
 -- ---- numbers
 
--- The number that n and the digits at the front of the bytes make, unless it is over the limit, and the bytes behind it. A
--- digit's byte is 48 or more.
+-- The number made of n and the digits at the front, and the bytes after them. None above the limit. A digit's byte is
+-- 48 or more.
 unfoldable pub digits_at : ℕ → ℕ → List ℕ → Option (ℕ × List ℕ)
 digits_at limit n [] = Some (n, [])
 digits_at limit n (c ∷ cs) =
@@ -74,7 +75,7 @@ whole (Some x) = if length x.1 == 0 then Some x.0 else None
 unfoldable pub number_of : List ℕ → Option ℕ
 number_of text = whole (number_at MOST_STEPS text)
 
--- what was read at the front of bytes, unless a run goes on behind it
+-- what was read at the front of bytes, unless a run continues right after it
 abbrev pub alone : {A : Type 0} → Option (A × List ℕ) → Option A
 alone None = None
 alone (Some x) = if starts_run x.1 then None else Some x.0
@@ -118,7 +119,7 @@ without_first (t ∷ ts) = ts
 abbrev pub behind : Rest → Rest
 behind rest = record rest { tokens = without_first rest.tokens }
 
--- the text of the next token, and its place, which is the line's end where there is none
+-- the text of the next token, and its place, which is the line's end if there is none
 abbrev pub text_in : List Token → List ℕ
 text_in [] = []
 text_in (t ∷ ts) = t.text
@@ -133,12 +134,12 @@ text_at rest = text_in rest.tokens
 unfoldable pub column_at : Rest → ℕ
 column_at rest = column_in rest.tokens rest.end
 
--- what the next token was read as: where it was, it was gone past, and else nothing was
+-- what the next token was read as; the token is consumed only if it was read
 abbrev pub Takes : {A : Type 0} → Option A → Option A → Rest → Rest → Type 0
 Takes (Some x) read old new = (read ≡ Some x) × (starts_run (text_at old) ≡ true) × (new ≡ behind old)
 Takes None read old new = (read ≡ None) × (new ≡ old)
 
--- the same of one word
+-- a word was read; the token is consumed only if it was
 abbrev pub TakesWord : Bool → List ℕ → Rest → Rest → Type 0
 TakesWord true word old new = (bytes_eq (text_at old) word ≡ true) × (starts_run (text_at old) ≡ true) × (new ≡ behind old)
 TakesWord false word old new = (bytes_eq (text_at old) word ≡ false) × (new ≡ old)
@@ -146,7 +147,7 @@ TakesWord false word old new = (bytes_eq (text_at old) word ≡ false) × (new �
 abbrev pub not_action : ℕ → LineFault
 not_action column = record { rule = rule.NotAction; column = column }
 
--- the next token, if it passes the test, and else the fault at its place
+-- the next token, if it passes the test, and otherwise the fault at its place
 abbrev pub take_if : (List ℕ → Bool) → (List ℕ → Rule) → Rest → Result (List ℕ × Rest) LineFault
 take_if test rule rest = if test (text_at rest) then Ok (text_at rest, behind rest) else Err (record { rule = rule (text_at rest); column = column_at rest })
 
@@ -193,14 +194,14 @@ is_nothing (t ∷ ts) = false
 unfoldable pub end_next : Rest → Result (List (List ℕ)) LineFault
 end_next rest = if is_nothing rest.tokens then Ok [] else Err (not_action (column_at rest))
 
--- texts that fit these wants, and nothing behind them
+-- texts that fit these wants, and nothing after them
 abbrev pub all_of : List (List ℕ) → List Want → Rest → Result (List (List ℕ)) LineFault
 all_of names [] rest = end_next rest
 all_of names (w ∷ ws) rest = next names w rest >>= λ x. all_of names ws x.1 >>= λ xs. Ok (x.0 ∷ xs)
 
 -- ---- lines
 
--- what stands behind the name of an action
+-- what comes after the name of an action
 abbrev pub wants_of : Kind → List Want
 wants_of kind.Forward = opening ∷ number ∷ comma ∷ number ∷ comma ∷ truth ∷ comma ∷ truth ∷ comma ∷ place ∷ closing ∷ []
 wants_of kind.Reverse = opening ∷ number ∷ comma ∷ number ∷ comma ∷ truth ∷ closing ∷ []
@@ -209,7 +210,7 @@ wants_of kind.Move = opening ∷ number ∷ comma ∷ level ∷ comma ∷ target
 wants_of kind.EndForward = opening ∷ closing ∷ []
 wants_of kind.EndReverse = opening ∷ closing ∷ []
 
--- the action that arguments say, if their profile is one
+-- the action that arguments mean, if their profile is one
 abbrev pub forward_said : ℕ → ℕ → Bool → Bool → Place → Option Action
 forward_said from to false false at.Nowhere = Some (Forward from to Nothing)
 forward_said from to false false at.Work = Some (Forward from to Nothing)
@@ -248,18 +249,18 @@ said names kind.EndReverse xs = Some EndReverse
 unfoldable pub arguments_of : List (List ℕ) → Kind → Rest → Result (Option Action) LineFault
 arguments_of names k rest = all_of names (wants_of k) rest >>= λ xs. Ok (said names k xs)
 
--- no profile is a fault at the name
+-- arguments that don't fit together are a fault at the name
 abbrev pub profiled : ℕ → Option Action → Result (Option Action) LineFault
 profiled column None = Err (record { rule = rule.Profile; column = column })
 profiled column (Some a) = Ok (Some a)
 
--- the action of this kind, whose name stands in this column, where so many actions were read
+-- the action of this kind, whose name is in this column, after so many actions
 abbrev pub action_of : List (List ℕ) → Bool → ℕ → Option Kind → Rest → Result (Option Action) LineFault
 action_of names full column None rest = Err (record { rule = rule.NotAction; column = column })
 action_of names full column (Some k) rest =
     if full then Err (record { rule = rule.TooMany; column = column }) else (arguments_of names k rest >>= profiled column)
 
--- whether the line says nothing
+-- whether the line means nothing
 abbrev pub says_nothing : List Token → Bool
 says_nothing [] = true
 says_nothing (t ∷ ts) = bytes_eq t.text (codes "#")
@@ -287,7 +288,7 @@ abbrev pub in_line : {A : Type 0} → ℕ → Result A LineFault → Result A Te
 in_line line (Ok x) = Ok x
 in_line line (Err fault) = Err (fault_at line fault)
 
--- a whole line, with the lines behind it
+-- a whole line, with the lines after it
 abbrev pub whole_line : List ℕ → List (List ℕ) → Rest
 whole_line line later = record { tokens = tokens 1 line; end = length line + 1; later = later }
 
@@ -299,14 +300,14 @@ abbrev pub next_line : List (List ℕ) → Rest
 next_line [] = whole_line [] []
 next_line (line ∷ later) = whole_line line later
 
--- the actions of these lines behind a list, where the first has this number
+-- the actions of these lines after a list; the first line has this number
 unfoldable pub lines_of : List (List ℕ) → List Action → ℕ → List (List ℕ) → Result (List Action) TextFault
 lines_of names list n [] = Ok list
 lines_of names list n (line ∷ later) =
     in_line n (line_of names (length list == MOST_ACTIONS) (whole_line line later))
     >>= λ found. lines_of names (list ++ option_to_list found) (n + 1) later
 
--- the same of what is left of a line, and the lines after it
+-- the actions of what is left of a line, and of the lines after it
 unfoldable pub here_of : List (List ℕ) → List Action → ℕ → Rest → Result (List Action) TextFault
 here_of names list n rest =
     in_line n (line_of names (length list == MOST_ACTIONS) rest)

@@ -1,11 +1,12 @@
--- No public clause cites this file. What a cursor sees: the tokens that are left of its line, and the lines after it.
+-- No public clause cites this file. The model of a cursor: the tokens that are left of its line, and the lines after
+-- it.
 use Rattle.std.specs.Prelude.{ℕ, ◌+◌, ◌-◌, ◌==◌, List, [], ◌∷◌, length, if◌then◌else◌}
 use Rattle.action_text.specs.Tokens.{Token, tokens}
 use Rattle.action_text.specs.ScheduleText.{lines}
 
 pub record Rest : Type 0 where
   pub tokens : List Token
-  -- the column behind the line's last byte
+  -- the column after the line's last byte
   pub end : ℕ
   pub later : List (List ℕ)
 
@@ -18,7 +19,7 @@ unfoldable pub later_lines : List ℕ → List (List ℕ)
 later_lines [] = []
 later_lines (b ∷ bs) = if b == 10 then lines bs else later_lines bs
 
--- what is seen of bytes that begin in a column
+-- the model of bytes that begin in a column
 abbrev pub seen_from : ℕ → List ℕ → Rest
 seen_from column bytes = record {
   tokens = tokens column (first_line bytes);
@@ -26,6 +27,6 @@ seen_from column bytes = record {
   later = later_lines bytes;
 }
 
--- what is seen of bytes, where so many were left at the beginning of their line; no more are left of them now
+-- the bytes left, and how many were left at the beginning of their line, which is no less
 unfoldable pub seen : ℕ → List ℕ → Rest
 seen start bytes = seen_from (start - length bytes + 1) bytes

@@ -5,7 +5,7 @@ use Rattle.plan_types.specs.declared.action.Action.{Action}
 use Rattle.action_text.specs.Tokens.{tokens}
 use Rattle.action_text.specs.Meaning.{Says, IsPassed}
 
--- a byte is put before the first line
+-- a byte is added to the front of the first line
 abbrev pub longer_line : ℕ → List (List ℕ) → List (List ℕ)
 longer_line b [] = (b ∷ []) ∷ []
 longer_line b (line ∷ rest) = (b ∷ line) ∷ rest
@@ -19,7 +19,7 @@ lines (b ∷ bs) = if b == 10 then [] ∷ lines bs else longer_line b (lines bs)
 abbrev pub texts : List ℕ → List (List ℕ)
 texts line = map (λ t. t.text) (tokens 1 line)
 
--- each line says nothing, or the next action of the list, and no action is left
+-- each line means nothing, or the next action of the list, and no action is left
 abbrev pub LinesSay : List (List ℕ) → List (List ℕ) → List Action → Type 0
 LinesSay names [] [] = Unit {0}
 LinesSay names [] (a ∷ list) = ⊥
@@ -27,7 +27,7 @@ LinesSay names (line ∷ rest) [] = IsPassed line × LinesSay names rest []
 LinesSay names (line ∷ rest) (a ∷ list) =
     (IsPassed line × LinesSay names rest (a ∷ list)) ⊎ (Says names (texts line) a × LinesSay names rest list)
 
--- the bytes say this list, of at most 16,777,216 actions
+-- the bytes mean this list, of at most 16,777,216 actions
 pub record IsSchedule (names : List (List ℕ)) (bytes : List ℕ) (list : List Action) : Type 0 where
   pub few : length list ≤ MOST_ACTIONS
   pub says : LinesSay names (lines bytes) list

@@ -1,11 +1,11 @@
--- What may stand at each place of a line, a row for each kind of action. The names of the actions and their arguments are
--- those of the checkpoint_schedules manual.
+-- What is allowed at each place of a line, a row for each kind of action. The names of the actions and their arguments
+-- are those of the checkpoint_schedules manual.
 use Rattle.std.specs.Prelude.{◌≡◌, ℕ, ◌≤◌, ◌⊎◌, List, [], ◌∷◌, Option, Some, None, Contains, codes, decimal}
 use Rattle.plan_types.specs.declared.limits.TheConstants.{MOST_STEPS}
 use Rattle.action_text.specs.Tokens.{Token}
 
--- what may stand at one place: this very text, a number, a truth, a level, a level or the work state, a level, the work
--- state or none
+-- What is allowed at one place. In this order it is a fixed text, a number, a truth value, and a level. Then a level or
+-- the work state, and last a level, the work state or none.
 pub data Want : Type 0 where
   exactly : List ℕ → Want
   number : Want
@@ -33,7 +33,7 @@ shapes =
     ∷ (exactly (codes "EndReverse") ∷ opening ∷ closing ∷ [])
     ∷ []
 
--- a text that may stand there; numbers are at most 1,000,000, in decimal digits without a leading zero
+-- a text that is allowed there; numbers are at most 1,000,000, in decimal digits without a leading zero
 abbrev pub TakesToken : List (List ℕ) → Want → List ℕ → Type 0
 TakesToken names (exactly wanted) text = text ≡ wanted
 TakesToken names number text = (n : ℕ) × (n ≤ MOST_STEPS) × (text ≡ decimal n)
@@ -42,14 +42,14 @@ TakesToken names level text = Contains names text
 TakesToken names target text = Contains names text ⊎ (text ≡ codes "WORK")
 TakesToken names place text = Contains names text ⊎ ((text ≡ codes "WORK") ⊎ (text ≡ codes "NONE"))
 
--- the tokens fit the first places of a row one by one, and next is the place behind them, if there is one
+-- the tokens fit the first places of a row; `next` is the place after them, if any
 abbrev pub FitFront : List (List ℕ) → List Token → List Want → Option Want → Type 0
 FitFront names [] [] next = next ≡ None
 FitFront names [] (w ∷ ws) next = next ≡ Some w
 FitFront names (t ∷ ts) [] next = ⊥
 FitFront names (t ∷ ts) (w ∷ ws) next = TakesToken names w t.text × FitFront names ts ws next
 
--- these tokens begin a line, and this may stand behind them; nothing, where the line is whole
+-- these tokens begin a line, and this may come after them; None, where the line is whole
 abbrev pub Expects : List (List ℕ) → List Token → Option Want → Type 0
 Expects names tokens next = (shape : List Want) × Contains shapes shape × FitFront names tokens shape next
 

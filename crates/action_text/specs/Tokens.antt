@@ -1,5 +1,5 @@
--- The tokens of a line. Blanks are space, tab and carriage return. A token is a longest run of letters, digits and `_`, all
--- of ASCII, or one other byte that isn't a blank. Its column is that of its first byte, counted from 1.
+-- The tokens of a line. Blanks are space, tab and carriage return. A token is a longest run of ASCII letters, digits
+-- and `_`, or another byte except a blank. Its column is that of its first byte, counted from 1.
 use Rattle.std.specs.Prelude.{ℕ, ◌+◌, ◌==◌, Bool, false, ◌&&◌, ◌||◌, List, [], ◌∷◌, if◌then◌else◌}
 use Rattle.std.specs.Char.{is_ascii_alphanumeric, is_ascii_digit}
 
@@ -22,7 +22,7 @@ abbrev pub starts_with_digit : List ℕ → Bool
 starts_with_digit [] = false
 starts_with_digit (b ∷ bs) = is_ascii_digit b
 
--- a byte in this column is put before the text of the first token; where there is none, it is one by itself
+-- a byte in this column is added to the front of the first token, or becomes one
 abbrev pub longer : ℕ → ℕ → List Token → List Token
 longer column b [] = record { column = column; text = b ∷ [] } ∷ []
 longer column b (t ∷ ts) = record { column = column; text = b ∷ t.text } ∷ ts

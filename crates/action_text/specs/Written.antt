@@ -1,4 +1,4 @@
--- No public clause cites this file. What stands at the front of bytes in its canonical spelling, and the rest behind it.
+-- No public clause cites this file. The canonical spelling at the front of bytes, and the rest after it.
 use Rattle.std.specs.Prelude.{◌≡◌, ◌≤◌, ℕ, List, ◌++◌, codes, decimal}
 use Rattle.plan_types.specs.declared.limits.TheConstants.{MOST_STEPS}
 use Rattle.plan_types.specs.declared.action.Keep.{Keep}

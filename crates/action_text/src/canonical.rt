@@ -1,5 +1,5 @@
-// Actions in their canonical spelling, which are read by bytes, some at once. Where none is found, one may stand there in
-// another spelling, of which the tokens tell.
+// Reads actions in their canonical spelling by bytes, several bytes at once. Where this finds none, the action may be
+// spelled in another way. Then the tokens decide.
 ghost use Rattle.std.specs.Prelude.{◌≡◌, ◌≤◌, List, ℕ, ◌++◌, codes, IfSome};
 ghost use Rattle.plan_types.specs.declared.limits.TheConstants.{MOST_STEPS};
 ghost use Rattle.level_book.specs.BookCosts.{names_of};
@@ -17,7 +17,7 @@ struct Image {
     dest: Dest,
 }
 
-// The action at the front of the bytes, and the bytes behind it. Only the two at the turn and the end are never found.
+// The action at the front of the bytes, and the bytes after it. EndForward and EndReverse are never found here.
 #[inline(always)]
 pub(crate) fn action_at<'a>(bytes: &'a [u8], book: &Book) -> Option<(Action, &'a [u8])>
     ensures { IfSome result (λ x. IsActionAt (names_of book.now) bytes.now x.0 x.1.now) }
@@ -35,7 +35,7 @@ pub(crate) fn action_at<'a>(bytes: &'a [u8], book: &Book) -> Option<(Action, &'a
     }
 }
 
-// The Forward whose arguments stand there.
+// The Forward whose arguments are at the front.
 #[inline(always)]
 fn forward_at<'a>(bytes: &'a [u8], book: &Book) -> Option<(Action, &'a [u8])>
     ensures { IfSome result (λ x. IsActionAt (names_of book.now) (codes "Forward(" ++ bytes.now) x.0 x.1.now) }
@@ -47,7 +47,7 @@ fn forward_at<'a>(bytes: &'a [u8], book: &Book) -> Option<(Action, &'a [u8])>
     Some((Action::Forward { from, to, keep }, rest))
 }
 
-// What a Forward with these numbers keeps, by its last three arguments.
+// What a Forward with these numbers keeps, from its last three arguments.
 #[inline(always)]
 fn keep_at<'a>(bytes: &'a [u8], from: u32, to: u32, book: &Book) -> Option<(Keep, &'a [u8])>
     requires { from ≤ MOST_STEPS }
@@ -83,7 +83,7 @@ fn store_at<'a>(bytes: &'a [u8], book: &Book) -> Option<(Keep, &'a [u8])>
     Some((Keep::Store(k), rest))
 }
 
-// The Reverse whose arguments stand there.
+// The Reverse whose arguments are at the front.
 #[inline(always)]
 fn reverse_at(bytes: &[u8]) -> Option<(Action, &[u8])>
     ensures { IfSome result (λ x. (names : List (List ℕ)) → IsActionAt names (codes "Reverse(" ++ bytes.now) x.0 x.1.now) }
@@ -99,7 +99,7 @@ fn reverse_at(bytes: &[u8]) -> Option<(Action, &[u8])>
     Some((Action::Reverse { from, to }, rest))
 }
 
-// The Copy whose arguments and brackets stand there.
+// The Copy whose arguments and brackets are at the front.
 #[inline(always)]
 fn copy_at<'a>(bytes: &'a [u8], book: &Book) -> Option<(Action, &'a [u8])>
     ensures { IfSome result (λ x. IsActionAt (names_of book.now) (codes "Copy" ++ bytes.now) x.0 x.1.now) }
@@ -109,7 +109,7 @@ fn copy_at<'a>(bytes: &'a [u8], book: &Book) -> Option<(Action, &'a [u8])>
     Some((Action::Copy { n, from, dest }, rest))
 }
 
-// The Move whose arguments and brackets stand there.
+// The Move whose arguments and brackets are at the front.
 #[inline(always)]
 fn move_at<'a>(bytes: &'a [u8], book: &Book) -> Option<(Action, &'a [u8])>
     ensures { IfSome result (λ x. IsActionAt (names_of book.now) (codes "Move" ++ bytes.now) x.0 x.1.now) }
@@ -161,7 +161,7 @@ fn level_at<'a>(bytes: &'a [u8], book: &Book) -> Option<(u8, &'a [u8])>
     None
 }
 
-// The bytes behind a comma and a blank.
+// The bytes after a comma and a blank.
 #[inline(always)]
 fn behind_comma(bytes: &[u8]) -> Option<&[u8]>
     ensures { IfSome result (λ rest. bytes.now ≡ codes ", " ++ rest.now) }
@@ -172,7 +172,7 @@ fn behind_comma(bytes: &[u8]) -> Option<&[u8]>
     }
 }
 
-// The bytes behind a closing bracket.
+// The bytes after a closing bracket.
 #[inline(always)]
 fn behind_bracket(bytes: &[u8]) -> Option<&[u8]>
     ensures { IfSome result (λ rest. bytes.now ≡ codes ")" ++ rest.now) }
@@ -183,7 +183,7 @@ fn behind_bracket(bytes: &[u8]) -> Option<&[u8]>
     }
 }
 
-// The bytes behind eight, which are compared at once.
+// The bytes after these eight, which are compared at once.
 #[inline(always)]
 fn behind_eight<'a>(bytes: &'a [u8], word: &[u8; 8]) -> Option<&'a [u8]>
     ensures { IfSome result (λ rest. bytes.now ≡ word.now ++ rest.now) }
@@ -198,7 +198,7 @@ fn behind_eight<'a>(bytes: &'a [u8], word: &[u8; 8]) -> Option<&'a [u8]>
     Some(rest)
 }
 
-// The bytes behind four, which are compared at once.
+// The bytes after these four, which are compared at once.
 #[inline(always)]
 fn behind_four<'a>(bytes: &'a [u8], word: &[u8; 4]) -> Option<&'a [u8]>
     ensures { IfSome result (λ rest. bytes.now ≡ word.now ++ rest.now) }

@@ -1,4 +1,4 @@
-// A cursor over the bytes of a text, which goes from token to token of a line, and from line to line.
+// A cursor over the bytes of a text. It goes from token to token, and from line to line.
 ghost use Rattle.std.specs.Prelude.{◌≡◌, ◌≢◌, ◌<◌, ◌≤◌, ◌+◌, ◌-◌, ◌^◌, ◌∷◌, [], false, true, length, IsTrue, MatchResult, IfOk, IfErr, OnOk, Ok, Err, Some, IfSome, MatchOption};
 ghost use Rattle.plan_types.specs.declared.limits.TheConstants.{MOST_STEPS};
 ghost use Rattle.level_book.specs.BookCosts.{names_of};
@@ -51,7 +51,7 @@ impl<'a> Cursor<'a> {
         }
     }
 
-    // Goes past the action whose canonical spelling is the whole line, where the cursor stands at the line's beginning.
+    // Reads the action whose canonical spelling is the whole line. The cursor is at the line's beginning.
     #[inline(always)]
     pub(crate) fn take_canonical(&mut self, book: &Book) -> Option<Action>
         ensures { MatchOption result (self.new ≡ self.old)
@@ -69,7 +69,7 @@ impl<'a> Cursor<'a> {
         Some(action)
     }
 
-    // Whether the line says nothing.
+    // Whether the line means nothing.
     #[inline(always)]
     pub(crate) fn says_nothing(&mut self) -> bool
         ensures value { result ≡ says_nothing self.old.tokens }
@@ -79,7 +79,7 @@ impl<'a> Cursor<'a> {
         begins_nothing(self.rest)
     }
 
-    // Goes past the next token, which is to be this byte.
+    // Reads the next token, which must be this byte.
     #[inline(always)]
     pub(crate) fn mark(&mut self, byte: u8) -> Result<(), LineFault>
         requires { (is_blank byte ≡ false) × (is_run_byte byte ≡ false) × (byte ≢ 10) }
@@ -101,7 +101,7 @@ impl<'a> Cursor<'a> {
         }
     }
 
-    // The next token, which is to be a word.
+    // The next token, which must be a word.
     #[inline(always)]
     pub(crate) fn word(&self) -> Result<Word<'a>, LineFault>
         ensures word { IfOk result (λ word. (starts_run (text_at self.now) ≡ true) × (word.text.now ≡ text_at self.now)
@@ -122,7 +122,7 @@ impl<'a> Cursor<'a> {
         Ok(Word { text, column })
     }
 
-    // Goes past the next token, where it is a number.
+    // Reads the next token, if it is a number.
     #[inline(always)]
     pub(crate) fn take_number(&mut self) -> Option<u32>
         ensures value { Takes result (number_of (text_at self.old)) self.old self.new }
@@ -136,7 +136,7 @@ impl<'a> Cursor<'a> {
         Some(n)
     }
 
-    // Goes past the next token, where it is this word.
+    // Reads the next token, if it is this word.
     #[inline(always)]
     pub(crate) fn take(&mut self, word: &[u8]) -> bool
         requires { IsWord word.now }
@@ -159,7 +159,7 @@ impl<'a> Cursor<'a> {
         column_of(self.start, after_blanks(self.rest))
     }
 
-    // Sees that nothing is left of the line.
+    // Checks that nothing is left of the line.
     #[inline(always)]
     pub(crate) fn end(&mut self) -> Result<(), LineFault>
         ensures value { MatchResult result
@@ -195,7 +195,7 @@ impl<'a> Cursor<'a> {
     }
 }
 
-// The bytes from the first one on that isn't a blank.
+// The bytes from the first that isn't a blank.
 #[inline(always)]
 #[tactic(auto, unfolding(crate::specs::Bytes::without_blanks))]
 fn after_blanks(bytes: &[u8]) -> &[u8]
@@ -211,14 +211,14 @@ fn after_blanks(bytes: &[u8]) -> &[u8]
     rest
 }
 
-// Most bytes come after all blanks, so that one comparison tells it of them.
+// Most bytes are above all blanks, so one comparison rules them out.
 fn is_blank(b: u8) -> bool
     ensures { result ≡ is_blank b }
 {
     b <= b' ' && (b == b' ' || b == b'\t' || b == b'\r')
 }
 
-// The bytes behind the first one that ends a line.
+// The bytes after the first line end.
 #[tactic(auto, unfolding(crate::specs::Bytes::behind_line))]
 fn after_line(bytes: &[u8]) -> Option<&[u8]>
     ensures { GivesSome (λ rest. rest.now) result (behind_line bytes.now) }
@@ -233,7 +233,7 @@ fn after_line(bytes: &[u8]) -> Option<&[u8]>
     None
 }
 
-// The bytes behind this one, where it is the first.
+// The bytes after this one, where it comes first.
 fn past(bytes: &[u8], byte: u8) -> Option<&[u8]>
     ensures { GivesSome (λ rest. rest.now) result (past byte bytes.now) }
 {
@@ -243,7 +243,7 @@ fn past(bytes: &[u8], byte: u8) -> Option<&[u8]>
     }
 }
 
-// The bytes behind a word, where it is the run at the front.
+// The bytes after a word, where the run at the front is that word.
 #[inline(always)]
 fn behind_word<'a>(bytes: &'a [u8], word: &[u8]) -> Option<&'a [u8]>
     requires { IsWord word.now }
@@ -256,7 +256,7 @@ fn behind_word<'a>(bytes: &'a [u8], word: &[u8]) -> Option<&'a [u8]>
     Some(behind)
 }
 
-// The bytes behind other ones, where they begin with those.
+// The bytes after others, where they begin with those.
 #[inline(always)]
 #[tactic(auto, unfolding(crate::specs::Bytes::behind_front))]
 pub(crate) fn behind_front<'a>(bytes: &'a [u8], others: &[u8]) -> Option<&'a [u8]>
@@ -315,14 +315,14 @@ fn length_of_run(bytes: &[u8]) -> usize
     bytes.len()
 }
 
-// Most bytes behind a run come before all of its bytes, so that one comparison tells it of them.
+// Most bytes after a run are below all bytes of runs, so one comparison rules them out.
 fn is_run_byte(b: u8) -> bool
     ensures { result ≡ is_run_byte b }
 {
     b >= b'0' && (b.is_ascii_alphanumeric() || b == b'_')
 }
 
-// The column of the first of these bytes, in a line at whose beginning so many were left.
+// The column of the first of these bytes. So many were left at the beginning of the line.
 fn column_of(start: usize, rest: &[u8]) -> u32
     requires { (length rest.now ≤ start) × (start < 2 ^ 31) }
     ensures { result ≡ start - length rest.now + 1 }

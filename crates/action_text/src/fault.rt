@@ -8,8 +8,8 @@ use thiserror::Error;
 /// The first fault of a text that is no schedule.
 #[derive(Clone, Copy, Debug, PartialEq, Eq, Error)]
 pub enum TextFault {
-    /// The rule that is broken (1 NotAction, 2 Number, 3 Level, 4 Profile, 5 TooMany), and where: lines and columns are
-    /// counted from 1, columns by bytes.
+    /// The broken rule (1 NotAction, 2 Number, 3 Level, 4 Profile, 5 TooMany), and where. Lines and columns count from
+    /// 1, columns by bytes.
     #[error("line {line}, column {column}: rule {rule}")]
     At { rule: u8, line: u32, column: u32 },
     /// There was no memory.
@@ -49,7 +49,7 @@ pub(crate) enum Rule {
     TooMany,
 }
 
-// A fault of a line that is known.
+// A fault within a line.
 #[derive(Clone, Copy)]
 pub(crate) struct LineFault {
     pub rule: Rule,
@@ -57,7 +57,7 @@ pub(crate) struct LineFault {
 }
 
 impl LineFault {
-    // The same, in the line with this number.
+    // A fault of a line, as one of the text whose line has this number.
     pub(crate) fn at(self, line: u32) -> TextFault
         ensures { result ≡ fault_at line self }
     {

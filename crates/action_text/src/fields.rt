@@ -1,4 +1,4 @@
-// The fields of an action: each is the next token of its line, which goes by a value.
+// The fields of an action. Each is the next token of its line, and returns a value.
 ghost use Rattle.std.specs.Prelude.{◌≡◌, ◌≤◌, Some, Ok, Err, MatchResult, IfOk, OnOk};
 ghost use Rattle.plan_types.specs.declared.limits.TheConstants.{MOST_STEPS};
 ghost use Rattle.level_book.specs.BookCosts.{names_of};
@@ -10,7 +10,7 @@ use crate::words::{Place, take_level, take_place, take_target, take_truth};
 use level_book::Book;
 use plan_types::Dest;
 
-// A number.
+// Reads a number.
 #[tactic(auto, unfolding(crate::specs::Reading::number_next))]
 #[inline(always)]
 pub(crate) fn next_number(cursor: &mut Cursor) -> Result<u32, LineFault>
@@ -27,7 +27,7 @@ pub(crate) fn next_number(cursor: &mut Cursor) -> Result<u32, LineFault>
     }
 }
 
-// A truth.
+// Reads a truth value.
 #[tactic(auto, unfolding(crate::specs::Reading::truth_next))]
 #[inline(always)]
 pub(crate) fn next_truth(cursor: &mut Cursor) -> Result<bool, LineFault>
@@ -43,7 +43,7 @@ pub(crate) fn next_truth(cursor: &mut Cursor) -> Result<bool, LineFault>
     }
 }
 
-// A level.
+// Reads the name of a level.
 #[tactic(auto, unfolding(crate::specs::Reading::level_next))]
 #[inline(always)]
 pub(crate) fn next_level(cursor: &mut Cursor, book: &Book) -> Result<u8, LineFault>
@@ -59,7 +59,7 @@ pub(crate) fn next_level(cursor: &mut Cursor, book: &Book) -> Result<u8, LineFau
     }
 }
 
-// A level or the work state.
+// Reads the name of a level or the work state.
 #[tactic(auto, unfolding(crate::specs::Reading::target_next))]
 #[inline(always)]
 pub(crate) fn next_target(cursor: &mut Cursor, book: &Book) -> Result<Dest, LineFault>
@@ -75,7 +75,7 @@ pub(crate) fn next_target(cursor: &mut Cursor, book: &Book) -> Result<Dest, Line
     }
 }
 
-// A level, the work state or none.
+// Reads the name of a level, the work state or none.
 #[tactic(auto, unfolding(crate::specs::Reading::place_next))]
 #[inline(always)]
 pub(crate) fn next_place(cursor: &mut Cursor, book: &Book) -> Result<Place, LineFault>
@@ -91,7 +91,7 @@ pub(crate) fn next_place(cursor: &mut Cursor, book: &Book) -> Result<Place, Line
     }
 }
 
-// The fault where a number is due.
+// The fault where a number is expected.
 fn number_fault(word: &Word) -> LineFault
     ensures { result ≡ record { rule = number_rule word.now.text.now; column = word.now.column } }
 {
@@ -109,7 +109,7 @@ fn number_fault(word: &Word) -> LineFault
     }
 }
 
-// The fault where a level is due. A word is a run.
+// The fault where a level is expected. A word is a run.
 fn level_fault(word: &Word) -> LineFault
     ensures { result ≡ record { rule = Rule.Level; column = word.now.column } }
 {
@@ -119,7 +119,7 @@ fn level_fault(word: &Word) -> LineFault
     }
 }
 
-// The fault where something else is due.
+// The fault where something else is expected.
 fn other_fault(word: &Word) -> LineFault
     ensures { result ≡ not_action word.now.column }
 {

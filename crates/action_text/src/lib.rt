@@ -1,8 +1,14 @@
-//! Schedules as text, both ways: the actions that a text says, with the first fault of another text, and the canonical
-//! spelling of an action. It stands on `plan_types` and `level_book`, and what reads or writes schedules and certificates
-//! stands on it. The tokens of a line are said in `specs/Tokens.antt`, what may stand where in `Shapes`, what a line says in
-//! `Meaning`, which text says which list in `ScheduleText`, the first fault in `Faults`, and the canonical spelling in
-//! `Canonical`.
+//! Reads and prints schedules as text. A text has its actions, or a first fault. An action has a canonical spelling. It
+//! uses `plan_types` and `level_book`. `cert_text`, `reverse_console`, `requests` and `reversal` use it.
+//!
+//! In `specs/`:
+//!
+//! - `Tokens`: the tokens of a line.
+//! - `Shapes`: what is allowed at each place of a line.
+//! - `Meaning`: the action that a line means.
+//! - `ScheduleText`: the list that a text means.
+//! - `Faults`: the first fault of another text.
+//! - `Canonical`: the canonical spelling.
 #![tactic(auto)]
 
 mod canonical;

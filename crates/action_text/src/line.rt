@@ -12,7 +12,7 @@ use crate::words::{Kind, Place, take_kind};
 use level_book::Book;
 use plan_types::{Action, Keep};
 
-// The action that the line says, or none, where it says nothing; full says that no more actions may come.
+// The action that the line means, or None where it means nothing. `full`: no more actions are allowed.
 pub(crate) fn line(
     cursor: &mut Cursor,
     book: &Book,
@@ -29,7 +29,7 @@ pub(crate) fn line(
     line_by_tokens(cursor, book, full)
 }
 
-// The same, whatever its spelling.
+// Reads a line by its tokens, in any spelling.
 #[inline(never)]
 #[tactic(auto, unfolding(crate::specs::Reading::line_of))]
 fn line_by_tokens(cursor: &mut Cursor, book: &Book, full: bool) -> Result<Option<Action>, LineFault>
@@ -61,7 +61,7 @@ fn line_by_tokens(cursor: &mut Cursor, book: &Book, full: bool) -> Result<Option
     Ok(Some(action))
 }
 
-// The action of this kind that the rest of the line says, or none, where its profile is none.
+// The action of this kind in the rest of the line, or None if its arguments don't fit together.
 #[tactic(auto, unfolding(crate::specs::Reading::arguments_of))]
 fn arguments(kind: Kind, cursor: &mut Cursor, book: &Book) -> Result<Option<Action>, LineFault>
     ensures value { Gives (λ found. found) result (arguments_of (names_of book.now) kind cursor.old) }

@@ -5,7 +5,7 @@ ghost use Rattle.action_text.specs.Reading.{GivesSome, digits_at, number_at};
 
 use plan_types::MOST_STEPS;
 
-// The number that the digits at the front of the bytes make, and the bytes after them, unless it is over 1,000,000.
+// The number of the digits at the front, and the bytes after them. None above 1,000,000.
 #[tactic(auto, unfolding(crate::specs::Reading::digits_at))]
 fn digits(bytes: &[u8]) -> Option<(u32, &[u8])>
     ensures value { GivesSome (λ x. (x.0, x.1.now)) result (digits_at MOST_STEPS 0 bytes.now) }
@@ -24,7 +24,7 @@ fn digits(bytes: &[u8]) -> Option<(u32, &[u8])>
     Some((n, rest))
 }
 
-// The same, without a leading zero.
+// The number at the front of the bytes, written without a leading zero, and the bytes after it.
 #[tactic(auto, unfolding(crate::specs::Reading::number_at))]
 pub(crate) fn number_at(bytes: &[u8]) -> Option<(u32, &[u8])>
     ensures value { GivesSome (λ x. (x.0, x.1.now)) result (number_at MOST_STEPS bytes.now) }

@@ -7,7 +7,7 @@ ghost use Rattle.action_text.specs.Canonical.{canonical, HasSpelling, IsLevelOf,
 use level_book::Book;
 use plan_types::{Action, Dest, Keep, Line};
 
-/// Puts the spelling of an action into a line, in place of what was in it, without a line end. It takes no memory.
+/// Replaces a line by the spelling of an action, without a line end. It takes no memory.
 pub fn print_action(action: &Action, book: &Book, line: &mut Line)
     requires { HasSpelling (names_of book.now) action.now }
     ensures text { line.new ≡ canonical (names_of book.now) action.now }

@@ -15,18 +15,18 @@ use level_book::Book;
 use plan_types::{Action, MOST_ACTIONS};
 use std::alloc::Global;
 
-// About how many bytes a line takes. By it room is made first, which may be too little.
+// The estimated bytes of a line, for reserving room. It may be too little.
 const LINE_LENGTH: usize = 24;
 
-/// Reads the actions that a text says, all of it, in one pass. The memory that it takes is the list's.
+/// Reads the actions that a text means, in one pass. It takes memory for the list.
 pub fn read_actions(alloc: Global, bytes: &[u8], book: &Book) -> Result<Vec<Action>, TextFault>
     requires { length bytes.now < 2 ^ 31 }
-    // What is read is said so, and what is said so is read, unless memory runs out.
+    // The text means the list that is read. A text that means a list is read, unless memory runs out.
     ensures found { IfOk result (λ list. IsSchedule (names_of book.now) bytes.now list.items) }
     ensures only { (list : List Action) → IsSchedule (names_of book.now) bytes.now list →
         MatchResult result (λ v. v.items ≡ list) (λ e. e ≡ TextFault.Memory) }
 
-    // What is refused has that fault first, and what has a fault is refused for it, unless memory runs out.
+    // A refusal has the first fault. Bytes with a fault are refused for it, unless memory runs out.
     ensures refused { IfErr result (λ e. e ≢ TextFault.Memory → HasFirstFault (names_of book.now) bytes.now e) }
     ensures first { (e : TextFault) → HasFirstFault (names_of book.now) bytes.now e →
         MatchResult result (λ _. ⊥) (λ answer. (answer ≡ e) ⊎ (answer ≡ TextFault.Memory)) }

@@ -1,4 +1,4 @@
-// The words of a line, and what they stand for.
+// The words of a line, and their meanings.
 ghost use Rattle.level_book.specs.BookCosts.{names_of};
 ghost use Rattle.action_text.specs.Reading.{text_at, truth_of, level_of, target_of, place_of, kind_of, Takes};
 
@@ -17,7 +17,7 @@ pub(crate) enum Kind {
     EndReverse,
 }
 
-// Where a Forward says that it keeps something.
+// What a Forward keeps, and where.
 #[derive(Clone, Copy)]
 pub(crate) enum Place {
     Level(u8),
@@ -25,7 +25,7 @@ pub(crate) enum Place {
     Nowhere,
 }
 
-// Goes past the next token, where it is the name of a kind of action.
+// Reads the next token, if it is the name of a kind of action.
 #[tactic(auto, unfolding(crate::specs::Reading::kind_of))]
 #[inline(always)]
 pub(crate) fn take_kind(cursor: &mut Cursor) -> Option<Kind>
@@ -48,7 +48,7 @@ pub(crate) fn take_kind(cursor: &mut Cursor) -> Option<Kind>
     }
 }
 
-// Goes past the next token, where it is a truth.
+// Reads the next token, if it is a truth.
 #[inline(always)]
 pub(crate) fn take_truth(cursor: &mut Cursor) -> Option<bool>
     ensures { Takes result (truth_of (text_at cursor.old)) cursor.old cursor.new }
@@ -62,7 +62,7 @@ pub(crate) fn take_truth(cursor: &mut Cursor) -> Option<bool>
     }
 }
 
-// Goes past the next token, where it is the name of a level. At most four names are compared with it.
+// Reads the next token, if it is the name of a level. At most four names are compared with it.
 #[inline(always)]
 pub(crate) fn take_level(cursor: &mut Cursor, book: &Book) -> Option<u8>
     ensures { Takes result (level_of (names_of book.now) (text_at cursor.old)) cursor.old cursor.new }
@@ -76,7 +76,7 @@ pub(crate) fn take_level(cursor: &mut Cursor, book: &Book) -> Option<u8>
     None
 }
 
-// Goes past the next token, where it is the name of a level or the work state.
+// Reads the next token, if it is the name of a level or the work state.
 #[tactic(auto, unfolding(crate::specs::Reading::target_of))]
 #[inline(always)]
 pub(crate) fn take_target(cursor: &mut Cursor, book: &Book) -> Option<Dest>
@@ -91,7 +91,7 @@ pub(crate) fn take_target(cursor: &mut Cursor, book: &Book) -> Option<Dest>
     }
 }
 
-// Goes past the next token, where it is the name of a level, the work state or none.
+// Reads the next token, if it is the name of a level, the work state or none.
 #[tactic(auto, unfolding(crate::specs::Reading::place_of))]
 #[inline(always)]
 pub(crate) fn take_place(cursor: &mut Cursor, book: &Book) -> Option<Place>

@@ -1,8 +1,8 @@
--- The binomial numbers β of Griewank and Walther, "Algorithm 799: Revolve", ACM Transactions on Mathematical Software 26,
--- 2000. They are defined by the recurrence; that β(c, k) is (c + k)! / (c! k!) is a law.
+-- The binomial numbers β of Griewank and Walther, "Algorithm 799: Revolve", ACM Transactions on Mathematical Software
+-- 26, 2000. They are defined by the recurrence. A law says that β(c, k) is (c + k)! / (c! k!).
 use Rattle.std.specs.Prelude.{ℕ, zero, suc, ◌+◌, ◌*◌, ℤ, pos, negsuc}
 
--- β(c, k): of how many steps a chain may be that is reversed with c slots and advances no step more than k times
+-- β(c, k): the longest chain that c slots reverse with each step advanced at most k times
 abbrev pub beta : ℕ → ℕ → ℕ
 beta zero k = 1
 beta (suc c) zero = 1

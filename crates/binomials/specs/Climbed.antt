@@ -4,7 +4,8 @@ use Rattle.binomials.specs.declared.climb.Climb.{Climb}
 use Rattle.binomials.specs.Binomials.{beta, beta_before}
 use Rattle.binomials.specs.Advances.{IsRepeats}
 
--- a climb to the repeats r of l steps with c slots has met β(c, r), β(c, r - 1), β(c, r - 2) and β(c + 1, r - 1)
+-- A climb to the repeats r of l steps with c slots has met four numbers. They are β(c, r), β(c, r - 1), β(c, r - 2) and
+-- β(c + 1, r - 1).
 pub record IsClimb (l c : ℕ) (k : Climb) : Type 0 where
   pub repeated : IsRepeats l c k.repeats
   pub reached : k.reached ≡ beta c k.repeats

@@ -6,8 +6,8 @@ ghost use Rattle.binomials.specs.Laws.{IsSplit};
 
 use crate::climb::climb_to;
 
-/// How often a step of a stretch of `l` steps is advanced at most, where it is reversed with `c` slots: the number r with
-/// β(c, r − 1) < l ≤ β(c, r). It takes no memory.
+/// The most often that a step is advanced, if `l` steps are reversed with `c` slots. It is the r with β(c, r − 1) < l ≤
+/// β(c, r). It takes no memory.
 pub fn repeats(l: u32, c: u32) -> u32
     requires some { 1 ≤ l }
     requires short { l ≤ MOST_STEPS }
@@ -19,8 +19,8 @@ pub fn repeats(l: u32, c: u32) -> u32
     climb_to(l, c).repeats as u32
 }
 
-/// How many steps are advanced without tape to reverse a stretch of `l` steps with `c` slots: t(l, c), which is
-/// r · l − β(c + 1, r − 1). It takes no memory.
+/// The number of steps advanced without tape to reverse `l` steps with `c` slots. It is t(l, c) = r · l − β(c + 1, r −
+/// 1). It takes no memory.
 pub fn least_advances(l: u32, c: u32) -> u64
     requires some { 1 ≤ l }
     requires short { l ≤ MOST_STEPS }
@@ -34,7 +34,8 @@ pub fn least_advances(l: u32, c: u32) -> u64
     climb.repeats * l as u64 - climb.below
 }
 
-/// How many steps from its start a stretch of `l` steps is split: max(1, β(c, r − 2), l − β(c − 1, r)). It takes no memory.
+/// How many steps from its start a stretch of `l` steps is split. It is max(1, β(c, r − 2), l − β(c − 1, r)). It takes
+/// no memory.
 pub fn split(l: u32, c: u32) -> u32
     requires some { 2 ≤ l }
     requires short { l ≤ MOST_STEPS }

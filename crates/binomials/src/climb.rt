@@ -18,7 +18,7 @@ pub(crate) struct Climb {
     pub below: u64,
 }
 
-// Climbs from β(c, 0) to the first number that is no less than the steps. With one slot they are 1, 2, 3 and so on.
+// Climbs from β(c, 0) to the first number that is at least the steps. With one slot the numbers are 1, 2, 3 and so on.
 pub(crate) fn climb_to(steps: u32, slots: u32) -> Climb
     requires some { 1 ≤ steps }
     requires short { steps ≤ MOST_STEPS }

@@ -12,8 +12,8 @@ pub fn repeats_are_between()
     ensures { (l c : ℕ) → RepeatsAreBetween l c }
 {}
 
-/// The advanced steps t(l, c) are r · l − β(c + 1, r − 1) for the number r between two binomial numbers, and no less than
-/// k · l − β(c + 1, k − 1) for any other k.
+/// For the r between two binomial numbers, t(l, c) is r · l − β(c + 1, r − 1). For no other k is k · l − β(c + 1, k −
+/// 1) greater.
 pub fn advances_are_greatest()
     ensures { (l c : ℕ) → AdvancesAreGreatest l c }
 {}

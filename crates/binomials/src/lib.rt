@@ -1,7 +1,7 @@
-//! The binomial numbers of Griewank and Walther, and what follows from them for the reversal of a chain of steps with few
-//! slots: how often a step is advanced, how many steps are advanced in all, and where a stretch is split. It stands on
-//! nothing; the lists of Revolve and the bound over all lists stand on it. `specs/Binomials.antt` has the numbers by their
-//! recurrence, `specs/Advances.antt` the rest, and `specs/Laws.antt` what holds of them.
+//! The binomial numbers of Griewank and Walther, for reversing a chain of steps with few slots. They say how often a
+//! step is advanced, how many advances there are, and where a stretch is split. It uses `plan_types`. `revolve_gen`,
+//! `disk_gen`, `pebble_bound` and other crates for Revolve use it. `specs/Binomials.antt` has the recurrence,
+//! `specs/Advances.antt` the other numbers, and `specs/Laws.antt` the laws.
 #![tactic(auto)]
 
 mod advances;

@@ -17,8 +17,8 @@ use Rattle.bound_cert.specs.declared.verdict.Reason.TheVariants.{Invalid, WrongS
 use Rattle.bound_cert.specs.Thresholds.{FitsThreshold, IsFirstMisfit}
 use Rattle.bound_cert.specs.TableTests.{Passes, FailsFirst, nested_tests, disk_tests}
 
--- The value is the number of k, N + k · N - β(c + 1, k - 1), which is said by a sum: no value is that number where it is negative.
--- For every k it is no more than the forward steps of a valid list for N steps and c slots.
+-- The value is the bound of k, N + k · N - β(c + 1, k - 1). It is stated as a sum, so no value fits a negative bound.
+-- For every k a valid list for N steps and c slots takes at least that many forward steps.
 abbrev pub IsNumberOf : ℕ → ℕ → ℕ → ℕ → Type 0
 IsNumberOf steps c k value = value + beta_before (c + 1) k ≡ steps + k * steps
 
@@ -26,20 +26,20 @@ IsNumberOf steps c k value = value + beta_before (c + 1) k ≡ steps + k * steps
 abbrev pub IsNegative : ℕ → ℕ → ℕ → Type 0
 IsNegative steps c k = steps + k * steps < beta_before (c + 1) k
 
--- what is told of the number of k: the number, and 0 where it is negative
+-- the bound of k as a fault reports it: 0 where it is negative
 abbrev pub IsTold : ℕ → ℕ → ℕ → ℕ → Type 0
 IsTold steps c k told = IsNumberOf steps c k told ⊎ (IsNegative steps c k × (told ≡ 0))
 
--- the class in which an accepted certificate shows a list to be least
+-- the class in which an accepted certificate shows a list least
 abbrev pub class_of : Certificate → Class
 class_of (Revolve k value) = class.Valid
 class_of (Places threshold) = class.Multistage
 class_of (Nested t) = class.Nested
 class_of (Disk t) = class.Disk
 
--- The list is valid. A certificate of Revolve says how many forward steps it takes, which are the number of its k; a threshold
--- fits the places of a list of the multistage class. Tables are those of so many steps and the book, they are an under-table, and
--- their top entry is what the list costs, which is in the nested or in the disk class.
+-- The list is valid. A certificate of Revolve has its forward steps as its value, which is the bound of its k. A
+-- threshold fits the places of a list of the multistage class. Tables are for so many steps and the book, and are an
+-- under-table. Their top entry is the cost of the list, which is in the nested or the disk class.
 abbrev pub IsAccepted : List Action → ℕ → BookCosts → Certificate → Type 0
 IsAccepted list steps book (Revolve k value) =
     Valid steps (slots_of book) list × (forward list ≡ value) × IsNumberOf steps (total_room book steps) k value
@@ -47,13 +47,13 @@ IsAccepted list steps book (Places threshold) = Valid steps (slots_of book) list
 IsAccepted list steps book (Nested t) = Passes (nested_tests list steps book t)
 IsAccepted list steps book (Disk t) = Passes (disk_tests list steps book t)
 
--- what the forward steps of a list, the cost, differ from: the value of its certificate, or, where they are that and it isn't the
--- number of its k, what is told of that number
+-- What differs from the forward steps of a list, the cost: its certificate's value. If they are equal, it is the bound
+-- of its k, as a fault reports it.
 abbrev pub Differs : ℕ → ℕ → ℕ → ℕ → ℕ → ℕ → Type 0
 Differs steps c k cost value other =
     ((cost ≢ value) × (other ≡ value)) ⊎ ((cost ≡ value) × (IsNumberOf steps c k value → ⊥) × IsTold steps c k other)
 
--- why the certificate isn't accepted, by the first test that fails
+-- why the certificate isn't accepted: the first test that fails
 abbrev pub IsFirstReason : List Action → ℕ → BookCosts → Certificate → Reason → Type 0
 IsFirstReason list steps book (Revolve k value) Invalid = Valid steps (slots_of book) list → ⊥
 IsFirstReason list steps book (Revolve k value) WrongShape = ⊥
@@ -69,14 +69,14 @@ IsFirstReason list steps book (Places threshold) (ValueDiffers cost other) = ⊥
 IsFirstReason list steps book (Nested t) reason = FailsFirst (nested_tests list steps book t) reason
 IsFirstReason list steps book (Disk t) reason = FailsFirst (disk_tests list steps book t) reason
 
--- a certificate is a threshold of which this holds
+-- a certificate is a threshold, and this holds of it
 abbrev pub IsPlaces : (ℕ → Type 0) → Certificate → Type 0
 IsPlaces Holds (Revolve k value) = ⊥
 IsPlaces Holds (Places threshold) = Holds threshold
 IsPlaces Holds (Nested t) = ⊥
 IsPlaces Holds (Disk t) = ⊥
 
--- the list is the least of a class: no valid list takes fewer forward steps, or no list of the class costs less
+-- The list is the least of a class. No valid list takes fewer forward steps, or no list of the class costs less.
 abbrev pub IsLeastOf : Class → ℕ → BookCosts → List Action → Type 0
 IsLeastOf class.Valid steps book list = (other : List Action) → Valid steps (slots_of book) other → forward list ≤ forward other
 IsLeastOf class.Nested steps book list = (other : List Action) → IsNested steps (slots_of book) other → cost list book ≤ cost other book

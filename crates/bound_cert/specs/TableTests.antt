@@ -29,10 +29,10 @@ pub record FiveTests : Type 1 where
   pub Sized : Type 0
   -- the list is a member of the class
   pub Member : Type 0
-  -- the tables are an under-table; else a clause fails first at a place
+  -- the tables are an under-table; otherwise a clause first fails at a place
   pub Under : Type 0
   pub BreaksFirst : Place → Type 0
-  -- the top entry is what the list costs
+  -- the top entry is the list's cost
   pub top : Entry
   pub list_cost : ℕ
 
@@ -40,8 +40,8 @@ pub record FiveTests : Type 1 where
 abbrev pub Passes : FiveTests → Type 0
 Passes tests = tests.Right × tests.Sized × tests.Member × tests.Under × (tests.top ≡ number tests.list_cost)
 
--- The first that fails, as a reason. Of the clauses the first that fails is told; of the top entry, what the list costs and the
--- entry, as numbers.
+-- The first test that fails, as a reason. For the clauses it is the first that fails. For the top entry it has the
+-- list's cost and the entry, as numbers.
 abbrev pub FailsFirst : FiveTests → Reason → Type 0
 FailsFirst tests Invalid = tests.Right → ⊥
 FailsFirst tests WrongShape = tests.Right × (tests.Sized → ⊥)

@@ -22,9 +22,9 @@ pub record FitsThreshold (threshold steps : ℕ) (book : BookCosts) (list : List
   pub are_on : AreOn steps book list fast slow levels
   pub meets : MeetsThreshold threshold steps book fast slow (slice_index levels) list
 
--- The threshold doesn't fit at this entry, whose table is 4, and whose number of free slots is that of the place. Clause 21: a
--- place on level 0 saves less. Clause 22: a place on level 1 would save more. Clause 23: the threshold isn't 0, and fewer
--- places are on level 0 than it has room for.
+-- The threshold doesn't fit at this entry. Its table is 4, and its free slots are the place's number. Clause 21: a
+-- place on level 0 saves less. Clause 22: a place on level 1 would save more. Clause 23: the threshold isn't 0, and
+-- level 0 has room for more places.
 abbrev pub Misfits : ℕ → ℕ → BookCosts → List Action → Level → Level → List ℕ → Entry → Type 0
 Misfits threshold steps book list fast slow levels e =
     (e.table ≡ 4) × (e.steps ≡ 0)
@@ -32,7 +32,7 @@ Misfits threshold steps book list fast slow levels e =
     ⊎ ((e.clause ≡ 22) × (e.level ≡ 1) × (e.free < length levels) × (slice_index levels e.free ≡ 1) × (threshold < saving list fast slow e.free))
     ⊎ ((e.clause ≡ 23) × (e.level ≡ 0) × (e.free ≡ 0) × (threshold ≢ 0) × (places_on (slice_index levels) 0 (length levels) < room book 0 steps)))
 
--- one entry stands before another, by the clause and then by the place
+-- one entry comes before another, by clause and then by place
 abbrev pub StandsBefore : Entry → Entry → Type 0
 StandsBefore p q = (p.clause < q.clause) ⊎ ((p.clause ≡ q.clause) × (p.free < q.free))
 
@@ -45,7 +45,7 @@ pub record IsFirstMisfit (threshold steps : ℕ) (book : BookCosts) (list : List
   pub misfits : Misfits threshold steps book list fast slow levels entry
   pub none_before : (other : Entry) → StandsBefore other entry → Misfits threshold steps book list fast slow levels other → ⊥
 
--- the threshold is the most that a place on level 1 would save, and 0 where none is there
+-- the threshold is the most that a place on level 1 would save, or 0 if none is there
 pub record IsGreatestSlow (threshold : ℕ) (list : List Action) (fast slow : Level) (levels : List ℕ) : Type 0 where
   pub most : (p : ℕ) → p < length levels → slice_index levels p ≡ 1 → saving list fast slow p ≤ threshold
   pub taken : (threshold ≡ 0) ⊎ ((p : ℕ) × (p < length levels) × (slice_index levels p ≡ 1) × (saving list fast slow p ≡ threshold))

@@ -1,4 +1,4 @@
--- No public clause cites this file. What a verdict says of a list, and what is found of the places of one.
+-- No public clause cites this file. What a verdict says of a list, and what is found about its places.
 use Rattle.std.specs.Prelude.{◌≡◌, ◌≢◌, ℕ, ◌<◌, List, length, Option, MatchOption, slice_index}
 use Rattle.plan_types.specs.declared.action.Action.{Action}
 use Rattle.level_book.specs.declared.book.Level.{Level}
@@ -20,14 +20,14 @@ abbrev pub IsVerdict : List Action → ℕ → BookCosts → Certificate → Cer
 IsVerdict list steps book certificate (Least class) = (class ≡ class_of certificate) × IsAccepted list steps book certificate
 IsVerdict list steps book certificate (Not reason) = IsFirstReason list steps book certificate reason
 
--- the first place on a level of which something holds
+-- the first place on a level for which this holds
 pub record IsFirstOn (level : ℕ) (levels : List ℕ) (Holds : ℕ → Type 0) (p : ℕ) : Type 0 where
   pub within : p < length levels
   pub on : slice_index levels p ≡ level
   pub holds : Holds p
   pub none_before : (q : ℕ) → q < p → slice_index levels q ≡ level → Holds q → ⊥
 
--- it, or None where it holds of no place there
+-- that place, or None if there is none
 abbrev pub FindsOn : ℕ → List ℕ → (ℕ → Type 0) → Option ℕ → Type 0
 FindsOn level levels Holds found = MatchOption found ((p : ℕ) → p < length levels → slice_index levels p ≡ level → Holds p → ⊥) (IsFirstOn level levels Holds)
 
@@ -42,7 +42,7 @@ FindsMisfit threshold steps book list fast slow levels found =
 abbrev pub FindsNumber : ℕ → ℕ → ℕ → Option ℕ → Type 0
 FindsNumber steps c k found = MatchOption found (IsNegative steps c k) (IsNumberOf steps c k)
 
--- what the forward steps of a list and the value of its certificate come to, for so many steps, slots and repeats
+-- the verdict by a list's forward steps and its certificate's value, for so many steps, slots and repeats
 abbrev pub IsComparison : ℕ → ℕ → ℕ → ℕ → ℕ → CertVerdict → Type 0
 IsComparison steps slots k list_cost value (Least class.Valid) = (list_cost ≡ value) × IsNumberOf steps slots k value
 IsComparison steps slots k list_cost value (Least class.Multistage) = ⊥
@@ -54,7 +54,7 @@ IsComparison steps slots k list_cost value (Not OutsideClass) = ⊥
 IsComparison steps slots k list_cost value (Not (Inequality entry)) = ⊥
 IsComparison steps slots k list_cost value (Not (ValueDiffers c other)) = (c ≡ list_cost) × Differs steps slots k list_cost value other
 
--- what the cost of a list and a top entry come to
+-- the verdict by the cost of a list and a top entry
 abbrev pub IsTopVerdict : Class → ℕ → TableEntry → CertVerdict → Type 0
 IsTopVerdict class list_cost top (Least c) = (c ≡ class) × (top ≡ number list_cost)
 IsTopVerdict class list_cost top (Not Invalid) = ⊥

@@ -6,7 +6,7 @@ ghost use Rattle.bound_cert.specs.Verdicts.{FindsNumber};
 
 use binomials::beta;
 
-// N + k · N − β(c + 1, k − 1) for N steps and c slots, and None where that is negative. It takes no memory.
+// N + k · N − β(c + 1, k − 1) for N steps and c slots, or None where that is negative. It takes no memory.
 pub(crate) fn bound(steps: u32, slots: u32, k: u32) -> Option<u64>
     requires short { steps ≤ MOST_STEPS }
     requires slots { slots ≤ steps }
@@ -18,10 +18,10 @@ pub(crate) fn bound(steps: u32, slots: u32, k: u32) -> Option<u64>
         return most.checked_sub(u64::from(k));
     }
     if k > 2 * steps {
-        // β(c + 1, k − 1) is no less than β(2, k − 1), which is k · (k + 1) / 2.
+        // β(c + 1, k − 1) is at least β(2, k − 1), which is k · (k + 1) / 2.
         return None;
     }
-    // Where it is more than all, the cap shows it.
+    // If it is more than all, the cap shows it.
     let less = beta_before(slots + 1, k, most + 1);
     most.checked_sub(less)
 }

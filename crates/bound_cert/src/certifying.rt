@@ -30,7 +30,8 @@ use disk_gen::DiskTables;
 use level_book::Book;
 use multistage_gen::Multistage;
 
-/// The certificate of the list that `revolve_gen::revolve_list` gives for these steps and this book. It takes no memory.
+/// The certificate of the list that `revolve_gen::revolve_list` gives for these steps and this book. It takes no
+/// memory.
 pub fn certify_revolve(steps: u32, book: &Book) -> Certificate
     requires short { steps ≤ MOST_STEPS }
     requires plan { HasPlan steps (total_room book.now steps) }
@@ -38,7 +39,7 @@ pub fn certify_revolve(steps: u32, book: &Book) -> Certificate
     ensures more { 2 ≤ steps → result ≡ Certificate.Revolve (repeats steps (total_room book.now steps))
         (steps + least_advances steps (total_room book.now steps)) }
 
-    // It has a text: its numbers are those that a text may have.
+    // It has a text: its numbers are within the limits of texts.
     ensures text { HasText steps book.now result }
 
     // It is accepted for that list, so no valid list takes fewer forward steps.
@@ -58,8 +59,8 @@ pub fn certify_revolve(steps: u32, book: &Book) -> Certificate
     }
 }
 
-/// The certificate of a multistage plan: the most that the images of a place on the slower level would save on the faster one. The
-/// plan has counted what its places save, so this takes no memory.
+/// The certificate of a multistage plan. Its threshold is the most that a place on the slower level would save on the
+/// faster one. The plan has counted these savings, so this takes no memory.
 pub fn certify_places(plan: &Multistage) -> Certificate
     ensures threshold { (steps : ℕ) (book : BookCosts) → IsPlaced steps book plan.now →
         IsPlaces (λ threshold. IsThresholdOf threshold steps book plan.now.actions) result }
@@ -74,11 +75,11 @@ pub fn certify_places(plan: &Multistage) -> Certificate
     }
 }
 
-/// The certificate of a list of the nested class, which is the tables that it is read from. It takes no memory.
+/// The certificate of a list of the nested class: the tables that it was read from. It takes no memory.
 pub fn certify_nested(tables: Tables) -> Certificate
     ensures value { result ≡ Certificate.Nested tables }
 
-    // Of the greatest tables it has a text, and it is accepted for the list that is read from them.
+    // The certificate of the greatest tables has a text, and is accepted for the list read from them.
     ensures text { (steps : ℕ) (book : BookCosts) → IsWithinLimits book → TablesFit steps book → AreFor steps book tables →
         IsGreatest steps book (tables_in tables) →
         HasText steps book result }
@@ -91,7 +92,7 @@ pub fn certify_nested(tables: Tables) -> Certificate
     Certificate::Nested { tables }
 }
 
-/// The same of the disk class and its tables.
+/// The certificate of disk tables, for the disk class.
 pub fn certify_disk(tables: DiskTables) -> Certificate
     ensures value { result ≡ Certificate.Disk tables }
     ensures text { (steps : ℕ) (book : BookCosts) → IsWithinLimits book → FastestTablesFit steps book → AreDiskFor steps book tables →

@@ -25,8 +25,8 @@ use plan_types::Action;
 use schedule_rules::{Verdict, check};
 use std::alloc::{AllocError, Global};
 
-/// Checks a certificate for a list, a number of steps and a book. The memory that it takes is the validator's; for a threshold
-/// also that of the list's places, and for tables that of their columns, and 8 bytes for each step of each number of free slots.
+/// Checks a certificate for a list, a number of steps and a book. It takes the validator's memory. A threshold also
+/// needs that of the list's places. Tables need their columns, and 8 bytes for each step and number of free slots.
 pub fn check_certificate(
     alloc: Global,
     list: &[Action],
@@ -40,7 +40,8 @@ pub fn check_certificate(
         (v ≡ CertVerdict.Least class) ↔ ((class ≡ class_of certificate.now) × IsAccepted list.now steps book.now certificate.now)) }
     ensures refused { IfOk result (λ v. (reason : Reason) → (v ≡ CertVerdict.Not reason) ↔ (IsFirstReason list.now steps book.now certificate.now reason)) }
 
-    // An accepted certificate shows that no valid list takes fewer forward steps, or that no list of the class costs less.
+    // An accepted certificate shows that the list is least. No valid list takes fewer forward steps, or no list of the
+    // class costs less.
     ensures least { IfOk result (λ v. v ≡ CertVerdict.Least Class.Valid →
         (other : List Action) → Valid steps (slots_of book.now) other → forward list.now ≤ forward other) }
     ensures least_multistage { IfOk result (λ v. v ≡ CertVerdict.Least Class.Multistage →
@@ -89,13 +90,13 @@ fn forward_steps(list: &[Action], steps: u32, book: &Book) -> u64
     requires valid { Valid steps (slots_of book.now) list.now }
     ensures { result ≡ forward list.now }
 {
-    // A valid list names no level but the book's, of which there are four at most.
+    // A valid list names only the book's levels, of which there are at most four.
     let _levels = book.levels();
     tally(list).forward
 }
 
-// The verdict on a list that takes so many forward steps, by the value of its certificate and the number of its k, which is None
-// where it is negative.
+// The verdict on a list with so many forward steps, by its certificate's value and k's bound. The bound is None where
+// it is negative.
 fn compare(cost: u64, value: u64, number: Option<u64>) -> CertVerdict
     ensures { (steps slots k : ℕ) → FindsNumber steps slots k number → IsComparison steps slots k cost value result }
 {

@@ -1,9 +1,8 @@
-//! What certificates show to somebody who trusts neither a plan nor its planner: that no valid list takes fewer forward steps
-//! than the list at hand, or that no list of its class costs less. It stands on the validator, the counts of a list, the
-//! binomial numbers and the bound over all valid lists, and for classes on who is in them and on what their lists cost at
-//! least; the top call stands on it. The texts of certificates are in `cert_text`, whose
-//! calls are given on, and the entries of tables in `table_clauses`. `specs/Accepted.antt` says which certificate is
-//! accepted for which list, and why another isn't, and `specs/Thresholds.antt` which places a threshold doesn't fit.
+//! Checks certificates, which show that a list is the least: of all valid lists, or of its class. It uses `cert_text`,
+//! `pebble_bound`, `class_bounds` and most crates for schedules. `requests` and `reversal` use it. A certificate shows
+//! this to a reader who trusts neither a plan nor its planner. Texts of certificates are in `cert_text`, and entries of
+//! tables in `table_clauses`. `specs/Accepted.antt` says which certificate is accepted for which list, and why another
+//! isn't. `specs/Thresholds.antt` says which places a threshold doesn't fit.
 #![tactic(auto)]
 
 mod bound;

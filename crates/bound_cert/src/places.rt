@@ -42,7 +42,8 @@ pub(crate) fn weigh_places(
     }
 }
 
-// The first place that the threshold doesn't fit, by the places' levels and what they save. Level 0 has room for so many at most.
+// The first place that the threshold doesn't fit, by the places' levels and savings. Level 0 has room for at most so
+// many.
 fn first_misfit(levels: &[u8], savings: &[u64], most: u32, threshold: u64) -> Option<Entry>
     requires each { length savings.now ≡ length levels.now }
     requires few { length levels.now < 2 ^ 32 }
@@ -115,7 +116,7 @@ fn count_fast(levels: &[u8]) -> u32
     count
 }
 
-// The most that a place on level 1 would save, and 0 where none is there.
+// The most that a place on level 1 would save, or 0 if none is there.
 pub(crate) fn greatest_slow(levels: &[u8], savings: &[u64]) -> u64
     requires each { length savings.now ≡ length levels.now }
     ensures { (list : List Action) (fast slow : Level) → AreSavings list fast slow savings.now → IsGreatestSlow result list fast slow levels.now }

@@ -85,7 +85,7 @@ fn top_of(tables: &Tables, steps: u32, book: &Book) -> Cost
     tables.fresh(slowest, steps, book.room(slowest, steps))
 }
 
-// The same of disk tables.
+// The top entry of disk tables.
 fn disk_top_of(tables: &DiskTables, steps: u32) -> Cost
     requires { tables.now.fast.steps ≡ steps }
     ensures { value_of result ≡ disk_top_entry steps (disk_tables_in tables.now) }
@@ -103,7 +103,7 @@ fn list_cost(list: &[Action], steps: u32, book: &Book) -> u64
     requires valid { Valid steps (slots_of book.now) list.now }
     ensures { result ≡ cost list.now book.now }
 {
-    // A valid list names no level but the book's, of which there are four at most.
+    // A valid list names only the book's levels, of which there are at most four.
     let _levels = book.levels();
     let counts = tally(list);
     total(&counts, book)

@@ -1,4 +1,4 @@
-// What a check of a certificate answers.
+// The answers of a check of a certificate.
 
 use table_clauses::Entry;
 
@@ -22,20 +22,20 @@ pub enum Reason {
     Invalid,
     /// The tables aren't for these steps and this book, or are for more than can be built.
     WrongShape,
-    /// The list isn't in the class that the certificate is for.
+    /// The list isn't in the certificate's class.
     OutsideClass,
-    /// A clause fails here. For a threshold the table is 4, the number of free slots is that of the place, and the steps are 0.
+    /// A clause fails here. For a threshold the table is 4, the free slots are the place's number, and the steps are 0.
     Inequality(Entry),
-    /// For a certificate of Revolve, the list takes `cost` forward steps, which differ from `value`: the certificate's, or, where
-    /// they are that, the number that goes with its `k`. For tables, the list costs `cost`, and the top entry is `value`;
-    /// 18,446,744,073,709,551,615 stands for Never.
+    /// For a certificate of Revolve the list takes `cost` forward steps, which differ from `value`. That is the
+    /// certificate's value; where they equal it, it is the bound of its `k`. For tables the list costs `cost`, and the
+    /// top entry is `value`. There 18,446,744,073,709,551,615 means Never.
     ValueDiffers { cost: u64, value: u64 },
 }
 
 /// What a check of a certificate answers.
 #[derive(Clone, Copy, Debug, PartialEq, Eq)]
 pub enum CertVerdict {
-    /// The list at hand is the least of this class.
+    /// The list is the least of this class.
     Least(Class),
     /// The certificate isn't accepted, for this reason.
     Not(Reason),

@@ -1,4 +1,4 @@
--- The one text of a certificate that is written, and the writes of which it is put together.
+-- The canonical text of a certificate, and the writes that produce it.
 use Rattle.std.specs.Prelude.{ℕ, zero, suc, List, [], ◌∷◌, ◌++◌, codes}
 use Rattle.std.specs.List.{flat_map}
 use Rattle.cert_text.specs.declared.certificate.Certificate.{Certificate}
@@ -8,14 +8,14 @@ use Rattle.cert_text.specs.WordLines.{word_lines}
 abbrev pub line_of : List (List ℕ) → List ℕ
 line_of words = codes "#!" ++ flat_map (λ word. 32 ∷ word) words ++ 10 ∷ []
 
--- the text of a certificate: its lines, one behind the other
+-- the text of a certificate: its lines, one after the other
 abbrev pub canonical : Certificate → List ℕ
 canonical certificate = flat_map line_of (word_lines certificate)
 
 -- ---- the writes, which join to that text
 
--- The writes of a line, each with sixteen words at most: `text` is what the next write has so far, and so many words may still
--- be put into it.
+-- The writes of a line, each of at most sixteen words. `text` is what the next write has so far, and so many words
+-- still fit into it.
 abbrev pub pieces_from : ℕ → List ℕ → List (List ℕ) → List (List ℕ)
 pieces_from room text [] = (text ++ 10 ∷ []) ∷ []
 pieces_from zero text (word ∷ words) = text ∷ pieces_from 15 (32 ∷ word) words

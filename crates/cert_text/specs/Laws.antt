@@ -12,12 +12,12 @@ use Rattle.cert_text.specs.Meaning.{IsCertificateText, HasText}
 use Rattle.cert_text.specs.Faults.{HasFirstFault}
 use Rattle.cert_text.specs.Canonical.{canonical, pieces}
 
--- bytes say one certificate at most
+-- bytes mean one certificate at most
 abbrev pub OneCertificate : Type 0
 OneCertificate =
     (steps : ℕ) (book : BookCosts) (bytes : List ℕ) (a b : Certificate) → IsCertificateText steps book bytes a → IsCertificateText steps book bytes b → a ≡ b
 
--- they have one first fault at most, and those that say a certificate have none
+-- they have at most one first fault, and those of a certificate have none
 abbrev pub OneFault : Type 0
 OneFault = (steps : ℕ) (book : BookCosts) (bytes : List ℕ) (a b : CertFault) → HasFirstFault steps book bytes a → HasFirstFault steps book bytes b → a ≡ b
 
@@ -26,7 +26,7 @@ CertificatesHaveNoFault =
     (steps : ℕ) (book : BookCosts) (bytes : List ℕ) (certificate : Certificate) (fault : CertFault) →
     IsCertificateText steps book bytes certificate → HasFirstFault steps book bytes fault → ⊥
 
--- all bytes say a certificate or have a first fault
+-- all bytes mean a certificate or have a first fault
 abbrev pub CertificateOrFault : Type 0
 CertificateOrFault =
     (steps : ℕ) (book : BookCosts) (bytes : List ℕ) →
@@ -41,14 +41,13 @@ pub record IsOtherLine (line : List ℕ) : Type 0 where
   pub unmarked : is_marked line ≡ false
   pub one_end : AllByRecursion (λ b. b ≢ 10) line
 
--- the canonical text of a certificate, behind any other lines, says that certificate
+-- the canonical text of a certificate, after any other lines, reads as that certificate
 abbrev pub CanonicalIsRead : Type 0
 CanonicalIsRead =
     (steps : ℕ) (book : BookCosts) (certificate : Certificate) → HasText steps book certificate → (others : List (List ℕ)) → AllByRecursion IsOtherLine others →
     IsCertificateText steps book (flat_map (λ line. line ++ 10 ∷ []) others ++ canonical certificate) certificate
 
--- Tables that can be built for so many steps and a book, and that are for them, have a text, whichever entries were set; so it is
--- with disk tables.
+-- Tables for so many steps and a book have a text if they can be built, with any entries. So do disk tables.
 abbrev pub SizedHasText : TableRows → Type 0
 SizedHasText t = (steps : ℕ) (book : BookCosts) → TablesFit steps book → AreFor steps book t → HasText steps book (Nested t)
 

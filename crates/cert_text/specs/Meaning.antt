@@ -1,4 +1,4 @@
--- Which text says which certificate.
+-- Which text means which certificate.
 use Rattle.std.specs.Prelude.{◌≡◌, ℕ, ◌^◌, ◌<◌, ◌≤◌, List, map, length, slice_index_or}
 use Rattle.plan_types.specs.declared.limits.TheConstants.{MOST_STEPS}
 use Rattle.level_book.specs.BookCosts.{BookCosts}
@@ -27,13 +27,13 @@ pub record HaveTables (steps : ℕ) (book : BookCosts) (t : TableRows) : Type 0 
   pub shaped : AreShaped t
   pub words : (k : ℕ) → k < length t.rooms → HaveWords t k
 
--- the same, and such tables can be built
+-- such tables that can be built
 pub record HaveText (steps : ℕ) (book : BookCosts) (t : TableRows) : Type 0 where
   pub fit : TablesFit steps book
   pub tables : HaveTables steps book t
 
--- the same of disk tables: those of level 0 are as if the book had no other, and over both levels there is an entry for each
--- number of steps
+-- Which disk tables have a text. Those of level 0 are as if the book had no other. Over both levels there is an entry
+-- for each number of steps.
 pub record HaveDiskText (steps : ℕ) (book : BookCosts) (t : DiskRows) : Type 0 where
   pub fit : FastestTablesFit steps book
   pub fast : HaveTables steps (fastest book) t.fast
@@ -42,7 +42,8 @@ pub record HaveDiskText (steps : ℕ) (book : BookCosts) (t : DiskRows) : Type 0
   pub fresh : (l : ℕ) → 1 ≤ l → l ≤ steps → HasWord ((disk_tables_in t).disk_fresh l)
   pub held : (l : ℕ) → 1 ≤ l → l ≤ steps → HasWord ((disk_tables_in t).disk_held l)
 
--- Which certificates have a text for so many steps and a book: their numbers are below 2^64, and a k is at most 1,000,000.
+-- Which certificates have a text for so many steps and a book. Their numbers are below 2^64, and a k is at most
+-- 1,000,000.
 abbrev pub HasText : ℕ → BookCosts → Certificate → Type 0
 HasText steps book (Revolve k value) = (k ≤ MOST_STEPS) × (value < 2 ^ 64)
 HasText steps book (Places threshold) = threshold < 2 ^ 64

@@ -11,7 +11,7 @@ use Rattle.cert_text.specs.Left.{Unread, Passes}
 abbrev pub cost_word : Cost → List ℕ
 cost_word cost = entry_word (value_of cost)
 
--- lines were gone past that fit what was wanted, and said this
+-- lines were read that fit these wants and mean this
 pub record Reads (wants : List (List Want)) (said : List (List (List ℕ))) (old new : Unread) : Type 0 where
   pub passes : Passes wants old new
   pub says : map texts_of old.lines ≡ said ++ map texts_of new.lines
@@ -20,7 +20,8 @@ pub record Reads (wants : List (List Want)) (said : List (List (List ℕ))) (old
 unfoldable pub wants_for : TableRows → ℕ → List (List Want)
 wants_for t k = rows_wants (codes "F") k t.steps (slice_index_or t.rooms k 0 + 1) ++ rows_wants (codes "H") k t.steps (slice_index_or t.rooms k 0)
 
--- The steps, the rooms, and all entries but some of those whose first state is in work are kept: at these levels and free slots.
+-- All entries are kept but some whose first state is in work, at these levels and free slots. The steps and rooms are
+-- kept.
 pub record KeepsFresh (here : ℕ → ℕ → Type 0) (old new : TableRows) : Type 0 where
   pub steps : new.steps ≡ old.steps
   pub rooms : new.rooms ≡ old.rooms

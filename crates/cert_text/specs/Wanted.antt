@@ -1,4 +1,4 @@
--- What the lines of a certificate must be: the word that is wanted at each place, by the kind that the first word names.
+-- What the lines of a certificate must be: the word at each place, by the kind that the first word names.
 use Rattle.std.specs.Prelude.{◌≡◌, ◌⊎◌, ℕ, ◌+◌, ◌-◌, ◌^◌, ◌<◌, ◌≤◌, List, [], ◌∷◌, ◌++◌, length, map, replicate, codes, decimal}
 use Rattle.std.specs.List.{range_with_len, flat_map}
 use Rattle.cert_text.specs.declared.reading.TheConstants.{MOST_REPEATS}
@@ -7,13 +7,13 @@ use Rattle.cost_tables.specs.TableRows as tables
 use Rattle.cert_text.specs.declared.kind.Kind.{Kind}
 use Rattle.cert_text.specs.declared.kind.Kind.TheVariants.{Revolve, Places, Nested, Disk}
 
--- what may stand at one place of a line: one word, a number that is at most so great, or an entry of a table
+-- What is allowed at one place: one word, a number up to a limit, or an entry of a table.
 pub data Want : Type 0 where
   this_word : List ℕ → Want
   number_to : ℕ → Want
   an_entry : Want
 
--- the text is what may stand there
+-- the text is allowed there
 abbrev pub TakesWord : Want → List ℕ → Type 0
 TakesWord (this_word word) text = text ≡ word
 TakesWord (number_to most) text = (n : ℕ) × (n ≤ most) × (text ≡ decimal n)
@@ -30,7 +30,7 @@ kind_word Places = codes "places"
 kind_word Nested = codes "nested"
 kind_word Disk = codes "disk"
 
--- what is wanted behind that word in its line: k, which is at most 1,000,000, and the value; or the threshold
+-- What comes after the first word in its line: k, at most 1,000,000, and the value; or the threshold.
 abbrev pub first_wants : Kind → List Want
 first_wants Revolve = number_to MOST_REPEATS ∷ number_to greatest ∷ []
 first_wants Places = number_to greatest ∷ []
@@ -60,7 +60,7 @@ later_wants Places steps book = []
 later_wants Nested steps book = flat_map (level_wants steps book) (range_with_len 0 (length book.levels)) ++ (this_word (codes "end") ∷ []) ∷ []
 later_wants Disk steps book = flat_map (level_wants steps (tables.fastest book)) (range_with_len 0 (length (tables.fastest book).levels)) ++ column_wants steps
 
--- what is wanted in them can't be read: tables for so many steps and the book can't be built
+-- tables for so many steps and the book can't be built
 abbrev pub IsTooLarge : Kind → ℕ → BookCosts → Type 0
 IsTooLarge Revolve steps book = ⊥
 IsTooLarge Places steps book = ⊥

@@ -1,5 +1,5 @@
--- The words of a certificate, line by line: what its text says, whatever blanks stand between them and whatever other lines
--- stand around them.
+-- The words of a certificate, line by line: the meaning of its text. Neither blanks between them nor other lines
+-- matter.
 use Rattle.std.specs.Prelude.{ℕ, ◌+◌, List, [], ◌∷◌, ◌++◌, map, length, slice_index_or, codes, decimal}
 use Rattle.std.specs.List.{range_with_len, flat_map}
 use Rattle.level_book.specs.UnderTable.{Entry, number, never}

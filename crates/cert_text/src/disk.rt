@@ -20,7 +20,7 @@ use disk_gen::DiskTables;
 use level_book::Book;
 use std::alloc::Global;
 
-// Reads the lines of disk tables behind the line that names them.
+// Reads the lines of disk tables after the line that names them.
 pub(crate) fn read_disk(
     alloc: Global,
     reader: &mut Reader<'_>,

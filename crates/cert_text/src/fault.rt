@@ -1,14 +1,14 @@
-// Why a text says no certificate.
+// Why a text is no certificate.
 ghost use Rattle.std.specs.Prelude.{◌≡◌};
 ghost use Rattle.cert_text.specs.Left.{number_of_rule};
 
 use thiserror::Error;
 
-/// The first fault of a text that says no certificate.
+/// The first fault of a text that is no certificate.
 #[derive(Clone, Copy, Debug, PartialEq, Eq, Error)]
 pub enum CertFault {
-    /// The rule that is broken (1 Missing, 2 Kind, 3 Number, 4 Shape, 5 TooLarge), and where: lines and columns are counted from 1,
-    /// columns by bytes. Where there is no certificate line, both are 0.
+    /// The broken rule (1 Missing, 2 Kind, 3 Number, 4 Shape, 5 TooLarge), and where. Lines and columns count from 1,
+    /// columns by bytes. Both are 0 where there is no certificate line.
     #[error("line {line}, column {column}: rule {rule}")]
     At { rule: u8, line: u32, column: u32 },
     /// There was no memory for tables.
@@ -23,7 +23,7 @@ pub(crate) enum Rule {
     Shape,
 }
 
-// A fault of a line that is known.
+// A fault within a line.
 #[derive(Clone, Copy)]
 pub(crate) struct LineFault {
     pub rule: Rule,
@@ -31,7 +31,7 @@ pub(crate) struct LineFault {
 }
 
 impl LineFault {
-    // The same, in the line with this number.
+    // A fault of a line, as one of the text whose line has this number.
     pub(crate) fn at(self, line: u32) -> CertFault
         ensures { result ≡ CertFault.At (number_of_rule self.rule) line self.column }
     {

@@ -4,28 +4,28 @@ ghost use Rattle.cert_text.specs.Laws.{OneCertificate, OneFault, CertificatesHav
 use cost_tables::Tables;
 use disk_gen::DiskTables;
 
-/// Bytes say one certificate at most.
+/// Bytes mean one certificate at most.
 pub fn texts_say_one_certificate()
     ensures { OneCertificate }
 {}
 
-/// Bytes have one first fault at most, and those that say a certificate have none.
+/// Bytes have at most one first fault, and those of a certificate have none.
 pub fn faults_are_unique()
     ensures one { OneFault }
     ensures none { CertificatesHaveNoFault }
 {}
 
-/// All bytes say a certificate or have a first fault.
+/// All bytes mean a certificate or have a first fault.
 pub fn bytes_say_a_certificate_or_have_a_fault()
     ensures { CertificateOrFault }
 {}
 
-/// The writes of a certificate, one behind the other, are its canonical text.
+/// The writes of a certificate, one after the other, are its canonical text.
 pub fn pieces_join()
     ensures { PiecesJoin }
 {}
 
-/// The canonical text of a certificate says it, also behind lines of other kinds.
+/// The canonical text of a certificate reads as it, also after lines of other kinds.
 pub fn canonical_texts_are_read()
     ensures { CanonicalIsRead }
 {}
@@ -38,7 +38,7 @@ pub fn sized_tables_have_a_text(tables: &Tables)
     tables.is_short();
 }
 
-/// The same of disk tables.
+/// Disk tables of the right size have a text, whichever entries were set.
 pub fn sized_disk_tables_have_a_text(tables: &DiskTables)
     ensures { DiskSizedHasText tables.now }
 {

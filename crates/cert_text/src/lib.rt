@@ -1,9 +1,16 @@
-//! The texts of certificates, which show to somebody who trusts neither a plan nor its planner that a list is least. Lines of a
-//! text that begin with `#!` are the certificate, and all others are passed over, so that a schedule and its certificate can
-//! stand in one text. It stands on lines and tokens of schedules, on the book, on tables of least costs and on where output is
-//! written; what a certificate shows is said in `bound_cert`. `specs/MarkedLines.antt` and `Words` have the lines and words of a text, `WordLines`
-//! the words of a certificate, `Meaning` which text says which one, `Wanted` and `Faults` the first fault of another text,
-//! `Canonical` the text that is printed, and `Laws` what holds of them.
+//! Reads and prints the text of certificates, which show that a list is least. It uses `level_book`, `action_text`,
+//! `cost_tables`, `disk_gen` and `keepers`. `bound_cert`, `requests` and `reversal` use it. What a certificate shows is
+//! defined in `bound_cert`. It shows this to a reader who trusts neither a plan nor its planner. Lines that begin with
+//! `#!` are the certificate. All others are ignored, so one text can hold a schedule and its certificate.
+//!
+//! In `specs/`:
+//!
+//! - `MarkedLines`, `Words`: the lines and words of a text.
+//! - `WordLines`: the words of a certificate.
+//! - `Meaning`: which certificate a text means.
+//! - `Wanted`, `Faults`: the first fault of another text.
+//! - `Canonical`: the printed text.
+//! - `Laws`: what the definitions imply.
 #![tactic(auto)]
 
 mod certificate;

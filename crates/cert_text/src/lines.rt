@@ -4,7 +4,7 @@ ghost use Rattle.std.specs.List.{position_or_len};
 ghost use Rattle.action_text.specs.ScheduleText.{lines};
 ghost use Rattle.cert_text.specs.MarkedLines.{is_marked, marked, line_count};
 
-// A certificate line: its number, its bytes behind `#!`, and the bytes of the lines after it.
+// A certificate line: its number, its bytes after `#!`, and the bytes of the lines after it.
 #[derive(Clone, Copy)]
 pub(crate) struct MarkedLine<'a> {
     pub number: u32,
@@ -12,8 +12,8 @@ pub(crate) struct MarkedLine<'a> {
     pub later: &'a [u8],
 }
 
-// The first certificate line of these bytes, before which so many lines stand, or how many lines there are. Of other lines
-// only the first two bytes and the end are looked at.
+// The first certificate line of these bytes, which follow so many lines, or the number of lines. Of other lines it
+// reads only the first two bytes and the end.
 pub(crate) fn next_marked(bytes: &[u8], before: u32) -> Result<MarkedLine<'_>, u32>
     requires { before + length bytes.now < 2 ^ 31 }
     ensures { MatchResult result
@@ -52,7 +52,7 @@ fn is_marked(line: &[u8]) -> bool
     }
 }
 
-// The first line, and the bytes behind its end.
+// The first line, and the bytes after its end.
 fn split_line(bytes: &[u8]) -> (&[u8], &[u8])
     requires { 0 < length bytes.now }
     ensures lines { (n : ℕ) → marked n (lines bytes.now) ≡ marked n (result.0.now ∷ lines result.1.now) }
@@ -67,7 +67,7 @@ fn split_line(bytes: &[u8]) -> (&[u8], &[u8])
     }
 }
 
-// How many bytes stand before the first one that ends a line.
+// How many bytes come before the first line end.
 fn line_length(bytes: &[u8]) -> usize
     ensures value { result ≡ position_or_len (λ b. b == 10) bytes.now }
     ensures within { result ≤ length bytes.now }

@@ -20,7 +20,7 @@ use cost_tables::{Cost, Tables};
 use level_book::Book;
 use std::alloc::{AllocError, Global};
 
-// Reads the lines of tables behind the line that names them.
+// Reads the lines of tables after the line that names them.
 pub(crate) fn read_nested(
     alloc: Global,
     reader: &mut Reader<'_>,
@@ -56,7 +56,7 @@ pub(crate) fn empty_row(alloc: Global, steps: u32) -> Result<Vec<Cost>, AllocErr
     Ok(row)
 }
 
-// The line that ends tables, and no line behind it.
+// The line that ends tables, and no line after it.
 pub(crate) fn read_end(reader: &mut Reader<'_>) -> Result<(), CertFault>
     ensures { MatchResult result
         (λ _. map texts_of reader.old.lines ≡ (codes "end" ∷ []) ∷ [])

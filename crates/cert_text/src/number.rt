@@ -2,14 +2,14 @@
 ghost use Rattle.std.specs.Prelude.{◌≡◌, ◌≤◌, ℕ, MatchOption, IfSome, decimal};
 ghost use Rattle.action_text.specs.Reading.{digits_at, number_at, whole};
 
-// The number that a text is: decimal digits without a leading zero that say at most `most`.
+// The number of a text: decimal digits without a leading zero, at most `most`.
 pub(crate) fn number(text: &[u8], most: u64) -> Option<u64>
     ensures { MatchOption result ((n : ℕ) → n ≤ most → text.now ≡ decimal n → ⊥) (λ n. (n ≤ most) × (text.now ≡ decimal n)) }
 {
     spelled(text, most)
 }
 
-// The same, as it is read from the front.
+// The number that a text spells, read from the front, if it is at most `most`.
 #[tactic(auto, unfolding(action_text::specs::Reading::number_at))]
 fn spelled(text: &[u8], most: u64) -> Option<u64>
     ensures { result ≡ whole (number_at most text.now) }
@@ -21,7 +21,7 @@ fn spelled(text: &[u8], most: u64) -> Option<u64>
     }
 }
 
-// The number that digits make, where there are no other bytes.
+// The number of digits, if there are no other bytes.
 #[tactic(auto, unfolding(action_text::specs::Reading::digits_at))]
 fn digits(text: &[u8], most: u64) -> Option<u64>
     ensures { result ≡ whole (digits_at most 0 text.now) }

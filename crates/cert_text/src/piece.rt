@@ -7,10 +7,10 @@ ghost use Rattle.cert_text.specs.Printing.{Puts, StopsAt};
 use keepers::{Sink, SinkFault};
 use plan_types::Line;
 
-/// How many words a write has at most.
+/// The most words of a write.
 const MOST_WORDS: u8 = 16;
 
-// What the next write has so far, and how many words may still be put into it.
+// The next write so far, and how many words still fit into it.
 #[derive(Drop)]
 pub(crate) struct Piece {
     text: Line,
@@ -32,7 +32,7 @@ impl Piece {
         }
     }
 
-    // Puts a word into it, behind a blank. Where there is no room, what it has is written first.
+    // Appends a blank and a word. Where there is no room, the earlier words are written first.
     pub(crate) fn word<O: Sink>(&mut self, word: &[u8], out: &mut O) -> Result<(), SinkFault>
         requires { length word.now ≤ 20 }
         ensures ok { OnOk result (Puts (word.now ∷ []) self.old.room self.old.text self.new.room self.new.text

@@ -17,18 +17,18 @@ pub fn print_certificate<O: Sink>(certificate: &Certificate, out: &mut O) -> Res
     ensures refused { OnErr result (Tells (O.told out.old) (O.told out.new) (AddsPrefix (canonical certificate.now))) }
     ensures calls { OnOk result (O.call_count out.new ≡ raised (O.call_count out.old) (length (pieces certificate.now))) }
 
-    // Where a write fails, the writes before it were added.
+    // If a write fails, the writes before it were added.
     ensures stopped { OnErr result (StopsIn (pieces certificate.now) (seen O.told O.call_count O.fault_count out.old)
         (seen O.told O.call_count O.fault_count out.new)) }
 
-    // A fault is answered only where the output counts one.
+    // A fault is returned only if the output counts one.
     ensures quiet { OnOk result (O.fault_count out.new ≡ O.fault_count out.old) }
     ensures cause { OnErr result (Rose (O.fault_count out.old) (O.fault_count out.new)) }
 {
     print(certificate, out)
 }
 
-// The same, by one clause for each outcome.
+// Prints a certificate, with one clause for each outcome.
 fn print<O: Sink>(certificate: &Certificate, out: &mut O) -> Result<(), SinkFault>
     ensures ok { OnOk result (AddsLines (pieces certificate.now) (seen O.told O.call_count O.fault_count out.old)
         (seen O.told O.call_count O.fault_count out.new)) }

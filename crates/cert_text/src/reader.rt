@@ -8,7 +8,7 @@ use crate::lines::{MarkedLine, next_marked};
 use crate::words::Words;
 use std::marker::Model;
 
-// The bytes that are left of a text, and how many lines stand before them.
+// The bytes that are left of a text, and how many lines came before them.
 #[derive(Drop)]
 pub(crate) struct Reader<'a> {
     rest: &'a [u8],
@@ -38,7 +38,7 @@ impl<'a> Reader<'a> {
         }
     }
 
-    // Goes past the next certificate line. Where there is none, it is missing behind all lines.
+    // Reads the next certificate line. If there is none, the missing line is past all lines.
     pub(crate) fn line(&mut self) -> Result<MarkedLine<'a>, CertFault>
         ensures { MatchResult result
             (λ line. (self.old.lines ≡ record { number = line.number; text = line.text.now } ∷ self.new.lines) × (self.new.count ≡ self.old.count)
@@ -59,7 +59,7 @@ impl<'a> Reader<'a> {
         }
     }
 
-    // Sees that no certificate line is left. A line too many is at fault at its first word, or one past its bytes.
+    // Checks that no certificate line is left. The fault of an extra line is at its first word, or one past its bytes.
     pub(crate) fn finish(&mut self) -> Result<(), CertFault>
         ensures { MatchResult result (λ _. self.old.lines ≡ []) (λ fault. IsAt (IsLineFault [] self.old.lines self.old.count) fault) }
     {

@@ -27,8 +27,8 @@ use std::alloc::Global;
 /// The greatest number of repeats that a text may name.
 const MOST_REPEATS: u64 = 1_000_000;
 
-/// Reads the certificate that a text says for so many steps and a book, in one pass; lines that don't begin with `#!` are
-/// passed over. Memory is taken for tables alone, and where they fit.
+/// Reads the certificate of a text for so many steps and a book, in one pass. It ignores lines that don't begin with
+/// `#!`. It takes memory only for tables, if they fit.
 pub fn read_certificate(
     alloc: Global,
     bytes: &[u8],
@@ -37,19 +37,19 @@ pub fn read_certificate(
 ) -> Result<Certificate, CertFault>
     requires small { length bytes.now < 2 ^ 31 }
     requires few { steps ≤ MOST_STEPS }
-    // What is read is said so, and what is said so is read.
+    // The text means the certificate that is read. A text that means one is read.
     ensures found { IfOk result (IsCertificateText steps book.now bytes.now) }
     ensures only { (certificate : Certificate) → IsCertificateText steps book.now bytes.now certificate →
         (result ≡ Ok certificate) ⊎ (result ≡ Err CertFault.Memory) }
 
-    // What is refused has that fault first, or there was no memory, and what has a fault is refused for it.
+    // A refused text has that fault first, or there was no memory. A text with a fault is refused for it.
     ensures refused { IfErr result (λ fault. (fault ≡ CertFault.Memory) ⊎ HasFirstFault steps book.now bytes.now fault) }
     ensures first { (fault : CertFault) → HasFirstFault steps book.now bytes.now fault → (result ≡ Err fault) ⊎ (result ≡ Err CertFault.Memory) }
 {
     read(alloc, bytes, steps, book)
 }
 
-// The same, by one clause for each outcome.
+// Reads a certificate, with one clause for each outcome.
 fn read(alloc: Global, bytes: &[u8], steps: u32, book: &Book) -> Result<Certificate, CertFault>
     requires { length bytes.now < 2 ^ 31 }
     ensures { MatchResult result (λ certificate. IsCertificateText steps book.now bytes.now certificate) (λ fault. (fault ≡ CertFault.Memory)
@@ -79,7 +79,7 @@ fn read(alloc: Global, bytes: &[u8], steps: u32, book: &Book) -> Result<Certific
     }
 }
 
-// What is read behind the word of a Revolve certificate, which stands in the line of this number.
+// Reads what comes after the word of a Revolve certificate. That word is in the line with this number.
 fn revolve(
     number: u32,
     words: &mut Words<'_>,
@@ -98,7 +98,7 @@ fn revolve(
     }
 }
 
-// The repeats and the value, with no word behind them.
+// The repeats and the value, with no word after them.
 fn repeats(words: &mut Words<'_>) -> Result<(u64, u64), LineFault>
     ensures { MatchResult result
         (λ p. (p.0 ≤ MOST_REPEATS) × (p.1 < 2 ^ 64) × (texts words.old.words ≡ decimal p.0 ∷ decimal p.1 ∷ []))
@@ -110,7 +110,7 @@ fn repeats(words: &mut Words<'_>) -> Result<(u64, u64), LineFault>
     Ok((k, value))
 }
 
-// What is read behind the word of a certificate of places, which stands in the line of this number.
+// Reads what comes after the word of a certificate of places. That word is in the line with this number.
 fn places(
     number: u32,
     words: &mut Words<'_>,
@@ -129,7 +129,7 @@ fn places(
     }
 }
 
-// The threshold, with no word behind it.
+// The threshold, with no word after it.
 fn threshold(words: &mut Words<'_>) -> Result<u64, LineFault>
     ensures { MatchResult result
         (λ n. (n < 2 ^ 64) × (texts words.old.words ≡ decimal n ∷ []))
@@ -156,7 +156,7 @@ fn too_large(first: &MarkedLine<'_>) -> CertFault
     }
 }
 
-// What is read behind the word of tables, which stands in this line. They are too large where they can't be built.
+// Reads what comes after the word of tables, which is in this line. They are too large if they can't be built.
 fn nested(
     alloc: Global,
     first: &MarkedLine<'_>,
@@ -186,7 +186,7 @@ fn nested(
     }
 }
 
-// The same of disk tables.
+// Reads what comes after the word of disk tables, which is in this line. They are too large if they can't be built.
 fn disk(
     alloc: Global,
     first: &MarkedLine<'_>,

@@ -57,7 +57,7 @@ fn row_words(
     entries(words, row)
 }
 
-// As many entries as a row has, and no word behind them.
+// As many entries as a row has, and no word after them.
 fn entries(words: &mut Words<'_>, row: &mut [Cost]) -> Result<(), LineFault>
     ensures { MatchResult result
         (λ _. (texts words.old.words ≡ map cost_word row.new) × FitAll (replicate (length row.old) an_entry) words.old.words × ((i : ℕ) →
@@ -115,7 +115,7 @@ pub(crate) fn put_fresh(k: u8, m: u32, row: &[Cost], tables: &mut Tables)
     }
 }
 
-// The same for stretches whose first state is held on the level.
+// Sets a row of entries for stretches whose first state is held on the level.
 pub(crate) fn put_held(k: u8, m: u32, row: &[Cost], tables: &mut Tables)
     requires k { k < length tables.old.rooms }
     requires m { m < slice_index_or tables.old.rooms k 0 }

@@ -17,7 +17,7 @@ use cost_tables::Cost;
 use plan_types::Line;
 use std::marker::Model;
 
-// The bytes that are left of a line, and the column in which they begin.
+// The bytes that are left of a line, and the column of the first.
 #[derive(Drop)]
 pub(crate) struct Words<'a> {
     rest: &'a [u8],
@@ -51,7 +51,7 @@ impl<'a> Words<'a> {
         Words { rest, column }
     }
 
-    // Goes past the next word, if there is one.
+    // Reads the next word, if there is one.
     pub(crate) fn next(&mut self) -> Option<Word<'a>>
         ensures { MatchOption result ((self.old.words ≡ []) × (self.new ≡ self.old))
             (λ w. (self.old.words ≡ record { column = w.column; text = w.text.now } ∷ self.new.words) × (self.new.end ≡ self.old.end)) }
@@ -86,7 +86,7 @@ impl<'a> Words<'a> {
         }
     }
 
-    // Goes past the next word, which is to name a kind of certificate, or tells where it begins.
+    // Reads the next word, which must name a kind of certificate. Otherwise returns its column.
     pub(crate) fn kind(&mut self) -> Result<Kind, u32>
         ensures { MatchResult result
             (λ kind. Takes (kind_word kind) self.old self.new)
@@ -110,7 +110,7 @@ impl<'a> Words<'a> {
         Err(word.column)
     }
 
-    // Goes past the next word, which is to be a number of at most `most`.
+    // Reads the next word, which must be a number of at most `most`.
     pub(crate) fn number(&mut self, most: u64) -> Result<u64, LineFault>
         ensures { MatchResult result
             (λ n. (n ≤ most) × Takes (decimal n) self.old self.new)
@@ -131,7 +131,7 @@ impl<'a> Words<'a> {
         }
     }
 
-    // Goes past the next word, which is to be this one.
+    // Reads the next word, which must be this one.
     pub(crate) fn this_word(&mut self, text: &[u8]) -> Result<(), LineFault>
         ensures { MatchResult result
             (λ _. Takes text.now self.old self.new)
@@ -152,7 +152,7 @@ impl<'a> Words<'a> {
         })
     }
 
-    // Goes past the next word, which is to be this number.
+    // Reads the next word, which must be this number.
     pub(crate) fn this_number(&mut self, n: u64) -> Result<(), LineFault>
         ensures { MatchResult result
             (λ _. Takes (decimal n) self.old self.new)
@@ -163,7 +163,7 @@ impl<'a> Words<'a> {
         self.this_word(digits.bytes())
     }
 
-    // Goes past the next word, which is to be an entry of a table.
+    // Reads the next word, which must be an entry of a table.
     pub(crate) fn entry(&mut self) -> Result<Cost, LineFault>
         ensures { MatchResult result
             (λ cost. HasWord (value_of cost) × Takes (entry_word (value_of cost)) self.old self.new)
@@ -184,7 +184,7 @@ impl<'a> Words<'a> {
         }
     }
 
-    // Sees that no word is left.
+    // Checks that no word is left.
     pub(crate) fn finish(&mut self) -> Result<(), LineFault>
         ensures { MatchResult result
             (λ _. self.old.words ≡ [])
@@ -213,7 +213,7 @@ fn entry(text: &[u8]) -> Option<Cost>
     }
 }
 
-// How many blanks stand at the front.
+// The number of blanks at the front.
 fn blanks_before(bytes: &[u8]) -> usize
     ensures value { result ≡ prefix_len is_blank bytes.now }
     ensures within { result ≤ length bytes.now }
@@ -226,7 +226,7 @@ fn blanks_before(bytes: &[u8]) -> usize
     bytes.len()
 }
 
-// How many other bytes stand at the front.
+// The number of bytes at the front that aren't blanks.
 fn word_length(bytes: &[u8]) -> usize
     ensures value { result ≡ prefix_len (λ b. not (is_blank b)) bytes.now }
     ensures within { result ≤ length bytes.now }

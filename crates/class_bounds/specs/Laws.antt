@@ -1,6 +1,6 @@
--- What the lists of two classes cost at least. Nothing is taken for granted of a table but that it is an under-table, whoever
--- made it, and nothing of the book's costs: levels may cost more or less than those before them. The bounds are our own; the
--- classes and the tables are those of level_book.
+-- What the lists of two classes cost at least. Of a table nothing is assumed but that it is an under-table. A book's
+-- levels may cost more or less than those before them. The bounds are our own. The classes and tables are those of
+-- `level_book`.
 use Rattle.std.specs.Prelude.{◌≡◌, ℕ, ◌<◌, ◌≤◌, List, length}
 use Rattle.plan_types.specs.declared.action.Action.{Action}
 use Rattle.level_book.specs.BookCosts.{BookCosts, slots_of}
@@ -15,7 +15,7 @@ abbrev pub NestedCostsAtLeast : ℕ → BookCosts → Tables → List Action →
 NestedCostsAtLeast steps book t list =
     0 < length book.levels → IsUnderTable steps book t → Nested steps (slots_of book) list → IsAtMost (top_entry steps book t) (number (cost list book))
 
--- where the top entry is what the first list costs, no nested list costs less
+-- if the first list costs the top entry, no nested list costs less
 abbrev pub LeastOfTheNested : ℕ → BookCosts → Tables → List Action → List Action → Type 0
 LeastOfTheNested steps book t list other =
     0 < length book.levels → IsUnderTable steps book t → top_entry steps book t ≡ number (cost list book) → Nested steps (slots_of book) other →
@@ -26,7 +26,7 @@ abbrev pub DiskCostsAtLeast : ℕ → BookCosts → DiskTables → List Action �
 DiskCostsAtLeast steps book t list =
     IsDiskUnderTable steps book t → Disk steps (slots_of book) list → IsAtMost (disk_top_entry steps t) (number (cost list book))
 
--- where the top entry is what the first list costs, no list of the disk class costs less
+-- if the first list costs the top entry, no list of the disk class costs less
 abbrev pub LeastOfTheDisk : ℕ → BookCosts → DiskTables → List Action → List Action → Type 0
 LeastOfTheDisk steps book t list other =
     IsDiskUnderTable steps book t → disk_top_entry steps t ≡ number (cost list book) → Disk steps (slots_of book) other → cost list book ≤ cost other book

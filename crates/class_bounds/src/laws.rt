@@ -11,7 +11,7 @@ pub fn nested_lists_cost_at_least()
     ensures { (steps : ℕ) (book : BookCosts) (t : Tables) (list : List Action) → NestedCostsAtLeast steps book t list }
 {}
 
-/// Where a list's cost is the top entry of an under-table, no nested list costs less.
+/// If a list costs the top entry of an under-table, no nested list costs less.
 pub fn least_of_the_nested()
     ensures { (steps : ℕ) (book : BookCosts) (t : Tables) (list other : List Action) → LeastOfTheNested steps book t list other }
 {}
@@ -21,7 +21,7 @@ pub fn disk_lists_cost_at_least()
     ensures { (steps : ℕ) (book : BookCosts) (t : DiskTables) (list : List Action) → DiskCostsAtLeast steps book t list }
 {}
 
-/// Where a list's cost is the top entry of a disk under-table, no list of the disk class costs less.
+/// If a list costs the top entry of a disk under-table, no list of the disk class costs less.
 pub fn least_of_the_disk()
     ensures { (steps : ℕ) (book : BookCosts) (t : DiskTables) (list other : List Action) → LeastOfTheDisk steps book t list other }
 {}

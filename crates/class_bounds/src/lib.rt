@@ -1,7 +1,7 @@
-//! The lower bounds of two classes of lists: no nested list costs less than the top entry of an under-table, and no list of the
-//! disk class less than that of a disk under-table. So a list that costs the top entry costs the least of its class. It stands
-//! on the actions, the book, and the laws of the validator; a certificate that a list is the least of its class rests on it. The
-//! classes and the tables are defined in `level_book`, and `specs/Laws.antt` has the bounds.
+//! Lower bounds for two classes of lists: nested lists and lists of the disk class. It uses `plan_types`, `level_book`
+//! and `schedule_rules`. `bound_cert` and `reversal` use it. No nested list costs less than the top entry of an
+//! under-table. No list of the disk class costs less than that of a disk under-table. So a list at that cost is the
+//! cheapest of its class. The classes and tables are defined in `level_book`. `specs/Laws.antt` has the bounds.
 #![tactic(auto)]
 
 pub mod laws;

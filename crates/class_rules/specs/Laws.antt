@@ -13,11 +13,11 @@ use Rattle.class_rules.specs.PlaceLevels.{HasPlaceLevels}
 abbrev pub NestedOrNot : ℕ → List Slots → List Action → Type 0
 NestedOrNot steps slots list = Valid steps slots list → Nested steps slots list ⊎ (Nested steps slots list → ⊥)
 
--- the same of the disk class
+-- a valid list is in the disk class or it isn't
 abbrev pub DiskOrNot : ℕ → List Slots → List Action → Type 0
 DiskOrNot steps slots list = Valid steps slots list → Disk steps slots list ⊎ (Disk steps slots list → ⊥)
 
--- the same of the multistage class, of any list
+-- any list is in the multistage class or it isn't
 abbrev pub MultistageOrNot : ℕ → BookCosts → List Action → Type 0
 MultistageOrNot steps book list = IsMultistage steps book list ⊎ (IsMultistage steps book list → ⊥)
 

@@ -7,7 +7,7 @@ use Rattle.class_rules.specs.declared.stack.Stack.{Stack}
 abbrev pub image_of : Held → Image
 image_of h = record { position = h.position; level = h.level }
 
--- the newest stands last in the vector, and first in the list of images
+-- the newest is last in the vector, and first in the list of images
 abbrev pub held_images : List Held → List Image
 held_images [] = []
 held_images (h ∷ later) = held_images later ++ image_of h ∷ []

@@ -20,7 +20,7 @@ level_named _ = 0
 abbrev pub Agrees : List ℕ → (ℕ → ℕ) → Type 0
 Agrees levels of = (p : ℕ) → p < length levels → of p ≡ slice_index levels p
 
--- the list is the other one with levels of its places exactly where these are the levels, one for each place
+-- the list is the other one with levels of its places exactly if these are those levels
 pub record AreTheLevels (base list : List Action) (levels : List ℕ) : Type 0 where
   pub same : (of : ℕ → ℕ) → (list ≡ placed of 0 base) ↔ Agrees levels of
   pub many : length levels ≡ places_used base

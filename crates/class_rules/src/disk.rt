@@ -9,8 +9,8 @@ use level_book::{Book, Slots};
 use plan_types::{Action, Keep};
 use std::alloc::{AllocError, Global};
 
-/// Whether the list is in the disk class for so many steps and this book, and so nested and valid. It takes the memory that
-/// `in_nested` takes.
+/// Whether the list is in the disk class for so many steps and this book. Then it is nested and valid. It takes as much
+/// memory as `in_nested`.
 pub fn in_disk(alloc: Global, list: &[Action], steps: u32, book: &Book) -> Result<bool, AllocError>
     requires { steps ≤ MOST_STEPS }
     ensures { IfOk result (λ is. IsTrue is ↔ Disk steps (slots_of book.now) list.now) }
@@ -28,7 +28,7 @@ fn has_unlimited_disk(book: &Book) -> bool
     book.levels() == 2 && book.level(1).slots == Slots::Unlimited
 }
 
-// Whether Forwards alone stand before EndForward, and no Store on level 1 behind it.
+// Whether only Forwards come before EndForward, and no Store on level 1 after it.
 fn has_forwards_first(list: &[Action]) -> bool
     ensures { IsTrue result ↔ ForwardsFirst list.now }
 {
@@ -54,7 +54,6 @@ fn never_stores(level: u8, list: &[Action]) -> bool
     true
 }
 
-// Whether an action stores on this level.
 fn stores(level: u8, action: Action) -> bool
     ensures { IsTrue result ↔ (NeverStores level (action ∷ []) → ⊥) }
 {

@@ -1,6 +1,6 @@
-//! Whether a list is in a class of schedules. It stands on the lists of Revolve and on the validator; certificates of a
-//! class stand on it. The multistage class is defined in revolve_gen, the nested class and the disk class in level_book; a
-//! list of any of the three is valid.
+//! Decides whether a list is in a class of schedules. It uses `schedule_rules`, `binomials` and `revolve_gen`.
+//! `bound_cert` and `reversal_cli` use it. The multistage class is defined in `revolve_gen`, and the nested and disk
+//! classes in `level_book`. All lists of these classes are valid.
 #![tactic(auto)]
 
 mod disk;

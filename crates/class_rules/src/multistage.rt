@@ -26,8 +26,8 @@ pub fn in_multistage(
     Ok(levels.is_some())
 }
 
-/// The level of each place of a list of the multistage class for so many steps and this book, or None where the list isn't in
-/// it. It takes memory for the slots of the book.
+/// The level of each place, where the list is in the multistage class for these steps and this book. None otherwise. It
+/// takes memory for the slots of the book.
 pub fn place_levels(
     alloc: Global,
     list: &[Action],
@@ -52,7 +52,7 @@ pub fn place_levels(
     Ok(Some(levels))
 }
 
-// The level of each place, where the list is this one of Revolve with any levels of its places.
+// The level of each place, if the list is this one of Revolve with any levels of its places.
 fn levels_of(
     alloc: Global,
     list: &[Action],
@@ -89,7 +89,7 @@ fn is_same(model: Action, action: &Action) -> bool
     model == *action
 }
 
-// Whether an action leaves the stack alone.
+// Whether an action doesn't change the stack.
 fn stays(step: StackStep) -> bool
     ensures { IsTrue result ↔ (step ≡ StackStep.Stay) }
 {

@@ -11,8 +11,8 @@ use plan_types::{Action, Dest, Keep};
 use schedule_rules::{Verdict, check};
 use std::alloc::{AllocError, Global};
 
-/// Whether the list is in the nested class for so many steps and this book, and so valid. It takes memory for the images
-/// that are held at once, and for one bit a position and level.
+/// Whether the list is in the nested class for so many steps and this book. Then it is valid. It takes memory for the
+/// held images, and for one bit a position and level.
 pub fn in_nested(
     alloc: Global,
     list: &[Action],
@@ -28,7 +28,7 @@ pub fn in_nested(
     }
 }
 
-// Whether the actions are nested, where nothing is held.
+// Whether the actions are nested, starting with no held image.
 fn is_stacked(alloc: Global, list: &[Action], steps: u32) -> Result<bool, AllocError>
     ensures { IfOk result (λ is. IsTrue is ↔ IsNestedFrom steps [] list.now) }
 {
@@ -43,7 +43,7 @@ fn is_stacked(alloc: Global, list: &[Action], steps: u32) -> Result<bool, AllocE
     Ok(true)
 }
 
-// The steps that are left to be reversed after an action, or None where it isn't nested before the rest.
+// The steps left to be reversed after an action. None if it isn't nested before the rest.
 fn step(
     images: &mut Stack,
     left: u32,
@@ -92,7 +92,7 @@ fn step(
     }
 }
 
-// Whether the actions begin with a Forward from this state that tapes it, or stores it on a faster level.
+// Whether the next action is a Forward that tapes this state, or stores it on a faster level.
 fn keeps_faster(n: u32, level: u8, rest: &[Action]) -> bool
     ensures { IsTrue result ↔ KeepsFaster n level rest.now }
 {

@@ -12,7 +12,7 @@ pub struct Held {
     pub level: u8,
 }
 
-// The newest image stands apart from the older ones, so that what is below it is there when it goes.
+// The newest image is apart from the older ones, so the one below it is ready after a pop.
 #[derive(Drop)]
 pub struct Stack {
     pub older: Vec<Held>,

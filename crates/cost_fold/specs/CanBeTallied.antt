@@ -1,5 +1,5 @@
--- Which actions can be counted in so many bits: those that name levels below 4, and step forward within the greatest
--- number of steps.
+-- Actions whose counts fit so many bits. Their levels are below 4, and their steps are within the greatest number of
+-- steps.
 use Rattle.std.specs.Prelude.{ℕ, ◌<◌, ◌≤◌}
 use Rattle.plan_types.specs.declared.limits.TheConstants.{MOST_STEPS}
 use Rattle.plan_types.specs.declared.action.Keep.TheVariants.{Nothing, Store, Tape}
@@ -7,7 +7,7 @@ use Rattle.plan_types.specs.declared.action.Dest.TheVariants.{Work, Level}
 use Rattle.plan_types.specs.declared.action.Action.{Action}
 use Rattle.plan_types.specs.declared.action.Action.TheVariants.{Forward, Reverse, Copy, Move, EndForward, EndReverse}
 
--- a Forward from one state to another leads on, to state 1,000,000 at most
+-- a Forward leads from one state to a later one, at most state 1,000,000
 abbrev pub LeadsOn : ℕ → ℕ → Type 0
 LeadsOn from to = (from ≤ to) × (to ≤ MOST_STEPS)
 

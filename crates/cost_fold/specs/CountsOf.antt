@@ -17,7 +17,7 @@ pub record AreCountsOf (list : List Action) (counts : Counts) : Type 0 where
   pub writes : (k : ℕ) → k < 4 → slice_index counts.writes k ≡ writes k list
   pub reads : (k : ℕ) → k < 4 → slice_index counts.reads k ≡ reads k list
 
--- all that has a cost, each forward step, reversed step, write and read once
+-- all that has a cost: forward steps, reversed steps, writes and reads, each once
 abbrev pub all_of : Counts → ℕ
 all_of counts = all_counted counts.forward counts.reversed counts.writes counts.reads
 
@@ -27,7 +27,7 @@ price counts book =
     counts.forward * book.forward + counts.reversed * book.reverse
     + sum_by (λ level. slice_index counts.writes level.0 * level.1.write + slice_index counts.reads level.0 * level.1.read) (enumerate_from 0 book.levels)
 
--- each count of the actions so far can take what one action adds to it
+-- each count so far has room for what one action adds
 pub record HasRoomForOne (counts : SoFar) : Type 0 where
   pub forward : counts.forward + MOST_STEPS < 2 ^ 64
   pub taped : counts.taped + 1 < 2 ^ 64

@@ -29,7 +29,7 @@ pub fn tally(list: &[Action]) -> Counts
     ensures writes { (k : ℕ) → k < 4 → slice_index result.writes k ≡ writes k list.now }
     ensures reads { (k : ℕ) → k < 4 → slice_index result.reads k ≡ reads k list.now }
 
-    // Each count paid at the greatest cost, the sum fits in 64 bits.
+    // At the greatest cost for each count, the sum fits in 64 bits.
     ensures bounded { all_of result * MOST_COST < 2 ^ 64 }
 {
     let mut so_far = SoFar::default();

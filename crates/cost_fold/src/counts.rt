@@ -3,8 +3,8 @@ ghost use Rattle.std.specs.Prelude.{◌*◌, ◌^◌, ◌<◌};
 ghost use Rattle.plan_types.specs.declared.limits.TheConstants.{MOST_COST};
 ghost use Rattle.cost_fold.specs.AllCounted.{all_counted};
 
-/// How often a list does what a book has a cost for. Writes and reads are counted for each level. Each count paid at the
-/// greatest cost, the sum fits in 64 bits.
+/// How often a list does each thing that a book prices. Writes and reads are counted for each level. At the greatest
+/// cost for each count, the sum fits in 64 bits.
 #[derive(Clone, Copy, Debug, PartialEq, Eq)]
 pub struct Counts {
     /// Forward steps, taped ones included.

@@ -1,6 +1,5 @@
-//! What a schedule costs: the counts of a list, taken in one pass, and their price by a book. It stands on the actions and
-//! the book; the report stands on it. What a list costs is defined in `level_book`. Nothing here knows what a valid list
-//! is, or what bounds its cost from below.
+//! What a schedule costs: the counts of a list, taken in one pass, and their price by a book. It uses `plan_types` and
+//! `level_book`. `cost_report`, `bound_cert` and `reversal` use it. What a list costs is defined in `level_book`.
 #![tactic(auto)]
 
 mod counting;

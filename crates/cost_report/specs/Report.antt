@@ -1,4 +1,4 @@
--- The text that reports what counts cost: the steps, the images of each level, and the total.
+-- The report of what counts cost: the steps, the images of each level, and the total.
 use Rattle.std.specs.Prelude.{ℕ, List, [], ◌∷◌, ◌++◌, map, codes, decimal, slice_index}
 use Rattle.std.specs.List.{enumerate_from, concat}
 use Rattle.level_book.specs.declared.book.Level.{Level}
@@ -24,7 +24,7 @@ step_lines counts = count_line (codes "forward ") counts.forward ∷ count_line 
 abbrev pub level_lines : BookCosts → Counts → List (List ℕ)
 level_lines book counts = map (level_line counts) (enumerate_from 0 book.levels)
 
--- The lines of the report. The last has the sum of all counts at their costs.
+-- The lines of the report. The last has the total cost.
 abbrev pub report_lines : BookCosts → Counts → List (List ℕ)
 report_lines book counts = step_lines counts ++ level_lines book counts ++ count_line (codes "total ") (price counts book) ∷ []
 

@@ -16,11 +16,11 @@ pub fn report<O: Sink>(counts: &Counts, book: &Book, out: &mut O) -> Result<(), 
     ensures refused { OnErr result (Tells (O.told out.old) (O.told out.new) (AddsPrefix (report_text book.now counts.now))) }
     ensures calls { OnOk result (O.call_count out.new ≡ raised (O.call_count out.old) (length (report_lines book.now counts.now))) }
 
-    // Where a write fails, the lines before it were added.
+    // If a write fails, the lines before it were added.
     ensures stopped { OnErr result (StopsIn (report_lines book.now counts.now) (seen O.told O.call_count O.fault_count out.old)
         (seen O.told O.call_count O.fault_count out.new)) }
 
-    // A fault is answered only where the output counts one.
+    // A fault is returned only if the output counts one.
     ensures quiet { OnOk result (O.fault_count out.new ≡ O.fault_count out.old) }
     ensures cause { OnErr result (Rose (O.fault_count out.old) (O.fault_count out.new)) }
 {

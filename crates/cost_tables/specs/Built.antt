@@ -1,4 +1,4 @@
--- No public clause cites this file. What is true of tables while they are built, and as what they are seen.
+-- No public clause cites this file. The invariant of tables while they are built, and their model.
 use Rattle.std.specs.Prelude.{◌≡◌, All, ℕ, zero, suc, ◌<◌, ◌+◌, ◌≤◌, ◌^◌, List, [], length, map, slice_index_or, Vec}
 use Rattle.std.specs.declared.alloc.Global.{Global}
 use Rattle.level_book.specs.BookCosts.{BookCosts, room}
@@ -23,7 +23,7 @@ fresh_at levels k = fresh_in (rows_at levels k)
 abbrev pub held_at : List (Vec Row Global) → ℕ → ℕ → ℕ → ℕ
 held_at levels k = held_in (rows_at levels k)
 
--- as what a level is seen: its entries in rows
+-- the model of a level: its entries in rows
 abbrev pub fresh_entries : List Row → List (List Entry)
 fresh_entries rows = map (λ (row : Row). map entry row.fresh.items) rows
 
@@ -34,7 +34,7 @@ held_entries rows = map (λ (row : Row). map entry row.held.items) rows
 abbrev pub cells_at : List (Vec Cells Global) → ℕ → List Cells
 cells_at levels k = slice_index_or (map (λ (cells : Vec Cells Global). cells.items) levels) k []
 
--- as what it is seen
+-- the model of its cells
 abbrev pub fresh_costs : List Cells → List (List Entry)
 fresh_costs cells = map (λ (c : Cells). map value_of c.fresh.items) cells
 
@@ -54,7 +54,7 @@ pub record AreCellsOf (rows : List Row) (cells : List Cells) : Type 0 where
   pub fresh : fresh_costs cells ≡ fresh_entries rows
   pub held : held_costs cells ≡ held_entries rows
 
--- the same of all levels
+-- the cells of all levels are the entries of their rows
 pub record AreLevelsOf (levels : List (Vec Row Global)) (cells : List (Vec Cells Global)) : Type 0 where
   pub fresh : map (λ (c : Vec Cells Global). fresh_costs c.items) cells ≡ map (λ (rows : Vec Row Global). fresh_entries rows.items) levels
   pub held : map (λ (c : Vec Cells Global). held_costs c.items) cells ≡ map (λ (rows : Vec Row Global). held_entries rows.items) levels
@@ -64,7 +64,7 @@ pub record IsWide (room : ℕ) (cells : Cells) : Type 0 where
   pub fresh_wide : length cells.fresh.items ≡ room + 1
   pub held_wide : length cells.held.items ≡ room
 
--- the same, and each is Never
+-- each of them is Never, and there is one for each number of free slots
 pub record IsNeverCells (room : ℕ) (cells : Cells) : Type 0 where
   pub wide : IsWide room cells
   pub fresh : All (λ cost. cost ≡ Never) cells.fresh.items
@@ -80,7 +80,7 @@ abbrev pub first_in : ℕ → ℕ → ℕ
 first_in one zero = one
 first_in one (suc r) = never_in_memory
 
--- the first k levels of a book, and what the next one stands on
+-- the first k levels of a book, and what the next one builds on
 pub record AreBuilt (steps : ℕ) (book : BookCosts) (k : ℕ) (levels : List (Vec Row Global)) (rooms : List ℕ) (base : List ℕ) : Type 0 where
   pub room_count : length rooms ≡ k
   pub rooms_are : (j : ℕ) → j < k → slice_index_or rooms j 0 ≡ room book j steps
@@ -96,7 +96,7 @@ pub record AreBuilt (steps : ℕ) (book : BookCosts) (k : ℕ) (levels : List (V
       IsLevel steps (room book j steps) book.forward (write_cost book j) (read_cost book j)
       (base_of book.forward book.reverse (λ j. room book j steps) (fresh_at levels) j) (fresh_at levels j) (held_at levels j)
 
--- the first k levels of a book, of which each entry is Never
+-- the first k levels of a book, with every entry Never
 pub record AreNever (steps : ℕ) (book : BookCosts) (k : ℕ) (levels : List (Vec Cells Global)) (rooms : List ℕ) : Type 0 where
   pub room_count : length rooms ≡ k
   pub rooms_are : (j : ℕ) → j < k → slice_index_or rooms j 0 ≡ room book j steps
@@ -104,7 +104,7 @@ pub record AreNever (steps : ℕ) (book : BookCosts) (k : ℕ) (levels : List (V
   pub row_count : (j : ℕ) → j < k → length (cells_at levels j) ≡ steps
   pub cells : (j : ℕ) → j < k → All (IsNeverCells (room book j steps)) (cells_at levels j)
 
--- there are one to four levels, with a row for each number of steps, and an entry in it for each number of free slots
+-- There are one to four levels. Each has a row for each number of steps, with an entry for each number of free slots.
 pub record AreWhole (t : Inside) : Type 0 where
   pub some_levels : 1 ≤ length t.rooms.items
   pub few_levels : length t.rooms.items ≤ 4

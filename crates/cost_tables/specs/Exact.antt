@@ -1,5 +1,5 @@
--- Tables whose entries are attained: each is what a clause of an under-table allows, by which a list is read. This follows
--- from their being the greatest; readers of lists use it in this form.
+-- Tables whose entries are attained: some clause of an under-table gives exactly each entry. Lists are read by these
+-- clauses. The greatest tables are like that. Readers of lists use this form.
 use Rattle.std.specs.Prelude.{◌≡◌, ◌≢◌, ℕ, suc, ◌+◌, ◌-◌, ◌*◌, ◌<◌, ◌≤◌, length}
 use Rattle.level_book.specs.BookCosts.{BookCosts, room}
 use Rattle.level_book.specs.UnderTable.{Tables, number, never, sum_of, write_cost, read_cost}
@@ -17,9 +17,9 @@ pub record IsExactTo (count steps : ℕ) (book : BookCosts) (t : Tables) : Type 
   pub held_split : (k l m : ℕ) → k < count → 2 ≤ l → l ≤ steps → m < room book k steps →
       ((j : ℕ) → suc j ≡ k → t.held k l m ≢ sum_of (read_cost book k) (number 0) (t.fresh j l (room book j steps))) →
       (j : ℕ) × (1 ≤ j) × (j < l) × (t.held k l m ≡ sum_of (read_cost book k + j * book.forward) (t.fresh k (l - j) m) (t.held k j m))
-  -- where the first state is held there is a list
+  -- if the first state is held there is a list
   pub held_number : (k l m : ℕ) → k < count → 1 ≤ l → l ≤ steps → m < room book k steps → t.held k l m ≢ never
-  -- an entry is Never exactly where no image can be kept and there are two steps
+  -- an entry is Never exactly if no image can be kept and there are two or more steps
   pub fresh_never : (k l m : ℕ) → k < count → 1 ≤ l → l ≤ steps → m ≤ room book k steps → t.fresh k l m ≡ never →
       (2 ≤ l) × (m ≡ 0) × ((j : ℕ) → j < k → room book j steps ≡ 0)
   pub never_fresh : (k l : ℕ) → k < count → 2 ≤ l → l ≤ steps → ((j : ℕ) → j < k → room book j steps ≡ 0) → t.fresh k l 0 ≡ never

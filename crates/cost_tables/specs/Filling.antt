@@ -8,6 +8,6 @@ pub record AreAllNever (steps : ℕ) (book : BookCosts) (t : Tables) : Type 0 wh
   pub fresh : (k l m : ℕ) → k < length book.levels → 1 ≤ l → l ≤ steps → m ≤ room book k steps → t.fresh k l m ≡ never
   pub held : (k l m : ℕ) → k < length book.levels → 1 ≤ l → l ≤ steps → m < room book k steps → t.held k l m ≡ never
 
--- an entry of level i for j steps and n free slots is not that of level k for l steps and m free slots
+-- the entry of level i, j steps and n free slots is not that of level k, l steps and m
 abbrev pub IsOther : ℕ → ℕ → ℕ → ℕ → ℕ → ℕ → Type 0
 IsOther i j n k l m = (i ≡ k) × (j ≡ l) × (n ≡ m) → ⊥

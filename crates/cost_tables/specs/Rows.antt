@@ -33,21 +33,21 @@ pub record AreRows (room forward write read : ℕ) (base : List ℕ) (rows : Lis
 abbrev pub cut_of : ℕ → ℕ → ℕ → ℕ
 cut_of room pieces i = i * room / pieces
 
--- What the splits of row r cost at least that stand on the first rows alone, at m free slots. They are those from
--- split r - filled on, up to the number of these rows, and none where r - filled is more than that.
+-- The least cost, at m free slots, of the splits of row r that use the first rows alone. They start at split r -
+-- filled, up to the number of these rows. There are none where r - filled is more than that.
 abbrev pub partial_in : List Row → ℕ → ℕ → ℕ → ℕ → ℕ
 partial_in rows forward filled r m = least_after forward (λ q. fresh_in rows q m) (λ q. held_in rows q m) r (r - filled) (filled - (r - filled))
 
--- Row r has r splits. For each row before it that isn't filled, two of them don't stand on the filled rows alone: they are at most
--- one in eight.
+-- Row r has r splits. For each unfilled row before it, two of them use more than the filled rows. These are at most one
+-- in eight.
 abbrev pub IsMostlyStarted : ℕ → ℕ → Type 0
 IsMostlyStarted filled r = 16 * r ≤ 16 * filled + r
 
--- this is so for so many rows that come next: one, and one more for each 16 that are filled
+-- this holds for so many next rows: one, and one more for each 16 filled rows
 abbrev pub AreFew : ℕ → ℕ → Type 0
 AreFew filled count = 16 * count ≤ filled + 16
 
--- what is so at each number of free slots, from m = low up to high, which is no less
+-- the costs at each number of free slots, from m = low up to high, which is no less
 pub record IsPiece (cost : ℕ → ℕ) (low high : ℕ) (costs : List ℕ) : Type 0 where
   pub wide : length costs ≡ high - low
   pub small : All (λ n. n ≤ 2 ^ 61) costs
@@ -59,7 +59,7 @@ pub record IsColumn (bound count : ℕ) (number : ℕ → ℕ) (column : List �
   pub low : All (λ n. n ≤ bound) column
   pub value : (i : ℕ) → i < count → slice_index column i ≡ number i
 
--- from m = low up to high, what so many rows that come next have
+-- the pieces of the next rows, from m = low up to high
 pub record AreStarted (rows : List Row) (forward count low high : ℕ) (pieces : List (Vec ℕ Global)) : Type 0 where
   pub wide : length pieces ≡ high - low
   pub each : (i : ℕ) (d : _) → i < high - low →

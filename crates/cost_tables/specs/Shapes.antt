@@ -3,7 +3,7 @@ use Rattle.std.specs.Prelude.{◌≡◌, ℕ, ◌+◌, ◌^◌, ◌<◌, ◌≤�
 use Rattle.level_book.specs.UnderTable.{Entry, number, never}
 use Rattle.cost_tables.specs.TableRows.{TableRows, tables_in}
 
--- Of each level there is a row for each number of steps, and in it an entry for each number of free slots; nothing else is there.
+-- Each level has a row for each number of steps, with an entry for each number of free slots. There is nothing else.
 pub record AreShaped (t : TableRows) : Type 0 where
   pub fresh_levels : length t.fresh ≡ length t.rooms
   pub held_levels : length t.held ≡ length t.rooms

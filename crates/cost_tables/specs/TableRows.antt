@@ -1,12 +1,12 @@
--- What built tables are seen as: their entries in rows, and for how many steps and slots they are.
+-- The model of built tables: their entries in rows, and their numbers of steps and slots.
 use Rattle.std.specs.Prelude.{◌≡◌, ℕ, ◌-◌, ◌<◌, ◌≤◌, List, [], length, take, slice_index_or}
 use Rattle.level_book.specs.BookCosts.{BookCosts, room}
 use Rattle.level_book.specs.UnderTable.{Entry, number, never, Tables}
 use Rattle.cost_tables.specs.declared.cost.Cost.{Cost}
 use Rattle.cost_tables.specs.declared.cost.Cost.TheVariants.{Number, Never}
 
--- For each level its room, which is the most free slots, and its entries. These stand in rows: one for each number of steps
--- from 1 on, and in a row one for each number of free slots from 0 on.
+-- Each level's room, which is the most free slots, and its entries. There is a row for each number of steps from 1 on.
+-- A row has an entry for each number of free slots from 0 on.
 pub record TableRows : Type 0 where
   pub steps : ℕ
   pub rooms : List ℕ
@@ -17,7 +17,7 @@ pub record TableRows : Type 0 where
 abbrev pub entry_at : List (List (List Entry)) → ℕ → ℕ → ℕ → Entry
 entry_at levels k r m = slice_index_or (slice_index_or (slice_index_or levels k []) r []) m (number 0)
 
--- The tables that stand in the rows. An entry is asked for where there is a step, so l - 1 is one less.
+-- The tables in the rows. An entry is used only for a step or more, so l - 1 doesn't truncate.
 abbrev pub tables_in : TableRows → Tables
 tables_in t = record { fresh = λ k l m. entry_at t.fresh k (l - 1) m; held = λ k l m. entry_at t.held k (l - 1) m }
 

@@ -73,7 +73,7 @@ fn never_costs(alloc: Global, count: usize) -> Result<Vec<Cost>, AllocError>
     Ok(costs)
 }
 
-// The rows of a level, of which each entry is Never.
+// The rows of a level, with every entry Never.
 pub(crate) fn never_cells(alloc: Global, steps: u32, room: u32) -> Result<Vec<Cells>, AllocError>
     ensures count { IfOk result (λ cells. length cells.items ≡ steps) }
     ensures never { IfOk result (λ cells. All (IsNeverCells room) cells.items) }
@@ -87,7 +87,7 @@ pub(crate) fn never_cells(alloc: Global, steps: u32, room: u32) -> Result<Vec<Ce
     Ok(cells)
 }
 
-// The entries of a level have 64 bits. It changes nothing.
+// Changes nothing. The entries of a level have 64 bits.
 fn short_cells(rows: &[Cells])
     ensures { All AreShortCells rows.now }
 {
@@ -97,7 +97,7 @@ fn short_cells(rows: &[Cells])
     }
 }
 
-// The same of all levels.
+// The rows of all levels are short.
 pub(crate) fn short_levels(levels: &[Vec<Cells>])
     ensures { All (λ level. All AreShortCells level.items) levels.now }
 {

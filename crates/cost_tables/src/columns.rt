@@ -1,4 +1,4 @@
-// The filled rows at one number of free slots: their numbers one after the other, so that splits go through them quickly.
+// The filled rows at one number of free slots. Their numbers are consecutive, so that splits scan them quickly.
 ghost use Rattle.std.specs.Prelude.{◌≡◌, ℕ, ◌+◌, ◌-◌, ◌*◌, ◌^◌, ◌<◌, ◌≤◌, length, All, IfOk, slice_index};
 ghost use Rattle.cost_tables.specs.Entries.{fresh_in, held_in, least_of};
 ghost use Rattle.cost_tables.specs.Rows.{partial_in, IsRow, IsColumn};
@@ -6,7 +6,7 @@ ghost use Rattle.cost_tables.specs.Rows.{partial_in, IsRow, IsColumn};
 use crate::rows::{NEVER, Row};
 use std::alloc::{AllocError, Global};
 
-// The least sum of two numbers that stand at the same place.
+// The least sum of two numbers at the same place.
 fn least_sum(xs: &[u64], ys: &[u64]) -> u64
     requires long { length xs.now ≡ length ys.now }
     requires xs { All (λ n. n ≤ 2 ^ 61) xs.now }
@@ -23,7 +23,7 @@ fn least_sum(xs: &[u64], ys: &[u64]) -> u64
     least
 }
 
-// The least that the splits of row q behind the filled rows cost, of those over filled rows.
+// The least cost of the splits of row q, after the filled rows, that use only filled rows.
 fn started_cost(fresh: &[u64], held: &[u64], q: usize) -> u64
     requires long { length fresh.now ≡ length held.now }
     requires fresh { All (λ n. n ≤ 2 ^ 61) fresh.now }
@@ -48,7 +48,7 @@ fn fresh_column(alloc: Global, rows: &[Row], room: usize, m: usize) -> Result<Ve
     Ok(column)
 }
 
-// The entries with the first state held, and the steps that are taken to there.
+// The entries with the first state held, each plus the steps to there.
 fn held_column(
     alloc: Global,
     rows: &[Row],
@@ -69,7 +69,7 @@ fn held_column(
     Ok(column)
 }
 
-// What the splits of each of so many rows that come next cost over filled rows, at m free slots.
+// The costs of the splits over filled rows, for each of the next rows, at m free slots.
 pub(crate) fn slot_piece(
     alloc: Global,
     rows: &[Row],

@@ -3,7 +3,7 @@ ghost use Rattle.std.specs.Prelude.{All};
 ghost use Rattle.cost_tables.specs.TableRows.{value_of};
 ghost use Rattle.cost_tables.specs.Shapes.{IsShort};
 
-/// What reversing a stretch costs, in the units of the book.
+/// The cost of reversing a stretch, in the units of the book.
 #[derive(Clone, Copy, Debug, PartialEq, Eq)]
 pub enum Cost {
     /// So much.

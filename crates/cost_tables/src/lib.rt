@@ -1,9 +1,9 @@
-//! Tables of least costs: what it costs at least to reverse a stretch of steps with images on the levels of a book. They
-//! stand on the actions and the book; plans over several levels are read from them. `level_book` says what an under-table is,
-//! in its `specs/UnderTable.antt`; the tables that are built are the greatest under-table. `specs/TableRows.antt` says as
-//! what they are seen, and `specs/Laws.antt` that each entry is attained. Rows are filled by as many workers as are wanted, in
-//! pieces that are handed back by value, so the entries don't depend on their number. The fastest level can be had alone, for
-//! more steps. Tables can also be filled with any costs, entry by entry; `specs/Filling.antt` has the words for that.
+//! Tables of least costs: the least cost of reversing a stretch with images on the levels of a book. It uses
+//! `plan_types` and `level_book`. `hrevolve_gen`, `disk_gen`, `table_clauses` and `bound_cert` use it. The built tables
+//! are the greatest under-table, which `specs/UnderTable.antt` of `level_book` defines. `specs/TableRows.antt` models
+//! them. `specs/Laws.antt` says that each entry is attained. Any number of workers fills the rows, in pieces that are
+//! returned by value. So the entries don't depend on that number. A table of the fastest level alone allows more steps.
+//! Tables can also be filled with any costs, entry by entry: see `specs/Filling.antt`.
 #![tactic(auto)]
 
 mod cells;

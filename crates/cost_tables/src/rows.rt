@@ -12,21 +12,22 @@ use std::thread::Threads;
 // Never in memory, above all other entries.
 pub(crate) const NEVER: u64 = 2305843009213693952;
 
-// The entries for stretches of one length, at each number of free slots: with the first state in work, and with it held.
+// The entries for stretches of one length, at each number of free slots. In the first entries the first state is in
+// work, in the second it is held.
 #[derive(Drop)]
 pub struct Row {
     pub fresh: Vec<u64>,
     pub held: Vec<u64>,
 }
 
-// How many rows are shared at a time, at most: 64, and one for each 16 that are filled and one more. Workers are started for each
-// time. The first rows are shared one at a time: the splits of a row that stand on rows which aren't filled are the caller's, and
-// so these are at most one in eight.
+// The most rows that are shared at a time: 64, and one for each 16 filled rows, plus one. Workers start anew each time.
+// The caller does the splits that use unfilled rows. The first rows are shared one at a time, so these splits are at
+// most one in eight.
 const MOST_ROWS: usize = 64;
 
 const FILLED_ROWS: usize = 16;
 
-// What a forward step costs, and an image on a level.
+// The costs of a forward step, and of an image on a level.
 #[derive(Clone, Copy)]
 pub(crate) struct Costs {
     pub(crate) forward: u64,
@@ -88,8 +89,7 @@ fn row_of(
     Ok(Row { fresh, held })
 }
 
-// What the splits of the next row cost at each number of free slots, where what those cost is given that stand on the first
-// rows alone.
+// The costs of the next row's splits at each number of free slots. Those over the first rows alone are given.
 fn finished(
     alloc: Global,
     rows: &[Row],
@@ -181,7 +181,7 @@ fn push_rows(
     Ok(())
 }
 
-// How many of the rows that are still to come are shared next.
+// How many of the remaining rows are shared next.
 fn shared_rows(filled: usize, left: usize) -> usize
     requires { 1 ≤ left }
     ensures number { result ≡ min (min (filled / FILLED_ROWS + 1) MOST_ROWS) left }
@@ -191,8 +191,8 @@ fn shared_rows(filled: usize, left: usize) -> usize
     (filled / FILLED_ROWS + 1).min(MOST_ROWS).min(left)
 }
 
-// The rows of a level, over what its first state in work costs where the level isn't used. They are filled so many at a
-// time: what stands on earlier rows alone is shared by workers, and the rest, which is little, is done by the caller.
+// The rows of a level, given the costs where the level isn't used. So many rows are filled at a time. Workers share the
+// splits that use earlier rows alone. The caller does the few others.
 pub(crate) fn level_rows<R: Threads + Sync, G: Gate + Sync>(
     rt: &R,
     alloc: Global,

@@ -9,7 +9,7 @@ use std::alloc::{AllocError, Global};
 use std::thread;
 use std::thread::Threads;
 
-// At each of some numbers of free slots, what the splits over filled rows cost for the rows that come next.
+// The costs of splits over filled rows for the next rows, at some numbers of free slots.
 pub(crate) type Pieces = Vec<Vec<u64>>;
 
 // Where the i-th of so many pieces of a row begins.
@@ -23,7 +23,7 @@ fn cut(room: usize, pieces: usize, i: usize) -> usize
     i * room / pieces
 }
 
-// What the splits over filled rows cost for each of so many rows, from m = low up to high.
+// The costs of the splits over filled rows, for each next row, from m = low to high.
 fn rows_piece(
     alloc: Global,
     rows: &[Row],
@@ -47,7 +47,7 @@ fn rows_piece(
     Ok(pieces)
 }
 
-// The i-th piece of each row, once the gate is passed.
+// The i-th piece of each row, after passing the gate.
 fn gated_piece<G: Gate>(
     alloc: Global,
     gate: &G,
@@ -72,7 +72,7 @@ fn gated_piece<G: Gate>(
     rows_piece(alloc, rows, room, forward, count, low, high)
 }
 
-// All pieces, each filled by a worker. The rows are so few that next to all of their splits stand on filled rows.
+// All pieces, each filled by a worker. The rows are so few that nearly all of their splits use filled rows.
 pub(crate) fn start_rows<R: Threads + Sync, G: Gate + Sync>(
     rt: &R,
     alloc: Global,
@@ -101,7 +101,7 @@ pub(crate) fn start_rows<R: Threads + Sync, G: Gate + Sync>(
     )
 }
 
-// What one piece has of row q, behind what is there.
+// Appends what one piece has of row q.
 fn join_piece(costs: &mut Vec<u64>, pieces: &[Vec<u64>], q: usize) -> Result<(), AllocError>
     requires { All (λ slot. q < length slot.items) pieces.now }
     ensures { OnOk result (costs.new.items ≡ costs.old.items ++ row_in q pieces.now) }

@@ -17,7 +17,7 @@ use std::alloc::{AllocError, Global};
 use std::marker::Model;
 use std::thread::Threads;
 
-// What the tables are for at most.
+// The most steps of the tables.
 const MOST_STEPS: u32 = 2048;
 
 const MOST_STEPS_OF_ONE: u32 = 8192;
@@ -45,8 +45,7 @@ impl Model for Tables {
 }
 
 impl Tables {
-    /// Whether tables for so many steps and a book can be built: for at most 2,048 steps, and at most 64 images on a level.
-    /// It takes no memory.
+    /// Whether tables can be built: at most 2,048 steps, and at most 64 images on a level. It takes no memory.
     pub fn fits(steps: u32, book: &Book) -> bool
         ensures { result ≡ true ↔ TablesFit steps book.now }
     {
@@ -61,8 +60,8 @@ impl Tables {
         true
     }
 
-    /// The greatest under-table, which is the same for every number of workers. It is refused for want of memory alone: where
-    /// a thread can't be started, the caller does its work.
+    /// The greatest under-table, the same for every number of workers. Only a lack of memory refuses it. If a thread
+    /// can't be started, the caller does its work.
     pub fn build<R: Threads + Sync>(
         rt: &R,
         alloc: Global,
@@ -78,8 +77,8 @@ impl Tables {
         Tables::build_with(rt, alloc, steps, book, workers, &NoGate)
     }
 
-    /// The same, where each worker passes a gate before it fills a piece. The pieces of a row are as many as the lesser of
-    /// the workers and the level's room.
+    /// The tables that `build` gives, where each worker passes a gate before it fills a piece. A row has min(workers,
+    /// the level's room) pieces.
     pub fn build_with<R: Threads + Sync, G: Gate + Sync>(
         rt: &R,
         alloc: Global,
@@ -126,8 +125,8 @@ impl Tables {
         })
     }
 
-    /// Whether the tables of the fastest level alone can be built: for at most 8,192 steps, and at most 64 images on it. It
-    /// takes no memory.
+    /// Whether tables of the fastest level can be built: at most 8,192 steps, and at most 64 images. It takes no
+    /// memory.
     pub fn fits_fastest(steps: u32, book: &Book) -> bool
         ensures { result ≡ true ↔ FastestTablesFit steps book.now }
     {
@@ -135,8 +134,8 @@ impl Tables {
         steps <= MOST_STEPS_OF_ONE && book.room(0, steps) <= MOST_SLOTS
     }
 
-    /// The greatest under-table of the fastest level alone, as if the book had no other. It is the same for every number of
-    /// workers, and refused for want of memory alone.
+    /// The greatest under-table of the fastest level alone, as if the book had no other. Any number of workers gives
+    /// the same. Only a lack of memory refuses it.
     pub fn build_fastest<R: Threads + Sync>(
         rt: &R,
         alloc: Global,
@@ -180,8 +179,7 @@ impl Tables {
         })
     }
 
-    /// Tables of which each entry is Never, to be filled by `set_fresh` and `set_held`. They are refused for want of memory
-    /// alone.
+    /// Tables with every entry Never, to be filled by `set_fresh` and `set_held`. Only a lack of memory refuses them.
     pub fn never(alloc: Global, steps: u32, book: &Book) -> Result<Tables, AllocError>
         requires { TablesFit steps book.now }
         ensures sizes { IfOk result (AreFor steps book.now) }
@@ -201,7 +199,8 @@ impl Tables {
         })
     }
 
-    /// The same for the fastest level alone, as if the book had no other.
+    /// Tables of the fastest level alone, as if the book had no other, with every entry Never. Only a lack of memory
+    /// refuses them.
     pub fn never_fastest(alloc: Global, steps: u32, book: &Book) -> Result<Tables, AllocError>
         requires { FastestTablesFit steps book.now }
         ensures sizes { IfOk result (AreFor steps (fastest book.now)) }
@@ -220,7 +219,7 @@ impl Tables {
         })
     }
 
-    /// Whether the tables are for so many steps and the levels of a book. It takes no memory.
+    /// Whether the tables fit so many steps and the levels of a book. It takes no memory.
     pub fn sized(&self, steps: u32, book: &Book) -> bool
         ensures { result ≡ true ↔ AreFor steps book.now self.now }
     {
@@ -235,7 +234,7 @@ impl Tables {
         true
     }
 
-    /// Whether they are for so many steps and the fastest level of a book alone. It takes no memory.
+    /// Whether they fit so many steps and the fastest level of a book alone. It takes no memory.
     pub fn sized_fastest(&self, steps: u32, book: &Book) -> bool
         ensures { result ≡ true ↔ AreFor steps (fastest book.now) self.now }
     {
@@ -243,7 +242,7 @@ impl Tables {
         self.steps == steps && self.rooms.len() == 1 && self.rooms[0] == book.room(0, steps)
     }
 
-    /// The entry of level k for a stretch of l steps and m free slots, with the first state in work. It takes no memory.
+    /// The entry of level k for l steps and m free slots, with the first state in work. It takes no memory.
     pub fn fresh(&self, k: u8, l: u32, m: u32) -> Cost
         requires k { k < length self.now.rooms }
         requires l { (1 ≤ l) × (l ≤ self.now.steps) }
@@ -253,7 +252,7 @@ impl Tables {
         self.levels[k as usize][l as usize - 1].fresh[m as usize]
     }
 
-    /// The same with the first state held on the level, beside the free slots. It takes no memory.
+    /// The entry of level k for l steps and m free slots, with the first state held beside them. It takes no memory.
     pub fn held(&self, k: u8, l: u32, m: u32) -> Cost
         requires k { k < length self.now.rooms }
         requires l { (1 ≤ l) × (l ≤ self.now.steps) }
@@ -263,7 +262,7 @@ impl Tables {
         self.levels[k as usize][l as usize - 1].held[m as usize]
     }
 
-    /// Sets the entry of level k for a stretch of l steps and m free slots, with the first state in work. It takes no memory.
+    /// Sets the entry of level k for l steps and m free slots, with the first state in work. It takes no memory.
     pub fn set_fresh(&mut self, k: u8, l: u32, m: u32, cost: Cost)
         requires k { k < length self.old.rooms }
         requires l { (1 ≤ l) × (l ≤ self.old.steps) }
@@ -277,7 +276,7 @@ impl Tables {
         self.levels[k as usize][l as usize - 1].fresh[m as usize] = cost;
     }
 
-    /// The same with the first state held on the level, beside the free slots. It takes no memory.
+    /// Sets the entry of level k for l steps and m free slots. The first state is held beside them. It takes no memory.
     pub fn set_held(&mut self, k: u8, l: u32, m: u32, cost: Cost)
         requires k { k < length self.old.rooms }
         requires l { (1 ≤ l) × (l ≤ self.old.steps) }
@@ -291,7 +290,7 @@ impl Tables {
         self.levels[k as usize][l as usize - 1].held[m as usize] = cost;
     }
 
-    /// Does nothing. Its contract is a law: there is an entry for each number of steps and free slots, and none else.
+    /// Does nothing. Its contract is a law: there is exactly one entry for each number of steps and free slots.
     pub fn is_shaped(&self)
         ensures { AreShaped self.now }
     {
@@ -305,7 +304,7 @@ impl Tables {
         short_levels(&self.levels);
     }
 
-    /// For how many steps the tables are.
+    /// The number of steps of the tables.
     pub fn steps(&self) -> u32
         ensures { result ≡ self.now.steps }
     {
@@ -329,7 +328,7 @@ impl Tables {
     }
 }
 
-// What the stretches cost that can do without an image: one step alone.
+// The costs of stretches without an image: one step alone.
 pub(crate) fn first_base(alloc: Global, steps: u32, one: u64) -> Result<Vec<u64>, AllocError>
     requires { one ≤ 2 ^ 61 }
     ensures count { IfOk result (λ base. length base.items ≡ steps) }
@@ -343,7 +342,7 @@ pub(crate) fn first_base(alloc: Global, steps: u32, one: u64) -> Result<Vec<u64>
     Ok(base)
 }
 
-// The entries of a level with all its slots, where the first state is in work.
+// The entries of a level with all its slots, with the first state in work.
 fn column(alloc: Global, rows: &[Row], room: usize) -> Result<Vec<u64>, AllocError>
     requires { All (IsRow room) rows.now }
     ensures count { IfOk result (λ column. length column.items ≡ length rows.now) }

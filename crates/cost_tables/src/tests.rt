@@ -1,5 +1,5 @@
-// That two workers fill the entries of a row together, and what each hands back. What the entries are a contract says, and
-// cases of whole calls show.
+// That two workers fill the entries of a row together, and what each returns. A contract says what the entries are, and
+// cases of whole calls show it.
 ghost use Rattle.std.specs.Prelude.{◌≡◌, ◌<◌, ◌≤◌, length, slice_index};
 
 use crate::rows::{Costs, level_rows};
@@ -21,7 +21,7 @@ fn held(tables: &Tables, k: u8, l: u32, m: u32) -> Option<Cost> {
     }
 }
 
-// Whether each of two pieces was seen by the worker of the other, before either was filled.
+// Whether each worker saw the other's piece before either was filled.
 #[derive(Drop)]
 struct Meeting {
     here: [AtomicBool; 2],
@@ -73,8 +73,8 @@ fn two_workers_fill_the_entries_of_a_row_together(rt: HostRuntime) -> Result<(),
     assert!(rt; gate.seen[1].load(Ordering::SeqCst));
     assert_eq!(rt; held(&tables, 0, 4, 0), Some(Cost::Number(14)));
     assert_eq!(rt; held(&tables, 0, 4, 1), Some(Cost::Number(12)));
-    // The row for four steps again, from the three before it. An image costs nothing here, so that what the splits cost are the
-    // entries.
+    // The row for four steps again, from the three before it. An image costs nothing here, so the entries are the costs
+    // of the splits.
     let costs = Costs {
         forward: 1,
         write: 0,

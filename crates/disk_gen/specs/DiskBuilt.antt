@@ -1,16 +1,16 @@
--- No public clause cites this file. What the numbers in memory say of one another, and as what they are seen.
+-- No public clause cites this file. The invariant of the numbers in memory, and their model.
 use Rattle.std.specs.Prelude.{◌≡◌, ℕ, ◌+◌, ◌<◌, ◌≤◌, ◌^◌, min, All, List, length, map, slice_index}
 use Rattle.cost_tables.specs.Entries.{least_split}
 use Rattle.cost_tables.specs.TableRows.{value_of}
 use Rattle.disk_gen.specs.declared.disk_tables.DiskTables.TheInside.{Inside}
 use Rattle.disk_gen.specs.DiskRows.{DiskRows}
 
--- what a stretch costs whose first state is held on level 1, over what it costs with level 0 alone; row r is for r + 1 steps
+-- The costs of stretches whose first state is held on level 1, over those of level 0 alone. Row r is for r + 1 steps.
 pub record IsHeldColumn (forward read : ℕ) (fast held : List ℕ) : Type 0 where
   pub low : All (λ n. n ≤ 2 ^ 62) held
   pub value : (r : ℕ) → r < length held → slice_index held r ≡ read + min (slice_index fast r) (least_split forward (slice_index fast) (slice_index held) r r)
 
--- the same for a stretch whose first state is in work
+-- the costs of stretches whose first state is in work
 pub record IsFreshColumn (forward write : ℕ) (fast held fresh : List ℕ) : Type 0 where
   pub low : All (λ n. n ≤ 2 ^ 61) fresh
   pub value : (r : ℕ) → r < length fresh →

@@ -10,8 +10,8 @@ pub record HasDiskPlan (book : BookCosts) : Type 0 where
   pub two : length book.levels ≡ 2
   pub unlimited : slice_get (slots_of book) 1 ≡ Some Unlimited
 
--- Why there are none: rule 2, the book hasn't two levels; else rule 3, level 1 isn't unlimited. Memory can be wanting only where
--- there is a plan.
+-- Why there are none. Rule 2: the book hasn't two levels. Otherwise rule 3: level 1 isn't unlimited. Memory can be
+-- short only where there is a plan.
 abbrev pub IsDiskFault : BookCosts → GenFault → Type 0
 IsDiskFault book (NoPlan rule) =
     ((rule ≡ 2) × (length book.levels ≢ 2))

@@ -24,7 +24,7 @@ pub record CanReadDisk (book : BookCosts) (t : DiskRows) : Type 0 where
   pub fast : IsReadable book t.fast
   pub exact : IsDiskExact t.fast.steps book (disk_tables_in t)
 
--- the list is the old one with the actions of a part that is read
+-- the list is the old one, and the actions of a part that is read
 abbrev pub IsHeldMore : BookCosts → DiskRows → ℕ → ℕ → List Action → List Action → Type 0
 IsHeldMore book t b l old new = (p : HeldPart) × ReadsHeld t.fast.steps book (disk_tables_in t) l p × (new ≡ old ++ held_actions t.fast.steps b p)
 

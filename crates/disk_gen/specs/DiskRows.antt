@@ -1,4 +1,4 @@
--- What built disk tables are seen as: their entries in rows, and for how many steps and slots they are.
+-- The model of built disk tables: their entries in rows, and their numbers of steps and slots.
 use Rattle.std.specs.Prelude.{◌≡◌, ℕ, ◌-◌, ◌<◌, ◌≤◌, List, slice_index_or}
 use Rattle.level_book.specs.BookCosts.{BookCosts, room}
 use Rattle.level_book.specs.UnderTable.{Entry, number, never}
@@ -6,13 +6,14 @@ use Rattle.level_book.specs.DiskUnderTable.{DiskTables}
 use Rattle.cost_tables.specs.TableRows.{TableRows, AreFor, fastest, tables_in}
 use Rattle.disk_gen.specs.DiskPlans.{HasDiskPlan}
 
--- The tables of level 0, as if the book had no other, and the entries over both levels: one for each number of steps from 1 on.
+-- The tables of level 0, as if the book had no other, and the entries over both levels. There is an entry for each
+-- number of steps from 1 on.
 pub record DiskRows : Type 0 where
   pub fast : TableRows
   pub disk_fresh : List Entry
   pub disk_held : List Entry
 
--- The disk tables that stand in the rows. An entry is asked for where there is a step, so l - 1 is one less.
+-- The disk tables in the rows. An entry is used only for a step or more, so l - 1 doesn't truncate.
 abbrev pub disk_tables_in : DiskRows → DiskTables
 disk_tables_in t = record {
   fresh = (tables_in t.fast).fresh 0;
@@ -25,7 +26,7 @@ disk_tables_in t = record {
 abbrev pub AreDiskSized : ℕ → BookCosts → DiskRows → Type 0
 AreDiskSized steps book t = AreFor steps (fastest book) t.fast
 
--- the same, and the book has a plan
+-- the tables fit so many steps and level 0 of a book, and the book has a plan
 pub record AreDiskFor (steps : ℕ) (book : BookCosts) (t : DiskRows) : Type 0 where
   pub sized : AreDiskSized steps book t
   pub plan : HasDiskPlan book

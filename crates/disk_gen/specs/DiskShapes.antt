@@ -3,7 +3,7 @@ use Rattle.std.specs.Prelude.{◌≡◌, ℕ, ◌≤◌, length}
 use Rattle.cost_tables.specs.Shapes.{AreShaped, IsShort, AreShort}
 use Rattle.disk_gen.specs.DiskRows.{DiskRows, disk_tables_in}
 
--- Those of level 0 are, and over both levels there is an entry for each number of steps; nothing else is there.
+-- Those of level 0 are whole. Over both levels there is an entry for each number of steps, and nothing else.
 pub record AreDiskShaped (t : DiskRows) : Type 0 where
   pub fast : AreShaped t.fast
   pub fresh_long : length t.disk_fresh ≡ t.fast.steps

@@ -9,14 +9,14 @@ use Rattle.level_book.specs.UnderTable.{Tables, Entry, sum_of, write_cost, read_
 use Rattle.level_book.specs.DiskUnderTable.{DiskTables}
 use Rattle.hrevolve_gen.specs.Written.{Part, actions, Reads}
 
--- How a stretch is reversed whose first state is held on level 1: it is read for the last time, and level 0 alone is used; or it is read,
--- and the stretch is split after so many steps, of which the later ones use level 0 alone.
+-- How a stretch is reversed whose first state is held on level 1. Either the state is read for the last time, and level
+-- 0 alone is used. Or it is read, and the stretch is split after so many steps. The later steps then use level 0 alone.
 pub data HeldPart : Type 0 where
   finally : Part → HeldPart
   again : ℕ → Part → HeldPart → HeldPart
 
--- How a stretch is reversed whose first state is in work: level 0 alone is used; or the state is stored on level 1, and the stretch
--- is split after so many steps.
+-- How a stretch is reversed whose first state is in work. Either level 0 alone is used. Or the state is stored on level
+-- 1, and the stretch is split after so many steps.
 pub data DiskPart : Type 0 where
   alone : Part → DiskPart
   parted : ℕ → DiskPart → HeldPart → DiskPart
@@ -38,14 +38,15 @@ fast_tables t = record { fresh = λ _. t.fresh; held = λ _. t.held }
 abbrev pub IsLeast : ℕ → Entry → (ℕ → Entry) → Type 0
 IsLeast j own after = (i : ℕ) → 1 ≤ i → i < j → own ≢ after i
 
--- what splitting after so many steps costs, which are fewer than l
+-- the cost of a split after so many steps, fewer than l
 abbrev pub held_split : BookCosts → ℕ → DiskTables → ℕ → ℕ → Entry
 held_split book c t l i = sum_of (read_cost book 1 + i * book.forward) (t.fresh (l - i) c) (t.disk_held i)
 
 abbrev pub disk_split : BookCosts → DiskTables → ℕ → ℕ → Entry
 disk_split book t l j = sum_of (write_cost book 1 + j * book.forward) (t.disk_fresh (l - j)) (t.disk_held j)
 
--- the part is read from the tables, for a stretch of l steps: level 0 alone comes first, and then the least number of steps
+-- The part is read from the tables, for a stretch of l steps. Level 0 alone comes first, and then the least number of
+-- steps.
 abbrev pub ReadsHeld : ℕ → BookCosts → DiskTables → ℕ → HeldPart → Type 0
 ReadsHeld steps book t l (finally p) =
     (t.disk_held l ≡ sum_of (read_cost book 1) (number 0) (t.fresh l (room book 0 steps))) × Reads steps book (fast_tables t) false 0 l (room book 0 steps) p

@@ -15,7 +15,7 @@ use Rattle.disk_gen.specs.DiskRows.{DiskRows, AreDiskSized, disk_tables_in}
 use Rattle.disk_gen.specs.DiskShapes.{AreDiskShaped}
 use Rattle.disk_gen.specs.DiskWritten.{IsDiskWritten, fast_tables}
 
--- the number of stretches is the least whole number that, times the period, is no less than the steps
+-- the number of stretches is the least whole n with steps ≤ n · period
 pub record AreLeast (steps period q : ℕ) : Type 0 where
   pub enough : steps ≤ q * period
   pub least : (m : ℕ) → steps ≤ m * period → q ≤ m
@@ -31,22 +31,22 @@ PeriodicIsValid steps period book = 1 ≤ period → HasPeriodicPlan steps perio
 abbrev pub PeriodicIsCounted : ℕ → ℕ → BookCosts → Type 0
 PeriodicIsCounted steps period book = 1 ≤ steps → 1 ≤ period → HasPeriodicPlan steps period book → length (periodic_list steps period book) ≡ 4 * steps
 
--- two lists that are read from disk tables whose entries are the greatest are one, whichever tables these are
+-- all disk tables of the greatest entries give at most one list
 abbrev pub DiskPlanIsUnique : ℕ → BookCosts → DiskTables → DiskTables → List Action → List Action → Type 0
 DiskPlanIsUnique steps book s t list other =
     IsGreatestDisk steps book s → IsGreatestDisk steps book t → IsDiskWritten steps book s list → IsDiskWritten steps book t other → list ≡ other
 
--- where there is a plan there are greatest disk tables for so many steps and a book's costs, in whole rows
+-- where there is a plan, these steps and costs have greatest disk tables, in whole rows
 abbrev pub GreatestDiskExist : ℕ → BookCosts → Type 0
 GreatestDiskExist steps book =
     HasDiskPlan book → steps ≤ 8192 → IsWithinLimits book →
     (t : DiskRows) × AreDiskSized steps book t × AreDiskShaped t × IsGreatestDisk steps book (disk_tables_in t)
 
--- from disk tables whose entries are attained a list can be read
+-- disk tables whose entries are attained give a list
 abbrev pub DiskListExists : ℕ → BookCosts → DiskTables → Type 0
 DiskListExists steps book t =
     HasDiskPlan book → IsExact steps (fastest book) (fast_tables t) → IsDiskExact steps book t → (list : List Action) × IsDiskWritten steps book t list
 
--- in each list that is read, where there is a step, EndForward stands directly after the first Forward with Tape, and nowhere else
+-- in each list read for a step or more, EndForward comes once, directly after the first Forward with Tape
 abbrev pub DiskListEndsForward : ℕ → BookCosts → DiskTables → List Action → Type 0
 DiskListEndsForward steps book t list = 1 ≤ steps → IsDiskWritten steps book t list → EndsForwardAtTape list

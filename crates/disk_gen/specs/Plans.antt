@@ -11,7 +11,7 @@ use Rattle.disk_gen.specs.Periodic.{images}
 abbrev pub slots_at : BookCosts → ℕ → Slots
 slots_at book k = slice_index_or (slots_of book) k (Count 0)
 
--- a level has slots for so many images, or a count of slots that is below them
+-- a level has slots for so many images, or counts fewer slots
 abbrev pub HasSlots : Slots → ℕ → Type 0
 HasSlots (Count slots) n = n ≤ slots
 HasSlots Unlimited n = Unit {0}
@@ -20,20 +20,21 @@ abbrev pub LacksSlots : Slots → ℕ → Type 0
 LacksSlots (Count slots) n = slots < n
 LacksSlots Unlimited n = ⊥
 
--- level 0 has no slots, and there are two steps or more, also in the period
+-- level 0 has no slots, and both the run and the period have two or more steps
 pub record IsStuck (steps period : ℕ) (book : BookCosts) : Type 0 where
   pub none : room book 0 steps ≡ 0
   pub more : 2 ≤ steps
   pub long : 2 ≤ period
 
--- there is a list: the book has two levels, the faster one has a slot where it is used, and the slower one has its images
+-- There is a list. The book has two levels. The faster one has a slot where it is used, and the slower one has room for
+-- its images.
 pub record HasPeriodicPlan (steps period : ℕ) (book : BookCosts) : Type 0 where
   pub two : length book.levels ≡ 2
   pub fast : 2 ≤ steps → 2 ≤ period → 1 ≤ room book 0 steps
   pub slow : HasSlots (slots_at book 1) (images steps period)
 
--- Why there is none: rule 2, the book hasn't two levels; else rule 1, level 0 has no slots where they are used; else rule 4, level 1
--- has a count of slots that is below its images. Memory can be wanting only where there is a plan.
+-- Why there is none. Rule 2: the book hasn't two levels. Otherwise rule 1: level 0 has no slots where they are used.
+-- Otherwise rule 4: level 1 has fewer slots than images. Memory can be short only where there is a plan.
 abbrev pub IsFault : ℕ → ℕ → BookCosts → GenFault → Type 0
 IsFault steps period book (NoPlan rule) =
     ((rule ≡ 2) × (length book.levels ≢ 2))

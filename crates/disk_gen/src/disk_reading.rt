@@ -17,7 +17,7 @@ use level_book::Book;
 use plan_types::{Action, Dest, Keep};
 use std::alloc::{AllocError, Global};
 
-/// The list that is read from the tables that were built for so many steps and a book.
+/// The list read from the tables that were built for so many steps and a book.
 pub fn disk_list(
     alloc: Global,
     tables: &DiskTables,
@@ -35,7 +35,7 @@ pub fn disk_list(
     whole_list(alloc, tables, book)
 }
 
-// The whole list.
+// The list for all steps.
 fn whole_list(alloc: Global, tables: &DiskTables, book: &Book) -> Result<Vec<Action>, AllocError>
     requires ready { CanReadDisk book.now tables.now }
     ensures { IfOk result (λ list. IsDiskWritten tables.now.fast.steps book.now (disk_tables_in tables.now) list.items) }
@@ -62,7 +62,7 @@ fn is_fast_held(tables: &DiskTables, own: Cost, read: u64, l: u32) -> bool
     is_sum(own, read, Cost::Number(0), fast)
 }
 
-// The same where its first state is in work.
+// Whether level 0 alone costs as much, where the first state is in work.
 fn is_fast_fresh(tables: &DiskTables, own: Cost, l: u32) -> bool
     requires { (1 ≤ l) × (l ≤ tables.now.fast.steps) }
     ensures yes { result ≡ true → value_of own ≡ (disk_tables_in tables.now).fresh l (slice_index tables.now.fast.rooms 0) }
@@ -71,7 +71,8 @@ fn is_fast_fresh(tables: &DiskTables, own: Cost, l: u32) -> bool
     tables.fresh(l, tables.room()) == own
 }
 
-// Whether splitting after j steps costs as much, where the first state's image and the way to the split cost n.
+// Whether a split after j steps costs as much. Here n is the cost of the first state's image and of the way to the
+// split.
 fn is_fresh_split(tables: &DiskTables, own: Cost, n: u64, l: u32, j: u32) -> bool
     requires l { l ≤ tables.now.fast.steps }
     requires j { (1 ≤ j) × (j < l) }
@@ -109,7 +110,7 @@ fn held_split(tables: &DiskTables, own: Cost, read: u64, forward: u64, l: u32) -
     1
 }
 
-// The same where the first state is in work.
+// The first split that costs as much, where the first state is in work.
 fn fresh_split(tables: &DiskTables, own: Cost, write: u64, forward: u64, l: u32) -> u32
     requires few { tables.now.fast.steps ≤ 8192 }
     requires l { (1 ≤ l) × (l ≤ tables.now.fast.steps) }
@@ -172,7 +173,7 @@ fn write_disk_held(
     write_disk_held(list, tables, book, b, i)
 }
 
-// The same where its first state is in work.
+// Writes the actions of a stretch whose first state is in work.
 fn write_disk_fresh(
     list: &mut Vec<Action>,
     tables: &DiskTables,

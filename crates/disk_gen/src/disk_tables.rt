@@ -1,4 +1,4 @@
-// Tables of least costs over two levels, of which the slow one is unlimited.
+// Tables of least costs over two levels, the slow one unlimited.
 ghost use Rattle.std.specs.Prelude.{◌≡◌, ◌≢◌, ◌↔◌, ℕ, ◌+◌, ◌-◌, ◌<◌, ◌≤◌, ◌^◌, true, All, length, map, IfOk, IfErr, OnOk, slice_index};
 ghost use Rattle.level_book.specs.UnderTable.{number};
 ghost use Rattle.level_book.specs.DiskUnderTable.{IsGreatestDisk};
@@ -41,16 +41,15 @@ impl Model for DiskTables {
 }
 
 impl DiskTables {
-    /// Whether tables for so many steps and a book can be built: for at most 8,192 steps, and at most 64 images on level 0. It
-    /// takes no memory.
+    /// Whether tables can be built: at most 8,192 steps, and at most 64 images on level 0. It takes no memory.
     pub fn fits(steps: u32, book: &Book) -> bool
         ensures { result ≡ true ↔ FastestTablesFit steps book.now }
     {
         Tables::fits_fastest(steps, book)
     }
 
-    /// The greatest disk under-table, which is the same for every number of workers. There is none where the book hasn't two
-    /// levels, and else where level 1 isn't unlimited.
+    /// The greatest disk under-table, the same for every number of workers. There is none if the book hasn't two
+    /// levels, or level 1 isn't unlimited.
     pub fn build<R: Threads + Sync>(
         rt: &R,
         alloc: Global,
@@ -77,8 +76,8 @@ impl DiskTables {
         }
     }
 
-    /// Tables of which each entry is Never, to be filled entry by entry. The book may also be one that has no greatest table here,
-    /// as of one level. They are refused for want of memory alone.
+    /// Tables with every entry Never, to be filled entry by entry. The book may also be one without a greatest table,
+    /// such as one of one level. Only a lack of memory refuses them.
     pub fn never(alloc: Global, steps: u32, book: &Book) -> Result<DiskTables, AllocError>
         requires { FastestTablesFit steps book.now }
         ensures sizes { IfOk result (AreDiskSized steps book.now) }
@@ -95,7 +94,8 @@ impl DiskTables {
         })
     }
 
-    /// Tables of these parts: those of one level alone, and the entries over both levels, from one step on. It takes no memory.
+    /// Tables of these parts: those of one level alone, and the entries over both levels, from one step on. It takes no
+    /// memory.
     pub fn from_parts(fast: Tables, disk_fresh: Vec<Cost>, disk_held: Vec<Cost>) -> DiskTables
         requires one { length fast.rooms ≡ 1 }
         requires fresh { length disk_fresh.items ≡ fast.steps }
@@ -109,7 +109,7 @@ impl DiskTables {
         }
     }
 
-    /// Does nothing. Its contract is a law: there is an entry for each number of steps and free slots, and none else.
+    /// Does nothing. Its contract is a law: there is exactly one entry for each number of steps and free slots.
     pub fn is_shaped(&self)
         ensures { AreDiskShaped self.now }
     {
@@ -125,14 +125,14 @@ impl DiskTables {
         are_short(&self.disk_held);
     }
 
-    /// Whether the tables are for so many steps and level 0 of a book. It takes no memory.
+    /// Whether the tables fit so many steps and level 0 of a book. It takes no memory.
     pub fn sized(&self, steps: u32, book: &Book) -> bool
         ensures { result ≡ true ↔ AreDiskSized steps book.now self.now }
     {
         self.fast.sized_fastest(steps, book)
     }
 
-    /// The entry of level 0 alone for a stretch of l steps and m free slots, with the first state in work. It takes no memory.
+    /// The entry of level 0 alone for l steps and m free slots. The first state is in work. It takes no memory.
     pub fn fresh(&self, l: u32, m: u32) -> Cost
         requires l { (1 ≤ l) × (l ≤ self.now.fast.steps) }
         requires m { m ≤ slice_index self.now.fast.rooms 0 }
@@ -141,7 +141,8 @@ impl DiskTables {
         self.fast.fresh(0, l, m)
     }
 
-    /// The same with the first state held on level 0, beside the free slots. It takes no memory.
+    /// The entry of level 0 alone for l steps and m free slots. The first state is held beside them. It takes no
+    /// memory.
     pub fn held(&self, l: u32, m: u32) -> Cost
         requires l { (1 ≤ l) × (l ≤ self.now.fast.steps) }
         requires m { m < slice_index self.now.fast.rooms 0 }
@@ -159,7 +160,7 @@ impl DiskTables {
         self.disk_fresh[row]
     }
 
-    /// The same with the first state held on level 1. It takes no memory.
+    /// The entry over both levels for l steps, with the first state held on level 1. It takes no memory.
     pub fn disk_held(&self, l: u32) -> Cost
         requires { (1 ≤ l) × (l ≤ self.now.fast.steps) }
         ensures { value_of result ≡ (disk_tables_in self.now).disk_held l }
@@ -168,8 +169,7 @@ impl DiskTables {
         self.disk_held[row]
     }
 
-    /// Sets the entry of level 0 alone for a stretch of l steps and m free slots, with the first state in work. It takes no
-    /// memory.
+    /// Sets the entry of level 0 alone for l steps and m free slots. The first state is in work. It takes no memory.
     pub fn set_fresh(&mut self, l: u32, m: u32, cost: Cost)
         requires l { (1 ≤ l) × (l ≤ self.old.fast.steps) }
         requires m { m ≤ slice_index self.old.fast.rooms 0 }
@@ -184,7 +184,8 @@ impl DiskTables {
         self.fast.set_fresh(0, l, m, cost);
     }
 
-    /// The same with the first state held on level 0, beside the free slots. It takes no memory.
+    /// Sets the entry of level 0 alone for l steps and m free slots. The first state is held beside them. It takes no
+    /// memory.
     pub fn set_held(&mut self, l: u32, m: u32, cost: Cost)
         requires l { (1 ≤ l) × (l ≤ self.old.fast.steps) }
         requires m { m < slice_index self.old.fast.rooms 0 }
@@ -210,7 +211,7 @@ impl DiskTables {
         self.disk_fresh[l as usize - 1] = cost;
     }
 
-    /// The same with the first state held on level 1. It takes no memory.
+    /// Sets the entry over both levels for l steps, with the first state held on level 1. It takes no memory.
     pub fn set_disk_held(&mut self, l: u32, cost: Cost)
         requires { (1 ≤ l) × (l ≤ self.old.fast.steps) }
         ensures fast { self.new.fast ≡ self.old.fast }
@@ -221,7 +222,7 @@ impl DiskTables {
         self.disk_held[l as usize - 1] = cost;
     }
 
-    /// For how many steps the tables are.
+    /// The number of steps of the tables.
     pub fn steps(&self) -> u32
         ensures { result ≡ self.now.fast.steps }
     {
@@ -308,7 +309,7 @@ fn filled<R: Threads + Sync>(
     })
 }
 
-// What each stretch costs with level 0 alone and all its slots.
+// The cost of each stretch with level 0 alone and all its slots.
 fn fast_column(alloc: Global, fast: &Tables) -> Result<Vec<u64>, AllocError>
     requires one { length fast.now.rooms ≡ 1 }
     requires low { (l v : ℕ) → 1 ≤ l → l ≤ fast.now.steps → (tables_in fast.now).fresh 0 l (slice_index fast.now.rooms 0) ≡ number v → v < 2 ^ 61 }
@@ -337,7 +338,7 @@ fn number_of(cost: Cost) -> u64
     }
 }
 
-// The least that the splits of row r cost, besides what its first image costs.
+// The least cost of the splits of row r, without that of the first image.
 fn least_cost(fresh: &[u64], held: &[u64], r: usize, forward: u64) -> u64
     requires forward { forward < 2 ^ 32 }
     requires few { r < 8192 }
@@ -356,7 +357,7 @@ fn least_cost(fresh: &[u64], held: &[u64], r: usize, forward: u64) -> u64
     least
 }
 
-// What each stretch costs whose first state is held on level 1.
+// The cost of each stretch whose first state is held on level 1.
 fn held_column(alloc: Global, fast: &[u64], forward: u64, read: u64) -> Result<Vec<u64>, AllocError>
     requires forward { forward < 2 ^ 32 }
     requires read { read < 2 ^ 32 }
@@ -373,7 +374,7 @@ fn held_column(alloc: Global, fast: &[u64], forward: u64, read: u64) -> Result<V
     Ok(held)
 }
 
-// What each stretch costs whose first state is in work.
+// The cost of each stretch whose first state is in work.
 fn fresh_column(
     alloc: Global,
     fast: &[u64],

@@ -1,8 +1,15 @@
-//! Lists over two levels, a fast one with few slots and a slow one with many: the periodic ones, and those of DiskRevolve, where the
-//! slow one is unlimited and the cost is the least. The crate stands on the lists of Revolve, and on the tables and lists of
-//! H-Revolve for the fast level. `specs/Periodic.antt` says which periodic list is written, `specs/Plans.antt` where there is none,
-//! and `specs/Laws.antt` that it is valid. `specs/DiskRows.antt` says as what the disk tables are seen, `specs/DiskPlans.antt`
-//! where there are none, and `specs/DiskWritten.antt` which list is read from them; by `specs/Laws.antt` it is the only one.
+//! Lists over two levels, a fast one with few slots and a slow one with many. It uses `revolve_gen`, `cost_tables` and
+//! `hrevolve_gen`. `table_clauses`, `bound_cert` and `reversal` use it. There are periodic lists, and lists of
+//! DiskRevolve, which cost the least where the slow level is unlimited.
+//!
+//! In `specs/`:
+//!
+//! - `Periodic`: which periodic list is written.
+//! - `Plans`: where there is no periodic list.
+//! - `DiskRows`: the model of the disk tables.
+//! - `DiskPlans`: where there are no disk tables.
+//! - `DiskWritten`: which list is read from disk tables.
+//! - `Laws`: periodic lists are valid, and a list read from disk tables is the only one.
 #![tactic(auto)]
 
 mod disk_reading;

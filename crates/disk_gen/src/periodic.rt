@@ -12,7 +12,7 @@ use revolve_gen::{GenFault, StretchStream};
 use std::alloc::Global;
 use std::marker::Model;
 
-/// The actions of a periodic list that are still to come. It holds no list: it works each action out from a stack with an entry
+/// The actions of a periodic list still to come. It holds no list. It works out each action from a stack with an entry
 /// for each image on the faster level.
 #[derive(Drop)]
 pub struct Periodic {
@@ -35,8 +35,8 @@ impl Model for Periodic {
 }
 
 impl Periodic {
-    /// The list for so many steps with an image on level 1 every `period` steps, with a stack that has room for an entry for each
-    /// slot of level 0.
+    /// The list for so many steps, with an image on level 1 every `period` steps. Its stack has room for an entry for
+    /// each slot of level 0.
     pub fn new(alloc: Global, steps: u32, period: u32, book: &Book) -> Result<Periodic, GenFault>
         requires short { steps ≤ MOST_STEPS }
         requires some { 1 ≤ period }
@@ -73,7 +73,7 @@ impl Periodic {
         })
     }
 
-    /// The next action, and None after the last and from then on. It takes no memory.
+    /// The next action, and None after the last. It takes no memory.
     #[tactic(auto, using(crate::proofs::Owing::owed_next, crate::proofs::Owing::owing_same))]
     pub fn next(&mut self) -> Option<Action>
         ensures { MatchOption result ((self.old ≡ []) × (self.new ≡ [])) (λ action. self.old ≡ action ∷ self.new) }

@@ -1,11 +1,11 @@
-// How far a periodic list is written, and what comes behind the stretch at hand.
+// How far a periodic list is written, and what comes after the current stretch.
 ghost use Rattle.std.specs.Prelude.{◌≡◌, ◌+◌, ◌*◌, ◌≤◌, [], ◌∷◌, ◌++◌, MatchOption, IfSome};
 ghost use Rattle.disk_gen.specs.Owed.{owed_behind, IsOwing};
 
 use plan_types::{Action, Dest, Keep};
 use revolve_gen::StretchStream;
 
-// What is to be written behind the stretch at hand.
+// What is to be written after the current stretch.
 #[derive(Clone, Copy)]
 pub(crate) enum Phase {
     // So many images are held on level 1, and so many more will be.
@@ -16,7 +16,7 @@ pub(crate) enum Phase {
     Ended,
 }
 
-// The way over a stretch whose image is held on level 1. Behind the last of them the last stretch begins.
+// The way over a stretch whose image is held on level 1. After the last of them the last stretch begins.
 #[tactic(auto, using(crate::proofs::Owing::store_fits, crate::proofs::Owing::held_small))]
 fn store_next(
     period: u32,
@@ -67,7 +67,7 @@ fn load_newest(period: u32, last: u32, stretch: &mut StretchStream, held: u32) -
     (action, Phase::Back { held })
 }
 
-// The next action behind a stretch that is written, and what comes behind it.
+// The next action after a written stretch, and what comes after it.
 pub(crate) fn next_behind(
     period: u32,
     last: u32,

@@ -1,5 +1,5 @@
--- An ELF32 file, as far as it is looked at (Tool Interface Standard, Executable and Linking Format 1.2, "ELF Header" and
--- "Program Header"; the number of the machine is from the RISC-V ELF psABI). Numbers are little-endian.
+-- An ELF32 file, as far as it is read. Source: Tool Interface Standard, Executable and Linking Format 1.2, "ELF Header"
+-- and "Program Header". The number of the machine is from the RISC-V ELF psABI. Numbers are little-endian.
 use Rattle.std.specs.Prelude.{◌≡◌, ◌≢◌, ◌+◌, ◌*◌, ◌%◌, ◌/◌, ◌<◌, ◌≤◌, ◌==◌, ◌&&◌, ℕ, Bool, not, List, [], ◌∷◌, length, take, drop, map, filter, slice_index, IsTrue}
 use Rattle.std.specs.Int.{w16, w32, from_le_bytes}
 use Rattle.std.specs.List.{range_with_len}
@@ -61,7 +61,7 @@ is_load h = (h.kind == 1) && not (h.memory_size == 0)
 abbrev pub loads : List ℕ → List ℕ
 loads file = filter (λ i. is_load (header_at file i)) (range_with_len 0 (e_phnum file))
 
--- its bytes in memory: the first ones stand in the file
+-- its bytes in memory; the first ones come from the file
 abbrev pub piece_of : List ℕ → ProgramHeader → Piece
 piece_of file h = record { address = h.address; size = h.memory_size; bytes = take h.file_size (drop h.offset file) }
 
@@ -94,14 +94,14 @@ pub record HasHeaders (file : List ℕ) : Type 0 where
   pub size : e_phentsize file ≡ 32
   pub inside : e_phoff file + 32 * e_phnum file ≤ length file
 
--- A load segment is right by itself: its bytes of the file are there, and are no more than it has in memory, and it ends
+-- A load segment is right by itself. All its bytes are in the file, and are no more than it has in memory. It ends
 -- below the stack.
 pub record IsSound (file : List ℕ) (stack : ℕ) (h : ProgramHeader) : Type 0 where
   pub sizes : h.file_size ≤ h.memory_size
   pub inside : h.offset + h.file_size ≤ length file
   pub below : h.address + h.memory_size ≤ stack_start stack
 
--- the header with an index is that of a sound load segment, or is passed over
+-- the header with an index is that of a sound load segment, or is ignored
 abbrev pub IsSoundIfLoaded : List ℕ → ℕ → ℕ → Type 0
 IsSoundIfLoaded file stack i = IsTrue (is_load (header_at file i)) → IsSound file stack (header_at file i)
 

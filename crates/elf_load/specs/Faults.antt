@@ -38,8 +38,8 @@ IsMet file stack (RawLength n) = Unit {0}
 abbrev pub AreTooMany : List ℕ → ℕ → Type 0
 AreTooMany pages n = (n ≡ length pages) × (4096 < n)
 
--- The line of a fault isn't met, and the fault has the numbers that tell where: the first header that doesn't fit, the first
--- two that share an address, how many pages there are, the entry. Want of memory is no fault of the bytes.
+-- The line of a fault isn't met, and the fault has numbers that say where. They are the misfitting header, the two that
+-- share an address, the number of pages, or the entry. A lack of memory is no fault of the bytes.
 abbrev pub IsMissed : List ℕ → ℕ → ElfFault → Type 0
 IsMissed file stack NotElf = HasMagic file → ⊥
 IsMissed file stack Class = HasClass file → ⊥

@@ -24,11 +24,11 @@ StartOrFault =
     (file : List ℕ) (stack : ℕ) →
     ((s : MachineState) × IsProgram file stack s) ⊎ ((fault : ElfFault) × FirstFault file stack fault)
 
--- the start state of a file of bytes is a state that a machine can be in
+-- the start state of a file of bytes is a machine state
 abbrev pub StartsAreStates : Type 0
 StartsAreStates = (file : List ℕ) (stack : ℕ) (s : MachineState) → All (λ b. b < 256) file → IsProgram file stack s → IsMachineState s
 
--- the same of raw words
+-- raw words have one start state at most
 abbrev pub OneRawStart : Type 0
 OneRawStart = (bytes : List ℕ) (stack : ℕ) (s t : MachineState) → IsRawProgram bytes stack s → IsRawProgram bytes stack t → s ≡ t
 

@@ -1,17 +1,17 @@
--- A program as it stands in memory at the start.
+-- A program in memory at the start.
 use Rattle.std.specs.Prelude.{◌≡◌, ◌↔◌, ◌⊎◌, ◌+◌, ◌-◌, ◌*◌, ◌/◌, ◌<◌, ◌≤◌, ℕ, List, length, replicate, slice_set, fold, Any, Contains}
 use Rattle.std.specs.List.Sorted.{IsStrictlyIncreasing}
 use Rattle.rv_pages.specs.Memory.{Memory, zeroed, with_bytes}
 use Rattle.rv_machine.specs.declared.status.Status.TheVariants.{Running}
 use Rattle.rv_machine.specs.MachineState.{MachineState}
 
--- a run of so many bytes from an address on: the first ones are given, and those behind them are 0
+-- a run of so many bytes from an address on: the given ones, and then zeros
 pub record Piece : Type 0 where
   pub address : ℕ
   pub size : ℕ
   pub bytes : List ℕ
 
--- the stack of so many pages, of which there are at most 1,024, ends at 0xC0000000
+-- the start of a stack of so many pages, at most 1,024, that ends at 0xC0000000
 abbrev pub stack_start : ℕ → ℕ
 stack_start stack = 0xC0000000 - 4096 * stack
 
@@ -40,7 +40,7 @@ with_pieces m pieces = fold (λ m piece. with_bytes m piece.address piece.bytes)
 abbrev pub memory_of : List ℕ → List Piece → Memory
 memory_of pages pieces = with_pieces (zeroed pages) pieces
 
--- the entry is next, and the stack pointer x2 stands 16 bytes below the stack's end
+-- the entry is next, and the stack pointer x2 is 16 bytes below the stack's end
 abbrev pub start_at : ℕ → Memory → MachineState
 start_at entry memory = record {
   pc = entry;
@@ -52,7 +52,7 @@ start_at entry memory = record {
   memory = memory;
 }
 
--- the start state of a program that has this entry and these pieces, with a stack of so many pages
+-- the start state of a program with this entry and these pieces; the stack has so many pages
 pub record IsStart (entry : ℕ) (pieces : List Piece) (stack : ℕ) (s : MachineState) : Type 0 where
   pub pages : List ℕ
   pub mapped : AreMapped pieces stack pages

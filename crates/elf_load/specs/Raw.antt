@@ -1,4 +1,4 @@
--- Raw words: they stand from 0x10000 on, which is the entry.
+-- Raw words: they begin at 0x10000, which is the entry.
 use Rattle.std.specs.Prelude.{◌≡◌, ◌%◌, ◌<◌, ℕ, List, [], ◌∷◌, length}
 use Rattle.rv_machine.specs.MachineState.{MachineState}
 use Rattle.elf_load.specs.Program.{Piece, IsStart}

@@ -52,7 +52,7 @@ pub record AreFirstToCross (segments : List Segment) (a b : ℕ) : Type 0 where
   pub cross : Cross (segment_at segments a) (segment_at segments b)
   pub first : (c d : ℕ) → c < d → d < length segments → Cross (segment_at segments c) (segment_at segments d) → (a < c) ⊎ ((a ≡ c) × (b ≤ d))
 
--- Why no pages are listed for segments: two of them share an address, there are too many pages, or there was no memory.
+-- Why segments have no pages: two share an address, there are too many pages, or memory ran out.
 pub data IsPagesFault (segments : List Segment) (stack : ℕ) (fault : ElfFault) : Type 0 where
   memory : fault ≡ Memory → IsPagesFault segments stack fault
   overlap : (a b : ℕ) → AreFirstToCross segments a b → fault ≡ Overlap (segment_at segments a).index (segment_at segments b).index →

@@ -5,13 +5,13 @@ use Rattle.std.specs.List.{range_with_len}
 use Rattle.elf_load.specs.declared.segment.Segment.{Segment}
 use Rattle.elf_load.specs.declared.pages.Span.{Span}
 
--- The pages of runs from a page on, in ascending order, where the runs are ordered by their first pages. A run that ends before
--- that page gives none: the difference is 0 there.
+-- The pages of runs from a page on, in ascending order. The runs are ordered by their first pages. A run that ends
+-- before that page has none, since the truncated difference is 0.
 abbrev pub pages_from : ℕ → List Span → List ℕ
 pages_from next [] = []
 pages_from next (s ∷ spans) = range_with_len (max next s.first) (s.last + 1 - max next s.first) ++ pages_from (max next (s.last + 1)) spans
 
--- the pages of a segment, which has a byte or more, and those of the stack, of at most 1,024 pages
+-- the pages of a segment that isn't empty, and those of a stack of at most 1,024 pages
 abbrev pub span_of : Segment → Span
 span_of s = record { first = s.address / 4096; last = (s.address + s.memory_size - 1) / 4096 }
 

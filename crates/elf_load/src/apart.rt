@@ -16,8 +16,8 @@ pub(crate) fn by_address(alloc: Global, segments: &[Segment]) -> Result<Vec<Segm
     Ok(sorted)
 }
 
-/// The places of the first two segments that share an address, in the order of their headers, where they are given in the
-/// order of their addresses too. Only where neighbours in that order overlap the two are sought.
+/// The places of the first two segments that share an address, in the order of their headers. `sorted` has the segments
+/// by their addresses. The search runs only if neighbours there overlap.
 pub(crate) fn first_overlap(segments: &[Segment], sorted: &[Segment]) -> Option<(usize, usize)>
     requires same { IsPermutation segments.now sorted.now }
     requires differ { (a b : ℕ) → a < b → b < length segments.now → (segment_at segments.now a).index < (segment_at segments.now b).index }
@@ -43,7 +43,7 @@ fn neighbours_are_apart(sorted: &[Segment]) -> bool
     true
 }
 
-// The places of the first two that share an address, if there are two.
+// The places of the first two that share an address, if any do.
 fn first_to_cross(segments: &[Segment]) -> Option<(usize, usize)>
     ensures { MatchOption result (AreApart segments.now) (λ places. AreFirstToCross segments.now places.0 places.1) }
 {

@@ -2,10 +2,10 @@
 
 use thiserror::Error;
 
-/// The first line of the table of faults that bytes don't meet, with the numbers that tell where.
+/// The first line of the table of faults that bytes don't meet, with numbers that say where.
 #[derive(Clone, Copy, Debug, PartialEq, Eq, Error)]
 pub enum ElfFault {
-    /// They don't begin as an ELF file, or are fewer than 52.
+    /// They don't begin like an ELF file, or are fewer than 52.
     #[error("the bytes don't begin as an ELF file")]
     NotElf,
     /// The file isn't of 32 bits, little-endian and of version 1.
@@ -20,14 +20,14 @@ pub enum ElfFault {
     /// There are no program headers, they aren't of 32 bytes, or they aren't all there.
     #[error("the program headers aren't there")]
     Headers,
-    /// The load segment of the header with this index has more bytes in the file than in memory, isn't all in the file, or
-    /// reaches the stack.
+    /// The load segment of this header has too many bytes, isn't all in the file, or reaches the stack. Too many means
+    /// more than in memory.
     #[error("the segment {0} doesn't fit")]
     Segment(u32),
     /// The load segments of the headers with these indices share an address.
     #[error("the segments {0} and {1} overlap")]
     Overlap(u32, u32),
-    /// So many pages would be mapped, and that is more than 4,096.
+    /// So many pages would be mapped, more than 4,096.
     #[error("{0} pages are too many")]
     TooLarge(u64),
     /// This entry isn't the address of a word in a mapped page.

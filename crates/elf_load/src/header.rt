@@ -17,18 +17,18 @@ const ET_EXEC: u16 = 2;
 
 const EM_RISCV: u16 = 243;
 
-/// The fields of a file's header that are needed behind it.
+/// The fields of a file's header that are needed later.
 #[derive(Clone, Copy)]
 pub(crate) struct Header {
     /// The address of the first instruction.
     pub(crate) entry: u32,
-    /// Where the program headers stand in the file.
+    /// Where the program headers are in the file.
     pub(crate) offset: u32,
     /// How many program headers there are.
     pub(crate) count: u16,
 }
 
-/// Reads the header of a file, if it is one of an ELF file for the machine and all program headers are there.
+/// Reads a file's header, if the file is ELF for the machine and has all its program headers.
 pub(crate) fn read_header(file: &[u8]) -> Result<Header, ElfFault>
     ensures found { IfOk result (IsHeaderOf file.now) }
     ensures refused { IfErr result (λ fault. (stack : ℕ) → FirstFault file.now stack fault) }

@@ -17,7 +17,7 @@ pub fn files_have_a_start_or_a_fault()
     ensures { StartOrFault }
 {}
 
-/// The start state of a file of bytes is a state that a machine can be in.
+/// The start state of a file of bytes is a machine state.
 pub fn starts_are_machine_states()
     ensures { StartsAreStates }
 {}
@@ -38,7 +38,7 @@ pub fn raw_words_have_a_start_or_a_fault()
     ensures { RawStartOrFault }
 {}
 
-/// The start state of raw words is a state that a machine can be in.
+/// The start state of raw words is a machine state.
 pub fn raw_starts_are_machine_states()
     ensures { RawStartsAreStates }
 {}

@@ -1,6 +1,6 @@
-//! Program files: the start state of an ELF file, or of raw words. It stands on the machine and its memory, and the top call
-//! stands on it. `specs/Program.antt` says what a start state is, `specs/Elf.antt` and `specs/Raw.antt` of which bytes there
-//! is one, and `specs/Faults.antt` why there is none of others.
+//! Loads program files: the start state of an ELF file, or of raw words. It uses `rv_pages` and `rv_machine`.
+//! `requests`, `reversal` and `timeline_walks` use it. `specs/Program.antt` defines start states. `specs/Elf.antt` and
+//! `specs/Raw.antt` say which bytes have one, and `specs/Faults.antt` why other bytes have none.
 #![tactic(auto)]
 
 mod apart;

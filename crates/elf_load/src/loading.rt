@@ -24,24 +24,25 @@ const PAGE: u32 = 4096;
 
 const MOST_PAGES: u64 = 4096;
 
-// Where raw words stand.
+// Where raw words begin.
 const RAW: u32 = 0x10000;
 
 // The stack pointer x2 at the start, 16 bytes below the end of the stack.
 const STACK_POINTER: u32 = 0xbfff_fff0;
 
-/// The start state of an ELF file (Tool Interface Standard, Executable and Linking Format 1.2), with a stack of so many pages
-/// below 0xC0000000. It refuses what isn't an executable file of 32 bits for RISC-V whose load segments fit, lie apart and
-/// need at most 4,096 pages with the stack's. Section headers, flags and alignments aren't looked at.
+/// The start state of an ELF file (Tool Interface Standard, Executable and Linking Format 1.2). The stack has so many
+/// pages below 0xC0000000. It refuses files that aren't 32-bit RISC-V executables. It refuses load segments that don't
+/// fit, that overlap, or that need more than 4,096 pages with the stack's. It ignores section headers, flags and
+/// alignments.
 pub fn load(alloc: Global, file: &[u8], stack: u32) -> Result<State, ElfFault>
     requires some { 1 ≤ stack }
     requires few { stack ≤ 1024 }
 
-    // What is loaded is a program's start state, and a program is loaded, unless memory runs out.
+    // The state that is loaded is the program's start state. A program is loaded, unless memory runs out.
     ensures found { IfOk result (IsProgram file.now stack) }
     ensures only { (s : MachineState) → IsProgram file.now stack s → MatchResult result (λ state. state ≡ s) (λ fault. fault ≡ ElfFault.Memory) }
 
-    // What is refused has that fault first, and what has a fault is refused for it, unless memory runs out.
+    // A refusal has the first fault. Bytes with a fault are refused for it, unless memory runs out.
     ensures refused { IfErr result (λ fault. fault ≢ ElfFault.Memory → FirstFault file.now stack fault) }
     ensures first { (fault : ElfFault) → FirstFault file.now stack fault →
         MatchResult result (λ _. ⊥) (λ answer. (answer ≡ fault) ⊎ (answer ≡ ElfFault.Memory)) }
@@ -49,17 +50,17 @@ pub fn load(alloc: Global, file: &[u8], stack: u32) -> Result<State, ElfFault>
     load_file(alloc, file, stack)
 }
 
-/// The start state of raw words, which stand from 0x10000 on, with a stack of so many pages below 0xC0000000. It refuses bytes
-/// that are no whole words, and those that need more than 4,096 pages with the stack's.
+/// The start state of raw words at 0x10000, with a stack of so many pages below 0xC0000000. It refuses bytes that
+/// aren't whole words. It refuses words that need more than 4,096 pages with the stack's.
 pub fn load_raw(alloc: Global, bytes: &[u8], stack: u32) -> Result<State, ElfFault>
     requires some { 1 ≤ stack }
     requires few { stack ≤ 1024 }
 
-    // What is loaded is a program's start state, and a program is loaded, unless memory runs out.
+    // The state that is loaded is the program's start state. A program is loaded, unless memory runs out.
     ensures found { IfOk result (IsRawProgram bytes.now stack) }
     ensures only { (s : MachineState) → IsRawProgram bytes.now stack s → MatchResult result (λ state. state ≡ s) (λ fault. fault ≡ ElfFault.Memory) }
 
-    // What is refused has that fault first, and what has a fault is refused for it, unless memory runs out.
+    // A refusal has the first fault. Bytes with a fault are refused for it, unless memory runs out.
     ensures refused { IfErr result (λ fault. fault ≢ ElfFault.Memory → FirstRawFault bytes.now stack fault) }
     ensures first { (fault : ElfFault) → FirstRawFault bytes.now stack fault →
         MatchResult result (λ _. ⊥) (λ answer. (answer ≡ fault) ⊎ (answer ≡ ElfFault.Memory)) }
@@ -92,8 +93,8 @@ fn is_entry(entry: u32, numbers: &[u32]) -> bool
     entry % 4 == 0 && numbers.contains(&(entry / PAGE))
 }
 
-// The numbers of the pages that segments map, and of those of the stack, if the segments share no address and there are no
-// more than 4,096 pages.
+// The numbers of the pages of segments and of the stack. There must be at most 4,096, and the segments must share no
+// address.
 fn mapped_pages(alloc: Global, segments: &[Segment], stack: u32) -> Result<Vec<u32>, ElfFault>
     requires some { All (λ (s : Segment). 0 < s.memory_size) segments.now }
     requires below { All (λ (s : Segment). s.address + s.memory_size ≤ stack_start stack) segments.now }
@@ -171,7 +172,7 @@ fn load_words(alloc: Global, bytes: &[u8], stack: u32) -> Result<State, ElfFault
     Ok(start(RAW, pages))
 }
 
-// The state in which the word at an address is next, over memory.
+// The state over this memory with pc at this address.
 fn start(entry: u32, pages: Pages) -> State
     requires { entry % 4 ≡ 0 }
     ensures { result ≡ start_at entry pages }

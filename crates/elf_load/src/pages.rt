@@ -8,7 +8,7 @@ use std::alloc::{AllocError, Global};
 
 const PAGE: u64 = 4096;
 
-// The number of the page behind the stack.
+// The number of the page after the stack.
 const STACK_END: u64 = 0xC0000;
 
 /// A run of pages, from the first to the last.
@@ -90,7 +90,7 @@ pub(crate) fn page_numbers(alloc: Global, spans: &[Span]) -> Result<Vec<u32>, Al
     Ok(numbers)
 }
 
-// Pushes the numbers of the pages from one on and below another.
+// Pushes the numbers of the pages from one up to below another.
 fn push_pages(numbers: &mut Vec<u32>, from: u64, to: u64) -> Result<(), AllocError>
     requires { to ≤ 2 ^ 20 }
     ensures { OnOk result (numbers.new.items ≡ numbers.old.items ++ range_with_len from (to - from)) }

@@ -15,7 +15,7 @@ const PT_LOAD: u32 = 1;
 
 const SIZE: usize = 32;
 
-/// A load segment: the index of its header, where its bytes stand in the file, and where in memory.
+/// A load segment: the index of its header, and where its bytes are in the file and in memory.
 #[derive(Clone, Copy)]
 pub(crate) struct Segment {
     pub(crate) index: u32,
@@ -26,7 +26,7 @@ pub(crate) struct Segment {
 }
 
 impl Segment {
-    /// The address behind its last byte.
+    /// The address after its last byte.
     pub(crate) fn end(&self) -> u64
         ensures { result ≡ self.now.address + self.now.memory_size }
     {

@@ -1,9 +1,9 @@
--- What a line in memory is seen as.
+-- The model of a line in memory.
 use Rattle.std.specs.Prelude.{ℕ, List}
 use Rattle.gdb_line.specs.Talk.{Talk}
 
--- what went over it, how many bytes come at once at most, how many it has room for that go, the numbers of the calls that fail, and
--- how many calls and how many faults there were
+-- What went over it, the most bytes that come at once, and its room for outgoing bytes. Also the failing calls, and the
+-- counts of calls and faults.
 pub record LineState : Type 0 where
   pub talk : Talk
   pub most : ℕ

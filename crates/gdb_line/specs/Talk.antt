@@ -1,4 +1,4 @@
--- What goes over a line: bytes come on it, and bytes go.
+-- What goes over a line, in both directions.
 use Rattle.std.specs.Prelude.{◌≡◌, ℕ, List, ◌++◌, take}
 
 pub record Talk : Type 0 where

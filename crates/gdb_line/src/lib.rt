@@ -1,5 +1,4 @@
-//! A line to a debugger: bytes come on it, and bytes go. It stands on what storage and output tell of themselves, and a server is
-//! to stand on it.
+//! A line to a debugger: bytes come in on it, and bytes go out. It uses `keepers`. No crate uses it yet.
 #![tactic(auto)]
 
 mod line;

@@ -14,14 +14,14 @@ pub enum LineFault {
     Failed,
 }
 
-/// Bytes come on it, and bytes go.
+/// Bytes come in on it, and bytes go out.
 pub trait Line {
-    /// What went over it, where it tells.
+    /// The bytes that went over it, for a line that claims to know them.
     ghost told: { Self → Option Talk };
 
     ghost fault_count: { Self → ℕ };
 
-    /// Waits until bytes come, and puts them into the room, which has some. None come where the line is at its end.
+    /// Waits until bytes come, and puts them into the room, which isn't empty. No bytes come at the end of the line.
     fn receive(&mut self, room: &mut [u8]) -> Result<usize, LineFault>
         requires { 0 < length room.old }
         ensures fits { IfOk result (λ n. n ≤ length room.new) }
@@ -32,7 +32,7 @@ pub trait Line {
         ensures later { fault_count self.old ≤ fault_count self.new }
         ensures cause { OnErr result (Rose (fault_count self.old) (fault_count self.new)) };
 
-    /// Puts the bytes into the room that have come already. It doesn't wait.
+    /// Puts bytes that have already come into the room. It doesn't wait.
     fn look(&mut self, room: &mut [u8]) -> Result<usize, LineFault>
         ensures fits { IfOk result (λ n. n ≤ length room.new) }
         ensures comes { IfOk result (λ n. Tells (told self.old) (told self.new) (Comes (take n room.new))) }
@@ -41,7 +41,7 @@ pub trait Line {
         ensures later { fault_count self.old ≤ fault_count self.new }
         ensures cause { OnErr result (Rose (fault_count self.old) (fault_count self.new)) };
 
-    /// Sends a piece, so that it is on its way when this returns. After a refusal a prefix of it was sent.
+    /// Sends a piece, which is on its way when this returns. After a refusal it has sent a prefix of it.
     fn send(&mut self, piece: &[u8]) -> Result<(), LineFault>
         ensures goes { OnOk result (Tells (told self.old) (told self.new) (Goes piece.now)) }
         ensures refused { OnErr result (Tells (told self.old) (told self.new) (GoesPartly piece.now)) }

@@ -7,8 +7,8 @@ use crate::line::{Line, LineFault};
 use std::alloc::{AllocError, Global};
 use std::marker::Model;
 
-/// A line on which these bytes come, so many at once at most. It keeps what goes, as far as its room goes. Each call has a number,
-/// from 1 on.
+/// A line on which these bytes come in, at most so many at once. It keeps outgoing bytes, up to its room. Calls are
+/// numbered from 1.
 #[derive(Drop)]
 pub struct MemoryLine {
     bytes: Vec<u8>,
@@ -41,7 +41,7 @@ impl Model for MemoryLine {
 }
 
 impl MemoryLine {
-    /// Nothing came or went yet, and no call fails. There is room for so many bytes that go.
+    /// No byte came or went yet, and no call fails. There is room for so many outgoing bytes.
     pub fn new(
         alloc: Global,
         bytes: Vec<u8>,
@@ -80,14 +80,14 @@ impl MemoryLine {
         }
     }
 
-    /// What went.
+    /// The bytes that went out so far.
     pub fn went(&self) -> &[u8]
         ensures { result.now ≡ self.now.talk.went }
     {
         self.went.as_slice()
     }
 
-    // Counts a call, and tells whether it fails.
+    // Counts a call, and fails if it is to fail.
     fn begin_call(&mut self) -> Result<(), LineFault>
         ensures taken { IsOk result ↔ (Contains self.old.failing (raised self.old.calls 1) → ⊥) }
         ensures ok { OnOk result (self.new ≡ record self.old { calls = raised self.old.calls 1 }) }
@@ -101,7 +101,7 @@ impl MemoryLine {
         Ok(())
     }
 
-    // Takes as many bytes as come at once, and as there is room for.
+    // Takes as many bytes as come at once and fit into the room.
     fn take_piece(&mut self, room: &mut [u8]) -> usize
         ensures fits { result ≤ length room.new }
         ensures comes { Comes (take result room.new) self.old.talk self.new.talk }

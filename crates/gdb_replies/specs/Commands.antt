@@ -1,4 +1,4 @@
--- What the user asks for behind `monitor`.
+-- What the user asks for after `monitor`.
 use Rattle.std.specs.Prelude.{◌≡◌, ◌<◌, ◌^◌, ℕ, List, true, false, ◌++◌, codes}
 use Rattle.std.specs.Str.Parse.{IsNumeral, digits_value}
 use Rattle.gdb_wire.specs.Requests.{Behind}
@@ -27,7 +27,7 @@ abbrev pub IsCommand : List ℕ → Command → Type 0
 IsCommand text Unknown = (command : Command) → Spells text command → ⊥
 IsCommand text command = Spells text command
 
--- what is answered to a text that is no command, and to `help`
+-- the answer to a text that is no command, and to `help`
 abbrev pub hint : List ℕ
 hint = codes "monitor when: the state that is shown; monitor goto N: show state N\n"
 

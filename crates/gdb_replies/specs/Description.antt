@@ -19,7 +19,7 @@ abbrev pub register_element : ℕ × List ℕ → List ℕ
 register_element numbered =
     codes "<reg name=\"" ++ numbered.1 ++ codes "\" bitsize=\"32\" type=\"" ++ register_type numbered.0 ++ codes "\" regnum=\"" ++ decimal numbered.0 ++ codes "\"/>"
 
--- A processor of 32 bits under no operating system: with one gdb would step by breakpoints.
+-- A processor of 32 bits under no operating system. With an operating system gdb would step by breakpoints.
 abbrev pub target_description : List ℕ
 target_description =
     codes "<?xml version=\"1.0\"?><!DOCTYPE target SYSTEM \"gdb-target.dtd\"><target version=\"1.0\">"

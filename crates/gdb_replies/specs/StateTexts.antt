@@ -7,7 +7,7 @@ use Rattle.hex.specs.Hex.{encode_lower}
 use Rattle.rv_pages.specs.Memory.{Memory, byte_at}
 use Rattle.rv_machine.specs.MachineState.{MachineState}
 
--- there is nothing to be shown
+-- there is nothing to show
 abbrev pub nothing_there : List ℕ
 nothing_there = codes "E01"
 
@@ -39,6 +39,6 @@ abbrev pub bytes_text : List ℕ → List ℕ
 bytes_text [] = nothing_there
 bytes_text (b ∷ bytes) = encode_lower (b ∷ bytes)
 
--- The bytes of a reply are at most 8,192: with two digits for each they fill a packet of the size that gdb is told.
+-- A reply has at most 8,192 bytes. With two digits each they fill a packet of the size announced to gdb.
 abbrev pub memory_text : MachineState → ℕ → ℕ → List ℕ
 memory_text s at len = bytes_text (mapped_bytes s.memory at (min len 8192))

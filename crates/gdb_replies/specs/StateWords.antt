@@ -1,11 +1,11 @@
--- What is said to the user of a state. The words are our own.
+-- The text about a state for the user. The words are our own.
 use Rattle.std.specs.Prelude.{ℕ, ◌==◌, false, List, [], ◌++◌, codes, decimal, if◌then◌else◌}
 use Rattle.std.specs.Fmt.{radix_digits}
 use Rattle.rv_machine.specs.MachineState.{MachineState}
 use Rattle.rv_machine.specs.declared.status.Status.{Status}
 use Rattle.rv_machine.specs.declared.status.Status.TheVariants.{Running, Exited, Trapped}
 
--- a number in hexadecimal digits, without a zero before it
+-- a number in hexadecimal digits, without a leading zero
 abbrev pub hexadecimal : ℕ → List ℕ
 hexadecimal n = radix_digits 16 false n
 
@@ -28,7 +28,7 @@ trap_words cause =
     else (if cause == 5 then codes "a load where there is no memory"
     else codes "a store where there is no memory"))))
 
--- why a run ends: a running program has come to the bound of steps
+-- why a run ends: a program that still runs has reached the bound of steps
 abbrev pub ending_words : Status → List ℕ
 ending_words Running = codes "the program still runs, and the run may have no more steps"
 ending_words (Exited code) = codes "the program exited with code " ++ decimal code

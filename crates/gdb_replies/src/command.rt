@@ -1,11 +1,11 @@
-// The commands behind `monitor`.
+// The commands after `monitor`.
 ghost use Rattle.std.specs.Prelude.{◌≡◌, ◌++◌, OnOk, MatchOption, ℕ, codes};
 ghost use Rattle.gdb_wire.specs.Requests.{Begins};
 ghost use Rattle.gdb_replies.specs.Commands.{IsCommand, IsDecimal, help as help_text, hint as hint_text};
 
 use std::alloc::AllocError;
 
-/// What the user asks for behind `monitor`.
+/// What the user asks for after `monitor`.
 #[derive(Clone, Copy, Debug, PartialEq, Eq)]
 pub enum Command {
     /// `when`: which state is shown.
@@ -16,15 +16,15 @@ pub enum Command {
     End,
     /// `line`: the line of the state that is shown.
     Line,
-    /// `quiet on` and `quiet off`: whether what the program writes is kept silent.
+    /// `quiet on` and `quiet off`: whether the program's output is hidden.
     Quiet(bool),
     /// `help`: which commands there are.
     Help,
-    /// None of these.
+    /// Any other text.
     Unknown,
 }
 
-/// Reads a command.
+/// Reads the command after `monitor`.
 pub fn read_command(text: &[u8]) -> Command
     ensures { IsCommand text.now result }
 {
@@ -76,14 +76,14 @@ fn word(text: &[u8]) -> Command
     }
 }
 
-/// Adds what is answered to a text that is no command. Where memory runs out, a part of it may have been added.
+/// Adds the answer to a text that is no command. If memory runs out, it may have added a part.
 pub fn push_hint(out: &mut Vec<u8>) -> Result<(), AllocError>
     ensures { OnOk result (out.new.items ≡ out.old.items ++ hint_text) }
 {
     out.extend_from_slice(b"monitor when: the state that is shown; monitor goto N: show state N\n")
 }
 
-/// Adds what each command does. Where memory runs out, a part of it may have been added.
+/// Adds what each command does. If memory runs out, it may have added a part.
 pub fn push_help(out: &mut Vec<u8>) -> Result<(), AllocError>
     ensures { OnOk result (out.new.items ≡ out.old.items ++ help_text) }
 {

@@ -1,5 +1,6 @@
-//! What gdb and its user are shown of a state: registers, memory, and lines in words; the description of the target; and the
-//! commands behind `monitor`. It stands on the text of the protocol and on the machine, and a session is to stand on it.
+//! What gdb and its user see of a state: registers, memory, and text lines. It uses `gdb_wire`, `rv_machine`,
+//! `state_image` and the crates below them. No crate uses it yet. It also has the description of the target, and the
+//! commands after `monitor`.
 #![tactic(auto)]
 
 mod command;

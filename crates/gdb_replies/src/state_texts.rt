@@ -11,10 +11,10 @@ use std::alloc::AllocError;
 // The most bytes that are shown at once.
 const MOST_BYTES: u32 = 8192;
 
-// What is answered where there is nothing to be shown.
+// The reply if there is nothing to show.
 const NOTHING_THERE: &[u8] = b"E01";
 
-/// Adds all registers: x0 to x31, and pc. Where memory runs out, a part of them may have been added.
+/// Adds all registers: x0 to x31, and pc. If memory runs out, it may have added a part.
 pub fn push_registers(out: &mut Vec<u8>, state: &State) -> Result<(), AllocError>
     ensures { OnOk result (out.new.items ≡ out.old.items ++ registers_text state.now) }
 {
@@ -24,7 +24,7 @@ pub fn push_registers(out: &mut Vec<u8>, state: &State) -> Result<(), AllocError
     push_word(out, state.pc)
 }
 
-/// Adds the register with gdb's number, or `E01` where there is none. Where memory runs out, a part of it may have been added.
+/// Adds the register with gdb's number, or `E01` if there is none. If memory runs out, it may have added a part.
 pub fn push_register(out: &mut Vec<u8>, state: &State, n: u32) -> Result<(), AllocError>
     ensures { OnOk result (out.new.items ≡ out.old.items ++ register_text state.now n) }
 {
@@ -35,8 +35,8 @@ pub fn push_register(out: &mut Vec<u8>, state: &State, n: u32) -> Result<(), All
     }
 }
 
-/// Adds the bytes from an address on, up to the first that isn't mapped, or `E01` where there is none. There are so many at
-/// most, and 8,192 at most. Where memory runs out, a part of them may have been added.
+/// Adds the bytes from an address on, up to the first unmapped one, or `E01` if there is none. It adds at most so many,
+/// and at most 8,192. If memory runs out, it may have added a part.
 pub fn push_memory(out: &mut Vec<u8>, state: &State, at: u32, len: u32) -> Result<(), AllocError>
     ensures { OnOk result (out.new.items ≡ out.old.items ++ memory_text state.now at len) }
 {

@@ -1,4 +1,4 @@
-// What is said to the user of a state.
+// The text about a state for the user.
 ghost use Rattle.std.specs.Prelude.{◌≡◌, ◌++◌, OnOk, codes};
 ghost use Rattle.state_image.specs.Line.{line};
 ghost use Rattle.gdb_replies.specs.StateWords.{hexadecimal, status_words, place_line, ending_words, ending_line, trap_words};
@@ -8,7 +8,7 @@ use rv_machine::{State, Status};
 use state_image::{image_digest, line_front, push_digest};
 use std::alloc::{AllocError, Global};
 
-/// Adds a number in hexadecimal digits. Where memory runs out, a part of it may have been added.
+/// Adds a number in hexadecimal digits. If memory runs out, it may have added a part.
 pub fn push_hexadecimal(alloc: Global, out: &mut Vec<u8>, n: u32) -> Result<(), AllocError>
     ensures { OnOk result (out.new.items ≡ out.old.items ++ hexadecimal n) }
 {
@@ -16,7 +16,7 @@ pub fn push_hexadecimal(alloc: Global, out: &mut Vec<u8>, n: u32) -> Result<(), 
     out.extend_from_slice(digits.as_bytes())
 }
 
-/// Adds the number of a state, its pc, and whether it runs, in a line. Where memory runs out, a part of it may have been added.
+/// Adds a line with the number of a state, its pc, and whether it runs. If memory runs out, it may have added a part.
 pub fn push_place_line(
     alloc: Global,
     out: &mut Vec<u8>,
@@ -49,7 +49,7 @@ fn push_status(alloc: Global, out: &mut Vec<u8>, status: Status) -> Result<(), A
     }
 }
 
-/// Adds why a run ends at a state, in a line. Where memory runs out, a part of it may have been added.
+/// Adds a line with the reason why a run ends at a state. If memory runs out, it may have added a part.
 pub fn push_ending_line(
     alloc: Global,
     out: &mut Vec<u8>,
@@ -83,7 +83,7 @@ fn push_ending(alloc: Global, out: &mut Vec<u8>, status: Status) -> Result<(), A
     }
 }
 
-// What a trap was caused by.
+// The cause of a trap, in words.
 fn cause_of(cause: u8) -> &'static [u8]
     ensures { result.now ≡ trap_words cause }
 {
@@ -97,7 +97,7 @@ fn cause_of(cause: u8) -> &'static [u8]
     }
 }
 
-/// Adds the line of a state, and ends it. Where memory runs out, a part of it may have been added.
+/// Adds the line of a state, with a line end. If memory runs out, it may have added a part.
 pub fn push_state_line(out: &mut Vec<u8>, n: u32, state: &State) -> Result<(), AllocError>
     ensures { OnOk result (out.new.items ≡ out.old.items ++ line n state.now ++ codes "\n") }
 {

@@ -1,4 +1,4 @@
-// Texts from sessions of gdb 13.1, as values, and others that are worked out by hand. With ample memory all are added.
+// Texts from sessions of gdb 13.1, as values, and others computed by hand. Memory is ample, so all are added.
 ghost use Rattle.std.specs.Prelude.{◌≡◌, ◌%◌};
 ghost use Rattle.rv_machine.specs.MachineState.{IsStatus};
 
@@ -88,7 +88,7 @@ monitor help: these lines
     Ok(())
 }
 
-// As it was sent to gdb.
+// The text as sent to gdb.
 const TARGET_SENT: &[u8] =
     b"<?xml version=\"1.0\"?><!DOCTYPE target SYSTEM \"gdb-target.dtd\"><target version=\"1.0\">\
 <architecture>riscv:rv32</architecture><osabi>none</osabi><feature name=\"org.gnu.gdb.riscv.cpu\">\

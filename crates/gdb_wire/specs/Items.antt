@@ -12,7 +12,8 @@ use Rattle.gdb_wire.specs.declared.item.Item.TheVariants as variant
 abbrev pub checksum : List ℕ → ℕ
 checksum body = sum body % 256
 
--- Two hexadecimal digits say the checksum. gdb sends them in lower case; upper case counts too, as gdb's own reader has it.
+-- Two hexadecimal digits spell the checksum. gdb sends them in lower case. Upper case is accepted too, as gdb's own
+-- reader does.
 abbrev pub IsChecksum : List ℕ → List ℕ → Type 0
 IsChecksum body digits = decode_of digits ≡ Ok (checksum body ∷ [])
 
@@ -20,7 +21,7 @@ IsChecksum body digits = decode_of digits ≡ Ok (checksum body ∷ [])
 abbrev pub IsBody : List ℕ → Type 0
 IsBody body = All (λ b. b ≢ 35) body
 
--- the bytes are `$`, a body, `#`, and two bytes in the place of a checksum
+-- the bytes are `$`, a body, `#`, and two bytes for a checksum
 pub record IsFrame (body digits bytes : List ℕ) : Type 0 where
   pub is_body : IsBody body
   pub two : length digits ≡ 2
@@ -28,7 +29,7 @@ pub record IsFrame (body digits bytes : List ℕ) : Type 0 where
 
 -- ---- items
 
--- what an item says
+-- what an item means
 pub data Said : Type 0 where
   packet : (text : List ℕ) → Said
   damaged_packet : Said
@@ -44,15 +45,15 @@ IsItem damaged_packet bytes = (body : List ℕ) × (digits : List ℕ) × IsFram
 IsItem interrupt bytes = bytes ≡ 3 ∷ []
 -- the request for retransmission
 IsItem resend bytes = bytes ≡ codes "-"
--- `+`, or a byte that means nothing: none of `$`, Ctrl-C and `-`
+-- `+`, or a meaningless byte: none of `$`, Ctrl-C and `-`
 IsItem ack_or_noise bytes = (b : ℕ) × (b ≢ 36) × (b ≢ 3) × (b ≢ 45) × (bytes ≡ b ∷ [])
 
--- less than an item: nothing, or `$` and a body that hasn't ended by `#`, or has ended with fewer than two bytes behind it
+-- less than an item: nothing, or `$` and a body, without its `#` or the two bytes after it
 abbrev pub IsPartial : List ℕ → Type 0
 IsPartial [] = Unit {0}
 IsPartial (b ∷ rest) = (b ≡ 36) × ((body digits : List ℕ) → IsBody body → rest ≡ body ++ 35 ∷ digits → length digits < 2)
 
--- the bytes are these items, and less than one more
+-- the bytes are these items, and an incomplete one
 abbrev pub IsItems : List Said → List ℕ → List ℕ → Type 0
 IsItems [] bytes rest = (bytes ≡ rest) × IsPartial rest
 IsItems (said ∷ others) bytes rest = (front : List ℕ) × (back : List ℕ) × (bytes ≡ front ++ back) × IsItem said front × IsItems others back rest

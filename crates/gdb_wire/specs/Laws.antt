@@ -7,26 +7,26 @@ use Rattle.gdb_wire.specs.Replies.{reply_packet}
 use Rattle.gdb_wire.specs.Requests.{IsRequest}
 use Rattle.gdb_wire.specs.declared.request.Request.{Request}
 
--- however bytes go on, one item at most is at their front, and less than an item doesn't begin with one
+-- Bytes have at most one item at their front, whatever follows. Less than an item doesn't begin with one.
 abbrev pub OneItem : Type 0
 OneItem = (a b : Said) (x y more others : List ℕ) → IsItem a x → IsItem b y → x ++ more ≡ y ++ others → (x ≡ y) × (a ≡ b)
 
 abbrev pub NoPartialItem : Type 0
 NoPartialItem = (said : Said) (bytes more : List ℕ) → IsItem said bytes → IsPartial (bytes ++ more) → ⊥
 
--- all bytes are items and less than one more, in one way
+-- all bytes are items and an incomplete one, in one way
 abbrev pub OneReading : Type 0
 OneReading = (bytes : List ℕ) (a b : List Said) (x y : List ℕ) → IsItems a bytes x → IsItems b bytes y → (a ≡ b) × (x ≡ y)
 
 abbrev pub SomeReading : Type 0
 SomeReading = (bytes : List ℕ) → (items : List Said) × ((rest : List ℕ) × IsItems items bytes rest)
 
--- Bytes that come in two pieces are the items of the first, and those of the second behind what the first left.
+-- The items of two pieces are those of the first, and those of its rest with the second.
 abbrev pub PiecesJoin : Type 0
 PiecesJoin =
     (first second rest end : List ℕ) (a b : List Said) → IsItems a first rest → IsItems b (rest ++ second) end → IsItems (a ++ b) (first ++ second) end
 
--- what an escaped text stands for is the text
+-- the text of an escaped text is the text again
 abbrev pub EscapesComeBack : Type 0
 EscapesComeBack = (text : List ℕ) → unescaped (flat_map escaped_byte text) ≡ text
 
@@ -34,7 +34,7 @@ EscapesComeBack = (text : List ℕ) → unescaped (flat_map escaped_byte text) �
 abbrev pub RepliesAreItems : Type 0
 RepliesAreItems = (reply : List ℕ) → IsItem (packet reply) (reply_packet reply)
 
--- every text asks for one thing
+-- every text makes exactly one request
 abbrev pub OneRequest : Type 0
 OneRequest = (text : List ℕ) (a b : Request) → IsRequest text a → IsRequest text b → a ≡ b
 

@@ -3,13 +3,13 @@ use Rattle.std.specs.Prelude.{◌≡◌, ◌≤◌, ◌<◌, ◌+◌, ◌*◌, �
 use Rattle.std.specs.List.{AllPass}
 use Rattle.hex.specs.Hex.{hex_digit_value, is_hex_digit}
 
--- what hexadecimal digits are worth, each by its place: the last one counts ones, and each before it sixteen times as much
+-- the value of hexadecimal digits; the last one counts ones
 abbrev pub hex_value : List ℕ → ℕ
 hex_value [] = 0
 hex_value (c ∷ cs) = unwrap_or (hex_digit_value c) 0 * 16 ^ length cs + hex_value cs
 
--- The digits spell a number: 1 to 8 hexadecimal digits, in either case, so that it has at most 32 bits. gdb writes no zeros
--- before it, and they do no harm.
+-- The digits spell a number: 1 to 8 hexadecimal digits, in either case. So it has at most 32 bits. gdb writes no
+-- leading zeros, but they are accepted.
 pub record IsNumber (digits : List ℕ) (n : ℕ) : Type 0 where
   pub some : 0 < length digits
   pub few : length digits ≤ 8

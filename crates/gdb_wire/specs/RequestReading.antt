@@ -1,4 +1,5 @@
--- No public clause cites this file. What the reader of requests computes, as functions on lists: just what `Requests` says.
+-- No public clause cites this file. What the reader of requests computes, as functions on lists. It equals the
+-- definitions of `Requests`.
 use Rattle.std.specs.Prelude.{ℕ, ◌+◌, ◌*◌, ◌==◌, ◌&&◌, ◌||◌, List, [], ◌∷◌, length, take, drop, Option, Some, None, option_map, Result, Ok, Err, nat_eq, nat_le, codes, if◌then◌else◌}
 use Rattle.std.specs.Option.{option_and_then}
 use Rattle.std.specs.List.{starts_with}
@@ -17,7 +18,7 @@ infixl 10 ◌>>=◌
 abbrev pub ◌>>=◌ : {A B : Type 0} → Option A → (A → Option B) → Option B
 o >>= f = option_and_then f o
 
--- the number that digits make behind those of n
+-- the number of the digits of n followed by these
 unfoldable pub number_behind : ℕ → List ℕ → Option ℕ
 number_behind n [] = Some n
 number_behind n (c ∷ cs) = do
@@ -27,7 +28,7 @@ number_behind n (c ∷ cs) = do
 unfoldable pub number_of : List ℕ → Option ℕ
 number_of digits = if nat_le 1 (length digits) && nat_le (length digits) 8 then number_behind 0 digits else None
 
--- what stands before the first comma, and behind it
+-- what comes before the first comma, and after it
 unfoldable pub fields_of : List ℕ → Option (List ℕ × List ℕ)
 fields_of [] = None
 fields_of (c ∷ cs) = if c == 44 then Some ([], cs) else option_map (λ (fields : List ℕ × List ℕ). (c ∷ fields.0, fields.1)) (fields_of cs)
@@ -41,7 +42,7 @@ numbers_of text = do
 
 -- ---- requests
 
--- what stands behind letters, where the text begins with them
+-- what comes after these letters, if the text begins with them
 abbrev pub behind : List ℕ → List ℕ → Option (List ℕ)
 behind letters text = if bytes_eq (take (length letters) text) letters then Some (drop (length letters) text) else None
 
@@ -62,7 +63,7 @@ features_of fields = or_other (λ (p : ℕ × ℕ). Features p.0 p.1) (numbers_o
 abbrev pub kind_of : ℕ → Option StopKind
 kind_of c = if c == 48 || c == 49 then Some Breakpoint else (if c == 50 then Some WriteWatch else None)
 
--- the kind behind `Z` or `z`, and the numbers behind its comma
+-- the kind after `Z` or `z`, and the numbers after its comma
 unfoldable pub stop_of : List ℕ → Option (StopKind × ℕ × ℕ)
 stop_of [] = None
 stop_of (c ∷ []) = None

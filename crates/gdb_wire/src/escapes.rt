@@ -5,7 +5,7 @@ ghost use Rattle.gdb_wire.specs.Escapes.{unescaped, escaped_byte};
 
 use std::alloc::AllocError;
 
-/// Adds the text that a body stands for. Where memory runs out, a part of it may have been added.
+/// Adds the text of a body. If memory runs out, it may have added a part.
 pub fn push_unescaped(out: &mut Vec<u8>, body: &[u8]) -> Result<(), AllocError>
     ensures { OnOk result (out.new.items ≡ out.old.items ++ unescaped body.now) }
 {
@@ -22,7 +22,7 @@ pub fn push_unescaped(out: &mut Vec<u8>, body: &[u8]) -> Result<(), AllocError>
     Ok(())
 }
 
-// Adds a body that stands for a text.
+// Adds the body of a text, with escapes.
 pub(crate) fn push_escaped(out: &mut Vec<u8>, text: &[u8]) -> Result<(), AllocError>
     ensures { OnOk result (out.new.items ≡ out.old.items ++ flat_map escaped_byte text.now) }
 {

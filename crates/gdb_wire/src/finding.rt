@@ -1,4 +1,4 @@
-// Where a byte stands.
+// Finds a byte.
 ghost use Rattle.std.specs.Prelude.{◌≡◌, ◌≢◌, ◌<◌, length, take, slice_index, MatchOption};
 ghost use Rattle.std.specs.List.{All};
 

@@ -1,4 +1,4 @@
-// The items that come.
+// The items that come in.
 ghost use Rattle.std.specs.Prelude.{◌≡◌, ◌+◌, ◌≤◌, ◌<◌, ◌++◌, ◌∷◌, length, take, IfSome, MatchOption};
 ghost use Rattle.gdb_wire.specs.Items.{IsBody, IsItem, IsPartial, said_by};
 
@@ -6,7 +6,7 @@ use crate::checksum::has_checksum;
 use crate::finding::first_index;
 use crate::item::{Found, Item};
 
-/// The item at the front, where it has come whole. What follows it doesn't matter.
+/// The item at the front, if it is complete. What follows it doesn't matter.
 pub fn next_item(bytes: &[u8]) -> Option<Found<'_>>
     ensures some { IfSome result (λ found. 0 < found.len) }
     ensures within { IfSome result (λ found. found.len ≤ length bytes.now) }
@@ -28,7 +28,7 @@ fn alone<'a>(item: Item<'a>) -> Found<'a>
     Found { item, len: 1 }
 }
 
-// The packet of which this follows the `$`.
+// The packet whose text after the `$` this is.
 fn packet_at(rest: &[u8]) -> Option<Found<'_>>
     ensures some { IfSome result (λ found. 0 < found.len) }
     ensures within { IfSome result (λ found. found.len ≤ length rest.now + 1) }

@@ -5,13 +5,13 @@
 pub enum Item<'a> {
     /// A packet with its checksum, and its body, which is still escaped.
     Packet(&'a [u8]),
-    /// A packet with other digits in the place of its checksum.
+    /// A packet whose digits aren't its checksum.
     DamagedPacket,
     /// Ctrl-C.
     Interrupt,
     /// `-`: the last reply is to be sent again.
     Resend,
-    /// `+`, or a byte that means nothing.
+    /// `+`, or a meaningless byte.
     AckOrNoise,
 }
 

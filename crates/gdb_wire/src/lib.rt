@@ -1,7 +1,12 @@
-//! The text between gdb and a server of its remote serial protocol: which items come on a line, what a packet asks for, and how
-//! a reply is framed. It stands on no other crate of the repository, and a server is to stand on it. The files of `specs/` are
-//! to be read in this order: `Escapes` and `Items` (which bytes are an item, and what it says), `Numbers` and `Requests` (what
-//! the text of a packet asks for), `Replies` (what is sent) and `Laws`.
+//! The text between gdb and a server of its remote serial protocol. It uses no other crate. `gdb_replies` uses it. It
+//! covers the items on a line, what a packet asks for, and how a reply is framed.
+//!
+//! Read `specs/` in this order:
+//!
+//! - `Escapes`, `Items`: which bytes are an item, and what it means.
+//! - `Numbers`, `Requests`: what the text of a packet asks for.
+//! - `Replies`: what is sent.
+//! - `Laws`: what the definitions imply.
 #![tactic(auto)]
 
 mod checksum;

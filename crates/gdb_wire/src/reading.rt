@@ -8,7 +8,7 @@ use crate::request::{Command, Motion, Request, StopKind};
 use hex::FromHexError;
 use std::alloc::{AllocError, Global};
 
-/// Reads what the text of a packet asks for. It takes memory for the text of a command alone.
+/// Reads the request of a packet's text. It takes memory for the text of a command alone.
 pub fn read_request(alloc: Global, text: &[u8]) -> Result<Request, AllocError>
     ensures read { IfOk result (IsRequest text.now) }
     ensures memory { OnErr result (Begins text.now (codes "qRcmd,")) }
@@ -16,7 +16,7 @@ pub fn read_request(alloc: Global, text: &[u8]) -> Result<Request, AllocError>
     read(alloc, text)
 }
 
-// The same, by what is read from left to right.
+// The request of a packet's text, read from left to right.
 #[tactic(auto, unfolding(crate::specs::RequestReading::request_of))]
 fn read(alloc: Global, text: &[u8]) -> Result<Request, AllocError>
     ensures read { IfOk result (λ request. request ≡ request_of text.now) }
@@ -119,7 +119,7 @@ fn remove(rest: &[u8]) -> Request
     }
 }
 
-// The kind, the address and the length behind `Z` or `z`.
+// The kind, the address and the length after `Z` or `z`.
 #[tactic(auto, unfolding(crate::specs::RequestReading::stop_of))]
 fn stop(rest: &[u8]) -> Option<(StopKind, u32, u32)>
     ensures { result ≡ stop_of rest.now }

@@ -1,4 +1,4 @@
-// The replies that go.
+// The replies to gdb.
 ghost use Rattle.std.specs.Prelude.{◌≡◌, ◌++◌, OnOk};
 ghost use Rattle.std.specs.Int.{w32, to_le_bytes};
 ghost use Rattle.hex.specs.Hex.{encode_lower};
@@ -8,7 +8,7 @@ use crate::checksum::checksum_of;
 use crate::escapes::push_escaped;
 use std::alloc::AllocError;
 
-/// Adds the packet of a reply. Where memory runs out, a part of it may have been added.
+/// Adds the packet of a reply. If memory runs out, it may have added a part.
 pub fn push_packet(out: &mut Vec<u8>, reply: &[u8]) -> Result<(), AllocError>
     ensures { OnOk result (out.new.items ≡ out.old.items ++ reply_packet reply.now) }
 {
@@ -20,7 +20,7 @@ pub fn push_packet(out: &mut Vec<u8>, reply: &[u8]) -> Result<(), AllocError>
     push_hex(out, &[checksum])
 }
 
-/// Adds bytes as hexadecimal digits, two for each. Where memory runs out, a part of them may have been added.
+/// Adds bytes as hexadecimal digits, two for each. If memory runs out, it may have added a part.
 pub fn push_hex(out: &mut Vec<u8>, bytes: &[u8]) -> Result<(), AllocError>
     ensures { OnOk result (out.new.items ≡ out.old.items ++ encode_lower bytes.now) }
 {
@@ -32,8 +32,8 @@ pub fn push_hex(out: &mut Vec<u8>, bytes: &[u8]) -> Result<(), AllocError>
     Ok(())
 }
 
-/// Adds a word of 32 bits as eight hexadecimal digits, those of its lowest byte first. Where memory runs out, a part of them may
-/// have been added.
+/// Adds a word of 32 bits as eight hexadecimal digits, the lowest byte first. If memory runs out, it may have added a
+/// part.
 pub fn push_word(out: &mut Vec<u8>, word: u32) -> Result<(), AllocError>
     ensures { OnOk result (out.new.items ≡ out.old.items ++ encode_lower (to_le_bytes w32 word)) }
 {

@@ -6,7 +6,7 @@ use std::marker::Model;
 /// What the text of a packet asks for. The letters are those of the packet in gdb's manual.
 #[derive(Debug, Drop)]
 pub enum Request {
-    /// `qSupported`: what the server can do.
+    /// `qSupported`: which features the server has.
     Supported,
     /// `qXfer:features:read:target.xml:`: so many bytes of the target's description, from this place on.
     Features { from: u32, len: u32 },
@@ -20,25 +20,25 @@ pub enum Request {
     Register(u32),
     /// `m`: so many bytes of memory, from this address on.
     Memory { at: u32, len: u32 },
-    /// `Z`: stop there from now on. `len` is the length of an instruction, or of what is watched.
+    /// `Z`: stop there from now on. `len` is the length of an instruction, or of the watched bytes.
     Insert { kind: StopKind, at: u32, len: u32 },
     /// `z`: don't stop there any more.
     Remove { kind: StopKind, at: u32, len: u32 },
     /// `s`, `c`, `bs` and `bc`: move in the run.
     Move(Motion),
-    /// `qRcmd,`: a command that the user typed behind `monitor`.
+    /// `qRcmd,`: a command that the user typed after `monitor`.
     Monitor(Command),
     /// `G`, `P`, `M` and `X`: write registers or memory.
     Write,
     /// `qAttached`: whether the program ran before gdb came.
     Attached,
-    /// `H`: which thread is meant from now on.
+    /// `H`: selects a thread.
     SetThread,
-    /// `D`: gdb goes.
+    /// `D`: gdb detaches.
     Detach,
-    /// `k`: gdb goes, and the program is to end.
+    /// `k`: gdb quits, and the program is to end.
     Kill,
-    /// None of these.
+    /// Any other request.
     Other,
 }
 
@@ -79,7 +79,7 @@ impl Model for Command {
 }
 
 impl Command {
-    /// Its bytes.
+    /// The bytes of the command's text.
     pub fn as_bytes(&self) -> &[u8]
         ensures { result.now ≡ self.now }
     {

@@ -1,10 +1,10 @@
-// Packets of a session of gdb 13.1, as values, and replies to them. With ample memory all are read and written.
+// Packets of a session of gdb 13.1, as values, and replies to them. Memory is ample, so all are read and written.
 use crate::{
     Found, Item, next_item, push_hex, push_packet, push_unescaped, push_word, read_request,
 };
 use std::test::Fail;
 
-// What the packets ask for. The first is shortened, and the last four are worked out from gdb's manual.
+// What the packets ask for. The first is shortened, and the last four are computed from gdb's manual.
 const PACKETS: [(&[u8], &[u8]); 26] = [
     (b"$qSupported:multiprocess+;swbreak+#1b", b"Supported"),
     (

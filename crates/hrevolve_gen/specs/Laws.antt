@@ -9,16 +9,16 @@ use Rattle.cost_tables.specs.Exact.{IsExact}
 use Rattle.hrevolve_gen.specs.Plans.{HasNestedPlan}
 use Rattle.hrevolve_gen.specs.Written.{IsWritten}
 
--- two lists that are read from the same tables are one
+-- tables give at most one list
 abbrev pub ListIsUnique : ℕ → BookCosts → Tables → List Action → List Action → Type 0
 ListIsUnique steps book t list other = IsWritten steps book t list → IsWritten steps book t other → list ≡ other
 
--- two lists that are read from tables whose entries are the greatest are one, whichever tables these are
+-- all tables of the greatest entries give at most one list
 abbrev pub PlanIsUnique : ℕ → BookCosts → Tables → Tables → List Action → List Action → Type 0
 PlanIsUnique steps book s t list other = IsGreatest steps book s → IsGreatest steps book t → IsWritten steps book s list →
     IsWritten steps book t other → list ≡ other
 
--- from tables whose entries are attained a list can be read where there is a plan
+-- tables whose entries are attained give a list where there is a plan
 abbrev pub ListExists : ℕ → BookCosts → Tables → Type 0
 ListExists steps book t = IsExact steps book t → 0 < length book.levels → HasNestedPlan steps book → (list : List Action) × IsWritten steps book t list
 
@@ -28,7 +28,7 @@ HasNoEndForward [] = Unit {0}
 HasNoEndForward (EndForward ∷ rest) = ⊥
 HasNoEndForward (_ ∷ rest) = HasNoEndForward rest
 
--- EndForward stands directly after the first Forward with Tape, and nowhere else
+-- the only EndForward comes directly after the first Forward with Tape
 abbrev pub EndsForwardAtTape : List Action → Type 0
 EndsForwardAtTape [] = ⊥
 EndsForwardAtTape (EndForward ∷ rest) = ⊥
@@ -36,6 +36,6 @@ EndsForwardAtTape (Forward from to Tape ∷ EndForward ∷ rest) = HasNoEndForwa
 EndsForwardAtTape (Forward from to Tape ∷ rest) = ⊥
 EndsForwardAtTape (_ ∷ rest) = EndsForwardAtTape rest
 
--- so it does in each list that is read, where there is a step
+-- this holds in each list that is read, if it has a step
 abbrev pub ListEndsForward : ℕ → BookCosts → Tables → List Action → Type 0
 ListEndsForward steps book t list = 1 ≤ steps → IsWritten steps book t list → EndsForwardAtTape list

@@ -6,7 +6,7 @@ ghost use Rattle.hrevolve_gen.specs.Reading.{split_cost};
 
 use cost_tables::{Cost, Tables};
 
-/// Whether an entry is the sum of a number and two entries. They may be any, also where the sum is past what a number holds.
+/// Whether an entry is the sum of a number and two entries. All values are allowed, even if the sum overflows a number.
 pub fn is_sum(own: Cost, n: u64, a: Cost, b: Cost) -> bool
     ensures { result ≡ true ↔ value_of own ≡ sum_of n (value_of a) (value_of b) }
 {
@@ -22,7 +22,7 @@ pub fn is_sum(own: Cost, n: u64, a: Cost, b: Cost) -> bool
     }
 }
 
-// Whether the stretch costs as much without level k, where its first state is in work.
+// Whether the stretch costs as much without level k, with its first state in work.
 pub(crate) fn is_faster_fresh(tables: &Tables, own: Cost, k: u8, l: u32) -> bool
     requires k { k < length tables.now.rooms }
     requires l { (2 ≤ l) × (l ≤ tables.now.steps) }
@@ -35,7 +35,7 @@ pub(crate) fn is_faster_fresh(tables: &Tables, own: Cost, k: u8, l: u32) -> bool
     tables.fresh(k - 1, l, tables.room(k - 1)) == own
 }
 
-// Whether the stretch costs as much without level k, where its first state is held there.
+// Whether the stretch costs as much without level k, with its first state held there.
 pub(crate) fn is_faster_held(tables: &Tables, own: Cost, read: u64, k: u8, l: u32) -> bool
     requires k { k < length tables.now.rooms }
     requires l { (2 ≤ l) × (l ≤ tables.now.steps) }
@@ -52,7 +52,7 @@ pub(crate) fn is_faster_held(tables: &Tables, own: Cost, read: u64, k: u8, l: u3
     is_sum(own, read, Cost::Number(0), faster)
 }
 
-// The fewest steps after which splitting costs so much.
+// The fewest steps after which a split costs so much.
 pub(crate) fn split(tables: &Tables, own: Cost, n: u64, forward: u64, k: u8, l: u32, m: u32) -> u32
     requires few { tables.now.steps ≤ 8192 }
     requires k { k < length tables.now.rooms }

@@ -10,17 +10,17 @@ pub fn lists_are_unique()
     ensures { (steps : ℕ) (book : BookCosts) (t : Tables) (list other : List Action) → ListIsUnique steps book t list other }
 {}
 
-/// At most one list is read from tables of the greatest entries, whichever they are.
+/// All tables of the greatest entries give at most one list.
 pub fn plans_are_unique()
     ensures { (steps : ℕ) (book : BookCosts) (s t : Tables) (list other : List Action) → PlanIsUnique steps book s t list other }
 {}
 
-/// From tables whose entries are attained, as those of the greatest ones are, a list can be read where there is a plan.
+/// Tables whose entries are attained, like the greatest ones, give a list wherever there is a plan.
 pub fn lists_exist()
     ensures { (steps : ℕ) (book : BookCosts) (t : Tables) → ListExists steps book t }
 {}
 
-/// In a list that is read EndForward stands directly after the first Forward with Tape.
+/// In a list that is read, EndForward comes directly after the first Forward with Tape.
 pub fn lists_end_forward_at_the_first_tape()
     ensures { (steps : ℕ) (book : BookCosts) (t : Tables) (list : List Action) → ListEndsForward steps book t list }
 {}

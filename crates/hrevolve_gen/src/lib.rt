@@ -1,7 +1,8 @@
-//! The lists of H-Revolve: schedules over several levels of storage, in the nested class and at the cost of the top entry of
-//! tables of least costs. They are read from these from the top entry down. The crate stands on the tables and the book.
-//! `specs/Written.antt` says which list is read, `specs/Plans.antt` where there is none, and `specs/Laws.antt` that a list
-//! is the only one. Plans of other kinds that have parts of this kind read these by `write_fresh`.
+//! The lists of H-Revolve: schedules over several levels of storage, in the nested class. It uses `plan_types`,
+//! `level_book`, `revolve_gen` and `cost_tables`. `disk_gen`, `bound_cert` and `reversal` use it. A list is read from
+//! tables of least costs, from the top entry down, and costs that entry. `specs/Written.antt` says which list is read,
+//! `specs/Plans.antt` where there is none. By `specs/Laws.antt` a list is the only one. Other plans write parts of this
+//! kind by `write_fresh`.
 #![tactic(auto)]
 
 mod entries;

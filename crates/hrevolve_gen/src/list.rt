@@ -17,7 +17,7 @@ use plan_types::Action;
 use revolve_gen::GenFault;
 use std::alloc::{AllocError, Global};
 
-/// The list that is read from the tables that were built for so many steps and a book.
+/// The list read from the tables that were built for so many steps and a book.
 pub fn hrevolve_list(
     alloc: Global,
     tables: &Tables,

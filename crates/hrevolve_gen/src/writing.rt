@@ -11,7 +11,7 @@ use level_book::Book;
 use plan_types::{Action, Dest, Keep};
 use std::alloc::AllocError;
 
-// One step, whose first state is in work. The last step of all is the first that is taped.
+// One step with its first state in work. The last step of all is the first that is taped.
 fn write_one(list: &mut Vec<Action>, steps: u32, b: u32) -> Result<(), AllocError>
     requires { b < steps }
     ensures { IfOk result (λ _. list.new.items ≡ list.old.items ++ actions steps false 0 b one) }
@@ -29,8 +29,8 @@ fn write_one(list: &mut Vec<Action>, steps: u32, b: u32) -> Result<(), AllocErro
     }
 }
 
-/// Writes the actions of a stretch of l steps from b, whose first state is in work, with m free slots of level k, as they are
-/// read from tables of the first levels of the book. It is refused for want of memory alone.
+/// Writes the actions of l steps from b, read from tables of the book's first levels. Its first state is in work, and m
+/// slots of level k are free. Only a lack of memory refuses it.
 #[cycle(writing)]
 pub fn write_fresh(
     list: &mut Vec<Action>,
@@ -69,7 +69,7 @@ pub fn write_fresh(
     write_held(list, tables, book, k, b, j, m - 1)
 }
 
-// The same where its first state is held on level k, beside the free slots.
+// Writes the actions of a stretch whose first state is held on level k, beside the free slots.
 #[cycle(writing)]
 fn write_held(
     list: &mut Vec<Action>,

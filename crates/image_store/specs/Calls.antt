@@ -1,4 +1,4 @@
--- What a call does to a level of a store and to what its keeper tells, also where nothing stands.
+-- What a call does to a level of a store and to what its keeper claims, over any keeper.
 use Rattle.std.specs.Prelude.{◌≡◌, ◌⊎◌, ℕ, ◌<◌, List, length, slice_set, take, Option, None, Some}
 use Rattle.std.specs.FinMap as finmap
 use Rattle.sha2.specs.Sha256.{sha256}
@@ -19,7 +19,7 @@ without_pair shelf n = record shelf { pairs = slice_set shelf.pairs n None }
 abbrev pub kept_in : ℕ → List ℕ → Kept
 kept_in slot image = record { slot = slot; length = length image; digest = sha256 image }
 
--- a pair is kept: in a slot of the level that no other has, where the keeper tells the image, and all else as before
+-- A pair is kept in a free slot of the level. The keeper claims the image there, and all else is as before.
 pub record IsKept (old new : ShelfState) (n : ℕ) (image : List ℕ) (before after : Option Images) : Type 0 where
   pub slot : ℕ
   pub within : slot < old.room
@@ -27,14 +27,14 @@ pub record IsKept (old new : ShelfState) (n : ℕ) (image : List ℕ) (before af
   pub pairs : new ≡ with_pair old n (kept_in slot image)
   pub told : Tells before after (λ images images'. images' ≡ finmap.insert images slot image)
 
--- a pair isn't kept: one slot of the level that no pair has may hold anything
+-- a pair isn't kept: one slot of the level without a pair may hold anything
 pub record IsNotKept (old : ShelfState) (before after : Option Images) : Type 0 where
   pub slot : ℕ
   pub within : slot < old.room
   pub unused : IsFreeSlot old.pairs slot
   pub told : Tells before after (SameButAt slot)
 
--- what was got of a pair: so many bytes of what the keeper tells at its slot
+-- the bytes got for a pair: the first bytes of what the keeper claims there, as many as were put
 abbrev pub IsGot : Kept → Option Images → List ℕ → Type 0
 IsGot kept told got = WhereTold told (λ images. got ≡ take kept.length (image_in images kept.slot))
 
@@ -42,6 +42,6 @@ IsGot kept told got = WhereTold told (λ images. got ≡ take kept.length (image
 abbrev pub IsFreed : Kept → Option Images → Option Images → Type 0
 IsFreed kept before after = Tells before after (λ images images'. images' ≡ finmap.remove images kept.slot)
 
--- the slot of a pair isn't emptied: it holds what it held, or nothing
+-- the slot of a pair isn't emptied: it is unchanged, or empty
 abbrev pub IsNotFreed : Kept → Option Images → Option Images → Type 0
 IsNotFreed kept before after = Tells before after (λ images images'. (images' ≡ images) ⊎ (images' ≡ finmap.remove images kept.slot))

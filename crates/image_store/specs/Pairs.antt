@@ -1,4 +1,4 @@
--- The pairs that a level holds, by the number of their state: which slot each has, and what is kept of its bytes.
+-- The pairs of a level by their state's number: their slots, and what is kept of their bytes.
 use Rattle.std.specs.Prelude.{◌≡◌, ◌≢◌, ℕ, List, slice_index_or, Option, None, Some, is_some}
 use Rattle.std.specs.List.{count_by}
 use Rattle.image_store.specs.declared.shelf.Kept.{Kept}

@@ -8,7 +8,7 @@ use Rattle.image_store.specs.Pairs.{pair_at, held, IsFreeSlot, HaveOwnSlots}
 abbrev pub fingerprint_at : List Fingerprint → ℕ → Fingerprint
 fingerprint_at fingerprints slot = slice_index_or fingerprints slot (record { length = 0; digest = [] })
 
--- the pair whose place is this number: 0 says that it isn't held, and any other number is one more than its slot
+-- The pair with this number as its entry. 0: it isn't held. Any other number is one more than its slot.
 abbrev pub pair_in : List Fingerprint → ℕ → Option Kept
 pair_in fingerprints zero = None
 pair_in fingerprints (suc slot) = Some (record {
@@ -21,7 +21,7 @@ pair_in fingerprints (suc slot) = Some (record {
 abbrev pub pairs_in : List Fingerprint → List ℕ → List (Option Kept)
 pairs_in fingerprints places = map (pair_in fingerprints) places
 
--- The first `count` of `free` are the slots that no held pair has, each once; there are as many slots as `free` is long.
+-- The first `count` of `free` are the slots without a pair, each once. There are as many slots as `free` has entries.
 pub record SharesOut (pairs : List (Option Kept)) (free : List ℕ) (count : ℕ) : Type 0 where
   pub counted : held pairs + count ≡ length free
   pub within : (i : ℕ) → i < count → slice_index_or free i 0 < length free
@@ -30,7 +30,7 @@ pub record SharesOut (pairs : List (Option Kept)) (free : List ℕ) (count : ℕ
   pub slots : (n : ℕ) (kept : Kept) → pair_at pairs n ≡ Some kept → kept.slot < length free
   pub own : HaveOwnSlots pairs
 
--- what holds of the places, the fingerprints and the free slots of a level
+-- the invariant of the places, the fingerprints and the free slots of a level
 pub record IsShelf (fingerprints : List Fingerprint) (places free : List ℕ) (count : ℕ) : Type 0 where
   pub shares : SharesOut (pairs_in fingerprints places) free count
   pub each : length fingerprints ≡ length free

@@ -1,4 +1,4 @@
--- A level of a store as it is seen: its pairs, and for how many there is room.
+-- The model of a level of a store: its pairs, and its room.
 use Rattle.std.specs.Prelude.{ℕ, ◌+◌, List, [], map, replicate, Option, None, slice_index_or}
 use Rattle.level_book.specs.BookCosts.{least}
 use Rattle.level_book.specs.declared.book.Slots.{Slots}
@@ -23,6 +23,7 @@ kept_at store k n = pair_at (level_of store k).pairs n
 abbrev pub no_pairs : ℕ → ℕ → ShelfState
 no_pairs steps room = record { pairs = replicate (steps + 1) None; room = room }
 
--- a store with no pairs, on levels of so many slots, with room for as many pairs as a run of so many steps can hold there
+-- A store without pairs, on levels of so many slots. It has room for as many pairs as a run of so many steps can hold
+-- there.
 abbrev pub no_pairs_on : List Slots → ℕ → List ShelfState
 no_pairs_on slots steps = map (λ (s : Slots). no_pairs steps (least s steps)) slots

@@ -1,6 +1,6 @@
-//! Which images each level of a book keeps, in which slots, and by which digests. It stands on the book and the keepers;
-//! the runner stands on it. `specs/Standing.antt` says what a store stands for over keepers that tell their content,
-//! `specs/Calls.antt` what a call does where it stands for nothing.
+//! The images that each level of a book keeps: their slots, and their digests. It uses `level_book` and `keepers`.
+//! `reverse_runner`, `reverse_console` and `reversal` use it. `specs/Standing.antt` says which images a store
+//! represents over keepers that claim their content. `specs/Calls.antt` says what a call does over any keepers.
 #![tactic(auto)]
 
 pub mod laws;

@@ -22,7 +22,7 @@ pub enum StoreFault {
     /// The keeper failed.
     #[error("the storage failed")]
     Keeper,
-    /// The bytes that were got aren't those that were put: the SHA-256 of both.
+    /// The bytes that came back aren't those that were put. Has the SHA-256 of both.
     #[error("the image isn't the one that was stored")]
     Damaged { put: [u8; 32], got: [u8; 32] },
     /// There was no memory.
@@ -50,8 +50,8 @@ const NO_FINGERPRINT: Fingerprint = Fingerprint {
     digest: [0; 32],
 };
 
-/// The pairs of one level. `places` has a number for each state: 0 where its pair isn't held, else one more than its slot.
-/// `fingerprints` has one for each slot. The first `count` of `free` are the slots that no pair has.
+/// The pairs of one level. `places` has a number for each state: 0 if its pair isn't held, and otherwise its slot plus
+/// one. `fingerprints` has one for each slot. The first `count` of `free` are the slots without a pair.
 #[derive(Drop)]
 pub(crate) struct Shelf {
     places: Vec<u32>,
@@ -73,7 +73,7 @@ impl Model for Shelf {
 }
 
 impl Shelf {
-    /// No pairs, and room for so many of the states 0 to `steps`. It takes all the memory that the level ever needs.
+    /// No pairs, and room for so many of the states 0 to `steps`. It takes all memory that the level ever needs.
     pub fn new(alloc: Global, steps: u32, room: u32) -> Result<Shelf, AllocError>
         ensures { IfOk result (λ shelf. shelf ≡ no_pairs steps room) }
     {
@@ -106,7 +106,8 @@ impl Shelf {
         }
     }
 
-    /// Puts an image with its digest into a slot that no pair has, and keeps it for a pair. After a refusal the pairs are as before.
+    /// Puts an image and its digest into a slot without a pair, and keeps it as a pair. After a refusal the pairs are
+    /// unchanged.
     pub fn keep<K: Keeper>(
         &mut self,
         keeper: &mut K,
@@ -154,7 +155,8 @@ impl Shelf {
         Ok(())
     }
 
-    /// Gets the bytes of a held pair, and gives their digest. Damaged says that it isn't that of the bytes that were put.
+    /// Gets the bytes of a held pair, and returns their digest. Damaged: it isn't the digest of the bytes that were
+    /// put.
     pub fn fetch<K: Keeper>(
         &self,
         keeper: &mut K,
@@ -201,7 +203,7 @@ impl Shelf {
         Ok(got)
     }
 
-    /// Frees the slot of a held pair, and keeps the pair no longer. After a refusal the pairs are as before.
+    /// Frees the slot of a held pair, and drops the pair. After a refusal the pairs are unchanged.
     pub fn release<K: Keeper>(&mut self, keeper: &mut K, n: u32) -> Result<(), StoreFault>
         requires held { IsSome (pair_at self.old.pairs n) }
         requires slots { self.old.room ≤ K.slot_count keeper.old }

@@ -18,7 +18,7 @@ use level_book::Book;
 use std::alloc::{AllocError, Global};
 use std::marker::Model;
 
-/// Which images each level keeps, in which slots, and by which digests.
+/// The images that each level keeps: their slots, and their digests.
 #[derive(Drop)]
 pub struct Store {
     shelves: Vec<Shelf>,
@@ -34,7 +34,7 @@ impl Model for Store {
 }
 
 impl Store {
-    /// No pairs, with room on each level of the book for as many as a run of so many steps needs.
+    /// No pairs. Each level of the book has room for as many as a run of so many steps needs.
     pub fn begin(alloc: Global, book: &Book, steps: u32) -> Result<Store, AllocError>
         ensures begun { IfOk result (λ store. store ≡ no_pairs_on (slots_of book.now) steps) }
         ensures stands { IfOk result (λ store. (k : ℕ) (images : Images) → LevelStands (level_of store k) (Some images) finmap.empty) }
@@ -47,8 +47,8 @@ impl Store {
         Ok(Store { shelves })
     }
 
-    /// Puts an image with its digest into a slot that no pair of its level has, and keeps it for a pair. After a refusal the
-    /// pairs are as before.
+    /// Puts an image and its digest into a free slot of its level, and keeps it as a pair. After a refusal the pairs
+    /// are unchanged.
     pub fn keep<K: Keeper>(
         &mut self,
         keeper: &mut K,
@@ -88,7 +88,8 @@ impl Store {
         self.shelves[level as usize].keep(keeper, n, image, digest)
     }
 
-    /// Gets the bytes of a held pair, and gives their digest. Damaged says that it isn't that of the bytes that were put.
+    /// Gets the bytes of a held pair, and returns their digest. Damaged: it isn't the digest of the bytes that were
+    /// put.
     pub fn fetch<K: Keeper>(
         &self,
         keeper: &mut K,
@@ -126,7 +127,7 @@ impl Store {
         self.shelves[level as usize].fetch(keeper, n, into)
     }
 
-    /// Frees the slot of a held pair, and keeps the pair no longer. After a refusal the pairs are as before.
+    /// Frees the slot of a held pair, and drops the pair. After a refusal the pairs are unchanged.
     pub fn release<K: Keeper>(
         &mut self,
         keeper: &mut K,

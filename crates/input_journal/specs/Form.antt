@@ -1,5 +1,5 @@
--- The bytes of a journal, in our own form: four letters, a version, the number of items, and the items, each behind its
--- length. Numbers are of four bytes, the lowest first.
+-- The bytes of a journal: four letters, a version, the number of items, and the items. The form is our own. The length
+-- of an item comes before it. Numbers have four bytes, the lowest first.
 use Rattle.std.specs.Prelude.{◌≡◌, ◌≤◌, ◌<◌, ℕ, List, [], ◌∷◌, ◌++◌, length}
 use Rattle.std.specs.Int.{w32, to_le_bytes}
 use Rattle.std.specs.List.{All, flat_map, AllByRecursion}
@@ -12,7 +12,7 @@ letters = 82 ∷ 86 ∷ 74 ∷ 76 ∷ []
 abbrev pub number : ℕ → List ℕ
 number n = to_le_bytes w32 n
 
--- an item behind its length
+-- an item after its length
 abbrev pub item_bytes : List ℕ → List ℕ
 item_bytes item = number (length item) ++ item
 
@@ -20,7 +20,7 @@ item_bytes item = number (length item) ++ item
 abbrev pub beginning : ℕ → List (List ℕ) → List ℕ
 beginning count items = letters ++ (number 1 ++ (number count ++ flat_map item_bytes items))
 
--- the one spelling of a list of items
+-- the only spelling of a list of items
 abbrev pub journal_bytes : List (List ℕ) → List ℕ
 journal_bytes items = beginning (length items) items
 
@@ -28,7 +28,7 @@ journal_bytes items = beginning (length items) items
 abbrev pub IsShort : List ℕ → Type 0
 IsShort item = length item ≤ 1048576
 
--- the bytes are those of a journal with these items, of which there are at most 65,536
+-- the bytes are those of a journal with these items, at most 65,536
 pub record IsJournal (bytes : List ℕ) (items : List (List ℕ)) : Type 0 where
   pub few : length items ≤ 65536
   pub short : AllByRecursion IsShort items

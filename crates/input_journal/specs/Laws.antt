@@ -5,7 +5,7 @@ use Rattle.input_journal.specs.declared.fault.JournalFault.{JournalFault}
 use Rattle.input_journal.specs.Form.{IsJournal}
 use Rattle.input_journal.specs.Faults.{FirstFault}
 
--- bytes are of one journal at most, and a journal has one spelling
+-- bytes are those of one journal at most, and a journal has one spelling
 abbrev pub OneSpelling : Type 0
 OneSpelling = (bytes : List ℕ) (a b : List (List ℕ)) → IsJournal bytes a → IsJournal bytes b → a ≡ b
 

@@ -10,7 +10,7 @@ item_in bytes part = take part.len (drop part.at bytes)
 abbrev pub items_in : List ℕ → List Part → List (List ℕ)
 items_in bytes parts = map (item_in bytes) parts
 
--- a part lies within so many bytes, and is short enough for an item
+-- a part is within so many bytes, and is short enough for an item
 abbrev pub IsPart : ℕ → Part → Type 0
 IsPart count part = (part.len ≤ 1048576) × (part.at + part.len ≤ count)
 

@@ -2,7 +2,7 @@
 
 use thiserror::Error;
 
-/// The first fault of bytes that are no journal, from left to right, with the place where it stands.
+/// The first fault of bytes that are no journal, from left to right, with its place.
 #[derive(Clone, Copy, Debug, PartialEq, Eq, Error)]
 pub enum JournalFault {
     /// They don't begin with the letters RVJL.

@@ -6,15 +6,15 @@ ghost use Rattle.input_journal.specs.Form.{IsShort, IsRecorded};
 use std::alloc::Global;
 use std::marker::Model;
 
-/// The items of recorded input, in the order in which they are read: at most 65,536 of at most 1,048,576 bytes each. It
-/// keeps the bytes that it was read from, of which each item is a part.
+/// The items of recorded input, in the order of reading: at most 65,536 of at most 1,048,576 bytes each. It keeps the
+/// bytes that it was read from. Each item is a part of them.
 #[derive(Drop)]
 pub struct Journal {
     pub(crate) bytes: Vec<u8>,
     pub(crate) parts: Vec<Part>,
 }
 
-// Where an item stands in the bytes.
+// Where an item is in the bytes.
 #[derive(Clone, Copy)]
 pub(crate) struct Part {
     pub at: usize,

@@ -1,7 +1,7 @@
 // Laws of the form of a journal and of its faults. Each function does nothing; its contract is the law.
 ghost use Rattle.input_journal.specs.Laws.{OneSpelling, OneForm, OneFault, JournalsHaveNoFault, JournalOrFault};
 
-/// Bytes are of one journal at most.
+/// Bytes are those of one journal at most.
 pub fn journals_are_told_apart()
     ensures { OneSpelling }
 {}

@@ -1,6 +1,6 @@
-//! Recorded input: the items that a program reads, each a run of bytes, and their form in bytes. It stands on nothing, and
-//! the machine stands on it. A journal is seen as the list of its items. Which bytes are a journal is said in
-//! `specs/Form.antt`, and the first fault of other bytes in `specs/Faults.antt`.
+//! Recorded input: the items that a program reads, each a run of bytes, and their encoding in bytes. It uses no other
+//! crate. `rv_machine` and most crates above it use it. A journal is modelled as the list of its items.
+//! `specs/Form.antt` says which bytes are a journal, and `specs/Faults.antt` the first fault of other bytes.
 #![tactic(auto)]
 
 mod fault;

@@ -17,14 +17,14 @@ const MOST_ITEMS: u32 = 65_536;
 /// The most bytes of an item.
 const MOST_BYTES: u32 = 1_048_576;
 
-/// Reads the journal that the bytes are, all of the bytes, which it keeps.
+/// Reads the journal that all the bytes are, and keeps them.
 pub fn read_journal(alloc: Global, bytes: Vec<u8>) -> Result<Journal, JournalFault>
-    // What is read is spelled so, and what is spelled so is read, unless memory runs out.
+    // The bytes spell the journal that is read. Bytes of a journal are read, unless memory runs out.
     ensures found { IfOk result (IsJournal bytes.items) }
     ensures only { (items : List (List ℕ)) → IsJournal bytes.items items →
         MatchResult result (λ journal. journal ≡ items) (λ fault. fault ≡ JournalFault.Memory) }
 
-    // What is refused has that fault first, and what has a fault is refused for it, unless memory runs out.
+    // A refusal has the first fault. Bytes with a fault are refused for it, unless memory runs out.
     ensures refused { IfErr result (λ fault. fault ≢ JournalFault.Memory → FirstFault bytes.items fault) }
     ensures first { (fault : JournalFault) → FirstFault bytes.items fault →
         MatchResult result (λ _. ⊥) (λ answer. (answer ≡ fault) ⊎ (answer ≡ JournalFault.Memory)) }
@@ -33,7 +33,7 @@ pub fn read_journal(alloc: Global, bytes: Vec<u8>) -> Result<Journal, JournalFau
     Ok(Journal { bytes, parts })
 }
 
-// Where the items stand of the journal that the bytes are, all of the bytes.
+// Where the items of the journal are that all the bytes are.
 fn read_parts(alloc: Global, bytes: &[u8]) -> Result<Vec<Part>, JournalFault>
     ensures found { IfOk result (λ parts. IsJournal bytes.now (items_in bytes.now parts.items)) }
     ensures only { (items : List (List ℕ)) → IsJournal bytes.now items →
@@ -47,7 +47,7 @@ fn read_parts(alloc: Global, bytes: &[u8]) -> Result<Vec<Part>, JournalFault>
     find_parts(alloc, bytes)
 }
 
-// The same by what is read from left to right.
+// The parts of the bytes that are items, read from left to right.
 #[tactic(auto, unfolding(crate::specs::Reading::reading))]
 fn find_parts(alloc: Global, bytes: &[u8]) -> Result<Vec<Part>, JournalFault>
     ensures value { Gives (λ parts. items_in bytes.now parts.items) result (reading bytes.now) }
@@ -70,7 +70,7 @@ fn find_parts(alloc: Global, bytes: &[u8]) -> Result<Vec<Part>, JournalFault>
     Ok(parts)
 }
 
-// The number of items, behind the letters and the version.
+// The number of items, after the letters and the version.
 #[tactic(auto, unfolding(crate::specs::Reading::count_of))]
 fn read_count(bytes: &[u8]) -> Result<u32, JournalFault>
     ensures value { Gives (λ n. n) result (count_of bytes.now) }
@@ -90,7 +90,7 @@ fn read_count(bytes: &[u8]) -> Result<u32, JournalFault>
     Ok(count)
 }
 
-// The bytes of the item whose length stands at a place.
+// The bytes of the item whose length is at this place.
 #[tactic(auto, unfolding(crate::specs::Reading::item_at))]
 fn read_item(bytes: &[u8], at: usize) -> Result<&[u8], JournalFault>
     requires { at ≤ length bytes.now }

@@ -6,7 +6,7 @@ use crate::journal::Journal;
 use byteorder::{ByteOrder, LittleEndian};
 use std::alloc::{AllocError, Global};
 
-/// The one spelling of a journal.
+/// The canonical bytes of a journal.
 pub fn write_journal(alloc: Global, journal: &Journal) -> Result<Vec<u8>, AllocError>
     ensures { IfOk result (λ bytes. IsJournal bytes.items journal.now) }
 {

@@ -1,4 +1,4 @@
--- What a keeper in memory or over files tells and counts, which is what its part does.
+-- What a keeper in memory or over files claims and counts: that of the part in use.
 use Rattle.std.specs.Prelude.{ℕ, List, Option, Some, None}
 use Rattle.keepers.specs.Parts.{Answer, IsPut, IsGet, IsFree}
 use Rattle.keepers.specs.SlotFiles.{folder_of, level_of, images_told, IsFilePut, IsFileGet, IsFileFree}
@@ -7,7 +7,7 @@ use Rattle.keepers.specs.declared.any_keeper.AnyKeeper.{AnyKeeper}
 use Rattle.keepers.specs.declared.any_keeper.AnyKeeper.TheVariants.{Memory, File}
 
 module _ {D : Type 0} where
-  -- by what the disk tells of its files
+  -- by what the disk claims of its files
   abbrev pub told_of : (D → Option Files) → AnyKeeper D → Option Images
   told_of told (Memory k) = Some k.images
   told_of told (File k) = images_told told k
@@ -42,7 +42,7 @@ module _ {D : Type 0} where
   place_of (Memory k) = None
   place_of (File k) = Some (folder_of k, level_of k)
 
-  -- a call does to it what it does to its part, which stays of its kind
+  -- a call does to it what it does to its part, whose kind doesn't change
   abbrev pub put_of : (D → Option Files) → (D → List ℕ → Type 0) → AnyKeeper D → ℕ → List ℕ → Answer → AnyKeeper D → Type 0
   put_of told may_fail (Memory a) slot image answer (Memory b) = IsPut slot image answer a b
   put_of told may_fail (File a) slot image answer (File b) = IsFilePut told may_fail slot image answer a b

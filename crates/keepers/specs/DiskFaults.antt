@@ -8,11 +8,11 @@ use Rattle.std.specs.declared.io.Error.{Error}
 use Rattle.std.specs.declared.io.ErrorKind.TheVariants.{OutOfMemory}
 use Rattle.keepers.specs.Told.{Files}
 
--- an answer is an error of any other kind than want of memory only where this holds
+-- an answer is an error other than lack of memory only where this holds
 abbrev pub FailsOnlyWhere : {A : Type 0} → Result A Error → Type 0 → Type 0
 FailsOnlyWhere answer P = IfErr answer (λ error. error_kind error ≢ OutOfMemory → P)
 
--- it is told that there is no file of this name
+-- the files are known, and none has this name
 abbrev pub IsAbsent : Option Files → List ℕ → Type 0
 IsAbsent told name = IsSomeAnd told (λ files. finmap.get files name ≡ None)
 

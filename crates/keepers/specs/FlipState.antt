@@ -1,10 +1,10 @@
--- What a keeper that gives one wrong bit is seen as, and what it gives.
+-- The model of a keeper that gives one wrong bit, and what it gives.
 use Rattle.std.specs.Prelude.{ℕ, List, refl, ◌==◌, if◌then◌else◌, slice_set, slice_index, bit_xor}
 use Rattle.std.specs.Coded.{Coded, code_by, coded×, coded_ℕ}
 use Rattle.keepers.specs.Counts.{raised}
 use Rattle.keepers.specs.KeeperState.{KeeperState, keeper_state_code}
 
--- the keeper in memory that has the images, the number of the get that gives a wrong bit, and the byte that has it
+-- the keeper in memory with the images, the number of the faulty get, and the place of its byte
 pub record FlipState : Type 0 where
   pub keeper : KeeperState
   pub get : ℕ
@@ -18,7 +18,7 @@ flip_state_code =
     (λ p. record { keeper = p.0; get = p.1.0; at = p.1.1 })
     (λ _. refl)
 
--- bytes with the lowest bit of one of them changed; bytes as they are where there is no such byte
+-- bytes with the lowest bit of one of them flipped; unchanged if there is no such byte
 abbrev pub flipped : ℕ → List ℕ → List ℕ
 flipped at bytes = slice_set bytes at (bit_xor (slice_index bytes at) 1)
 

@@ -1,11 +1,10 @@
--- What inputs in memory are seen as.
+-- The model of inputs in memory.
 use Rattle.std.specs.Prelude.{ℕ, List, refl}
 use Rattle.std.specs.Coded.{Coded, code_by, coded×, coded_ℕ, coded_list}
 use Rattle.std.specs.FinMap as finmap
 use Rattle.keepers.specs.Told.{Files}
 
--- the inputs by their names, the names that were asked for, the numbers of the calls that fail, and how many calls and
--- how many faults there were
+-- the inputs by name, the requested names, the failing calls by number, and the counts of calls and faults
 pub record InputsState : Type 0 where
   pub files : Files
   pub asked : List (List ℕ)

@@ -1,4 +1,4 @@
--- What a keeper in memory is seen as.
+-- The model of a keeper in memory.
 use Rattle.std.specs.Prelude.{ℕ, zero, suc, List, Option, refl, ◌≡◌}
 use Rattle.std.specs.Coded.{Coded, code_by, coded×, coded_ℕ, coded_list, coded_option}
 use Rattle.std.specs.FinMap as finmap
@@ -6,8 +6,8 @@ use Rattle.keepers.specs.Told.{Images}
 use Rattle.keepers.specs.declared.memory_keeper.Op.{Op}
 use Rattle.keepers.specs.declared.memory_keeper.Op.TheVariants.{Put, Get, Free}
 
--- the images by their slots, the number of slots, for how many bytes there is memory in each slot, if it has a room, the calls
--- that fail, how often each call was made, and how many faults there were
+-- The images by slot, the number of slots, and the room in bytes of each slot, if any. Also the failing calls, how
+-- often each call was made, and the count of faults.
 pub record KeeperState : Type 0 where
   pub images : Images
   pub slots : ℕ

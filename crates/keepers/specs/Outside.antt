@@ -1,4 +1,4 @@
--- What is seen of inputs that are files, and of a sink over a writer.
+-- The model of inputs that are files, and of a sink over a writer.
 use Rattle.std.specs.Prelude.{◌⊎◌, ℕ, List, Option}
 use Rattle.std.specs.Str.{IsUtf8}
 use Rattle.keepers.specs.DiskFaults.{IsAbsent}
@@ -6,14 +6,14 @@ use Rattle.keepers.specs.Told.{Files}
 use Rattle.keepers.specs.declared.file_inputs.FileInputs.{FileInputs}
 use Rattle.keepers.specs.declared.stdout_sink.StdoutSink.{StdoutSink}
 
--- the names that inputs were asked for, and how often they failed
+-- the requested names of inputs, and how often they failed
 abbrev pub asked_of : {D : Type 0} → FileInputs D → List (List ℕ)
 asked_of inputs = inputs.asked
 
 abbrev pub input_faults_of : {D : Type 0} → FileInputs D → ℕ
 input_faults_of inputs = inputs.faults
 
--- where a read of a name may fail: the disk may fail there, no such file is there, or the name isn't UTF-8
+-- A read of a name may fail: the disk fails, the file is missing, or the name isn't UTF-8.
 abbrev pub MayFailAt : {D : Type 0} → (D → Option Files) → (D → List ℕ → Type 0) → FileInputs D → List ℕ → Type 0
 MayFailAt told may_fail inputs name = may_fail inputs.disk name ⊎ IsAbsent (told inputs.disk) name ⊎ (IsUtf8 name → ⊥)
 

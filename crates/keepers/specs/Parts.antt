@@ -1,4 +1,4 @@
--- What a call does to a keeper in memory, by what it answers, and to one that gives a wrong bit.
+-- What a call does to a keeper in memory, and to one that gives a wrong bit, by its answer.
 use Rattle.std.specs.Prelude.{◌≡◌, ◌≢◌, ◌↔◌, ℕ, List, take, Result, Ok, Err, OnOk, OnErr}
 use Rattle.std.specs.FinMap as finmap
 use Rattle.keepers.specs.Counts.{raised}
@@ -14,7 +14,7 @@ use Rattle.keepers.specs.declared.memory_keeper.Op.TheVariants.{Put, Get, Free}
 abbrev pub Answer : Type 0
 Answer = Result (Unit {0}) KeepFault
 
--- a put: it fails just where it is listed, and changes no other slot
+-- a put: it fails exactly if it is listed, and changes no other slot
 pub record IsPut (slot : ℕ) (image : List ℕ) (answer : Answer) (old new : KeeperState) : Type 0 where
   pub listed : (answer ≡ Err Failed) ↔ IsListed old.failing Put old.puts
   pub ok : OnOk answer (new ≡ record old { images = finmap.insert old.images slot image; puts = raised old.puts 1 })
@@ -22,14 +22,14 @@ pub record IsPut (slot : ℕ) (image : List ℕ) (answer : Answer) (old new : Ke
   pub memory : answer ≡ Err Memory → new ≡ record old { images = new.images; puts = raised old.puts 1 }
   pub others : SameButAt slot old.images new.images
 
--- a get, which gives these bytes: it fails just where it is listed, and changes no slot
+-- a get, which gives these bytes: it fails exactly if it is listed, and changes no slot
 pub record IsGet (slot len : ℕ) (bytes : List ℕ) (answer : Answer) (old new : KeeperState) : Type 0 where
   pub listed : (answer ≡ Err Failed) ↔ IsListed old.failing Get old.gets
   pub ok : OnOk answer (bytes ≡ take len (image_in old.images slot))
   pub failed : answer ≡ Err Failed → new ≡ record old { gets = raised old.gets 1; faults = raised old.faults 1 }
   pub unfailed : answer ≢ Err Failed → new ≡ record old { gets = raised old.gets 1 }
 
--- a free: it fails just where it is listed, and then changes no slot; memory is never wanting
+-- a free: it fails exactly if it is listed, and then changes no slot; memory never runs out
 pub record IsFree (slot : ℕ) (answer : Answer) (old new : KeeperState) : Type 0 where
   pub listed : (answer ≡ Err Failed) ↔ IsListed old.failing Free old.frees
   pub no_memory : answer ≢ Err Memory

@@ -1,4 +1,4 @@
--- The images that stand in the places of a keeper in memory, of which the first is slot 0's.
+-- The images in the places of a keeper in memory. The first place is slot 0's.
 use Rattle.std.specs.Prelude.{ℕ, suc, ◌≤◌, List, [], ◌∷◌, cond}
 use Rattle.std.specs.FinMap as finmap
 use Rattle.std.specs.List.{AllByRecursion}
@@ -6,7 +6,7 @@ use Rattle.std.specs.Vec.{vec_capacity}
 use Rattle.keepers.specs.Told.{Images}
 use Rattle.keepers.specs.declared.place.Place.{Place}
 
--- the images of these places by their slots, where the first is that of a slot
+-- the images of these places by their slots, from this slot on
 abbrev pub filled_from : ℕ → List Place → List (ℕ × List ℕ)
 filled_from slot [] = []
 filled_from slot (place ∷ places) = cond place.filled ((slot, place.bytes.items) ∷ filled_from (suc slot) places) (filled_from (suc slot) places)

@@ -1,8 +1,7 @@
--- What a sink in memory is seen as.
+-- The model of a sink in memory.
 use Rattle.std.specs.Prelude.{ℕ, List}
 
--- the bytes that it took, the bytes that it has room for, the numbers of the calls that fail, and how many calls and
--- how many faults there were
+-- the bytes that it took, its room in bytes, the failing calls, and the counts of calls and faults
 pub record SinkState : Type 0 where
   pub bytes : List ℕ
   pub room : ℕ

@@ -1,4 +1,4 @@
--- The files in which a keeper over files keeps its images, and what a call does to the files of a disk.
+-- The files that hold a file keeper's images, and what a call does to the files of a disk.
 use Rattle.std.specs.Prelude.{◌≡◌, ◌≢◌, ◌⊎◌, ℕ, zero, suc, List, [], ◌∷◌, ◌++◌, take, codes, decimal, Option, None, Some, Err, OnOk, OnErr}
 use Rattle.std.specs.Option.{option_map}
 use Rattle.std.specs.FinMap as finmap
@@ -27,29 +27,29 @@ slot_path folder level slot = folder ++ codes "/level" ++ decimal level ++ codes
 abbrev pub path_of : {D : Type 0} → FileKeeper D → ℕ → List ℕ
 path_of k slot = slot_path (folder_of k) (level_of k) slot
 
--- an image before others, where there is one
+-- an image before others, if there is one
 abbrev pub with_image : ℕ → Option (List ℕ) → List (ℕ × List ℕ) → List (ℕ × List ℕ)
 with_image slot None images = images
 with_image slot (Some image) images = (slot, image) ∷ images
 
--- the images that the files of the first so many slots of a level hold; a slot without a file holds none
+-- the images in the files of a level's first so many slots; without a file there is none
 unfoldable pub images_in_files : List ℕ → ℕ → ℕ → Files → List (ℕ × List ℕ)
 images_in_files folder level zero files = []
 images_in_files folder level (suc slot) files = with_image slot (finmap.get files (slot_path folder level slot)) (images_in_files folder level slot files)
 
--- the same by their slots: just the image in each slot of these whose file is there
+-- the images by their slots: one for each of these slots that has a file
 abbrev pub level_images : List ℕ → ℕ → ℕ → Files → Images
 level_images folder level slots files = finmap.from_entries (images_in_files folder level slots files)
 
--- what a keeper over files tells: the images in the files of its slots, where its disk tells its files
+-- what a file keeper claims: the images in its slots' files, if its disk claims its files
 abbrev pub images_told : {D : Type 0} → (D → Option Files) → FileKeeper D → Option Images
 images_told told k = option_map (level_images (folder_of k) (level_of k) k.slots) (told k.disk)
 
--- where a call on a slot may fail: the disk may fail at the slot's file, or the keeper has no folder
+-- A call on a slot may fail: the disk may fail there, or the keeper has no folder.
 abbrev pub MayFail : {D : Type 0} → (D → List ℕ → Type 0) → FileKeeper D → ℕ → Type 0
 MayFail may_fail k slot = may_fail k.disk (path_of k slot) ⊎ NamesNoFolder (folder_of k)
 
--- What the calls of a keeper over files do to it, and to the files of its disk, where that tells them.
+-- What a file keeper's calls do to it and to the disk's files, if the disk claims them.
 
 -- a put: the whole image is in the file of this slot, and no other file changed
 pub record IsFilePut {D : Type 0} (told : D → Option Files) (may_fail : D → List ℕ → Type 0) (slot : ℕ) (image : List ℕ) (answer : Answer) (old new : FileKeeper D) : Type 0 where
@@ -60,7 +60,7 @@ pub record IsFilePut {D : Type 0} (told : D → Option Files) (may_fail : D → 
   pub counted : answer ≡ Err Failed → new.faults ≡ raised old.faults 1
   pub cause : answer ≡ Err Failed → MayFail may_fail old slot
 
--- a get, which gives these bytes: they are the first of the file of this slot, and no file changed
+-- a get, which gives these bytes: the first of this slot's file; no file changed
 pub record IsFileGet {D : Type 0} (told : D → Option Files) (may_fail : D → List ℕ → Type 0) (slot len : ℕ) (bytes : List ℕ) (answer : Answer) (old new : FileKeeper D) : Type 0 where
   pub ok : OnOk answer (WhereTold (told old.disk) (λ files. bytes ≡ take len (bytes_in files (path_of old slot))))
   pub rest : new ≡ record old { gets = raised old.gets 1; faults = new.faults }

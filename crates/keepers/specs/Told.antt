@@ -1,4 +1,4 @@
--- What an object tells of its content, which is its own choice: it tells it always or never.
+-- What an object claims of its content. Each object chooses: it claims it always or never.
 use Rattle.std.specs.Prelude.{◌≡◌, ℕ, ◌≤◌, List, [], ◌++◌, length, take, Option, None, Some, unwrap_or}
 use Rattle.std.specs.Ordering.{nat_cmp}
 use Rattle.std.specs.Cmp.Lexicographic.{slice_cmp}
@@ -9,7 +9,7 @@ use Rattle.std.specs.Io.KnownBytes.{Consumes}
 abbrev pub Images : Type 0
 Images = finmap.FinMap nat_cmp (List ℕ)
 
--- Where images are: in those files of a folder that are named by the number of a level, or in no file.
+-- Where images are: in the files of a folder that carry a level's number, or in no file.
 abbrev pub Location : Type 0
 Location = Option (List ℕ × ℕ)
 
@@ -17,14 +17,15 @@ Location = Option (List ℕ × ℕ)
 abbrev pub Files : Type 0
 Files = finmap.FinMap (slice_cmp nat_cmp) (List ℕ)
 
--- Where the object told before, it tells now, and what it tells is related so. Where it told nothing, it tells nothing.
+-- If the object claimed its content before, it does so now, and the two contents are related by this. If it claimed
+-- nothing, it claims nothing now.
 abbrev pub Tells : {A : Type 0} → Option A → Option A → (A → A → Type 0) → Type 0
 Tells None None related = Unit {0}
 Tells (Some old) (Some new) related = related old new
 Tells None (Some new) related = ⊥
 Tells (Some old) None related = ⊥
 
--- a fact about what is told, where it is told
+-- a fact about the claimed content, if any is claimed
 abbrev pub WhereTold : {A : Type 0} → Option A → (A → Type 0) → Type 0
 WhereTold None P = Unit {0}
 WhereTold (Some told) P = P told
@@ -53,6 +54,6 @@ Begins front bytes = (rest : List ℕ) × (bytes ≡ front ++ rest)
 abbrev pub AddsPrefix : List ℕ → List ℕ → List ℕ → Type 0
 AddsPrefix piece old new = (k : ℕ) × (new ≡ old ++ take k piece)
 
--- at most so many bytes were taken from what was left of a file, where it tells what is left
+-- at most so many bytes were taken from the rest of a file, if that rest is claimed
 abbrev pub TakesAtMost : ℕ → Option (List ℕ) → Option (List ℕ) → Type 0
 TakesAtMost most before after = (taken : List ℕ) × ((length taken ≤ most) × Consumes before after taken)

@@ -4,7 +4,7 @@ use Rattle.std.specs.List.{concat}
 use Rattle.keepers.specs.Counts.{Rose, raised}
 use Rattle.keepers.specs.Told.{Tells, AddsPrefix}
 
--- what is seen of a sink at one moment: the bytes that it tells, how often it was called, and its count of faults
+-- a sink at one moment: its claimed bytes, its count of calls, and its count of faults
 pub record Seen : Type 0 where
   pub told : Option (List ℕ)
   pub calls : ℕ
@@ -19,8 +19,8 @@ pub record AddsLines (lines : List (List ℕ)) (old new : Seen) : Type 0 where
   pub calls : new.calls ≡ raised old.calls (length lines)
   pub quiet : new.faults ≡ old.faults
 
--- The lines before one of them were added, each in one write, and a prefix of that one, whose write failed. The lines after
--- it were not.
+-- The lines before one of them were added, each in one write. The write of that one failed, after a prefix of it. The
+-- lines after it were not written.
 pub record StopsIn (lines : List (List ℕ)) (old new : Seen) : Type 0 where
   pub before : List (List ℕ)
   pub line : List ℕ

@@ -6,7 +6,7 @@ use crate::file_keeper::FileKeeper;
 use crate::keeper::{KeepFault, Keeper};
 use crate::memory_keeper::MemoryKeeper;
 
-/// A keeper in memory or over files, so that the levels of a book may have keepers of both kinds. Its calls are its part's.
+/// A keeper in memory or over files, so that a book's levels can have both kinds. Its calls are its part's.
 #[derive(Drop)]
 pub enum AnyKeeper<D> {
     Memory(MemoryKeeper),

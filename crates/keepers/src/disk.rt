@@ -12,26 +12,25 @@ use std::io::ErrorKind;
 use std::rt::Files;
 use std::{fs, io};
 
-/// The files of a system by their paths, which are UTF-8, as keepers and inputs want them.
+/// The files of a system by their paths, which are UTF-8, for keepers and inputs.
 pub trait Disk {
-    /// The files, where it tells.
+    /// The files, for a disk that claims to know them.
     ghost told: { Self → Option Files };
-    /// Whether a call on the file at a path may fail, other than for want of memory.
+    /// Whether a call on the file at a path may fail, other than for lack of memory.
     ghost may_fail: { Self → List ℕ → Type 0 };
 
-    /// Whether a file stands at a path. What stands there and is none, as a folder or a symbolic link, is an error.
+    /// Whether there is a file at a path. Anything else there, such as a folder or a symbolic link, is an error.
     fn is_there(&self, path: &str) -> io::Result<bool>
         ensures there { IfOk result (λ there. WhereTold (told self.now) (λ files. there ≡ is_some (finmap.get files path.now))) }
         ensures cause { FailsOnlyWhere result (may_fail self.now path.now) };
 
-    /// Reads a file into a room, until the room is full or the file is at its end, and says how many bytes it read.
+    /// Reads a file until the room is full or the file ends, and returns how many bytes it read.
     fn read_first(&self, path: &str, room: &mut [u8]) -> io::Result<usize>
         ensures fits { IfOk result (λ count. count ≤ length room.old) }
         ensures bytes { IfOk result (λ count. WhereTold (told self.now) (λ files. take count room.new ≡ take (length room.old) (bytes_in files path.now))) }
         ensures cause { FailsOnlyWhere result (may_fail self.now path.now ⊎ IsAbsent (told self.now) path.now) };
 
-    /// Reads a file into `into`, in place of what was there, a piece at a time. A file of more than `limit` bytes is not
-    /// read to its end.
+    /// Reads a file into `into`, replacing what was there, a piece at a time. It stops soon after `limit` bytes.
     fn read_whole(
         &self,
         path: &str,
@@ -47,21 +46,21 @@ pub trait Disk {
         ensures reserved { vec_capacity into.old ≤ vec_capacity into.new }
         ensures cause { FailsOnlyWhere result (may_fail self.now path.now ⊎ IsAbsent (told self.now) path.now) };
 
-    /// Makes a file anew, in place of one that was there. After a refusal there may be any bytes in it, or none of it.
+    /// Makes a file anew, replacing an old one. After a refusal it may have any bytes, or not exist.
     fn replace(&mut self, path: &str, bytes: &[u8]) -> io::Result<()>
         ensures ok { OnOk result (Tells (told self.old) (told self.new) (λ old new. new ≡ finmap.insert old path.now bytes.now)) }
         ensures refused { OnErr result (Tells (told self.old) (told self.new) (SameButNamed path.now)) }
         ensures cause { FailsOnlyWhere result (may_fail self.old path.now) };
 
-    /// Removes a file, where there is one. After a refusal it is there, or it isn't.
+    /// Removes a file, if there is one. After a refusal it may be there or not.
     fn remove(&mut self, path: &str) -> io::Result<()>
         ensures ok { OnOk result (Tells (told self.old) (told self.new) (λ old new. new ≡ finmap.remove old path.now)) }
         ensures refused { OnErr result (Tells (told self.old) (told self.new) (λ old new. (new ≡ old) ⊎ (new ≡ finmap.remove old path.now))) }
         ensures cause { FailsOnlyWhere result (may_fail self.old path.now) };
 }
 
-/// The files of the system that a handle gives. It tells nothing of them, so that each call does here what `Disk` says of it
-/// is trusted: that it opens, makes or removes the file at its path, and hands on its room or its bytes.
+/// The files of the system that a handle gives. Its contracts claim nothing of their content. What `Disk` says of each
+/// call is trusted here. A call opens, makes or removes the file at its path, and passes its room or bytes on.
 #[derive(Drop)]
 pub struct SystemDisk<R> {
     rt: R,
@@ -105,7 +104,7 @@ impl<R: Files> Disk for SystemDisk<R> {
         read_whole(&mut fs::open(&self.rt, path)?, limit, piece, into)
     }
 
-    // What is written is a file of its own, so that no link is written through.
+    // The file is always new, so no link is written through.
     fn replace(&mut self, path: &str, bytes: &[u8]) -> io::Result<()> {
         self.remove(path)?;
         write_whole(&mut File::create_new(&self.rt, path)?, bytes)

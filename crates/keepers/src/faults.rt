@@ -1,4 +1,4 @@
-// What a call that std refused answers, and which of its errors are counted.
+// What a call returns after an error of std, and which errors are counted.
 ghost use Rattle.std.specs.Prelude.{◌≡◌, ◌≢◌};
 ghost use Rattle.std.specs.IoError.{error_kind};
 ghost use Rattle.keepers.specs.Counts.{raised};
@@ -8,7 +8,7 @@ use crate::keeper::KeepFault;
 use std::io;
 use std::io::ErrorKind;
 
-// Want of memory, which is no fault of the storage; any other error is a fault, and counts.
+// A lack of memory is no fault of the storage. Any other error is a fault, and counts.
 pub(crate) fn keep_fault(error: &io::Error, faults: &mut u64) -> KeepFault
     ensures memory { error_kind error.now ≡ ErrorKind.OutOfMemory → result ≡ KeepFault.Memory }
     ensures failed { error_kind error.now ≢ ErrorKind.OutOfMemory → result ≡ KeepFault.Failed }
@@ -22,7 +22,7 @@ pub(crate) fn keep_fault(error: &io::Error, faults: &mut u64) -> KeepFault
     KeepFault::Failed
 }
 
-// The same for an input.
+// The fault of an input for an error, which it counts.
 pub(crate) fn input_fault(error: &io::Error, faults: &mut u64) -> InputFault
     ensures memory { error_kind error.now ≡ ErrorKind.OutOfMemory → result ≡ InputFault.Memory }
     ensures failed { error_kind error.now ≢ ErrorKind.OutOfMemory → result ≡ InputFault.Failed }

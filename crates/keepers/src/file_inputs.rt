@@ -28,7 +28,7 @@ pub struct FileInputs<D> {
 }
 
 impl<D: Disk> FileInputs<D> {
-    /// Reads those of this disk. It was asked for nothing, and takes no memory.
+    /// Reads the files of this disk. Nothing was requested yet. It takes no memory.
     pub fn new(disk: D, alloc: Global) -> Self
         ensures told { ⟦<FileInputs<D> as Inputs>⟧.told result ≡ D.told disk }
         ensures asked { ⟦<FileInputs<D> as Inputs>⟧.asked result ≡ [] }

@@ -15,11 +15,11 @@ use std::alloc::Global;
 use std::io;
 use std::io::ErrorKind;
 
-/// Keeps the images of a level in a folder, which must be there: a file a slot, named `level` level `-slot` slot `.img`.
+/// Keeps the images of a level in a folder, which must exist. Each slot has a file, named `level` level `-slot` slot
+/// `.img`.
 ///
-/// Whatever stands in the place of such a file and is none, as a folder or a symbolic link, makes the call fail, and is
-/// left as it is. A put writes a file of its own, which it makes anew, so it never writes through a link. A folder whose
-/// name is empty or isn't UTF-8 makes each call fail.
+/// If a folder, a symbolic link or anything else is there, the call fails and leaves it. A put always makes a new file,
+/// so it never writes through a link. A folder whose name is empty or isn't UTF-8 makes each call fail.
 #[derive(Drop)]
 pub struct FileKeeper<D> {
     disk: D,
@@ -110,7 +110,7 @@ impl<D: Disk> FileKeeper<D> {
         Ok(path)
     }
 
-    // Puts an image into the file of a slot, in place of what was there.
+    // Writes an image into the file of a slot, replacing what was there.
     fn put_file(&mut self, slot: u32, image: &[u8]) -> io::Result<()>
         ensures written { OnOk result (Tells (D.told self.old.disk) (D.told self.new.disk)
             (λ old new. new ≡ finmap.insert old (path_of self.old slot) image.now)) }
@@ -122,7 +122,7 @@ impl<D: Disk> FileKeeper<D> {
         self.disk.replace(path.as_str(), image)
     }
 
-    // Gets the first bytes of the file of a slot, in place of what was in `into`.
+    // Reads the first bytes of the file of a slot, replacing what was in `into`.
     fn get_file(&self, slot: u32, len: u32, into: &mut Vec<u8>) -> io::Result<()>
         ensures bytes { OnOk result (WhereTold (D.told self.now.disk) (λ files. into.new.items ≡ take len (bytes_in files (path_of self.now slot)))) }
         ensures short { OnOk result (vec_len into.new ≤ len) }
@@ -140,7 +140,7 @@ impl<D: Disk> FileKeeper<D> {
         Ok(())
     }
 
-    // Removes the file of a slot, where there is one.
+    // Removes the file of a slot, if there is one.
     fn free_file(&mut self, slot: u32) -> io::Result<()>
         ensures removed { OnOk result (Tells (D.told self.old.disk) (D.told self.new.disk) (λ old new. new ≡ finmap.remove old (path_of self.old slot))) }
         ensures left { OnErr result (Tells (D.told self.old.disk) (D.told self.new.disk) (λ old new. (new ≡ old)
@@ -153,7 +153,8 @@ impl<D: Disk> FileKeeper<D> {
     }
 }
 
-// It tells the images in the files of its slots, where the disk tells. What a call does to its files are further clauses.
+// It claims the images in the files of its slots, if the disk claims its files. Further clauses say what a call does to
+// its files.
 impl<D: Disk> Keeper for FileKeeper<D> {
     ghost use Rattle.std.specs.Prelude.{None, Some};
     ghost use Rattle.keepers.specs.SlotFiles.{folder_of, level_of, images_told, MayFail, IsFilePut, IsFileGet, IsFileFree};

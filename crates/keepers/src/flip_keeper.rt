@@ -11,7 +11,7 @@ use crate::memory_keeper::MemoryKeeper;
 use std::alloc::Global;
 use std::marker::Model;
 
-/// Keeps images in memory, and gives one wrong bit: one get gives one byte with its lowest bit changed. So it tells
+/// Keeps images in memory, and gives one wrong bit: one get returns one byte with its lowest bit changed. So it claims
 /// nothing of its content.
 #[derive(Drop)]
 pub struct FlipKeeper {
@@ -30,13 +30,13 @@ impl Model for FlipKeeper {
 
     ghost view = { λ k. record { keeper = k.keeper; get = k.get; at = k.at } };
 
-    // No call is listed to fail.
+    // No call is to fail.
     ghost invariant = { λ k. k.keeper.failing ≡ [] };
 }
 
 impl FlipKeeper {
-    /// Has empty slots, and takes no memory. The get with this number, counted from 1, gives the byte at `at` with its
-    /// lowest bit changed, and all bytes as they are where there is no such byte.
+    /// Has empty slots, and takes no memory. Get number `get`, counted from 1, returns byte `at` with its lowest bit
+    /// changed. It returns all bytes unchanged where there is no such byte.
     pub fn new(alloc: Global, slots: u32, get: u64, at: u32) -> Self
         ensures { result ≡ record {
           keeper = record { images = finmap.empty; slots = slots; room = None; failing = []; puts = 0; gets = 0; frees = 0; faults = 0 };
@@ -157,7 +157,7 @@ impl Keeper for FlipKeeper {
     }
 }
 
-// Changes the lowest bit of a byte, where there is one.
+// Flips the lowest bit of a byte, if there is one.
 fn flip(bytes: &mut [u8], at: usize)
     ensures { bytes.new ≡ flipped at bytes.old }
 {

@@ -29,16 +29,16 @@ pub enum InputFault {
 
 /// Inputs by their names.
 pub trait Inputs {
-    /// The inputs, where it tells. They never change.
+    /// The inputs, for an object that claims to know them. They never change.
     ghost told: { Self → Option Files };
     /// The names that were asked for, in order.
     ghost asked: { Self → List (List ℕ) };
 
     ghost fault_count: { Self → ℕ };
 
-    /// Reads the named input into `into`, in place of what was there. An input of more than `limit` bytes is not read to
-    /// its end. Where the answer isn't All, `into` holds bytes that the input begins with, of no input none. A name that
-    /// isn't there is a fault.
+    /// Reads the named input into `into`, replacing what was there. It stops soon after `limit` bytes. If the answer
+    /// isn't All, `into` holds the input's first bytes, or none if there is no input. A name without an input is a
+    /// fault.
     fn read(&mut self, name: &[u8], limit: u32, into: &mut Vec<u8>) -> Result<Whole, InputFault>
         ensures all { result ≡ Ok Whole.All → WhereTold (told self.old) (λ files. finmap.get files name.now ≡ Some into.new.items) }
         ensures fits { result ≡ Ok Whole.All → vec_len into.new ≤ limit }

@@ -18,15 +18,15 @@ pub enum KeepFault {
     Memory,
 }
 
-/// Slots of storage, each of which holds an image or nothing.
+/// Slots of storage, each with an image or empty.
 pub trait Keeper {
     ghost use Rattle.keepers.specs.Parts.{Answer};
 
-    /// The images that it holds by their slots, where it tells.
+    /// The images by their slots, for a keeper that claims to know them.
     ghost told: { Self → Option Images };
-    /// How many slots it has.
+    /// The number of its slots.
     ghost slot_count: { Self → ℕ };
-    /// How often each call was made, refused calls among them.
+    /// The calls of each kind, including refused ones.
     ghost put_count: { Self → ℕ };
 
     ghost get_count: { Self → ℕ };
@@ -34,12 +34,12 @@ pub trait Keeper {
     ghost free_count: { Self → ℕ };
 
     ghost fault_count: { Self → ℕ };
-    /// A number of bytes for which it never asks for memory, if it has one.
+    /// Images of at most this many bytes never need memory, if it has a room.
     ghost room_bytes: { Self → Option ℕ };
     /// Where its images are.
     ghost place: { Self → Location };
-    /// What a call does besides, where a keeper says more than what is said here of each: of the keeper before it, the slot,
-    /// the image or the bytes that were got, what was answered, and the keeper after it.
+    /// Further facts of a call, where a keeper claims more than the trait. They relate the keeper before it, the slot,
+    /// the bytes, the answer, and the keeper after it.
     ghost put_does: { Self → ℕ → List ℕ → Answer → Self → Type 0 } = { λ _ _ _ _ _. Unit {0} };
 
     ghost get_does: { Self → ℕ → ℕ → List ℕ → Answer → Self → Type 0 } = { λ _ _ _ _ _ _. Unit {0} };
@@ -50,7 +50,7 @@ pub trait Keeper {
     fn slots(&self) -> u32
         ensures { result ≡ slot_count self.now };
 
-    /// Puts an image into a slot, in place of what was there. After a refusal the slot may hold anything. Where the keeper
+    /// Puts an image into a slot, replacing what was there. After a refusal the slot may hold anything. If the keeper
     /// has a room, an image of at most so many bytes takes no memory.
     fn put(&mut self, slot: u32, image: &[u8]) -> Result<(), KeepFault>
         requires { slot < slot_count self.old }
@@ -68,8 +68,8 @@ pub trait Keeper {
         ensures later { fault_count self.old ≤ fault_count self.new }
         ensures cause { result ≡ Err KeepFault.Failed → Rose (fault_count self.old) (fault_count self.new) };
 
-    /// Gets the first `len` bytes of the image in a slot, and no bytes where the slot is empty. After a refusal `into`
-    /// may hold anything. Where the keeper has a room, and `into` is reserved for `len` bytes, it takes no memory.
+    /// Gets the first `len` bytes of the image in a slot, or no bytes if the slot is empty. After a refusal `into` may
+    /// hold anything. If the keeper has a room, and `into` has room for `len` bytes, it takes no memory.
     fn get(&mut self, slot: u32, len: u32, into: &mut Vec<u8>) -> Result<(), KeepFault>
         requires { slot < slot_count self.old }
         ensures ok { OnOk result (WhereTold (told self.old) (λ old. into.new.items ≡ take len (image_in old slot))) }
@@ -88,7 +88,7 @@ pub trait Keeper {
         ensures later { fault_count self.old ≤ fault_count self.new }
         ensures cause { result ≡ Err KeepFault.Failed → Rose (fault_count self.old) (fault_count self.new) };
 
-    /// Empties a slot. After a refusal the slot holds what it held, or nothing.
+    /// Empties a slot. After a refusal the slot is unchanged, or empty.
     fn free(&mut self, slot: u32) -> Result<(), KeepFault>
         requires { slot < slot_count self.old }
         ensures ok { OnOk result (Tells (told self.old) (told self.new) (λ old new. new ≡ finmap.remove old slot)) }

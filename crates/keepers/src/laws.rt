@@ -1,11 +1,11 @@
-// What follows of the files of several levels.
+// Consequences for the files of several levels.
 ghost use Rattle.std.specs.Prelude.{◌≡◌, ◌≢◌, ℕ, ◌^◌, ◌<◌, ◌≤◌, List, None};
 ghost use Rattle.std.specs.FinMap as finmap;
 ghost use Rattle.keepers.specs.SlotFiles.{slot_path, level_images};
 ghost use Rattle.keepers.specs.Told.{Files, SameButNamed};
 
-/// Keepers of several levels may have their files on one disk, in one folder or in several: a path says its folder, its level
-/// and its slot, so a call that changes the file of one level's slot leaves what each other level's files hold.
+/// Keepers of several levels may share a disk, in one folder or in several. A path gives its folder, its level and its
+/// slot. So a change to one level's file leaves the images of all other levels.
 pub fn levels_have_files_of_their_own()
     ensures paths { (folder other : List ℕ) (level its_level slot its_slot : ℕ) → level < 2 ^ 64 → its_level < 2 ^ 64 → slot < 2 ^ 64 → its_slot < 2 ^ 64 →
         slot_path folder level slot ≡ slot_path other its_level its_slot → (folder ≡ other) × (level ≡ its_level) × (slot ≡ its_slot) }
@@ -14,7 +14,7 @@ pub fn levels_have_files_of_their_own()
         level_images other its_level slots after ≡ level_images other its_level slots before }
 {}
 
-/// What a level's keeper tells of a slot is what the file at its path holds; without such files it is nothing.
+/// A level's keeper claims for a slot what the file at its path holds. Without that file it claims nothing.
 pub fn levels_hold_what_their_files_hold()
     ensures each { (folder : List ℕ) (level slots slot : ℕ) (files : Files) → slot < slots →
         finmap.get (level_images folder level slots files) slot ≡ finmap.get files (slot_path folder level slot) }

@@ -1,7 +1,7 @@
-//! Storage, output and input as traits, with the objects in memory that tests use and those over files and standard
-//! output that the program uses. It stands on nothing; the runner and the top call stand on it. Each trait says what a
-//! call does to the content, where an object tells its content, keeps account of the calls, and counts the faults, so that
-//! a fault is answered only where the outside failed: `specs/Told.antt` and `specs/Counts.antt`.
+//! Storage, output and input as traits, with objects in memory for tests, and objects over files and standard output.
+//! It uses no other crate. `image_store`, `reverse_runner`, `cert_text` and many more use it. Each trait says what a
+//! call does to the content, for objects that claim to know it. It counts the calls and the faults, so a fault is
+//! returned only where the outside failed. `specs/Told.antt` and `specs/Counts.antt` define this.
 #![tactic(auto)]
 
 mod any_keeper;

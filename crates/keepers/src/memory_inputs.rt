@@ -39,7 +39,7 @@ impl Model for MemoryInputs {
 }
 
 impl MemoryInputs {
-    /// Has the inputs of a list of names and bytes. Where a name stands twice, its first bytes count.
+    /// Has the inputs of a list of names and bytes. If a name occurs twice, its first bytes count.
     pub fn new(alloc: Global, list: Vec<(Vec<u8>, Vec<u8>)>) -> Self
         ensures { result ≡ record {
           files = finmap.from_entries (map (λ e. (e.0.items, e.1.items)) list.items);
@@ -58,7 +58,7 @@ impl MemoryInputs {
         }
     }
 
-    /// Lets the listed calls of `read` fail, where the first call is number 1.
+    /// Lets the listed calls of `read` fail. The first call is number 1.
     pub fn failing(self, list: Vec<u64>) -> Self
         ensures { result ≡ record self { failing = list.items } }
     {
@@ -103,7 +103,7 @@ impl Inputs for MemoryInputs {
         ensures longer { result ≡ Ok Whole.Longer → IsSomeAnd (finmap.get self.old.files name.now) (λ bytes. limit < length bytes) }
         ensures reserved { vec_capacity into.old ≤ vec_capacity into.new }
 
-        // Want of memory aside, it fails just where the call is listed or the name is missing.
+        // It fails exactly if the call is listed or the name is missing, or memory runs out.
         ensures listed { Contains self.old.failing (raised self.old.calls 1) → IsErr result }
         ensures missing { finmap.get self.old.files name.now ≡ None → IsErr result }
         ensures fails { result ≡ Err InputFault.Failed → Contains self.old.failing (raised self.old.calls 1) ⊎ (finmap.get self.old.files name.now ≡ None) }

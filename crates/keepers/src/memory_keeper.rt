@@ -19,7 +19,7 @@ pub enum Op {
     Free,
 }
 
-/// Keeps images in memory. It fails only where it is told to.
+/// Keeps images in memory. It fails only in the calls that are chosen to fail.
 #[derive(Drop)]
 pub struct MemoryKeeper {
     alloc: Global,
@@ -53,13 +53,13 @@ impl Model for MemoryKeeper {
       faults = k.faults;
     } };
 
-    // There are places for the first slots, and for all of them where there is a room, which each place has.
+    // There are places for the first slots. With a room, all slots have places, and each place has that room.
     ghost invariant = { λ k. (vec_len k.places ≤ k.slots) × (k.slots < 2 ^ 32)
         × IfSome k.room (λ room. (vec_len k.places ≡ k.slots) × HaveRoom room k.places.items) };
 }
 
 impl MemoryKeeper {
-    /// Has empty slots, and takes no memory before an image is put.
+    /// Has empty slots, and takes no memory before the first put.
     pub fn new(alloc: Global, slots: u32) -> Self
         ensures { result ≡ record { images = finmap.empty; slots = slots; room = None; failing = []; puts = 0; gets = 0; frees = 0; faults = 0 } }
     {
@@ -76,7 +76,7 @@ impl MemoryKeeper {
         }
     }
 
-    /// Has empty slots, each with memory for an image of so many bytes. It takes all the memory that such images ever need.
+    /// Has empty slots, each with memory for an image of so many bytes. It takes all memory for such images at once.
     pub fn with_room(alloc: Global, slots: u32, bytes: u32) -> Result<Self, AllocError>
         ensures { IfOk result (λ keeper. keeper ≡ record {
           images = finmap.empty;
@@ -102,7 +102,7 @@ impl MemoryKeeper {
         })
     }
 
-    /// Lets the listed calls fail, where the first call of a kind is number 1. Such a call does nothing but fail.
+    /// Lets the listed calls fail. The first call of a kind is number 1. Such a call does nothing but fail.
     pub fn failing(self, list: Vec<(Op, u64)>) -> Self
         ensures { result ≡ record self { failing = list.items } }
     {

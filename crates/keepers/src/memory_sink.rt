@@ -6,7 +6,7 @@ use crate::sink::{Sink, SinkFault};
 use std::alloc::{AllocError, Global};
 use std::marker::Model;
 
-/// Takes output in memory, as far as its room goes.
+/// Takes output in memory, up to its room.
 #[derive(Drop)]
 pub struct MemorySink {
     bytes: Vec<u8>,
@@ -42,7 +42,7 @@ impl MemorySink {
         })
     }
 
-    /// Lets the listed calls of `write` fail, where the first call is number 1.
+    /// Lets the listed calls of `write` fail. The first call is number 1.
     pub fn failing(self, list: Vec<u64>) -> Self
         ensures { result ≡ record self { failing = list.items } }
     {

@@ -1,10 +1,10 @@
-// The names that were asked for.
+// The requested names.
 ghost use Rattle.std.specs.Prelude.{◌≡◌, [], ◌∷◌, ◌++◌, OnOk, OnErr};
 
 use std::alloc::{AllocError, Global};
 use std::marker::Model;
 
-/// Names, in the order in which they were asked for.
+/// Names, in the order of the requests.
 #[derive(Drop)]
 pub(crate) struct Names {
     alloc: Global,

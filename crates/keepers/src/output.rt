@@ -3,12 +3,12 @@ ghost use Rattle.std.specs.Prelude.{◌≡◌, Bool, is_some};
 
 use std::io::{Stdout, Write};
 
-/// A writer that tells always what was written to it, as a vector does, or never, as standard output.
+/// A writer whose content is always known, as a vector's is, or never, as that of standard output.
 pub trait Output: Write {
-    /// Whether it tells.
+    /// Whether its content is known.
     ghost tells: { Bool };
 
-    /// All its values tell, or none does.
+    /// The content of all its values is known, or of none.
     ghost steady: { (w : Self) → is_some (Self.contents w) ≡ tells };
 }
 

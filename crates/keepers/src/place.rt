@@ -1,4 +1,4 @@
-// Where an image stands in memory.
+// The memory of an image.
 ghost use Rattle.std.specs.Prelude.{◌≡◌, ◌+◌, ◌<◌, ◌≤◌, max, true, false, length, Ok, Err, OnOk, OnErr, IfOk, IfErr};
 ghost use Rattle.std.specs.Vec.{vec_len, vec_capacity};
 ghost use Rattle.std.specs.Option.{option_map};
@@ -8,7 +8,7 @@ ghost use Rattle.keepers.specs.Places.{images_of, HaveRoom};
 use crate::keeper::KeepFault;
 use std::alloc::{AllocError, Global};
 
-// The bytes of an image, or memory for them where there is none.
+// The bytes of an image, or memory for them.
 #[derive(Drop)]
 pub(crate) struct Place {
     pub bytes: Vec<u8>,
@@ -16,7 +16,7 @@ pub(crate) struct Place {
 }
 
 impl Place {
-    // Puts an image in place of what was there. Where memory is missing there is none then.
+    // Replaces the image. If memory runs out, no image is left.
     pub fn fill(&mut self, image: &[u8]) -> Result<(), KeepFault>
         ensures ok { OnOk result ((self.new.filled ≡ true) × (self.new.bytes.items ≡ image.now)) }
         ensures refused { OnErr result (self.new.filled ≡ false) }

@@ -15,14 +15,14 @@ pub enum SinkFault {
 
 /// Takes output, a piece at a time.
 pub trait Sink {
-    /// The bytes that it took, where it tells.
+    /// The bytes that it took, for a sink that claims to know them.
     ghost told: { Self → Option (List ℕ) };
-    /// How often `write` was called, refused calls among them.
+    /// The calls of `write`, including refused ones.
     ghost call_count: { Self → ℕ };
 
     ghost fault_count: { Self → ℕ };
 
-    /// Adds a piece. After a refusal a prefix of the piece was added.
+    /// Adds a piece. After a refusal it has added a prefix of the piece.
     fn write(&mut self, piece: &[u8]) -> Result<(), SinkFault>
         ensures ok { OnOk result (Tells (told self.old) (told self.new) (λ old new. new ≡ old ++ piece.now)) }
         ensures refused { OnErr result (Tells (told self.old) (told self.new) (AddsPrefix piece.now)) }

@@ -17,7 +17,7 @@ pub struct StdoutSink<W> {
 }
 
 impl<W: Output> StdoutSink<W> {
-    /// Has written nothing.
+    /// A sink over this writer, with nothing written.
     pub fn new(out: W) -> Self
         ensures { result ≡ fresh out }
     {
@@ -28,7 +28,7 @@ impl<W: Output> StdoutSink<W> {
         }
     }
 
-    /// The writer.
+    /// The underlying writer.
     pub fn writer(&self) -> &W
         ensures { result.now ≡ writer_of self.now }
     {
@@ -43,7 +43,7 @@ impl<W: Output> StdoutSink<W> {
     }
 }
 
-// It tells what the writer tells.
+// It claims the bytes that its writer claims.
 impl<W: Output> Sink for StdoutSink<W> {
     ghost told = { λ s. W.contents s.out };
 

@@ -1,4 +1,4 @@
-// The bytes that go between memory and what is read or written, whatever that is.
+// Transfers bytes between memory and any reader or writer.
 ghost use Rattle.std.specs.Prelude.{◌≡◌, ℕ, ◌+◌, ◌<◌, ◌≤◌, length, take, Ok, IfOk, IfSome, OnOk, OnErr};
 ghost use Rattle.std.specs.Vec.{vec_len, vec_capacity};
 ghost use Rattle.std.specs.Io.KnownBytes.{Appends};
@@ -32,7 +32,7 @@ pub(crate) fn write_whole<W: Write>(out: &mut W, piece: &[u8]) -> io::Result<()>
     Err(io::Error::from(ErrorKind::Interrupted))
 }
 
-// Reads into a room until it is full or the file is at its end, and says how many bytes it read.
+// Reads until the room is full or the file ends, and returns how many bytes it read.
 pub(crate) fn read_first<F: Read>(file: &mut F, room: &mut [u8]) -> io::Result<usize>
     ensures fits { IfOk result (λ count. count ≤ length room.old) }
     ensures bytes { IfOk result (λ count. WhereTold (F.remaining file.old) (λ bytes. take count room.new ≡ take (length room.old) bytes)) }
@@ -55,8 +55,8 @@ pub(crate) fn read_first<F: Read>(file: &mut F, room: &mut [u8]) -> io::Result<u
     Err(io::Error::from(ErrorKind::Interrupted))
 }
 
-// Reads all that is left of a file into `into`, in place of what was there, in pieces. It asks for at most one byte past
-// the limit, and keeps none past it.
+// Reads the rest of a file into `into`, replacing what was there, in pieces. It requests at most one byte past the
+// limit, and keeps none past it.
 pub(crate) fn read_whole<F: Read>(
     file: &mut F,
     limit: u32,

@@ -11,7 +11,7 @@ pub record BookCosts : Type 0 where
   pub reverse : ℕ
   pub levels : List Level
 
--- the slots of each level, all that a book says of which lists are valid
+-- The slots of each level. Validity depends on nothing else of a book.
 abbrev pub slots_of : BookCosts → List Slots
 slots_of book = map (λ level. level.slots) book.levels
 
@@ -27,7 +27,7 @@ plain slots = record {
   levels = record { name = codes "RAM"; slots = Count slots; write = 0; read = 0 } ∷ [];
 }
 
--- of so many slots, those that a run of so many steps can use
+-- min(slots, steps): the slots that a run of so many steps can use
 abbrev pub least : Slots → ℕ → ℕ
 least (Count slots) steps = min slots steps
 least Unlimited steps = steps
@@ -38,14 +38,14 @@ both (Count slots) (Count more) = Count (slots + more)
 both (Count slots) Unlimited = Unlimited
 both Unlimited more = Unlimited
 
--- how many images level k holds at most in a run of so many steps, and how many all levels do
+-- the most images on level k in a run of so many steps, and on all levels
 abbrev pub room : BookCosts → ℕ → ℕ → ℕ
 room book k steps = least (slice_index_or (slots_of book) k (Count 0)) steps
 
 abbrev pub total_room : BookCosts → ℕ → ℕ
 total_room book steps = least (fold both (Count 0) (slots_of book)) steps
 
--- the slots that a level counts, 0 where it counts none
+-- the slots of a level, 0 if unlimited
 abbrev pub slot_count : Slots → ℕ
 slot_count (Count slots) = slots
 slot_count Unlimited = 0
@@ -67,7 +67,7 @@ pub record CostsNoLess (before level : Level) : Type 0 where
   pub write : before.write ≤ level.write
   pub read : before.read ≤ level.read
 
--- so it is with each two neighbouring levels: levels cost no less as they get slower
+-- each level costs no less than the faster one before it
 abbrev pub CostsRise : BookCosts → Type 0
 CostsRise book =
     (k : ℕ) (before level : Level) → slice_get book.levels k ≡ Some before → slice_get book.levels (suc k) ≡ Some level → CostsNoLess before level

@@ -1,5 +1,4 @@
--- Which fault a text has that says no book: a table of tests in their order, of which the first that fails names the
--- fault.
+-- Which fault a text has that is no book. A table of tests in their order: the first that fails names the fault.
 use Rattle.std.specs.Prelude.{◌≡◌, ℕ, ◌+◌, ◌-◌, ◌*◌, ◌<◌, ◌==◌, min, nat_lt, nat_le, Bool, not, ◌&&◌, ◌||◌, cond, List, [], ◌∷◌, map, length, take, codes, slice_index_or, Option, Some, None, option_map, unwrap_or, is_some, position}
 use Rattle.std.specs.List.{enumerate_from, list_any}
 use Rattle.std.specs.Option.{option_or}
@@ -17,7 +16,7 @@ use Rattle.level_book.specs.BookText.{IsTextOf, SaysBook, number_in, text_in, sl
 abbrev pub unless : Bool → BookFault → Option BookFault
 unless holds fault = cond holds None (Some fault)
 
--- the first fault that is there
+-- the first fault, if any
 abbrev pub first_of : List (Option BookFault) → Option BookFault
 first_of [] = None
 first_of (fault ∷ others) = option_or fault (first_of others)
@@ -26,7 +25,7 @@ first_of (fault ∷ others) = option_or fault (first_of others)
 abbrev pub each : (ℕ → Data → Option BookFault) → List Data → List (Option BookFault)
 each f ds = map (λ entry. f entry.0 entry.1) (enumerate_from 0 ds)
 
--- What an entry says in a field; 0 or the empty text where it says nothing, which was found before it is asked for.
+-- What an entry has in a field. A missing one is 0 or the empty text; an earlier test finds it.
 abbrev pub number_of : List ℕ → Data → ℕ
 number_of field d = unwrap_or (number_in field d) 0
 
@@ -59,7 +58,7 @@ cost_fault k d = unless (nat_le (number_of (codes "write") d) MOST_COST && nat_l
 abbrev pub slot_fault : ℕ → Data → Option BookFault
 slot_fault k d = unless (nat_le (number_of (codes "slots") d) MOST_SLOTS) (SlotRange k)
 
--- An entry costs no less to write and to read than the one before it. The first passes, and there `k - 1` stands for nothing.
+-- An entry costs no less to write and to read than the one before it. The first passes; there `k - 1` has no meaning.
 abbrev pub order_fault : List Data → ℕ → Data → Option BookFault
 order_fault entries k d =
     let before = slice_index_or entries (k - 1) null in
@@ -88,15 +87,15 @@ faults_in d =
 abbrev pub fault_in : Data → Option BookFault
 fault_in d = first_of (faults_in d)
 
--- the bytes are the text of this book: a value that says it, and that has no fault
+-- the bytes are the text of this book: their value means it, and has no fault
 pub record IsBookText (bytes : List ℕ) (book : BookCosts) : Type 0 where
   pub value : Data
   pub text : IsTextOf bytes value
   pub says : SaysBook value book
   pub faultless : fault_in value ≡ None
 
--- The bytes are no book, for this cause: they are the text of no value, or of one whose first fault it is. Want of memory
--- says only that there are bytes to read.
+-- The bytes are no book, for this reason. They are no JSON text, or this is the first fault of their value. Memory can
+-- be short only where there are bytes to read.
 abbrev pub IsRefused : List ℕ → BookFault → Type 0
 IsRefused bytes NotJson = (d : Data) → IsTextOf bytes d → ⊥
 IsRefused bytes Memory = 0 < length bytes

@@ -1,5 +1,4 @@
--- What a text says of a book: a JSON value, as serde_json reads it, with a few fields of it named. Other fields are passed
--- over.
+-- What a text means as a book: a JSON value, as serde_json reads it, with named fields. Other fields are ignored.
 use Rattle.std.specs.Prelude.{◌≡◌, ℕ, List, [], ◌∷◌, codes, Option, Some, None, option_map, option_and_then}
 use Rattle.std.specs.Str.{IsUtf8}
 use Rattle.serde_json.specs.Data.{Data, null, boolean, number, string, array, object, Items, no_items, item}
@@ -15,8 +14,8 @@ pub record IsTextOf (bytes : List ℕ) (d : Data) : Type 0 where
   pub utf8 : IsUtf8 bytes
   pub read : read bytes ≡ Some d
 
--- The kinds of field: a whole number below 2^64 that isn't negative, a text, a count of slots or null for as many as there
--- are, and a list. None where the field is missing or of another kind.
+-- The kinds of field: a number from 0 to 2^64 - 1, a text, a slot count, a list. A null count means unlimited slots.
+-- None: the field is missing or of another kind.
 abbrev pub number_in : List ℕ → Data → Option ℕ
 number_in field d = option_and_then as_u64 (option_and_then as_number (get field d))
 
@@ -48,14 +47,14 @@ pub record SaysLevel (d : Data) (level : Level) : Type 0 where
   pub write : number_in (codes "write") d ≡ Some level.write
   pub read : number_in (codes "read") d ≡ Some level.read
 
--- each entry says its level, in their order
+-- each entry means its level, in their order
 abbrev pub SayLevels : List Data → List Level → Type 0
 SayLevels [] [] = Unit {0}
 SayLevels (d ∷ ds) (level ∷ levels) = SaysLevel d level × SayLevels ds levels
 SayLevels [] (level ∷ levels) = ⊥
 SayLevels (d ∷ ds) [] = ⊥
 
--- the value says this book
+-- the value means this book
 pub record SaysBook (d : Data) (book : BookCosts) : Type 0 where
   pub forward : number_in (codes "forward") d ≡ Some book.forward
   pub reverse : number_in (codes "reverse") d ≡ Some book.reverse

@@ -1,5 +1,5 @@
--- What a schedule has done so far. Our own form of the state that the manual of checkpoint_schedules speaks of: the
--- working state, the stored states of each level, the adjoint data of one step, and how far the reversal has come.
+-- What a schedule has done so far. The form is our own, after the manual of checkpoint_schedules. It has the working
+-- state, the stored states of each level, and the adjoint data of one step. It also says how far the reversal has come.
 use Rattle.std.specs.Prelude.{ℕ, Bool, false, List, map, slice_index_or, slice_set}
 use Rattle.std.specs.Prelude.{Option, None}
 use Rattle.std.specs.Ordering.{nat_cmp}
@@ -19,7 +19,7 @@ pub record Configuration : Type 0 where
   pub forward_ended : Bool
   pub ended : Bool
 
--- the start for so many steps: state 0 in work, nothing held, nothing on the tape, all steps still to be reversed
+-- the start: state 0 in work, nothing held, an empty tape, and all steps still to be reversed
 abbrev pub start : ℕ → List Slots → Configuration
 start steps slots = record {
   work = 0;
@@ -38,6 +38,6 @@ held_on c k = slice_index_or c.held k set.empty
 abbrev pub with_held : Configuration → ℕ → ℕ → Configuration
 with_held c n k = record c { held = slice_set c.held k (set.insert (held_on c k) n) }
 
--- the configuration in which level k holds no image of state n
+-- the configuration after level k drops its image of state n
 abbrev pub without_held : Configuration → ℕ → ℕ → Configuration
 without_held c n k = record c { held = slice_set c.held k (set.remove (held_on c k) n) }

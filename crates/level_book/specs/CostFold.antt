@@ -1,4 +1,4 @@
--- What a list costs: five counts, each added up over the list, which know neither tables nor the validator.
+-- What a list costs: five counts, each summed over the list, which know neither tables nor the validator.
 use Rattle.std.specs.Prelude.{ℕ, ◌+◌, ◌-◌, ◌*◌, ◌==◌, Bool, true, false, List, sum_by, count_by}
 use Rattle.std.specs.List.{enumerate_from}
 use Rattle.plan_types.specs.declared.action.Keep.TheVariants.{Store, Tape}

@@ -1,6 +1,6 @@
--- The disk class: nested lists over two levels that write the slow one, which is unlimited, on the way forward alone. The kind
--- of schedule is that of Aupy, Herrmann, Hovland and Robert, "Optimal multistage algorithm for adjoint computation", SIAM
--- Journal on Scientific Computing 38, 2016. The exact class is our own.
+-- The disk class: nested lists over two levels, the slow one unlimited. They write the slow level on the way forward
+-- only. This kind of schedule is from Aupy, Herrmann, Hovland and Robert, "Optimal multistage algorithm for adjoint
+-- computation", SIAM Journal on Scientific Computing 38, 2016. The exact class is our own.
 use Rattle.std.specs.Prelude.{◌≡◌, ◌≢◌, ℕ, List, [], ◌∷◌, length, slice_get, Some}
 use Rattle.plan_types.specs.declared.action.Keep.TheVariants.{Store}
 use Rattle.plan_types.specs.declared.action.Action.{Action}
@@ -15,7 +15,7 @@ NeverStores k [] = Unit {0}
 NeverStores k (Forward from to (Store j) ∷ rest) = (j ≢ k) × NeverStores k rest
 NeverStores k (a ∷ rest) = NeverStores k rest
 
--- Forwards alone stand before EndForward, and no Store on level 1 behind it.
+-- Only Forwards come before EndForward, and no Store on level 1 comes after it.
 abbrev pub ForwardsFirst : List Action → Type 0
 ForwardsFirst [] = Unit {0}
 ForwardsFirst (Forward from to keep ∷ rest) = ForwardsFirst rest

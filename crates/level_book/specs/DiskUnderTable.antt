@@ -1,14 +1,14 @@
--- Disk under-tables: tables of costs that no list of the disk class undercuts. The clauses are those by which the least costs of
--- DiskRevolve are worked out (Aupy, Herrmann, Hovland and Robert, "Optimal multistage algorithm for adjoint computation", SIAM
--- Journal on Scientific Computing 38, 2016), as inequalities; their form is our own.
+-- Disk under-tables: tables of costs that no list of the disk class undercuts. The clauses are the recurrences for the
+-- least costs of DiskRevolve, as inequalities. Source: Aupy, Herrmann, Hovland and Robert, "Optimal multistage
+-- algorithm for adjoint computation", SIAM Journal on Scientific Computing 38, 2016. Their form is our own.
 use Rattle.std.specs.Prelude.{ℕ, zero, suc, ◌+◌, ◌*◌, ◌<◌, ◌≤◌}
 use Rattle.level_book.specs.BookCosts.{BookCosts, room}
 use Rattle.level_book.specs.UnderTable.{Entry, number, IsAtMost, sum_of, write_cost, read_cost}
 
--- For a stretch of l steps. With m free slots of level 0, where level 1 isn't written: `fresh l m` is for a stretch whose first
--- state is in work, `held l m` for one whose first state is held on level 0, beside the m slots. With all slots of level 0:
--- `disk_fresh l` is for a stretch whose first state is in work, where level 1 may be written, `disk_held l` for one whose first
--- state is held on level 1.
+-- Costs of a stretch of l steps. `fresh l m` and `held l m` use m free slots of level 0 and don't write level 1. In
+-- `fresh` the first state is in work. In `held` it is held on level 0, beside the m slots. `disk_fresh l` and
+-- `disk_held l` use all slots of level 0. In `disk_fresh` the first state is in work, and level 1 may be written. In
+-- `disk_held` the first state is held on level 1.
 pub record DiskTables : Type 0 where
   pub fresh : ℕ → ℕ → Entry
   pub held : ℕ → ℕ → Entry
@@ -17,7 +17,7 @@ pub record DiskTables : Type 0 where
 
 -- The tables meet ten clauses, for stretches of at most so many steps. Each field is a clause.
 pub record IsDiskUnderTable (steps : ℕ) (book : BookCosts) (t : DiskTables) : Type 0 where
-  -- The clauses of level 0, as in an under-table. They are numbered 1, 3, 4, 5 and 7 in this order.
+  -- The clauses of level 0, as in an under-table, numbered 1, 3, 4, 5 and 7 in this order.
   pub one_fresh : (m : ℕ) → 1 ≤ steps → m ≤ room book 0 steps → IsAtMost (t.fresh 1 m) (number (book.forward + book.reverse))
   pub split_fresh : (j l m : ℕ) → 1 ≤ j → 1 ≤ l → j + l ≤ steps → suc m ≤ room book 0 steps →
       IsAtMost (t.fresh (j + l) (suc m)) (sum_of (write_cost book 0 + j * book.forward) (t.fresh l m) (t.held j m))
@@ -35,7 +35,7 @@ pub record IsDiskUnderTable (steps : ℕ) (book : BookCosts) (t : DiskTables) : 
   pub stored_disk : (l : ℕ) → 1 ≤ l → l ≤ steps → IsAtMost (t.disk_fresh l) (sum_of (write_cost book 1) (number 0) (t.disk_held l))
   -- the first state is read for the last time, and level 0 alone is used;
   pub moved_disk : (l : ℕ) → 1 ≤ l → l ≤ steps → IsAtMost (t.disk_held l) (sum_of (read_cost book 1) (number 0) (t.fresh l (room book 0 steps)))
-  -- the first state is read, and the stretch is split after j steps, of which the later ones use level 0 alone.
+  -- The first state is read, and the stretch is split after j steps. The later part uses level 0 alone.
   pub copied_disk : (j l : ℕ) → 1 ≤ j → 1 ≤ l → j + l ≤ steps →
       IsAtMost (t.disk_held (j + l)) (sum_of (read_cost book 1 + j * book.forward) (t.fresh l (room book 0 steps)) (t.disk_held j))
 

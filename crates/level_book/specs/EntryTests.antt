@@ -16,7 +16,7 @@ found_by test.Costs entries = cost_fault
 found_by test.Slots entries = slot_fault
 found_by test.Order entries = order_fault entries
 
--- an entry has its four fields, a name that is one, and costs and slots in range
+-- an entry has its four fields, a valid name, and costs and slots in range
 pub record IsFaultless (d : Data) : Type 0 where
   pub shape : missing_in d ≡ None
   pub name : is_name (name_of d) ≡ true

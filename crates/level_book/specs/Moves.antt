@@ -1,5 +1,5 @@
--- Which action may be done at a configuration, and where it leads. The actions are those of the checkpoint_schedules
--- manual, narrowed to a tape of one step that no action loads; each condition is written out, a line for each kind.
+-- Which actions a configuration allows, and where they lead. The actions are those of the checkpoint_schedules manual.
+-- The tape holds one step, and no action loads it. Each kind of action has a line with its conditions.
 use Rattle.std.specs.Prelude.{◌≡◌, ◌≢◌, ℕ, ◌+◌, ◌<◌, ◌≤◌, true, false, List, length, slice_index_or, IsSome, Some, None}
 use Rattle.std.specs.FinSet as set
 use Rattle.std.specs.Ordering.{nat_cmp}

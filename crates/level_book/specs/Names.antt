@@ -11,11 +11,11 @@ is_name_byte b = is_ascii_uppercase b || is_ascii_digit b || b == 95
 abbrev pub is_spelled : List ℕ → Bool
 is_spelled name = is_ascii_uppercase (slice_index name 0) && nat_le (length name) 16 && list_all is_name_byte name
 
--- so is a name spelled; but WORK and NONE name places that are no level
+-- the names of levels are spelled so, except WORK and NONE, which are places that are no level
 abbrev pub is_name : List ℕ → Bool
 is_name name = is_spelled name && not (bytes_eq name (codes "WORK")) && not (bytes_eq name (codes "NONE"))
 
--- each is a name, and no two are the same
+-- all are names, and no two are equal
 pub record AreNames (names : List (List ℕ)) : Type 0 where
   pub each : AllByRecursion (λ name. IsTrue (is_name name)) names
   pub distinct : IsDistinct bytes_eq names

@@ -1,6 +1,7 @@
--- The nested class: lists whose images stand on a stack, and are read at its top alone. That images are kept on slower
--- levels below faster ones is as in H-Revolve (Herrmann and Pallez, "H-Revolve: a framework for adjoint computation on
--- synchronous hierarchical platforms", ACM Transactions on Mathematical Software 46, 2020). The exact class is our own.
+-- The nested class: lists whose images form a stack and are read only at its top. As in H-Revolve, images on slower
+-- levels are below those on faster ones. Source: Herrmann and Pallez, "H-Revolve: a framework for adjoint computation
+-- on synchronous hierarchical platforms", ACM Transactions on Mathematical Software 46, 2020. The exact class is our
+-- own.
 use Rattle.std.specs.Prelude.{◌≡◌, ℕ, ◌<◌, ◌≤◌, List, [], ◌∷◌}
 use Rattle.plan_types.specs.declared.action.Keep.TheVariants.{Nothing, Store, Tape}
 use Rattle.plan_types.specs.declared.action.Dest.TheVariants.{Work, Level}
@@ -9,13 +10,13 @@ use Rattle.plan_types.specs.declared.action.Action.TheVariants.{Forward, Reverse
 use Rattle.level_book.specs.declared.book.Slots.{Slots}
 use Rattle.level_book.specs.Valid.{Valid}
 
--- an image that is held: of which state, and on which level
+-- a held image: its state, and its level
 pub record Image : Type 0 where
   pub position : ℕ
   pub level : ℕ
 
--- The held images are listed from the newest to the oldest. A Store of state n on level k goes on top of them: it is of a
--- later state than the newest, and on no slower level.
+-- The held images are listed from the newest to the oldest. A Store of state n on level k puts its image on top. Its
+-- state is later than the newest, and its level is no slower.
 abbrev pub GoesOnTop : List Image → ℕ → ℕ → Type 0
 GoesOnTop [] n k = Unit {0}
 GoesOnTop (newest ∷ older) n k = (newest.position < n) × (k ≤ newest.level)
@@ -30,15 +31,15 @@ abbrev pub older_than_newest : List Image → List Image
 older_than_newest [] = []
 older_than_newest (newest ∷ older) = older
 
--- the actions begin with a Forward from state n that tapes it, or that stores it on a faster level than k
+-- the next action is a Forward from state n that tapes it, or stores it on a faster level than k
 abbrev pub KeepsFaster : ℕ → ℕ → List Action → Type 0
 KeepsFaster n k (Forward from to Tape ∷ rest) = from ≡ n
 KeepsFaster n k (Forward from to (Store j) ∷ rest) = (from ≡ n) × (j < k)
 KeepsFaster n k _ = ⊥
 
--- The actions are nested, where these images are held and so many steps are left to be reversed. A Copy or a Move goes to
--- Work and names the newest image. A Move of a state that is still needed is followed by a Forward that keeps it on a faster
--- level, or tapes it.
+-- The actions are nested, with these images held and so many steps left to be reversed. A Copy or a Move goes to Work
+-- and names the newest image. After a Move of a state that is still needed, a Forward tapes or stores it. It stores it
+-- on a faster level.
 abbrev pub IsNestedFrom : ℕ → List Image → List Action → Type 0
 IsNestedFrom left images [] = Unit {0}
 IsNestedFrom left images (Forward from to Nothing ∷ rest) = IsNestedFrom left images rest

@@ -1,5 +1,5 @@
--- Which rule an action breaks at a configuration: one test for each of the seventeen rules, in the order of their
--- numbers. They are written from the table of rules, and not from `Moves`.
+-- Which rule an action breaks at a configuration. There is one test for each of the seventeen rules, in the order of
+-- their numbers. They are written from the table of rules, and not from `Moves`.
 use Rattle.std.specs.Prelude.{ℕ, ◌+◌, ◌==◌, Bool, false, not, ◌&&◌, ◌||◌, cond, nat_lt, nat_le, List, [], ◌∷◌, length, slice_index_or, is_some, is_none}
 use Rattle.std.specs.FinSet as set
 use Rattle.std.specs.Ordering.{nat_cmp}
@@ -12,7 +12,7 @@ use Rattle.level_book.specs.declared.book.Slots.{Slots}
 use Rattle.level_book.specs.declared.book.Slots.TheVariants.{Count, Unlimited}
 use Rattle.level_book.specs.Configuration.{Configuration, held_on}
 
--- the images that are held are as many as the slots; an unlimited level is never full
+-- a level holds as many images as its slots; an unlimited level is never full
 abbrev pub is_full : Slots → set.FinSet nat_cmp → Bool
 is_full (Count slots) images = nat_le slots (set.len images)
 is_full Unlimited images = false
@@ -31,7 +31,7 @@ abbrev pub work_elsewhere : Configuration → Action → Bool
 work_elsewhere c (Forward from to keep) = not (from == c.work)
 work_elsewhere c _ = false
 
--- rule 2, Range: a Forward that leads nowhere, or past the last state
+-- rule 2, Range: a Forward that goes no step, or past the last state
 abbrev pub out_of_range : ℕ → Action → Bool
 out_of_range steps (Forward from to keep) = nat_le to from || nat_lt steps to
 out_of_range steps _ = false
@@ -112,8 +112,8 @@ unfinished c _ = false
 abbrev pub no_level : List Slots → Action → Bool
 no_level slots a = list_any (λ k. nat_le (length slots) k) (levels_named a)
 
--- The tests of the rules 1 to 17 in their order. Rules 4 to 7 aren't asked where rule 17 applies, and 4 and 5 aren't
--- where rule 7 does. Rule 15, AfterEnd, is asked before all others, and alone.
+-- The tests of the rules 1 to 17 in their order. Rules 4 to 7 don't apply if rule 17 does, and 4 and 5 don't if rule 7
+-- does. Rule 15, AfterEnd, is tested before all others, and alone.
 abbrev pub tests : ℕ → List Slots → Configuration → Action → List Bool
 tests steps slots c a =
     let levels_known = not (no_level slots a) in
@@ -137,7 +137,7 @@ tests steps slots c a =
     ∷ no_level slots a
     ∷ []
 
--- the number of the first test that holds, where the first of them has the number n; 0 where none does
+-- the number of the first test that holds, counted from n; 0 where none does
 abbrev pub first_number : ℕ → List Bool → ℕ
 first_number n [] = 0
 first_number n (holds ∷ others) = cond holds n (first_number (n + 1) others)
@@ -146,13 +146,13 @@ first_number n (holds ∷ others) = cond holds n (first_number (n + 1) others)
 abbrev pub rule : ℕ → List Slots → Configuration → Action → ℕ
 rule steps slots c a = cond c.ended 15 (first_number 1 (tests steps slots c a))
 
--- the level to which an action adds an image, 0 where there is none
+-- the level to which an action adds an image, 0 if there is none
 abbrev pub target : Action → ℕ
 target (Forward from to (Store k)) = k
 target (Copy n k (Level j)) = j
 target (Move n k (Level j)) = j
 target _ = 0
 
--- the level that a refusal names: for rule 4 the one that is full, and else 0
+-- the level that a refusal names: the full one for rule 4, and otherwise 0
 abbrev pub level_refused : ℕ → Action → ℕ
 level_refused number a = cond (number == 4) (target a) 0

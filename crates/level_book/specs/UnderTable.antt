@@ -1,6 +1,7 @@
--- Under-tables: tables of costs that no list of the nested class undercuts. The clauses are those by which H-Revolve's least
--- costs are worked out (Herrmann and Pallez, "H-Revolve: a framework for adjoint computation on synchronous hierarchical
--- platforms", ACM Transactions on Mathematical Software 46, 2020), as inequalities; their form is our own.
+-- Under-tables: tables of costs that no list of the nested class undercuts. The clauses are the recurrences for
+-- H-Revolve's least costs, as inequalities. Source: Herrmann and Pallez, "H-Revolve: a framework for adjoint
+-- computation on synchronous hierarchical platforms", ACM Transactions on Mathematical Software 46, 2020. Their form is
+-- our own.
 use Rattle.std.specs.Prelude.{ℕ, zero, suc, ◌+◌, ◌-◌, ◌*◌, ◌<◌, ◌≤◌, map, length, slice_index_or}
 use Rattle.level_book.specs.BookCosts.{BookCosts, room}
 
@@ -28,14 +29,14 @@ write_cost book k = slice_index_or (map (λ level. level.write) book.levels) k 0
 abbrev pub read_cost : BookCosts → ℕ → ℕ
 read_cost book k = slice_index_or (map (λ level. level.read) book.levels) k 0
 
--- For level k, a stretch of l steps and m free slots of the level, with all faster levels empty: `fresh k l m` is for a
--- stretch whose first state is in work, `held k l m` for one whose first state is held on level k, beside the m slots.
+-- Costs of l steps at level k, with m of its slots free and all faster levels empty. In `fresh k l m` the first state
+-- is in work. In `held k l m` it is held on level k, beside the m slots.
 pub record Tables : Type 0 where
   pub fresh : ℕ → ℕ → ℕ → Entry
   pub held : ℕ → ℕ → ℕ → Entry
 
--- The tables meet seven clauses, for stretches of at most so many steps. Each field is a clause; they are numbered from 1 in
--- this order.
+-- The tables meet seven clauses, for stretches of at most so many steps. Each field is a clause. They are numbered from
+-- 1 in this order.
 pub record IsUnderTable (steps : ℕ) (book : BookCosts) (t : Tables) : Type 0 where
   -- the one step is taped and reversed
   pub one_fresh : (k m : ℕ) → 1 ≤ steps → k < length book.levels → m ≤ room book k steps → IsAtMost (t.fresh k 1 m) (number (book.forward + book.reverse))
@@ -58,7 +59,7 @@ pub record IsUnderTable (steps : ℕ) (book : BookCosts) (t : Tables) : Type 0 w
   pub split_held : (k j l m : ℕ) → k < length book.levels → 1 ≤ j → 1 ≤ l → j + l ≤ steps → m < room book k steps →
       IsAtMost (t.held k (j + l) m) (sum_of (read_cost book k + j * book.forward) (t.fresh k l m) (t.held k j m))
 
--- the entry of the slowest level with all its slots, for all steps; each book has a level
+-- the entry of the slowest level with all its slots, for all steps
 abbrev pub top_entry : ℕ → BookCosts → Tables → Entry
 top_entry zero book t = number 0
 top_entry (suc n) book t = t.fresh (length book.levels - 1) (suc n) (room book (length book.levels - 1) (suc n))

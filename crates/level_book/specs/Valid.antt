@@ -1,4 +1,4 @@
--- Which lists of actions reverse a computation, and where another list first breaks a rule.
+-- Which lists of actions reverse a computation, and where other lists first break a rule.
 use Rattle.std.specs.Prelude.{◌≡◌, ℕ, ◌+◌, ◌-◌, ◌<◌, true, false, List, [], ◌∷◌, length, take, slice_get, Option, Some, None}
 use Rattle.plan_types.specs.declared.action.Action.{Action}
 use Rattle.level_book.specs.declared.book.Slots.{Slots}
@@ -15,14 +15,14 @@ Leads steps slots c (a ∷ rest) d = (m : Configuration) × Goes steps slots c a
 abbrev pub Valid : ℕ → List Slots → List Action → Type 0
 Valid steps slots list = (last : Configuration) × Leads steps slots (start steps slots) list last × (last.ended ≡ true)
 
--- what breaks a rule at c: an action, or the end of the list, which is unfinished
+-- what breaks a rule at c: an action, or the end of an unfinished list
 abbrev pub BreaksRule : ℕ → List Slots → Configuration → Option Action → ℕ → ℕ → Type 0
 BreaksRule steps slots c (Some a) number level = (rule steps slots c a ≡ number) × (0 < number) × (level ≡ level_refused number a)
 BreaksRule steps slots c None number level = (c.ended ≡ false) × (number ≡ 16) × (level ≡ 0)
 
--- The list is broken at this place, counted from 1: the actions before it lead from the start to a configuration at
--- which it breaks a rule. A list that ends without EndReverse is broken one past its end. A place is 1 or more, so that
--- `place - 1` is how many actions stand before it.
+-- The list breaks this rule at this place, counted from 1. The actions before it lead from the start to a
+-- configuration, and there it breaks the rule. A list that ends without EndReverse is broken one past its end. A place
+-- is at least 1, so `place - 1` actions come before it.
 pub record BrokenAt (steps : ℕ) (slots : List Slots) (list : List Action) (place number level : ℕ) : Type 0 where
   pub from_one : 0 < place
   pub within : place < length list + 2

@@ -49,9 +49,9 @@ impl Name {
 /// How many images a level holds at once.
 #[derive(Clone, Copy, Debug, PartialEq, Eq)]
 pub enum Slots {
-    /// So many.
+    /// At most this many images.
     Count(u32),
-    /// As many as there are.
+    /// Any number of images.
     Unlimited,
 }
 
@@ -105,7 +105,7 @@ impl Book {
         }
     }
 
-    /// The book of one level `RAM` with so many slots, free to write and to read, and steps that cost 1.
+    /// The book of one level `RAM` with this many slots. Writes and reads are free, and a step costs 1.
     pub fn plain(slots: u32) -> Book
         requires { slots ≤ MOST_SLOTS }
         ensures { result ≡ plain slots }
@@ -118,21 +118,21 @@ impl Book {
         }
     }
 
-    /// Does nothing. Its contract is a law: no cost and no count of slots of a book is above 1,000,000.
+    /// Does nothing. Its contract is a law: all costs and slot counts of a book are at most 1,000,000.
     pub fn is_within_limits(&self)
         ensures { IsWithinLimits self.now }
     {
         let _count = self.count;
     }
 
-    /// Does nothing. Its contract is a law: the names of a book's levels are names, and no two are the same.
+    /// Does nothing. Its contract is a law: the levels of a book have distinct names.
     pub fn has_names(&self)
         ensures { AreNames (names_of self.now) }
     {
         let _count = self.count;
     }
 
-    /// Does nothing. Its contract is a law: no level of a book is cheaper to write or to read than the one before it.
+    /// Does nothing. Its contract is a law: no level is cheaper to write or read than the one before it.
     pub fn costs_rise(&self)
         ensures { CostsRise self.now }
     {
@@ -161,7 +161,7 @@ impl Book {
         self.count
     }
 
-    /// How many images a level holds at most in a run of so many steps: the lesser of its slots and the steps.
+    /// The most images that a level can hold in a run of so many steps: min(slots, steps).
     pub fn room(&self, k: u8, steps: u32) -> u32
         requires { k < length self.now.levels }
         ensures { result ≡ room self.now k steps }
@@ -172,7 +172,7 @@ impl Book {
         }
     }
 
-    /// The same for all levels together.
+    /// The most images that all levels together can hold: min(sum of slots, steps).
     pub fn total_room(&self, steps: u32) -> u32
         ensures { result ≡ total_room self.now steps }
     {

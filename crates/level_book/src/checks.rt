@@ -15,7 +15,7 @@ use crate::fields::{missing, name_bytes, number_or_zero};
 use plan_types::{MOST_COST, MOST_SLOTS};
 use serde_json::Value;
 
-// What is tested of each entry.
+// What is tested of each entry of the list.
 #[derive(Clone, Copy)]
 pub(crate) enum EntryTest {
     // It has its four fields.
@@ -62,7 +62,7 @@ impl EntryTest {
     }
 }
 
-// Whether a cost that isn't a level's is in range; where it isn't, it goes by this number.
+// Whether a cost that isn't a level's is in range. Otherwise the fault has this number.
 pub(crate) fn check_cost(cost: u64, number: u8) -> Result<(), BookFault>
     ensures { let fault = unless (nat_le cost MOST_COST) (BookFault.CostRange number) in MatchResult result (λ _. fault ≡ None) (λ e. fault ≡ Some e) }
 {

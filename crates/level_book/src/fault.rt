@@ -11,10 +11,10 @@ pub enum BookFault {
     /// The field with this number is missing, or of another kind.
     #[error("field {0} is missing or of another kind")]
     Shape(u8),
-    /// There are so many levels, where 1 to 4 may be.
+    /// The number of levels isn't 1 to 4.
     #[error("{0} levels, where 1 to 4 may be")]
     Levels(u32),
-    /// The name of this level is none, or an earlier level has it.
+    /// The name of this level isn't one, or an earlier level has it.
     #[error("the name of level {0} is none, or an earlier level has it")]
     Name(u8),
     /// A cost of this level is above 1,000,000, or that of forward steps (254) or reversed ones (255).

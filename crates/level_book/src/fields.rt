@@ -1,4 +1,4 @@
-// The fields of a JSON value that say a book.
+// The fields of a JSON value for a book.
 ghost use Rattle.std.specs.Prelude.{◌≡◌, ◌<◌, IfSome, map, codes, option_map, is_some};
 ghost use Rattle.serde_json.specs.View.{view};
 ghost use Rattle.level_book.specs.BookText.{number_in, text_in, slots_in, list_in};
@@ -13,7 +13,7 @@ pub(crate) fn number(value: &Value, field: &str) -> Option<u64>
     value.get(field).and_then(Value::as_u64)
 }
 
-// The same where it must be there; 0 where it isn't.
+// A number field that must be there; 0 where it isn't.
 pub(crate) fn number_or_zero(value: &Value, field: &str) -> u64
     ensures { result ≡ number_of field.now (view value.now) }
 {
@@ -60,7 +60,7 @@ pub(crate) fn list(value: &Value) -> Option<&[Value]>
     }
 }
 
-// Which of the four fields of an entry is the first that it lacks.
+// The first of the four fields that an entry lacks.
 pub(crate) fn missing(entry: &Value) -> Option<u8>
     ensures value { result ≡ missing_in (view entry.now) }
     ensures range { IfSome result (λ field. field < 4) }

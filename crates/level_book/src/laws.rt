@@ -14,7 +14,7 @@ pub fn texts_say_one_book()
     ensures { (bytes : List ℕ) (book other : BookCosts) → IsBookText bytes book → IsBookText bytes other → book ≡ other }
 {}
 
-/// Bytes that are the text of a book are refused for want of memory alone.
+/// Bytes that are the text of a book are refused only for lack of memory.
 pub fn books_are_not_refused()
     ensures { (bytes : List ℕ) (book : BookCosts) (fault : BookFault) → IsBookText bytes book → IsRefused bytes fault → fault ≡ BookFault.Memory }
 {}
@@ -25,13 +25,13 @@ pub fn faults_are_unique()
         other ≢ BookFault.Memory → fault ≡ other }
 {}
 
-/// Bytes are the text of a book, or are refused for another cause than want of memory.
+/// Bytes are the text of a book, or are refused for a cause other than lack of memory.
 pub fn texts_are_books_or_refused()
     ensures { (bytes : List ℕ) → ((book : BookCosts) × IsBookText bytes book) ⊎ ((fault : BookFault) × (fault ≢ BookFault.Memory) × IsRefused bytes fault) }
 {}
 
-/// In a nested list the steps left are those still to be reversed: where the first actions of one lead to a configuration, the
-/// others are nested with as many steps left as are still to be reversed there.
+/// In a nested list the steps left are those still to be reversed. Suppose that its first actions lead to a
+/// configuration. Then the rest is nested, with the number of steps still to be reversed there.
 pub fn left_is_still_to_be_reversed()
     ensures { (steps : ℕ) (slots : List Slots) (front rest : List Action) (c : Configuration) → IsNestedFrom steps [] (front ++ rest) →
         Leads steps slots (start steps slots) front c → (images : List Image) × IsNestedFrom c.reverse images rest }

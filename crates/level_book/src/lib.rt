@@ -1,9 +1,17 @@
-//! The book: the levels on which images are kept, with their slots and costs, and how it is read from JSON. It stands on
-//! `plan_types`, and every crate that judges, makes or prices a schedule stands on it. Its `specs/` hold what those crates
-//! speak of: `Names` (how levels are named), `BookText` (what a text says of a book), `BookFaults` (which fault another
-//! text has), `Configuration` (what is held where), `Moves` (which action leads where), `Rules` (which rule an action
-//! breaks), `Valid` (which lists reverse a computation) and `CostFold` (what a list costs). Nothing here knows how a
-//! configuration is kept in memory.
+//! The book: the levels that keep images, their slots and costs, and how a book is read from JSON. It uses
+//! `plan_types`. Most crates for schedules use it.
+//!
+//! In `specs/`:
+//!
+//! - `Names`: how levels are named.
+//! - `BookText`, `BookFaults`: what a text means as a book, and why a text is refused.
+//! - `Configuration`: what is in work, held and taped.
+//! - `Moves`: where each action leads.
+//! - `Rules`: which rule an action breaks.
+//! - `Valid`: which lists reverse a computation.
+//! - `CostFold`: what a list costs.
+//!
+//! These definitions don't mention how a configuration is kept in memory.
 #![tactic(auto)]
 
 mod book;

@@ -14,7 +14,7 @@ use crate::fields::{list, name_bytes, number, number_or_zero};
 use serde_json::{Category, Value};
 use std::alloc::Global;
 
-/// Reads the JSON text of a book. The memory that it takes is for the JSON value, and is free again when it returns.
+/// Reads the JSON text of a book. It takes memory for the JSON value, and frees it before it returns.
 pub fn read_book(alloc: Global, bytes: &[u8]) -> Result<Book, BookFault>
     ensures found { IfOk result (IsBookText bytes.now) }
     ensures refused { IfErr result (IsRefused bytes.now) }
@@ -26,7 +26,7 @@ pub fn read_book(alloc: Global, bytes: &[u8]) -> Result<Book, BookFault>
     }
 }
 
-// The book that a value says.
+// The book that a value means.
 fn book_of(value: &Value) -> Result<Book, BookFault>
     ensures { MatchResult result
         (λ book. SaysBook (view value.now) book × (fault_in (view value.now) ≡ None))
@@ -66,7 +66,7 @@ fn check_count(count: usize) -> Result<(), BookFault>
     }
 }
 
-// The levels that entries without a fault say, and behind them levels that don't count.
+// The levels of faultless entries, filled up to four with levels that don't count.
 fn levels_of(entries: &[Value]) -> [Level; 4]
     requires few { length entries.now ≤ 4 }
     requires faultless { AllByRecursion IsFaultless (map view entries.now) }
@@ -80,7 +80,7 @@ fn levels_of(entries: &[Value]) -> [Level; 4]
     levels
 }
 
-// The level that an entry says.
+// The level that an entry means.
 fn level_of(entry: &Value) -> Level
     requires { IsFaultless (view entry.now) }
     ensures says { SaysLevel (view entry.now) result }

@@ -1,4 +1,4 @@
-// What came of a case.
+// The outcome of a case.
 ghost use Rattle.std.specs.Prelude.{◌≤◌};
 
 use crate::case::{Case, hexadecimal, register_of};
@@ -8,7 +8,7 @@ use serde_json::{Map, Value, json, put};
 use std::alloc::{AllocError, Global};
 use std::sync::ledger::Ledger;
 
-/// The last state, with the words that were looked at.
+/// The last state, with the words that were read.
 #[derive(Drop)]
 pub struct Seen {
     state: State,
@@ -22,7 +22,7 @@ struct Looked {
     wrote: bool,
 }
 
-/// Takes the steps of a case, and looks at the words whose addresses stand in `words` of what has to come.
+/// Takes the steps of a case, and reads the words at the addresses that the expected `words` name.
 pub fn run<L: Ledger>(
     alloc: Global,
     case: Case,
@@ -42,7 +42,7 @@ pub fn run<L: Ledger>(
     Ok(Seen { state, words })
 }
 
-// The words that are looked at. A name that is no address stands for none.
+// The words to read. A name that is no address is ignored.
 fn looked_at(alloc: Global, wanted: &Map<String, Value>) -> Result<Vec<Looked>, AllocError> {
     let mut words = Vec::new(alloc);
     if let Some(members) = wanted.get("words").and_then(Value::as_object) {
@@ -67,7 +67,7 @@ fn look(words: &mut [Looked], state: &State, journal: &Journal) {
 // The address of the last word.
 const LAST: u32 = 0xfffffffc;
 
-/// All that a case may say of what came.
+/// The outcome, in all that a case may mention.
 pub fn came_of(
     alloc: Global,
     seen: &Seen,
@@ -120,7 +120,7 @@ fn registers_of(
     Ok(Value::Object(members))
 }
 
-// The words that were looked at; null for one that is not mapped.
+// The words that were read; null for one that is not mapped.
 fn words_of(alloc: Global, seen: &Seen) -> Result<Value, AllocError> {
     let mut members = Map::new(alloc);
     for Looked { at, .. } in &seen.words {
@@ -134,7 +134,7 @@ fn words_of(alloc: Global, seen: &Seen) -> Result<Value, AllocError> {
     Ok(Value::Object(members))
 }
 
-// The addresses of those of the words that were written.
+// The addresses of the words that were written.
 fn wrote_of(alloc: Global, seen: &Seen) -> Result<Value, AllocError> {
     let mut list = Vec::new(alloc);
     for word in &seen.words {

@@ -9,7 +9,7 @@ use rv_pages::Pages;
 use serde_json::Value;
 use std::alloc::{AllocError, Global};
 
-/// A state whose pc is 10000, with what it reads, and how many steps it takes.
+/// A state whose pc is 10000, its recorded input, and how many steps it takes.
 #[derive(Drop)]
 pub struct Case {
     pub state: State,
@@ -32,9 +32,10 @@ impl From<AllocError> for CaseFault {
     }
 }
 
-/// The case that a value says, by its members: `pages`, the numbers of the pages in ascending order; `words`, words of the
-/// memory by their addresses; `x`, registers by their numbers; `journal`, the bytes of a file of recorded input; `item` and
-/// `offset`, its place; `steps`. Addresses, words, registers and bytes are hexadecimal. What is not said is 0, or empty.
+/// The case of a value, by its members. `pages`: the numbers of the pages in ascending order. `words`: words of the
+/// memory by their addresses. `x`: registers by their numbers. `journal`: the bytes of a file of recorded input.
+/// `item`, `offset`: its place. `steps`: the number of steps. Addresses, words, registers and bytes are hexadecimal. A
+/// missing member is 0, or empty.
 pub fn case_of(alloc: Global, value: &Value) -> Result<Case, CaseFault> {
     Ok(Case {
         state: State {
@@ -51,7 +52,7 @@ pub fn case_of(alloc: Global, value: &Value) -> Result<Case, CaseFault> {
     })
 }
 
-// A member that is a number; 0 where it is not there.
+// A member that is a number; 0 if it is missing.
 fn number_of(value: &Value, name: &str) -> Result<u32, CaseFault> {
     match value.get(name) {
         None => Ok(0),
@@ -73,7 +74,7 @@ fn hexadecimal_of(value: &Value) -> Result<u32, CaseFault> {
     value.as_str().and_then(hexadecimal).ok_or(CaseFault::Form)
 }
 
-// The registers. One that is not said is 0, and x0 is 0.
+// The registers. A missing one is 0, and x0 is 0.
 fn registers_of(value: &Value) -> Result<[u32; 32], CaseFault>
     ensures { IfOk result (λ x. slice_index x 0 ≡ 0) }
 {
@@ -145,7 +146,7 @@ fn is_ascending(numbers: &[u32]) -> bool
     true
 }
 
-// The recorded input; none where it is not said.
+// The recorded input; none if it is missing.
 fn journal_of(alloc: Global, value: &Value) -> Result<Journal, CaseFault> {
     let Some(member) = value.get("journal") else {
         return Ok(Journal::none(alloc));

@@ -1,7 +1,11 @@
-//! Runs steps of the machine that stand in files, and tells for each file how many came as they had to. In a file whose name
-//! ends in `.tsv` a line is one step: a name, a word, and in hexadecimal the pc, what the registers rs1 and rs2 of the word
-//! hold, and the pc after the step; then the number of a register and what it holds after the step; and for a store an
-//! address and the three words from it on. In any other file a line is a JSON text: see `case.rt`.
+//! Runs steps of the machine from files, and prints for each file how many passed. It uses `rv_pages`, `rv_machine` and
+//! `input_journal`. No crate uses it.
+//!
+//! In a file whose name ends in `.tsv` a line is one step. It has a name and a word. In hexadecimal it has the pc, the
+//! registers rs1 and rs2, and the pc after the step. The number of a register follows, and its value after the step.
+//! For a store an address follows, and the three words from it on.
+//!
+//! In any other file a line is a JSON text: see `case.rt`.
 #![tactic(auto)]
 
 ghost use Rattle.std.specs.Prelude.{◌≡◌, ◌<◌, ◌≤◌, ◌%◌};
@@ -30,7 +34,7 @@ fn main(rt: HostRuntime) -> ExitCode {
     }
 }
 
-// Whether all lines of each file that the arguments name came as they had to.
+// Whether all lines of the files that the arguments name passed.
 fn run_files(rt: &HostRuntime) -> io::Result<bool> {
     let mut all = true;
     for name in env::args(rt)?.skip(1) {
@@ -39,7 +43,7 @@ fn run_files(rt: &HostRuntime) -> io::Result<bool> {
     Ok(all)
 }
 
-// Whether all lines of a file came as they had to. It tells how many did.
+// Whether all lines of a file passed. It prints how many did.
 fn run_file(rt: &HostRuntime, name: &str) -> io::Result<bool> {
     let text = fs::read_to_string(rt, name)?;
     let mut passed = 0u64;
@@ -58,7 +62,7 @@ fn run_file(rt: &HostRuntime, name: &str) -> io::Result<bool> {
     Ok(failed == 0)
 }
 
-// Whether a line came as it had to. What didn't is printed.
+// Whether a line passed. It prints what didn't.
 fn run_line(rt: &HostRuntime, name: &str, number: u64, line: &str) -> io::Result<bool> {
     if !name.ends_with(".tsv") {
         return run_case(rt, name, number, line);
@@ -70,7 +74,7 @@ fn run_line(rt: &HostRuntime, name: &str, number: u64, line: &str) -> io::Result
     Ok(came)
 }
 
-// Whether the case of a line came as it had to.
+// Whether the case of a line passed.
 fn run_case(rt: &HostRuntime, name: &str, number: u64, line: &str) -> io::Result<bool> {
     let alloc = rt.alloc();
     let Ok(value) = Value::from_str(alloc, line) else {
@@ -90,7 +94,7 @@ fn run_case(rt: &HostRuntime, name: &str, number: u64, line: &str) -> io::Result
     all_came(rt, name, number, wanted, &came)
 }
 
-// Whether each member came as it had to, and prints those that did not.
+// Whether each member is as expected, and prints those that aren't.
 fn all_came(
     rt: &HostRuntime,
     name: &str,
@@ -109,7 +113,7 @@ fn all_came(
     Ok(all)
 }
 
-// What comes of a case.
+// The outcome of a case.
 fn seen_by<L: Ledger>(
     alloc: Global,
     case: Case,
@@ -124,7 +128,7 @@ fn seen_by<L: Ledger>(
     run(alloc, case, wanted, &mut steps)
 }
 
-// Whether the row of a line came as it had to.
+// Whether the row of a line passed.
 fn row_came(alloc: Global, line: &str) -> Result<bool, AllocError> {
     let Some(row) = row_of(line) else {
         return Ok(false);
@@ -160,10 +164,10 @@ fn stepped<L: Ledger>(alloc: Global, row: &Row, blank: Blank) -> Result<State, A
     Ok(state)
 }
 
-// No word of a row stands below this address, so its page comes behind the others.
+// No word of a row is below this address, so its page comes after the others.
 const LOWEST: u32 = 0x100000;
 
-// The page of the pc, with the word there, and the pages 0x40 to 0x45, with the bytes of the rows.
+// The page of the pc with its word, and pages 0x40 to 0x45 with the rows' bytes.
 fn memory(alloc: Global, row: &Row) -> Result<Pages, AllocError>
     requires { 0x100000 ≤ row.now.pc }
 {

@@ -1,5 +1,5 @@
-//! A disk in memory, for tests. It tells its files, so the contract of a run over it speaks of their bytes. It stands on keepers; the
-//! cases of whole calls stand on it.
+//! A disk in memory, for tests. It uses `keepers`. `reversal_calls` uses it. It claims its files, so the contract of a
+//! run over it covers their bytes.
 #![tactic(auto)]
 
 ghost use Rattle.std.specs.Prelude.{◌≡◌, ◌≢◌, ℕ, List, [], ◌∷◌, None, Some, MatchOption, OnOk, OnErr};
@@ -62,7 +62,7 @@ impl MemoryDisk {
         }
     }
 
-    /// Lets the listed calls fail, which then change nothing. The calls of each kind are counted from 1.
+    /// Lets the listed calls fail, and then change nothing. The calls of each kind are counted from 1.
     pub fn failing(self, list: Vec<(DiskOp, u64)>) -> Self
         ensures told { ⟦<MemoryDisk as Disk>⟧.told result ≡ ⟦<MemoryDisk as Disk>⟧.told self }
         ensures quiet { (path : List ℕ) → list.items ≡ [] → ⟦<MemoryDisk as Disk>⟧.may_fail result path → ⊥ }

@@ -1,5 +1,5 @@
--- No public clause cites this file. The traffic of the places of a list of Revolve, by the numbers of its stretches: a stretch of l
--- steps that has c slots is begun on place p with a write there, and held there until its last read.
+-- No public clause cites this file. The traffic of the places in a list of Revolve, from the counts of its stretches. A
+-- stretch of l steps with c slots begins on place p with a write. It is held there until its last read.
 use Rattle.std.specs.Prelude.{◌≡◌, ℕ, zero, suc, ◌+◌, ◌-◌, ◌*◌, ◌<◌, ◌≤◌, ◌==◌, cond, nat_le, List, [], ◌∷◌, length, slice_index_or}
 use Rattle.std.specs.List.{sum_by, AllByRecursion}
 use Rattle.binomials.specs.Advances.{split}
@@ -7,8 +7,8 @@ use Rattle.binomials.specs.Laws.{IsStretch}
 use Rattle.multistage_gen.specs.declared.traffic.PlaceTraffic.{PlaceTraffic}
 use Rattle.multistage_gen.specs.declared.numbers.Stretches.{Stretches}
 
--- How often place q is written by a stretch that is begun on place p, and by one that is held there. One step alone is not begun on a
--- place. The first argument is no less than l, and only bounds the recursion.
+-- How often a stretch writes place q, if it begins on place p, and if it is held there. A single step doesn't begin on
+-- a place. The first argument is at least l, and only bounds the recursion.
 unfoldable mutual
   pub begun_writes : ℕ → ℕ → ℕ → ℕ → ℕ → ℕ
   begun_writes zero q l c p = 0
@@ -31,7 +31,7 @@ unfoldable mutual
   held_visits (suc more) q l c p =
       cond (p == q) 1 0 + cond (nat_le l 1) 0 (begun_visits more q (l - split l c) (c - 1) (p + 1) + held_visits more q (split l c) c p)
 
--- a number for the steps of each stretch, added up
+-- a number for the steps of each stretch, summed
 abbrev pub weigh : (ℕ → ℕ) → List Stretches → ℕ
 weigh weight stretches = sum_by (λ s. s.count * weight s.steps) stretches
 
@@ -51,12 +51,12 @@ pub record IsOf (least c : ℕ) (s : Stretches) : Type 0 where
 abbrev pub AreOf : ℕ → ℕ → List Stretches → Type 0
 AreOf least c stretches = AllByRecursion (IsOf least c) stretches
 
--- each has more steps than all before it, so no two have as many
+-- each has more steps than all before it, so no two are equally long
 abbrev pub AreAscending : List Stretches → Type 0
 AreAscending [] = Unit {0}
 AreAscending (s ∷ rest) = AllByRecursion (λ t. s.steps < t.steps) rest × AreAscending rest
 
--- the traffic of a place on which these stretches are begun with c slots, and the stretches that are begun above it
+-- the traffic of a place where these stretches begin with c slots, and the stretches that begin above it
 pub record IsCountedOn (c : ℕ) (begun : List Stretches) (t : PlaceTraffic) (above : List Stretches) : Type 0 where
   pub all : AreOf 2 (c - 1) above
   pub short : steps_of above ≤ steps_of begun
@@ -66,11 +66,12 @@ pub record IsCountedOn (c : ℕ) (begun : List Stretches) (t : PlaceTraffic) (ab
   pub visits : (q p : ℕ) →
       weigh (λ l. begun_visits l q l c p) begun ≡ cond (p == q) (t.writes + t.reads) 0 + weigh (λ l. begun_visits l q l (c - 1) (p + 1)) above
 
--- the traffic that was counted of a place, and none where there is no such place
+-- the counted traffic of a place; none if there is no such place
 abbrev pub traffic_at : List PlaceTraffic → ℕ → PlaceTraffic
 traffic_at places q = slice_index_or places q (record { writes = 0; reads = 0 })
 
--- The lowest places of a list for so many steps and slots are counted, and these stretches are begun on the next place, with c slots.
+-- The lowest places of a list for so many steps and slots are counted. These stretches begin on the next place, with c
+-- slots.
 pub record AreCounted (steps slots c : ℕ) (places : List PlaceTraffic) (stretches : List Stretches) : Type 0 where
   pub all : AreOf 2 c stretches
   pub short : steps_of stretches ≤ steps

@@ -8,13 +8,13 @@ use Rattle.revolve_gen.specs.Stack.{places_used}
 use Rattle.revolve_gen.specs.Multistage.{HasLevels}
 use Rattle.multistage_gen.specs.Threshold.{AreSavings}
 
--- As what a plan is seen: the level of each place, what each saves on the faster level, and what is still to come of the list.
+-- The model of a plan: each place's level and its saving on the faster level, and the list still to come.
 pub record Plan : Type 0 where
   pub levels : List ℕ
   pub savings : List ℕ
   pub actions : List Action
 
--- the places of a plan of which no action was given yet stand on these levels of a book, and save so much
+-- the places of a plan before its first action: their levels in a book, and their savings
 pub record IsPlaced (steps : ℕ) (book : BookCosts) (plan : Plan) : Type 0 where
   pub two : length book.levels ≡ 2
   pub has : HasPlan steps (total_room book steps)

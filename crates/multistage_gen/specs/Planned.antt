@@ -1,5 +1,6 @@
--- The multistage list that is written, and why there is none. The places that save most stand on the faster level, as Stumm and
--- Walther have it in "MultiStage approaches for optimal offline checkpointing", SIAM Journal on Scientific Computing 31, 2009.
+-- The multistage list that is written, and why there is none. The places that save most are on the faster level.
+-- Source: Stumm and Walther, "MultiStage approaches for optimal offline checkpointing", SIAM Journal on Scientific
+-- Computing 31, 2009.
 use Rattle.std.specs.Prelude.{◌≡◌, ◌≢◌, ◌⊎◌, ℕ, ◌<◌, ◌≤◌, min, List, [], ◌∷◌, length}
 use Rattle.plan_types.specs.declared.action.Action.{Action}
 use Rattle.level_book.specs.declared.book.Level.{Level}
@@ -12,13 +13,13 @@ use Rattle.revolve_gen.specs.Stack.{places_used}
 use Rattle.revolve_gen.specs.Multistage.{saving}
 use Rattle.revolve_gen.specs.Written.{revolve}
 
--- place p comes before place q: it saves more on the faster level, or as much and is the lower one
+-- place p comes before place q: it saves more on the faster level, or saves equally and is lower
 abbrev pub ComesBefore : List Action → Level → Level → ℕ → ℕ → Type 0
 ComesBefore list fast slow p q =
     (saving list fast slow q < saving list fast slow p) ⊎ ((saving list fast slow q ≡ saving list fast slow p) × (p < q))
 
--- The list is that of Revolve with these levels of its places: as many as level 0 has room for are there, they come before the
--- others, and the others are on level 1.
+-- The list is Revolve's with these levels of its places. Level 0 has as many places as fit, and these come before all
+-- others. The others are on level 1.
 pub record IsPlan (steps : ℕ) (book : BookCosts) (fast slow : Level) (level : ℕ → ℕ) (list : List Action) : Type 0 where
   pub is : list ≡ revolve level steps (total_room book steps)
   pub known : (p : ℕ) → p < places_used list → level p < 2
@@ -34,14 +35,14 @@ pub record IsMultistageList (steps : ℕ) (book : BookCosts) (list : List Action
   pub level : ℕ → ℕ
   pub planned : IsPlan steps book fast slow level list
 
--- Why there is no list: rule 2, the book hasn't two levels; else rule 1, two steps or more have no slot. Memory can be wanting
--- only where there is a plan.
+-- Why there is no list. Rule 2: the book hasn't two levels. Otherwise rule 1: two or more steps have no slot. Memory
+-- can be short only where there is a plan.
 abbrev pub IsFault : ℕ → BookCosts → GenFault → Type 0
 IsFault steps book (NoPlan rule) =
     ((rule ≡ 2) × (length book.levels ≢ 2)) ⊎ ((rule ≡ 1) × (length book.levels ≡ 2) × (2 ≤ steps) × (total_room book steps ≡ 0))
 IsFault steps book Memory = (length book.levels ≡ 2) × HasPlan steps (total_room book steps)
 
--- there is one such list at most
+-- there is at most one such list
 abbrev pub PlansAreUnique : ℕ → BookCosts → Type 0
 PlansAreUnique steps book = (list other : List Action) → IsMultistageList steps book list → IsMultistageList steps book other → list ≡ other
 

@@ -13,7 +13,7 @@ use Rattle.multistage_gen.specs.Planned.{ComesBefore}
 abbrev pub is_before : Rank → Rank → Bool
 is_before a b = nat_lt b.saving.0 a.saving.0 || (b.saving.0 == a.saving.0) && nat_lt a.place b.place
 
--- each place's rank stands at its number
+-- each place's rank is at its number
 abbrev pub StandByPlace : List Rank → Type 0
 StandByPlace ranks = (p : ℕ) (d : Rank) → p < length ranks → (slice_index_or ranks p d).place ≡ p
 
@@ -25,7 +25,8 @@ pub record AreLevels (ranks : List Rank) (room : ℕ) (levels : List ℕ) : Type
   pub order : (p q : ℕ) (d : Rank) → p < length ranks → q < length ranks → slice_index levels p ≡ 0 → slice_index levels q ≡ 1 →
       is_before (slice_index_or ranks p d) (slice_index_or ranks q d) ≡ true
 
--- What a place with this traffic saves. The second level of a book costs no less than the first, so these differences are whole.
+-- What a place with this traffic saves. The second level of a book costs no less than the first, so these subtractions
+-- don't truncate.
 abbrev pub saving_of : Level → Level → PlaceTraffic → ℕ
 saving_of fast slow t = t.writes * (slow.write - fast.write) + t.reads * (slow.read - fast.read)
 

@@ -10,7 +10,7 @@ pub fn plans_are_unique()
     ensures { (steps : ℕ) (book : BookCosts) → PlansAreUnique steps book }
 {}
 
-/// Where the places of a list of the multistage class meet a threshold, no list of the class costs less.
+/// If the places of a multistage list meet a threshold, no list of the class costs less.
 pub fn least_of_the_multistage()
     ensures { (steps : ℕ) (book : BookCosts) → LeastOfTheMultistage steps book }
 {}

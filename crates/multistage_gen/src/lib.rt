@@ -1,8 +1,13 @@
-//! Multistage lists: the lists of Revolve over two levels, with the images that are used most on the faster one. It stands on
-//! the lists of Revolve. `specs/Traffic.antt` says how often each place of the stack is written and read, and
-//! `specs/Planned.antt` which list is written. That it is in the multistage class of revolve_gen is proved here.
-//! `specs/Threshold.antt` says which lists of that class are seen to cost the least of it. A plan holds no list: it is seen as
-//! the record of `specs/Plan.antt`, its places and the actions that are still to come.
+//! Multistage lists: lists of Revolve over two levels, with the most used images on the faster one. It uses
+//! `plan_types`, `level_book`, `binomials` and `revolve_gen`. `bound_cert` and `reversal` use it. A plan holds no list.
+//! It is modelled by `specs/Plan.antt`: its places, and the actions still to come. The list is proved to be in the
+//! multistage class of `revolve_gen`.
+//!
+//! In `specs/`:
+//!
+//! - `Traffic`: how often each place is written and read.
+//! - `Planned`: which list is written.
+//! - `Threshold`: which lists of the class cost the least, as a threshold shows.
 #![tactic(auto)]
 
 pub mod laws;

@@ -1,4 +1,4 @@
-// The traffic of the places of a list of Revolve, by the numbers of its stretches, without the list.
+// The traffic of the places of a list of Revolve, from the counts of its stretches, without the list.
 ghost use Rattle.std.specs.Prelude.{◌≡◌, ℕ, ◌+◌, ◌*◌, ◌<◌, ◌≤◌, [], length, take, drop, IfOk, OnOk};
 ghost use Rattle.std.specs.List.{AllByRecursion};
 ghost use Rattle.plan_types.specs.declared.limits.TheConstants.{MOST_STEPS};
@@ -19,8 +19,8 @@ struct Stretches {
     count: u32,
 }
 
-// How often each place is written and read by the list of Revolve for so many steps and slots, on whichever levels the places are.
-// Stretches of as many steps that are begun on one place have the same traffic, so they are counted together.
+// How often Revolve's list for so many steps and slots writes and reads each place. The levels don't matter. Equally
+// long stretches that begin on one place have equal traffic, so they are counted together.
 pub(crate) fn revolve_places(
     alloc: Global,
     steps: u32,
@@ -43,7 +43,7 @@ pub(crate) fn revolve_places(
     Ok(places)
 }
 
-// The stretch of all steps, where there are two or more.
+// The stretch of all steps, if there are two or more.
 fn whole(alloc: Global, steps: u32) -> Result<Vec<Stretches>, AllocError>
     requires { steps ≤ MOST_STEPS }
     ensures counted { IfOk result (λ stretches. (slots : ℕ) → HasPlan steps slots → AreCounted steps slots slots [] stretches.items) }
@@ -56,9 +56,9 @@ fn whole(alloc: Global, steps: u32) -> Result<Vec<Stretches>, AllocError>
     Ok(stretches)
 }
 
-// The traffic of the place on which these stretches are begun, with so many slots free, and the stretches of two steps or more that
-// are begun on the place above it. A stretch is begun with a write, its first visit; each part that stays held is a visit more, a
-// read.
+// The traffic of the place where these stretches begin, with so many slots free. Also the stretches of two or more
+// steps that begin on the place above. A stretch begins with a write, its first visit. Each part that stays held is
+// another visit, a read.
 fn count_place(
     alloc: Global,
     mut stretches: Vec<Stretches>,
@@ -97,7 +97,7 @@ fn count_of(stretches: &[Stretches]) -> u64
     count
 }
 
-// Begins so many stretches of so many steps. One step alone is not begun on a place.
+// Begins so many stretches of so many steps. A single step doesn't begin on a place.
 fn begin_above(above: &mut Vec<Stretches>, steps: u32, count: u32) -> Result<(), AllocError>
     requires few { count_of above.old.items + count ≤ MOST_STEPS }
     requires ascending { AreAscending above.old.items }
@@ -113,7 +113,7 @@ fn begin_above(above: &mut Vec<Stretches>, steps: u32, count: u32) -> Result<(),
     Ok(())
 }
 
-// Adds so many stretches of so many steps to some that are sorted by their steps. Those of as many steps are counted together.
+// Adds so many stretches of so many steps to some that are sorted by steps. Equally long ones are counted together.
 fn add(stretches: &mut Vec<Stretches>, steps: u32, count: u32) -> Result<(), AllocError>
     requires few { count_of stretches.old.items + count ≤ MOST_STEPS }
     requires ascending { AreAscending stretches.old.items }

@@ -12,14 +12,14 @@ fn level_of(levels: &[u8], place: usize) -> u8
     levels.get(place).copied().unwrap_or(0)
 }
 
-// The action with its image on the level of its place, where so many images are held before it, and how many are after it.
+// The action with its image on its place's level, and the images held after it. So many are held before it.
 pub(crate) fn placed_action(levels: &[u8], held: usize, action: Action) -> (Action, usize)
     requires { held + 1 < 2 ^ 64 }
     ensures action { result.0 ≡ on_level (slice_index levels.now (place held (stack_step action))) action }
     ensures held { result.1 ≡ held_after held (stack_step action) }
 {
     match StackStep::of(&action) {
-        // More than half of the actions leave the stack alone.
+        // More than half of the actions don't change the stack.
         StackStep::Stay => (action, held),
         step => {
             let level = level_of(levels, step.place(held));

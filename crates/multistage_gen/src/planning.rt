@@ -43,7 +43,7 @@ fn savings_of(
     Ok(savings)
 }
 
-// The same over the two levels of a book. These are the savings of each list with this traffic.
+// The savings on the faster of a book's two levels, for each list with this traffic.
 pub(crate) fn savings_by(
     alloc: Global,
     traffic: &[PlaceTraffic],
@@ -57,7 +57,7 @@ pub(crate) fn savings_by(
     savings_of(alloc, traffic, book.level(0), book.level(1))
 }
 
-/// How much less the images at each place of a list cost on the faster of two levels than on the slower one.
+/// How much less each place's images cost on the faster of two levels than on the slower.
 pub fn place_savings(alloc: Global, list: &[Action], book: &Book) -> Result<Vec<u64>, AllocError>
     requires two { length book.now.levels ≡ 2 }
     requires few { length list.now ≤ MOST_ACTIONS }
@@ -87,8 +87,8 @@ fn ranks(
     Ok(ranks)
 }
 
-// The level of each place: as many places as have room on level 0 are there, those that save most. These are the levels of
-// each list with this traffic.
+// The level of each place: the places that save most are on level 0, as many as fit. This holds for each list with this
+// traffic.
 pub(crate) fn planned_levels(
     alloc: Global,
     traffic: &[PlaceTraffic],

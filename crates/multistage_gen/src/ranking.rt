@@ -1,11 +1,11 @@
-// The places in the order of what they save, and their levels by it.
+// The places in the order of their savings, and their levels by that order.
 ghost use Rattle.std.specs.Prelude.{◌≡◌, IfOk, map, cond, replicate};
 ghost use Rattle.multistage_gen.specs.Ranks.{is_before, StandByPlace, AreLevels};
 
 use std::alloc::{AllocError, Global};
 use std::cmp::Reverse;
 
-// A place with what it saves on the faster level. The first are those that save most, and of these the lowest.
+// A place with its saving on the faster level. The greatest savings come first, and among equals the lowest place.
 #[derive(Clone, Copy, PartialEq, Eq, PartialOrd, Ord)]
 pub(crate) struct Rank {
     pub(crate) saving: Reverse<u64>,

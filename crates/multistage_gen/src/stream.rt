@@ -14,8 +14,8 @@ use revolve_gen::{GenFault, Revolve};
 use std::alloc::Global;
 use std::marker::Model;
 
-/// The places of a multistage plan, and the actions of its list that are still to come. It holds no list: it works each action
-/// out from the stream of Revolve and from the level of each place.
+/// A multistage plan: its places, and the actions of its list still to come. It holds no list. Each action comes from
+/// the stream of Revolve and the level of its place.
 #[derive(Drop)]
 pub struct Multistage {
     levels: Vec<u8>,
@@ -37,8 +37,8 @@ impl Model for Multistage {
 }
 
 impl Multistage {
-    /// The plan for so many steps over the two levels of a book. The traffic of each place is worked out from the numbers of the
-    /// stretches, without a list. What it keeps are its places and the stack of the stream, each no more than the slots.
+    /// The plan for so many steps over the two levels of a book. The traffic of each place comes from the counts of the
+    /// stretches, without a list. It keeps its places and the stack of the stream, each within the slots.
     pub fn begin(alloc: Global, steps: u32, book: &Book) -> Result<Multistage, GenFault>
         requires { steps ≤ MOST_STEPS }
         ensures list { IfOk result (λ plan. IsMultistageList steps book.now plan.actions) }
@@ -67,7 +67,7 @@ impl Multistage {
         })
     }
 
-    /// The next action, and None after the last and from then on. It takes no memory.
+    /// The next action, and None after the last. It takes no memory.
     pub fn next(&mut self) -> Option<Action>
         ensures next { MatchOption result ((self.old.actions ≡ []) × (self.new.actions ≡ [])) (λ action. self.old.actions ≡ action ∷ self.new.actions) }
         ensures same { (self.new.levels ≡ self.old.levels) × (self.new.savings ≡ self.old.savings) }
@@ -85,7 +85,7 @@ impl Multistage {
         &self.levels
     }
 
-    /// How much less the images at each place cost on the faster level than on the slower one.
+    /// How much less each place's images cost on the faster level than on the slower one.
     pub fn savings(&self) -> &[u64]
         ensures savings { result.now ≡ self.now.savings }
         ensures each { length result.now ≡ length self.now.levels }

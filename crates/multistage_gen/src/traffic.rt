@@ -16,7 +16,7 @@ pub struct PlaceTraffic {
     pub reads: u64,
 }
 
-// The traffic of the actions that were counted, and how many images are held after them.
+// The traffic of the counted actions, and how many images are held after them.
 #[derive(Drop)]
 struct Count {
     places: Vec<PlaceTraffic>,
@@ -34,7 +34,7 @@ impl Count {
         }
     }
 
-    // Counts one action more. A Copy or a Move counts as one of the newest image, whichever it names.
+    // Counts one more action. A Copy or a Move counts as one of the newest image, whichever it names.
     fn add(&mut self, action: &Action) -> Result<(), AllocError>
         requires { (front : List Action) × HasCounted front self.old.held self.old.places.items × (length front < 2 ^ 64 - 1) }
         ensures { OnOk result ((front : List Action) → HasCounted front self.old.held self.old.places.items →
@@ -69,7 +69,7 @@ pub fn places(alloc: Global, list: &[Action]) -> Result<Vec<PlaceTraffic>, Alloc
     Ok(count.places)
 }
 
-// Puts in the traffic of the next place, where it is the one.
+// Appends the traffic of a place, if it is the next one.
 fn reach(places: &mut Vec<PlaceTraffic>, place: usize) -> Result<(), AllocError>
     requires { place ≤ vec_len places.old }
     ensures there { OnOk result ((place < vec_len places.new) × (vec_len places.old ≤ vec_len places.new)) }

@@ -1,6 +1,6 @@
--- What holds of every valid list, for every number of slots that is no less than the book has room for: how often steps are
--- advanced, and how many forward steps that makes. For the pebble game of a chain this is the bound of Griewank and
--- Walther; here nothing is taken for granted of a list but that it is valid.
+-- Bounds for every valid list, for any number of slots that is no less than the book's room. They say how often steps
+-- are advanced, and how many forward steps that makes. Griewank and Walther have this bound for the pebble game of a
+-- chain. Here nothing is assumed of a list but its validity.
 use Rattle.std.specs.Prelude.{◌≡◌, ℕ, ◌+◌, ◌*◌, ◌≤◌, List, cond, nat_lt}
 use Rattle.plan_types.specs.declared.action.Action.{Action}
 use Rattle.level_book.specs.BookCosts.{BookCosts, slots_of, total_room}
@@ -10,7 +10,7 @@ use Rattle.binomials.specs.Binomials.{beta, beta_before}
 use Rattle.binomials.specs.Advances.{least_advances}
 use Rattle.pebble_bound.specs.Crossings.{tapings, advanced_at_most}
 
--- the list is valid for so many steps and a book whose levels together have at most c slots for them
+-- the list is valid for so many steps, and the book's levels have at most c slots for them
 pub record IsValidWithin (steps : ℕ) (book : BookCosts) (c : ℕ) (list : List Action) : Type 0 where
   pub valid : Valid steps (slots_of book) list
   pub room : total_room book steps ≤ c
@@ -23,7 +23,8 @@ FewAreAdvancedSeldom steps book c list = IsValidWithin steps book c list → (k 
 abbrev pub EachIsTapedOnce : ℕ → BookCosts → List Action → Type 0
 EachIsTapedOnce steps book list = Valid steps (slots_of book) list → (i : ℕ) → tapings list i ≡ cond (nat_lt i steps) 1 0
 
--- for every k, the forward steps are at least N + k · N - β(c + 1, k - 1), which is said by a sum, since it may be negative
+-- For every k, the forward steps are at least N + k · N - β(c + 1, k - 1). The bound may be negative, so it is stated
+-- as a sum.
 abbrev pub ForwardIsBounded : ℕ → BookCosts → ℕ → List Action → Type 0
 ForwardIsBounded steps book c list = IsValidWithin steps book c list → (k : ℕ) → steps + k * steps ≤ forward list + beta_before (c + 1) k
 

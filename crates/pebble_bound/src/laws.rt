@@ -4,7 +4,7 @@ ghost use Rattle.plan_types.specs.declared.action.Action.{Action};
 ghost use Rattle.level_book.specs.BookCosts.{BookCosts};
 ghost use Rattle.pebble_bound.specs.Laws.{FewAreAdvancedSeldom, EachIsTapedOnce, ForwardIsBounded, NoneIsBelowRevolve, NoneWithoutSlots};
 
-/// In a valid list at most β(c, k) steps are advanced at most k times without tape, for every k.
+/// For every k, a valid list advances at most β(c, k) steps at most k times without tape.
 pub fn few_are_advanced_seldom()
     ensures { (steps : ℕ) (book : BookCosts) (c : ℕ) (list : List Action) → FewAreAdvancedSeldom steps book c list }
 {}

@@ -9,15 +9,15 @@ ghost use Rattle.pebble_bound.specs.Laws.{IsValidWithin};
 
 use binomials::least_advances;
 
-/// The least number of forward steps of all valid lists for so many steps and slots, and None where no list is valid:
-/// without a slot, for two steps or more. It takes no memory.
+/// The least number of forward steps of all valid lists for so many steps and slots. None where no list is valid: two
+/// or more steps without a slot. It takes no memory.
 pub fn least_forward(steps: u32, slots: u32) -> Option<u64>
     requires { steps ≤ MOST_STEPS }
     ensures none { IsNone result ↔ ((slots ≡ 0) × (2 ≤ steps)) }
     ensures at_most_one { steps ≤ 1 → result ≡ Some steps }
     ensures value { 1 ≤ steps → 1 ≤ slots → result ≡ Some (steps + least_advances steps slots) }
 
-    // No valid list has fewer, and None says that no list is valid.
+    // No valid list takes fewer. None says that no list is valid.
     ensures least { (book : BookCosts) (list : List Action) → IsValidWithin steps book slots list → IsSomeAnd result (λ n. n ≤ forward list) }
 {
     if steps <= 1 {

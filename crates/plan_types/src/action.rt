@@ -4,7 +4,7 @@ ghost use Rattle.std.specs.Prelude.{◌≡◌};
 /// What a Forward keeps of the state at its `from`.
 #[derive(Clone, Copy, Debug, PartialEq, Eq)]
 pub enum Keep {
-    /// Nothing.
+    /// Keeps nothing of it.
     Nothing,
     /// The state, on the level with this number: `write_ics` in the manual.
     Store(u8),
@@ -26,7 +26,7 @@ pub enum Dest {
 pub enum Action {
     /// Steps the work state from `from` to `to`.
     Forward { from: u32, to: u32, keep: Keep },
-    /// Reverses the one step from `to` to `from`, by the state on the tape.
+    /// Reverses the step from `to` to `from`, by the state on the tape.
     Reverse { from: u32, to: u32 },
     /// Takes the image of state `n` from level `from`, and keeps it there too.
     Copy { n: u32, from: u8, dest: Dest },

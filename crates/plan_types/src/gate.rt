@@ -1,7 +1,6 @@
-// What workers pass.
+// A gate that workers pass.
 
-/// What a worker passes before it fills its piece of a row. A test has a gate of its own, by which it sees that pieces are
-/// filled at once.
+/// Called by a worker before it fills its piece of a row. A test's own gate checks that pieces are filled in parallel.
 pub trait Gate {
     /// Lets the worker of the piece with this number pass, counted from 0.
     fn enter(&self, piece: u32);

@@ -1,6 +1,5 @@
-//! What all parts of a checkpoint plan share: the actions of a schedule, the limits, a gate for workers, and a line of text
-//! that takes no memory. It stands on nothing; every other crate of schedules stands on it. It has no definitions of its
-//! own: what the actions do to a configuration is said in `level_book`.
+//! The shared types of checkpoint plans: actions, limits, a gate for workers, and a text line. It uses no other crate.
+//! Most crates use it. The line allocates no memory. What actions do to a configuration is defined in `level_book`.
 #![tactic(auto)]
 
 mod action;

@@ -30,7 +30,7 @@ impl Line {
         }
     }
 
-    /// Its bytes.
+    /// The text so far.
     pub fn bytes(&self) -> &[u8]
         ensures value { result.now ≡ self.now }
         ensures short { length result.now ≤ 512 }

@@ -1,4 +1,4 @@
--- The numbers of a request and their bounds. They are tested before an input is asked for.
+-- The numbers of a request and their bounds. They are tested before any input is read.
 use Rattle.std.specs.Prelude.{◌≡◌, ◌⊎◌, ℕ, ◌≤◌, ◌++◌, List, [], ◌∷◌, nat_lt, if◌then◌else◌}
 use Rattle.std.specs.List.{AllByRecursion, flat_map}
 use Rattle.requests.specs.declared.ended.Ended.{Ended}
@@ -7,7 +7,7 @@ use Rattle.requests.specs.Operands.{Limit, within, bounds_of, products_of}
 use Rattle.requests.specs.Request.{Choice, raw, stack, workers, units, files, unit_count, Command, operands, Request, Says}
 use Rattle.requests.specs.Ending.{no_request, out_of_range}
 
--- The limits of the numbers of options: rule 3 is the number of workers, 4 the number of the stack's pages, 5 a level, and 12 a unit.
+-- The limits of the numbers of options. Rule 3 is the number of workers, 4 the stack's pages, 5 a level, and 12 a unit.
 abbrev pub stack_limit : Limit
 stack_limit = record { least = 1; greatest = 1024; rule = 4 }
 
@@ -27,33 +27,34 @@ option_numbers (workers count) = within workers_limit count ∷ []
 option_numbers (units count) = within unit_limit count ∷ []
 option_numbers (files level folder) = within level_limit level ∷ []
 
--- the numbers of a command, whose steps are units of so many instructions: those of its operands, and then their products
+-- the numbers of a command's operands, and then their products; steps are units of so many instructions
 abbrev pub command_numbers : (unit : ℕ) → Command → List Bounded
 command_numbers unit c = flat_map (bounds_of unit) (operands c) ++ flat_map (products_of unit) (operands c)
 
--- the numbers of a request, in the order of the words, which is that in which they are tested
+-- the numbers of a request, in the order of the words, in which they are tested
 abbrev pub numbers : Request → List Bounded
 numbers r = flat_map option_numbers r.options ++ command_numbers (unit_count r.options) r.command
 
 abbrev pub IsWithin : Bounded → Type 0
 IsWithin n = (n.least ≤ n.number) × (n.number ≤ n.greatest)
 
--- how a call ends whose first number outside its bounds is this one: with the number, the bound that it passes, and the rule
+-- How a call ends if this is its first number out of bounds. It has the number, the bound that was passed, and the
+-- rule.
 abbrev pub out_of_bounds : Bounded → Ended
 out_of_bounds n = out_of_range n.number (if nat_lt n.number n.least then n.least else n.greatest) n.rule
 
--- the ending for the first of the numbers that is outside its bounds
+-- the ending for the first number out of bounds
 abbrev pub RefusesFirst : List Bounded → Ended → Type 0
 RefusesFirst [] e = ⊥
 RefusesFirst (n ∷ rest) e = ((IsWithin n → ⊥) × (e ≡ out_of_bounds n)) ⊎ (IsWithin n × RefusesFirst rest e)
 
--- The words alone are refused, with this ending: they say no request, or a number of theirs is outside its bounds.
+-- The words alone are refused, with this ending. They are no request, or a number of theirs is out of bounds.
 abbrev pub RefusesWords : List (List ℕ) → Ended → Type 0
 RefusesWords words e =
     (((r : Request) → Says words r → ⊥) × (e ≡ no_request))
     ⊎ ((r : Request) × Says words r × RefusesFirst (numbers r) e)
 
--- the words ask for this: they say it, and its numbers are within their bounds
+-- the words ask for this: they mean it, and its numbers are within their bounds
 pub record Asks (words : List (List ℕ)) (r : Request) : Type 0 where
   pub says : Says words r
   pub within : AllByRecursion IsWithin (numbers r)

@@ -12,19 +12,19 @@ use Rattle.requests.specs.Request.{Choice, raw, stack, workers, units, files, is
 unfoldable pub number_of : List ℕ → Option ℕ
 number_of word = number_at 18446744073709551615 word >>= λ read. if length read.1 == 0 then Some read.0 else None
 
--- the option of the stack, behind the text that it begins with
+-- the option of the stack, after its prefix
 abbrev pub stack_of : List ℕ → Option Choice
 stack_of text = number_of text >>= λ pages. Some (stack pages)
 
--- the option of the workers, likewise
+-- the option of the workers, after its prefix
 abbrev pub workers_of : List ℕ → Option Choice
 workers_of text = number_of text >>= λ count. Some (workers count)
 
--- the option of units, likewise
+-- the option of units, after its prefix
 abbrev pub unit_of : List ℕ → Option Choice
 unit_of text = number_of text >>= λ count. Some (units count)
 
--- the option of a level's files, likewise
+-- the option of a level's files, after its prefix
 abbrev pub files_of : List ℕ → Option Choice
 files_of text =
     number_at 18446744073709551615 text >>= λ level. after_of (codes ":") level.1 >>= λ folder. if length folder == 0 then None else Some (files level.0 folder)
@@ -38,7 +38,7 @@ choice_of word =
     (with_or (after_of (codes "--unit=") word) unit_of
     (after_of (codes "--files=") word >>= files_of)))
 
--- the option that the first word is, and the words behind it
+-- the option that the first word is, and the words after it
 abbrev pub first_choice : List (List ℕ) → Option (Choice × List (List ℕ))
 first_choice [] = None
 first_choice (word ∷ words) = choice_of word >>= λ choice. Some (choice, words)
@@ -48,12 +48,12 @@ unfoldable pub options_at : List (List ℕ) → List Choice
 options_at [] = []
 options_at (word ∷ words) = with_or (choice_of word) (λ choice. choice ∷ options_at words) []
 
--- the words behind them
+-- the words after them
 unfoldable pub behind_options : List (List ℕ) → List (List ℕ)
 behind_options [] = []
 behind_options (word ∷ words) = with_or (choice_of word) (λ choice. behind_options words) (word ∷ words)
 
--- whether an option is of the kind of this one, which stands at most once
+-- whether an option is of this one's kind, which occurs at most once
 abbrev pub is_like : Choice → Choice → Bool
 is_like raw = is_raw
 is_like (stack pages) = is_stack

@@ -1,4 +1,4 @@
--- How a call may end, and what it writes of that.
+-- How a call may end, and the text for that.
 use Rattle.std.specs.Prelude.{ℕ, ◌==◌, ◌&&◌, ◌++◌, if◌then◌else◌, List, [], codes, decimal, replicate}
 use Rattle.hex.specs.Hex.{encode_lower}
 use Rattle.level_book.specs.declared.fault.BookFault.{BookFault}
@@ -24,11 +24,11 @@ use Rattle.requests.specs.declared.ended.Ended.{Ended}
 abbrev pub ended_with : ℕ → ℕ → ℕ → ℕ → Entry → List ℕ → List ℕ → Ended
 ended_with status place more rule entry put got = record { status = status; place = place; more = more; rule = rule; entry = entry; put = put; got = got }
 
--- what stands for an entry that a status doesn't name
+-- the entry for statuses that don't name one
 abbrev pub no_entry : Entry
 no_entry = record { table = 0; level = 0; free = 0; steps = 0; clause = 0 }
 
--- what stands for a digest that a status doesn't name
+-- the digest for statuses that don't name one
 abbrev pub no_digest : List ℕ
 no_digest = replicate 32 0
 
@@ -44,7 +44,7 @@ ended_at status place = ended_by status place 0 0
 abbrev pub done : Ended
 done = ended_at 0 0
 
--- the words say no request
+-- the words mean no request
 abbrev pub no_request : Ended
 no_request = ended_at 2 0
 
@@ -56,7 +56,7 @@ unreadable place = ended_at 3 place
 abbrev pub no_memory : Ended
 no_memory = ended_at 17 0
 
--- the bytes of the program are none, by this rule
+-- the bytes are no program, by this rule
 abbrev pub bad_program : ElfFault → Ended
 bad_program program.NotElf = ended_by 4 0 0 1
 bad_program program.Class = ended_by 4 0 0 2
@@ -79,7 +79,7 @@ bad_journal (journal.TooLong at) = ended_by 5 at 0 4
 bad_journal (journal.Trailing at) = ended_by 5 at 0 5
 bad_journal journal.Memory = no_memory
 
--- the bytes of the book are none; the place is the number that the fault carries
+-- the bytes are no book; the place is the number that the fault carries
 abbrev pub bad_book : BookFault → Ended
 bad_book book.NotJson = ended_by 6 0 0 1
 bad_book (book.Shape field) = ended_by 6 field 0 2
@@ -90,7 +90,7 @@ bad_book (book.SlotRange level) = ended_by 6 level 0 6
 bad_book (book.CostOrder level) = ended_by 6 level 0 7
 bad_book book.Memory = no_memory
 
--- the bytes of the schedule are none; its line and its column
+-- the bytes are no schedule; it has the line and the column
 abbrev pub bad_text : TextFault → Ended
 bad_text (text.At rule line column) = ended_by 7 line column rule
 bad_text text.Memory = no_memory
@@ -99,22 +99,22 @@ bad_text text.Memory = no_memory
 abbrev pub invalid : ℕ → ℕ → ℕ → Ended
 invalid place level rule = ended_by 8 place level rule
 
--- the bytes of the certificate are none; its line and its column
+-- the bytes are no certificate; it has the line and the column
 abbrev pub bad_certificate : CertFault → Ended
 bad_certificate (certificate.At rule line column) = ended_by 9 line column rule
 bad_certificate certificate.Memory = no_memory
 
--- the bytes of the source are none; its line and its column
+-- the bytes are no source; it has the line and the column
 abbrev pub bad_source : AsmFault → Ended
 bad_source (source.At rule line column) = ended_by 19 line column rule
 bad_source source.Memory = no_memory
 
--- the bytes of the script are none; its line and its column
+-- the bytes are no script; it has the line and the column
 abbrev pub bad_script : ScriptFault → Ended
 bad_script (script.At rule line column) = ended_by 20 line column rule
 bad_script script.Memory = no_memory
 
--- a number is out of range; the bound that it passes, and the rule that gives the bound
+-- a number is out of range; it has the bound that was passed, and the bound's rule
 abbrev pub out_of_range : ℕ → ℕ → ℕ → Ended
 out_of_range number bound rule = ended_by 10 number bound rule
 
@@ -122,8 +122,9 @@ out_of_range number bound rule = ended_by 10 number bound rule
 abbrev pub too_long : ℕ → ℕ → Ended
 too_long place limit = out_of_range place limit 8
 
--- there is no plan for so many steps with the room of the book, by this rule: 1, two steps or more have no slot; 2, the book
--- hasn't two levels; 3, level 1 isn't unlimited; 4, level 1 has fewer slots than a periodic plan has images there
+-- There is no plan for so many steps with the room of the book. Rule 1: two or more steps have no slot. Rule 2: the
+-- book hasn't two levels. Rule 3: level 1 isn't unlimited. Rule 4: level 1 has fewer slots than a periodic plan has
+-- images there.
 abbrev pub no_plan : ℕ → ℕ → ℕ → Ended
 no_plan steps room rule = ended_by 11 steps room rule
 
@@ -131,16 +132,16 @@ no_plan steps room rule = ended_by 11 steps room rule
 abbrev pub keeper_failed : ℕ → ℕ → Ended
 keeper_failed place level = ended_by 12 place level 0
 
--- in the action at this place, bytes came back from this level that aren't those that were put, or are no image; the digests
--- of both
+-- In this action, this level gave other bytes than were put, or bytes that are no image. It has the digests of both.
 abbrev pub damaged : ℕ → ℕ → List ℕ → List ℕ → Ended
 damaged place level put got = ended_with 13 place level 0 no_entry put got
 
--- the sink failed in the deed at this place
+-- the sink failed in the action or order at this place
 abbrev pub stopped : ℕ → Ended
 stopped place = ended_at 14 place
 
--- a valid list isn't the least by its certificate, for this reason: its number is the rule; 1 never comes for a valid list
+-- A valid list isn't the least by its certificate, for this reason. Its number is the rule. Reason 1 never occurs for a
+-- valid list.
 abbrev pub not_least : Reason → Ended
 not_least reason.Invalid = ended_by 15 0 0 1
 not_least reason.OutsideClass = ended_by 15 0 0 2
@@ -152,7 +153,7 @@ not_least reason.WrongShape = ended_by 15 0 0 5
 abbrev pub few_keepers : ℕ → ℕ → Ended
 few_keepers levels keepers = ended_by 16 levels keepers 1
 
--- the keeper of this level has too few slots, which are so many: rule 2
+-- the keeper of this level has too few slots, namely so many: rule 2
 abbrev pub small_keeper : ℕ → ℕ → Ended
 small_keeper level slots = ended_by 16 level slots 2
 
@@ -199,8 +200,8 @@ entry_text e =
     ++ codes " " ++ decimal e.entry.steps ++ codes " " ++ decimal e.entry.clause
     else []
 
--- the text of an ending: its status with the name, its three numbers, the entry of status 15, and the digests of status 13; nothing
--- for status 0
+-- The text of an ending: its status with the name, and its three numbers. Status 15 adds the entry, and status 13 the
+-- digests. For status 0 it is empty.
 abbrev pub text_of_ended : Ended → List ℕ
 text_of_ended e =
     if e.status == 0 then []

@@ -1,5 +1,5 @@
--- No public clause cites this file. What the reader of a command's words computes: a form says what stands at each place, and the
--- words are those of the first form that takes them all.
+-- No public clause cites this file. What the reader of a command's words computes. A form says what is allowed at each
+-- place. The first form that takes all words is the command's.
 use Rattle.std.specs.Prelude.{◌≡◌, ℕ, ◌==◌, Bool, not, ◌&&◌, if◌then◌else◌, List, [], ◌∷◌, length, codes, decimal, Option, None, Some}
 use Rattle.std.specs.Int.{from_be_bytes, w32}
 use Rattle.std.specs.Option.{option_or}
@@ -18,8 +18,8 @@ use Rattle.requests.specs.Request.{Command, run, plan, plan_periodic, check, cer
 
 -- ---- places
 
--- what stands at a place of a form: a word of its own, a name, a name that may be left out, the name of a schedule, a schedule that
--- may be made, a number, an address or a digest
+-- What is allowed at a place of a form: a fixed word, a name, an optional name, or a schedule's name. Or a schedule or
+-- `@revolve`, a number, an address or a digest.
 pub data Place : Type 0 where
   fixed : List ℕ → Place
   named : Place
@@ -68,15 +68,15 @@ is_name word = not (length word == 0)
 abbrev pub is_schedule_name : List ℕ → Bool
 is_schedule_name word = is_name word && not (bytes_eq word (codes "@revolve"))
 
--- the name that a word is, but for the word that stands for none
+-- the name that a word is, unless it is the word for none
 abbrev pub name_or_none : List ℕ → Option (List ℕ)
 name_or_none word = if bytes_eq word (codes "-") then None else Some word
 
--- the schedule that a word stands for
+-- the schedule that a word names
 abbrev pub schedule_of : List ℕ → Schedule
 schedule_of word = if bytes_eq word (codes "@revolve") then made else by_name word
 
--- the address that a word is: its digits are those of four bytes, and are spelled so
+-- the address of a word whose digits are the spelling of four bytes
 unfoldable pub address_of : List ℕ → Option ℕ
 address_of word =
     after_of (codes "0x") word >>= λ digits. result_ok (decode_sized digits 4) >>= λ bytes.
@@ -96,7 +96,7 @@ taken numbered word = number_of word
 taken addressed word = address_of word
 taken digested word = digest_of word
 
--- what a place takes of the first word, and the words behind it
+-- what a place takes of the first word, and the words after it
 unfoldable pub front_taken : (p : Place) → List (List ℕ) → Option (Value p × List (List ℕ))
 front_taken p [] = None
 front_taken p (word ∷ words) = taken p word >>= λ v. Some (v, words)
@@ -120,19 +120,19 @@ all_taken [] [] = Some tt
 all_taken [] (word ∷ words) = None
 all_taken (p ∷ ps) words = front_taken p words >>= λ x. all_taken ps x.1 >>= λ vs. Some (x.0, vs)
 
--- A place took this value: of words that are still to be taken, the first. Nothing is taken of no words, and nothing any more once a
+-- A place took this value, from the first of the remaining words. Without words nothing is taken, and nothing after a
 -- place took nothing.
 abbrev pub Takes : (p : Place) → Option (List (List ℕ)) → Value p → Option (List (List ℕ)) → Type 0
 Takes p None v rest = rest ≡ None
 Takes p (Some words) v rest = front_taken p words ≡ (rest >>= λ behind. Some (v, behind))
 
--- what was taken, where nothing is left behind it
+-- what was taken, if nothing is left after it
 abbrev pub finished : {A : Type 0} → Option (List (List ℕ)) → A → Option A
 finished None x = None
 finished (Some []) x = Some x
 finished (Some (word ∷ words)) x = None
 
--- these places took these values, and that was all where nothing is left
+-- these places took these values; that was all if nothing is left
 abbrev pub TakesAll : (ps : List Place) → Option (List (List ℕ)) → Values ps → Option (List (List ℕ)) → Type 0
 TakesAll ps old vs last = (old >>= all_taken ps) ≡ finished last vs
 
@@ -185,7 +185,7 @@ price_form = record {
   make = λ v. price (record { book = v.1.0; schedule = v.1.1.0; steps = v.1.1.1.0 });
 }
 
--- a question by its word, and what stands at its end
+-- a question by its word, and its last operand
 abbrev pub ask_places : List ℕ → Place → List Place
 ask_places word p = fixed (codes "ask") ∷ fixed word ∷ named ∷ named_or_none ∷ named ∷ schedule_named ∷ numbered ∷ p ∷ []
 
@@ -229,7 +229,7 @@ forms =
     ∷ check_form ∷ certify_form ∷ price_form ∷ ask_form (codes "state") numbered State ∷ ask_form (codes "last-write") addressed LastWrite
     ∷ ask_form (codes "last-change") addressed LastChange ∷ find_form ∷ assemble_form ∷ disassemble_form ∷ move_about_form ∷ demo_form ∷ []
 
--- what was found before, or what the first of these forms takes that takes all words
+-- the command found before, or that of the first form that takes all words
 abbrev pub first_of : Option Command → List Form → List (List ℕ) → Option Command
 first_of found [] words = found
 first_of found (f ∷ fs) words = first_of (option_or found (form_taken f words)) fs words

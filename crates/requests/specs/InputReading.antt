@@ -1,4 +1,4 @@
--- No public clause cites this file. What reading the inputs of a request comes to.
+-- No public clause cites this file. The outcome of reading the inputs of a request.
 use Rattle.std.specs.Prelude.{◌≡◌, ◌⊎◌, ℕ, ◌+◌, ◌≤◌, ◌++◌, List, [], ◌∷◌, length, take, nat_le, if◌then◌else◌, Option, Some}
 use Rattle.keepers.specs.Told.{Files, WhereTold}
 use Rattle.requests.specs.declared.ended.Ended.{Ended}
@@ -6,11 +6,11 @@ use Rattle.requests.specs.declared.inputs.Input as in_memory
 use Rattle.requests.specs.Inputs.{Input, names, contents, asked_count, FailsAtInput}
 use Rattle.requests.specs.Ending.{too_long as longer, no_memory}
 
--- an input that is wanted, as one in memory says it
+-- a wanted input, as one in memory has it
 abbrev pub input_of : in_memory.Input → Input
 input_of i = record { name = i.name.now; limit = i.limit }
 
--- the bytes of all inputs, or the number of the first that is too long, with its limit, or isn't there
+-- the bytes of all inputs, or the first that is missing or too long, with its limit
 pub data Reading : Type 0 where
   all : List (List ℕ) → Reading
   too_long : ℕ → ℕ → Reading
@@ -29,15 +29,15 @@ with_front front (all bytes) = all (front ++ bytes)
 with_front front (too_long place limit) = too_long place limit
 with_front front (not_there place) = not_there place
 
--- what reading comes to by what is there; inputs are counted on from `place`
+-- the outcome of reading, by what is there; inputs count on from `place`
 abbrev pub reading : ℕ → List Input → List (Option (List ℕ)) → Reading
 reading place [] given = all []
 reading place (i ∷ is) (Some bytes ∷ given) =
     if nat_le (length bytes) i.limit then with_front (bytes ∷ []) (reading (place + 1) is given) else too_long place i.limit
 reading place (i ∷ is) given = not_there place
 
--- Reading the inputs came to this: by what is there, where they tell what they tell. They were asked for up to the first
--- that stops it.
+-- Reading the inputs had this outcome, by what is there, if the inputs claim their content. They were asked for up to
+-- the first that stops it.
 pub record Reads (is : List Input) (told : Option Files) (before after : List (List ℕ)) (r : Reading) : Type 0 where
   pub given : List (Option (List ℕ))
   pub as_told : WhereTold told (λ files. given ≡ contents files is)

@@ -16,12 +16,12 @@ inputs_of c = flat_map inputs_named (operands c)
 abbrev pub names : List Input → List (List ℕ)
 names is = map (λ i. i.name) is
 
--- What is there under each name: its bytes, or nothing where there is no such input, which isn't the same as an empty one.
+-- What is there under each name: its bytes, or None if there is no such input. An empty input is something else.
 abbrev pub contents : Files → List Input → List (Option (List ℕ))
 contents files is = map (λ i. finmap.get files i.name) is
 
--- How many inputs are asked for: up to the first that isn't there or is longer than its limit. Each is read and measured
--- before the next is asked for.
+-- How many inputs are requested: up to the first that is missing or too long. Each is read and measured before the next
+-- is requested.
 abbrev pub asked_count : List Input → List (Option (List ℕ)) → ℕ
 asked_count [] given = 0
 asked_count (i ∷ is) (Some bytes ∷ given) = 1 + (if nat_le (length bytes) i.limit then asked_count is given else 0)
@@ -31,8 +31,8 @@ asked_count (i ∷ is) given = 1
 abbrev pub AreThere : Files → List Input → Type 0
 AreThere files is = AllByRecursion (λ i. IsSomeAnd (finmap.get files i.name) (λ bytes. length bytes ≤ i.limit)) is
 
--- An input can't be read: the ending has its number, counted from 1, so that one less is never cut off. It was asked for, and
--- those before it, which are there and within their limits where the inputs tell.
+-- An input can't be read. The ending has its number, counted from 1, so subtracting 1 doesn't truncate. It was asked
+-- for, and so were those before it. If the inputs claim their content, those are there and within their limits.
 pub record FailsAtInput (is : List Input) (told : Option Files) (e : Ended) (before after : List (List ℕ)) : Type 0 where
   pub ends : e ≡ unreadable e.place
   pub from_one : 0 < e.place

@@ -1,5 +1,5 @@
--- The kinds of operand of a command, a row each in the definitions below: how a value is spelled, when it may be spelled, within
--- which bounds its number has to be, and which input its name is that of. All that words, bounds and inputs say of a command follows
+-- The kinds of operand of a command, a row each in the definitions below. They say how a value is spelled, when it is
+-- allowed, its number's bounds, and which input it names. All that words, bounds and inputs say of a command follows
 -- from its operands.
 use Rattle.std.specs.Prelude.{◌≡◌, ◌≢◌, ℕ, ◌*◌, ◌<◌, ◌^◌, ◌++◌, List, [], ◌∷◌, length, codes, decimal, Option, None, Some}
 use Rattle.plan_types.specs.declared.limits.TheConstants.{MOST_STEPS}
@@ -14,22 +14,22 @@ pub record Input : Type 0 where
   pub name : List ℕ
   pub limit : ℕ
 
--- the schedule of a run: the one under a name, or the list of Revolve for the book, which is made on the way
+-- the schedule of a run: the one under a name, or Revolve's list, made during the call
 pub data Schedule : Type 0 where
   by_name : List ℕ → Schedule
   made : Schedule
 
--- what a number may be, and the rule that says so
+-- the bounds of a number, and their rule
 pub record Limit : Type 0 where
   pub least : ℕ
   pub greatest : ℕ
   pub rule : ℕ
 
--- An operand with its value. A kind that is added is a case here, and a row in each of the definitions below.
+-- An operand with its value. A new kind is a case here, and a row in each of the definitions below.
 pub data Operand : Type 0 where
   -- a word of the command itself
   the_word : List ℕ → Operand
-  -- the name of a program, of recorded input, which may be left out, and of a book; a schedule; the name of a certificate
+  -- the names of a program, of optional recorded input, of a book, of a schedule, and of a certificate
   a_program : List ℕ → Operand
   a_journal : Option (List ℕ) → Operand
   a_book : List ℕ → Operand
@@ -39,11 +39,11 @@ pub data Operand : Type 0 where
   run_steps : ℕ → Operand
   -- a number within limits
   a_number : Limit → ℕ → Operand
-  -- what is asked of a run of so many steps: the number of a state, or the address of a word in the machine's memory
+  -- the question about a run of so many steps: a state's number, or a word's address
   a_question : ℕ → Question → Operand
   -- a digest of 32 bytes
   a_digest : List ℕ → Operand
-  -- the name of a source of instructions, and of a program of raw words that are to be read
+  -- the name of a source of instructions, and of a program of raw words to be listed
   a_source : List ℕ → Operand
   some_words : List ℕ → Operand
   -- the name of a script of orders to a console
@@ -51,7 +51,7 @@ pub data Operand : Type 0 where
 
 -- ---- spelling
 
--- the word of a name that may be left out
+-- the word of an optional name
 abbrev pub word_or_dash : Option (List ℕ) → List ℕ
 word_or_dash (Some name) = name
 word_or_dash None = codes "-"
@@ -71,7 +71,7 @@ question_number (State place) = decimal place
 question_number (LastWrite address) = address_word address
 question_number (LastChange address) = address_word address
 
--- and so are other numbers; a digest is 64 lower-case hexadecimal digits, the high one of each byte first
+-- so are other numbers; a digest is 64 lower-case hexadecimal digits, the high one of each byte first
 abbrev pub word_of : Operand → List ℕ
 word_of (the_word text) = text
 word_of (a_program name) = name
@@ -87,7 +87,7 @@ word_of (a_source name) = name
 word_of (some_words name) = name
 word_of (a_script name) = name
 
--- ---- what may be spelled
+-- ---- allowed values
 
 -- A name is any word that isn't empty. The name of a schedule isn't the word @revolve, which has a meaning of its own.
 abbrev pub IsName : List ℕ → Type 0
@@ -100,7 +100,7 @@ abbrev pub CanBeGiven : Schedule → Type 0
 CanBeGiven (by_name name) = IsScheduleName name
 CanBeGiven made = Unit {0}
 
--- a name that may be left out isn't the word for that
+-- an optional name isn't the word for none
 abbrev pub MayBeNamed : Option (List ℕ) → Type 0
 MayBeNamed (Some name) = IsName name × (name ≢ codes "-")
 MayBeNamed None = Unit {0}
@@ -151,11 +151,11 @@ steps_limit = record { least = 0; greatest = MOST_STEPS; rule = 1 }
 abbrev pub instructions_limit : Limit
 instructions_limit = record { least = 0; greatest = MOST_STEPS; rule = 13 }
 
--- rule 6: a state is one of the run, of which this is the last
+-- rule 6: a state is one of the run, up to this last one
 abbrev pub place_limit : ℕ → Limit
 place_limit last = record { least = 0; greatest = last; rule = 6 }
 
--- rule 7: behind an address three more have to be
+-- rule 7: an address must have three more after it
 abbrev pub address_limit : Limit
 address_limit = record { least = 0; greatest = 4294967292; rule = 7 }
 
@@ -180,7 +180,7 @@ bounds_of unit (a_source name) = []
 bounds_of unit (some_words name) = []
 bounds_of unit (a_script name) = []
 
--- the product of a number and the unit, where it has bounds of its own
+-- the product of a number and the unit, if it has its own bounds
 abbrev pub products_of : (unit : ℕ) → Operand → List Bounded
 products_of unit (run_steps n) = within instructions_limit (unit * n) ∷ []
 products_of unit _ = []

@@ -1,8 +1,8 @@
--- What the readers compute, as functions on lists: what stands at the front of the bytes, and the bytes after it.
+-- What the readers compute, as functions on lists: a value at the front, and the bytes after it.
 use Rattle.std.specs.Prelude.{◌≡◌, ℕ, ◌+◌, ◌-◌, ◌*◌, ◌≤◌, ◌==◌, ◌++◌, nat_lt, Bool, false, List, [], ◌∷◌, Option, Some, None, if◌then◌else◌, decimal}
 use Rattle.std.specs.Char.{is_ascii_digit}
 
--- what a function returned, seen by view, is what reading gives
+-- a function's result, seen through `view`, is what reading gives
 abbrev pub Gives : {X Y : Type 0} → (X → Y) → Option X → Option Y → Type 0
 Gives view (Some x) read = read ≡ Some (view x)
 Gives view None read = read ≡ None
@@ -11,14 +11,14 @@ abbrev pub starts_with_digit : List ℕ → Bool
 starts_with_digit [] = false
 starts_with_digit (c ∷ cs) = is_ascii_digit c
 
--- n is at most limit, its decimal digits stand at the front of the bytes, and no digit stands at the front of the rest
+-- n is at most limit, the bytes begin with its decimal digits, and no digit follows
 pub record IsNumberAt (limit : ℕ) (bytes : List ℕ) (n : ℕ) (rest : List ℕ) : Type 0 where
   pub small : n ≤ limit
   pub text : bytes ≡ decimal n ++ rest
   pub whole : starts_with_digit rest ≡ false
 
--- The number that n and the digits at the front of the bytes make, unless it is over the limit. A digit is 48 at least, so that
--- its value is never cut off.
+-- The number of n followed by the digits at the front. None above the limit. A digit is 48 at least, so that the
+-- subtraction doesn't truncate.
 unfoldable pub digits_at : ℕ → ℕ → List ℕ → Option (ℕ × List ℕ)
 digits_at limit n [] = Some (n, [])
 digits_at limit n (c ∷ cs) =
@@ -41,7 +41,7 @@ abbrev pub ◌>>=◌ : {A B : Type 0} → Option A → (A → Option B) → Opti
 None >>= f = None
 (Some x) >>= f = f x
 
--- what f says of the value, or the other where there is none
+-- f of the value, or the other if there is none
 abbrev pub with_or : {A B : Type 0} → Option A → (A → B) → B → B
 with_or None f other = other
 with_or (Some x) f other = f x

@@ -1,5 +1,5 @@
--- What the words of a command line ask for: a request, which is a value, and its one spelling. It is options, in the order
--- of the words, and a command behind them:
+-- What the words of a command line ask for: a request, which is a value, and its only spelling. A request has options,
+-- in the order of the words, and a command after them:
 --     run PROGRAM JOURNAL BOOK SCHEDULE|@revolve N
 --     plan revolve BOOK N
 --     plan multistage BOOK N
@@ -30,8 +30,9 @@ use Rattle.requests.specs.Operands.{Schedule, by_name, Limit, Operand, the_word,
 
 -- ---- options
 
--- That the program is raw words, how many pages the stack has, how many workers share the work, how many instructions a step of a
--- schedule is, and that a level's images are kept in files of a folder. An option that is added is a case here, and in each definition by cases on options.
+-- The options. The program is raw words. The stack has so many pages. So many workers share the work. A step of a
+-- schedule is so many instructions. A level's images are kept in files of a folder. A new option is a case here and in
+-- each definition by cases on options.
 pub data Choice : Type 0 where
   raw : Choice
   stack : (pages : ℕ) → Choice
@@ -39,7 +40,7 @@ pub data Choice : Type 0 where
   units : (count : ℕ) → Choice
   files : (level : ℕ) → (folder : List ℕ) → Choice
 
--- what stands before the name of the folder
+-- the text before the name of the folder
 abbrev pub files_front : ℕ → List ℕ
 files_front level = codes "--files=" ++ decimal level ++ codes ":"
 
@@ -88,7 +89,8 @@ is_files level (files k folder) = level == k
 
 -- ---- commands
 
--- A run of a program that a list goes over: the names of the inputs, and the number of steps. Without a name there is no recorded input.
+-- A run that a list goes over: the names of the inputs, and the number of steps. Without a name there is no recorded
+-- input.
 pub record Run : Type 0 where
   pub program : List ℕ
   pub journal : Option (List ℕ)
@@ -100,13 +102,13 @@ pub record Backward : Type 0 where
   pub run : Run
   pub schedule : Schedule
 
--- to write a list of this kind for a book and a number of steps, and its certificate, if it has one
+-- to write a list of this kind for a book and so many steps, and its certificate, if any
 pub record PlanFor : Type 0 where
   pub kind : PlanKind
   pub book : List ℕ
   pub steps : ℕ
 
--- to write the periodic list for a book and a number of steps, with an image on the slow level every so many steps
+-- to write the periodic list for a book and a number of steps, with a period
 pub record PlanPeriodic : Type 0 where
   pub book : List ℕ
   pub steps : ℕ
@@ -118,14 +120,14 @@ pub record Check : Type 0 where
   pub schedule : List ℕ
   pub steps : ℕ
 
--- to show by a certificate that a schedule is the least: of all valid lists by its forward steps, or of its class by its cost
+-- to show by a certificate that a schedule is the least: of all valid lists, or of its class
 pub record Certify : Type 0 where
   pub book : List ℕ
   pub schedule : List ℕ
   pub certificate : List ℕ
   pub steps : ℕ
 
--- to tell what a schedule costs, for a book and a number of steps
+-- to print what a schedule costs, for a book and a number of steps
 pub record Price : Type 0 where
   pub book : List ℕ
   pub schedule : List ℕ
@@ -160,13 +162,13 @@ pub record MoveAbout : Type 0 where
   pub script : List ℕ
   pub steps : ℕ
 
--- to run a program that is made from a number backward by the list of Revolve, with so many slots of memory
+-- to run a program made from a number backward, by Revolve's list with so many slots of memory
 pub record Demo : Type 0 where
   pub number : ℕ
   pub steps : ℕ
   pub slots : ℕ
 
--- A command that is added is a case here, and a row in `operands`.
+-- A new command is a case here, and a row in `operands`.
 pub data Command : Type 0 where
   run : Backward → Command
   plan : PlanFor → Command
@@ -194,8 +196,8 @@ question_word (State place) = codes "state"
 question_word (LastWrite address) = codes "last-write"
 question_word (LastChange address) = codes "last-change"
 
--- The limits of numbers. Rule 1 is the number of steps, 2 a period, 10 a number of slots, and 11 the number that a program is made
--- from, which has 32 bits.
+-- The limits of numbers. Rule 1 is the number of steps, 2 a period, and 10 a number of slots. Rule 11 is the number
+-- that a program is made from, which has 32 bits.
 
 -- plans over costs are read from tables, which are kept small
 abbrev pub plan_limit : PlanKind → Limit
@@ -241,7 +243,7 @@ operands (demo c) = the_word (codes "demo") ∷ a_number seed_limit c.number ∷
 abbrev pub command_words : Command → List (List ℕ)
 command_words c = map word_of (operands c)
 
--- the names and numbers of a command may stand among its words
+-- the names and numbers of a command are allowed among its words
 abbrev pub CanBeSpelled : Command → Type 0
 CanBeSpelled c = AllByRecursion CanStand (operands c)
 
@@ -255,7 +257,7 @@ pub record Request : Type 0 where
 abbrev pub spelling : Request → List (List ℕ)
 spelling r = map option_word r.options ++ command_words r.command
 
--- the number of an option, and the name of its folder, may stand in its word
+-- an option's number, and its folder's name, are allowed in its word
 abbrev pub FitsWord : Choice → Type 0
 FitsWord raw = Unit {0}
 FitsWord (stack pages) = IsNumber pages
@@ -263,7 +265,7 @@ FitsWord (workers count) = IsNumber count
 FitsWord (units count) = IsNumber count
 FitsWord (files level folder) = IsNumber level × IsName folder
 
--- each option stands at most once, and that of files once for each level
+-- each option occurs at most once, and that of files once for each level
 pub record AreOptions (options : List Choice) : Type 0 where
   pub one_raw : count_by is_raw options ≤ 1
   pub one_stack : count_by is_stack options ≤ 1
@@ -272,7 +274,7 @@ pub record AreOptions (options : List Choice) : Type 0 where
   pub one_folder : (level : ℕ) → count_by (is_files level) options ≤ 1
   pub fit : AllByRecursion FitsWord options
 
--- the words say this request
+-- the words mean this request
 pub record Says (words : List (List ℕ)) (r : Request) : Type 0 where
   pub spelled : words ≡ spelling r
   pub options : AreOptions r.options
@@ -282,13 +284,13 @@ pub record Says (words : List (List ℕ)) (r : Request) : Type 0 where
 abbrev pub words_of : Words → List (List ℕ)
 words_of w = map (λ word. word.items) w.list.items
 
--- ---- what the options come to
+-- ---- the meaning of options
 
 -- whether the program is raw words
 abbrev pub says_raw : List Choice → Bool
 says_raw options = list_any is_raw options
 
--- how many pages the stack has: 16 where nothing is said
+-- the number of the stack's pages: 16 by default
 abbrev pub stack_pages : List Choice → ℕ
 stack_pages [] = 16
 stack_pages (raw ∷ options) = stack_pages options
@@ -297,7 +299,7 @@ stack_pages (workers count ∷ options) = stack_pages options
 stack_pages (units count ∷ options) = stack_pages options
 stack_pages (files level folder ∷ options) = stack_pages options
 
--- how many workers share the work: one where nothing is said
+-- the number of workers: one by default
 abbrev pub worker_count : List Choice → ℕ
 worker_count [] = 1
 worker_count (raw ∷ options) = worker_count options
@@ -306,7 +308,7 @@ worker_count (workers count ∷ options) = count
 worker_count (units count ∷ options) = worker_count options
 worker_count (files level folder ∷ options) = worker_count options
 
--- how many instructions a step of a schedule is: one where nothing is said
+-- the number of instructions in a step of a schedule: one by default
 abbrev pub unit_count : List Choice → ℕ
 unit_count [] = 1
 unit_count (raw ∷ options) = unit_count options

@@ -1,4 +1,4 @@
--- No public clause cites this file. The request that the reader of words gives, and the request that one in memory is.
+-- No public clause cites this file. The request that the reader of words returns, and the request of one in memory.
 use Rattle.std.specs.Prelude.{ℕ, ◌*◌, if◌then◌else◌, List, [], ◌∷◌, Option, None, Some}
 use Rattle.std.specs.Option.{option_map}
 use Rattle.requests.specs.declared.request.Run as run_in_memory
@@ -27,14 +27,14 @@ use Rattle.requests.specs.Forms.{command_of}
 use Rattle.requests.specs.Request.{Run, Backward, PlanFor, PlanPeriodic, Check, Certify, Price, Ask, Find, Assemble, Disassemble, MoveAbout, Demo, Command, run, plan, plan_periodic, check, certify, price, ask, find, assemble, disassemble, move_about, demo, Request}
 use Rattle.requests.specs.ChoiceReading.{options_at, behind_options, are_single}
 
--- the numbers of a run of so many steps, each of them a unit, and of a question about one
+-- the numbers of a run of so many steps, each a unit, and of a question about one
 abbrev pub run_numbers : (unit steps : ℕ) → List Bounded
 run_numbers unit steps = within steps_limit steps ∷ within instructions_limit (unit * steps) ∷ []
 
 abbrev pub asked_numbers : (unit steps : ℕ) → Question → List Bounded
 asked_numbers unit steps question = within steps_limit steps ∷ question_bound (unit * steps) question ∷ within instructions_limit (unit * steps) ∷ []
 
--- the request that the words say
+-- the request that the words mean
 unfoldable pub request_read : List (List ℕ) → Option Request
 request_read words =
     if are_single (options_at words)

@@ -5,7 +5,7 @@ ghost use Rattle.requests.specs.Bounds.{IsWithin, out_of_bounds, RefusesFirst};
 
 use crate::ended::Ended;
 
-/// A number of a request, with the least and the greatest that are accepted, and the number of the rule that says so.
+/// A number of a request, its least and greatest accepted values, and the number of its rule.
 #[derive(Clone, Copy, Debug)]
 pub struct Bounded {
     pub number: u64,
@@ -21,7 +21,7 @@ impl Bounded {
         self.least <= self.number && self.number <= self.greatest
     }
 
-    // How a call ends that is refused for this number.
+    // How a call ends for this number.
     fn refusal(&self) -> Ended
         ensures { result ≡ out_of_bounds self.now }
     {
@@ -34,7 +34,7 @@ impl Bounded {
     }
 }
 
-/// How a call ends for the first of these numbers that is outside its bounds.
+/// How a call ends for the first of these numbers that is out of bounds.
 pub fn first_outside(numbers: &[Bounded]) -> Option<Ended>
     ensures { MatchOption result (AllByRecursion IsWithin numbers.now) (RefusesFirst numbers.now) }
 {

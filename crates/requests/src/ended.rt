@@ -15,22 +15,22 @@ use rv_asm::AsmFault;
 use std::alloc::{AllocError, AllocFailed};
 use table_clauses::Entry;
 
-/// How a call ended. In the endings of the top call, numbers that a status doesn't name are 0, and so are the bytes of
-/// digests.
+/// How a call ended. Numbers and digests that a status doesn't name are 0 in the endings of the top call.
 #[derive(Clone, Copy, Debug, PartialEq, Eq)]
 pub struct Ended {
-    /// 0 Done, 2 Words, 3 Input, 4 Program, 5 Journal, 6 Book, 7 Text, 8 Invalid, 9 Certificate, 10 Limit, 11 NoPlan,
-    /// 12 Keeper, 13 Damaged, 14 Sink, 15 NotLeast, 16 NoKeeper, 17 Memory, 19 Source, 20 Script.
+    /// 0 Done, 2 Words, 3 Input, 4 Program, 5 Journal, 6 Book, 7 Text, 8 Invalid, 9 Certificate. 10 Limit, 11 NoPlan,
+    /// 12 Keeper, 13 Damaged, 14 Sink, 15 NotLeast. 16 NoKeeper, 17 Memory, 19 Source, 20 Script.
     pub status: u8,
-    /// The number of the input for 3; what the fault names for 4 and 6; the fault's place in bytes for 5; the line for 7, 9, 19
-    /// and 20; the action for 8, and the action or the order for 12 to 14; the number, or that of the input, for 10; the steps for 11; the number of levels for
-    /// rule 1 of status 16, and the level for rule 2; the forward steps or the cost of the list for rule 4 of status 15.
+    /// By status. 3: the input's number. 4 and 6: what the fault names. 5: the fault's place in bytes. 7, 9, 19 and 20:
+    /// the line. 8: the action. 10: the number, or that of the input. 11: the steps. 12 to 14: the action or the order.
+    /// 15, rule 4: the forward steps or the cost of the list. 16: the number of levels for rule 1, and the level for
+    /// rule 2.
     pub place: u64,
-    /// The second segment for rule 7 of status 4, the column for 7, 9, 19 and 20, the level for rule 4 of status 8, the passed bound
-    /// for 10, the room of the book for 11, the level for 12 and 13, the number of keepers for rule 1 of status 16, and of the
-    /// keeper's slots for rule 2; the number that they differ from for rule 4 of status 15.
+    /// By status. 4, rule 7: the second segment. 7, 9, 19 and 20: the column. 8, rule 4: the level. 10: the bound that
+    /// was passed. 11: the room of the book. 12 and 13: the level. 15, rule 4: the number that the list's differs from.
+    /// 16: the number of keepers for rule 1, and of the keeper's slots for rule 2.
     pub more: u64,
-    /// The rule for 4 to 11, 15, 16, 19 and 20.
+    /// The number of the rule for 4 to 11, 15, 16, 19 and 20.
     pub rule: u16,
     /// The entry at which a certificate fails first, for rule 3 of status 15.
     pub entry: Entry,
@@ -40,7 +40,7 @@ pub struct Ended {
     pub got: [u8; 32],
 }
 
-// What stands for an entry that a status doesn't name.
+// The entry for statuses that don't name one.
 const NO_ENTRY: Entry = Entry {
     table: 0,
     level: 0,
@@ -49,7 +49,7 @@ const NO_ENTRY: Entry = Entry {
     clause: 0,
 };
 
-// What stands for a digest that a status doesn't name.
+// The digest for statuses that don't name one.
 const NO_DIGEST: [u8; 32] = [0; 32];
 
 impl Ended {
@@ -82,7 +82,7 @@ impl Ended {
         Ended::at(0, 0)
     }
 
-    /// The words say no request.
+    /// The words mean no request.
     pub fn no_request() -> Ended
         ensures { result ≡ no_request }
     {
@@ -117,7 +117,7 @@ impl Ended {
         Ended::out_of_range(place, limit as u64, 8)
     }
 
-    /// There is no plan for so many steps with this room, by this rule.
+    /// So many steps have no plan with this room, by this rule.
     pub fn no_plan(steps: u32, room: u32, rule: u8) -> Ended
         ensures { result ≡ no_plan steps room rule }
     {
@@ -131,8 +131,8 @@ impl Ended {
         Ended::by(12, place, level as u64, 0)
     }
 
-    /// The keeper of this level gave bytes with the digest `got` in the action at this place, where an image with the digest
-    /// `put` had been put.
+    /// In the action at this place, this level's keeper gave bytes with the digest `got`. The image put there had the
+    /// digest `put`.
     pub fn damaged(place: u64, level: u8, put: &[u8; 32], got: &[u8; 32]) -> Ended
         ensures { result ≡ damaged place level put.now got.now }
     {
@@ -166,14 +166,14 @@ impl Ended {
         Ended::by(16, levels as u64, keepers, 1)
     }
 
-    /// The keeper of this level has too few slots, which are so many.
+    /// The keeper of this level has too few slots, namely so many.
     pub fn small_keeper(level: u8, slots: u32) -> Ended
         ensures { result ≡ small_keeper level slots }
     {
         Ended::by(16, level as u64, slots as u64, 2)
     }
 
-    /// The sink failed in the deed at this place.
+    /// The sink failed in the action or order at this place.
     pub fn stopped(place: u64) -> Ended
         ensures { result ≡ stopped place }
     {
@@ -326,9 +326,9 @@ impl From<ScriptFault> for Ended {
     }
 }
 
-/// Puts the text of an ending into a line, in place of what was there: nothing for status 0, and else `reversal: `, the
-/// status with its name, the place, the further number and the rule, the entry for rule 3 of status 15, and the two digests for
-/// status 13. It takes no memory.
+/// Replaces a line by the text of an ending. For status 0 it is empty. Otherwise it is `reversal: `, the status with
+/// its name, the place, the further number and the rule. The entry follows for rule 3 of status 15, and the two digests
+/// for status 13. It takes no memory.
 pub fn ended_text(ended: &Ended, line: &mut Line)
     ensures { line.new ≡ text_of_ended ended.now }
 {
@@ -411,7 +411,6 @@ pub fn push_digest(line: &mut Line, digest: &[u8; 32])
     line.push(&digits);
 }
 
-// The name of a status.
 fn name_of(status: u8) -> &'static [u8]
     ensures name { result.now ≡ status_name status }
     ensures short { length result.now ≤ 11 }

@@ -46,7 +46,7 @@ enum Refusal {
     Memory,
 }
 
-// An input of each kind.
+// The inputs of each kind.
 fn program_input(name: &[u8]) -> Input<'_>
     ensures { input_of result ≡ program_input name.now }
 {
@@ -119,8 +119,8 @@ fn script_input(name: &[u8]) -> Input<'_>
     }
 }
 
-/// Reads the inputs of a command in the order of the words. One that can't be read, or is longer than its limit, is
-/// refused before the next is asked for.
+/// Reads the inputs of a command in the order of the words. If one can't be read or is too long, it is refused, and the
+/// later ones aren't read.
 pub fn read_inputs<I: Inputs>(
     alloc: Global,
     command: &Command<'_>,
@@ -168,7 +168,7 @@ pub fn read_inputs<I: Inputs>(
     }
 }
 
-// The same for a run by a schedule, which is read where it has a name.
+// Reads the inputs of a run by a schedule, which is read if it has a name.
 fn read_run_inputs<I: Inputs>(
     alloc: Global,
     run: &Run<'_>,
@@ -202,7 +202,7 @@ fn read_run_inputs<I: Inputs>(
     }
 }
 
-// The same for the search of a run.
+// Reads the inputs of a search of a run.
 fn read_find_inputs<I: Inputs>(
     alloc: Global,
     find: &Find<'_>,
@@ -223,7 +223,7 @@ fn read_find_inputs<I: Inputs>(
     }
 }
 
-// The same for a run that is moved about in.
+// Reads the inputs of a console over a run.
 fn read_move_about_inputs<I: Inputs>(
     alloc: Global,
     about: &MoveAbout<'_>,
@@ -277,7 +277,6 @@ fn read_all<I: Inputs>(
     Ok(read)
 }
 
-// Reads one input.
 fn read_input<I: Inputs>(
     alloc: Global,
     input: &Input<'_>,

@@ -1,4 +1,4 @@
-// The kinds of plans that are made by name.
+// The kinds of plans that have a name.
 /// Which list a plan has.
 #[derive(Clone, Copy, Debug)]
 pub enum PlanKind {

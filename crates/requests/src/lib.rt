@@ -1,7 +1,15 @@
-//! What the words of a call ask for, what is read for it, and how a call ends. It knows nothing of runs and of schedules;
-//! `reversal`, above it, decides what a request comes to and does it. The files of `specs/` are to be read in this order:
-//! `Operands` (their kinds), `Request` (what the words say), `Bounds` (its numbers), `Places` (where images are kept),
-//! `Inputs` (what is read), and `Ending`.
+//! What the words of a call ask for, what is read for it, and how a call ends. It uses `level_book`, `reverse_console`
+//! and many more, for their types and faults. `reversal` and `reversal_program` use it. `reversal` decides about a
+//! request and performs it.
+//!
+//! Read `specs/` in this order:
+//!
+//! - `Operands`: the kinds of operand.
+//! - `Request`: what the words mean.
+//! - `Bounds`: the numbers of a request.
+//! - `Places`: where images are kept.
+//! - `Inputs`: what is read.
+//! - `Ending`: how a call ends.
 #![tactic(auto)]
 
 mod bounds;

@@ -2,7 +2,7 @@
 ghost use Rattle.std.specs.Prelude.{ℕ, List, IfSome, IfNone};
 ghost use Rattle.requests.specs.Reading.{Gives, IsNumberAt, digits_at, number_at};
 
-// The number that the digits at the front of the bytes make, and the bytes after them.
+// The number of the digits at the front of the bytes, and the bytes after them.
 #[tactic(auto, unfolding(crate::specs::Reading::digits_at))]
 fn digits(bytes: &[u8], limit: u64) -> Option<(u64, &[u8])>
     ensures { Gives (λ x. (x.0, x.1.now)) result (digits_at limit 0 bytes.now) }
@@ -20,7 +20,7 @@ fn digits(bytes: &[u8], limit: u64) -> Option<(u64, &[u8])>
     Some((n, rest))
 }
 
-// The same, without a leading zero.
+// The number at the front of the bytes, written without a leading zero, and the bytes after it.
 #[tactic(auto, unfolding(crate::specs::Reading::number_at))]
 fn number(bytes: &[u8], limit: u64) -> Option<(u64, &[u8])>
     ensures { Gives (λ x. (x.0, x.1.now)) result (number_at limit bytes.now) }
@@ -33,13 +33,13 @@ fn number(bytes: &[u8], limit: u64) -> Option<(u64, &[u8])>
     }
 }
 
-/// The number in decimal digits, without a sign or a leading zero, at the front of the bytes, and the bytes after it.
-/// It takes the longest run of digits, and is none if that says more than the limit.
+/// The decimal number at the front of the bytes, and the bytes after it. It has no sign and no leading zero. It takes
+/// the longest run of digits, and is None above the limit.
 pub fn decimal_at(bytes: &[u8], limit: u64) -> Option<(u64, &[u8])>
     ensures found { IfSome result (λ x. IsNumberAt limit bytes.now x.0 x.1.now) }
     ensures none { IfNone result ((n : ℕ) (rest : List ℕ) → IsNumberAt limit bytes.now n rest → ⊥) }
 
-    // Which number and rest it is, as a function on lists.
+    // The number and the rest, as a function on lists.
     ensures gives { Gives (λ x. (x.0, x.1.now)) result (number_at limit bytes.now) }
 {
     number(bytes, limit)

@@ -1,4 +1,4 @@
-// The words of a command, taken one after the other.
+// The words of a command, read one after the other.
 ghost use Rattle.std.specs.Prelude.{◌≡◌, ◌⊎◌, ℕ, List, ◌∷◌, [], map, None, Some, MatchOption, option_map};
 ghost use Rattle.requests.specs.Reading.{Gives};
 ghost use Rattle.requests.specs.RequestReading.{as_schedule};
@@ -10,7 +10,7 @@ use crate::schedule::Schedule;
 use crate::text::after;
 use std::marker::Model;
 
-/// The words of a command that are still to be taken, until one is not what it has to be. From then on nothing is taken.
+/// The words of a command still to be read, up to the first that doesn't fit. After that nothing is read.
 #[derive(Drop)]
 pub struct Operands<'a> {
     rest: Option<&'a [Vec<u8>]>,
@@ -33,7 +33,7 @@ impl<'a> Operands<'a> {
         Operands { rest: Some(words) }
     }
 
-    // The next word. Where there is none, nothing is taken any more.
+    // The next word. If there is none, nothing more is read.
     fn next(&mut self) -> Option<&'a [u8]>
         ensures { MatchOption result ((self.new ≡ None) × ((self.old ≡ None) ⊎ (self.old ≡ Some []))) (λ word. (words : List (List ℕ))
             × ((self.old ≡ Some (word.now ∷ words)) × (self.new ≡ Some words))) }
@@ -50,7 +50,7 @@ impl<'a> Operands<'a> {
         }
     }
 
-    /// Takes this very word.
+    /// Reads exactly this word.
     #[tactic(auto, unfolding(crate::specs::Forms::front_taken))]
     pub fn word(&mut self, text: &[u8])
         ensures { Takes (fixed text.now) self.old tt self.new }
@@ -60,7 +60,7 @@ impl<'a> Operands<'a> {
         }
     }
 
-    /// Takes the name of an input.
+    /// Reads the name of an input.
     #[tactic(auto, unfolding(crate::specs::Forms::front_taken))]
     pub fn name(&mut self) -> &'a [u8]
         ensures { Takes named self.old result.now self.new }
@@ -74,7 +74,7 @@ impl<'a> Operands<'a> {
         }
     }
 
-    /// Takes the name of an input that may be left out.
+    /// Reads the name of an input, or the word for none.
     #[tactic(auto, unfolding(crate::specs::Forms::front_taken))]
     pub fn name_or_dash(&mut self) -> Option<&'a [u8]>
         ensures { Takes named_or_none self.old (option_map (λ name. name.now) result) self.new }
@@ -89,7 +89,7 @@ impl<'a> Operands<'a> {
         }
     }
 
-    /// Takes the name of a schedule.
+    /// Reads the name of a schedule.
     #[tactic(auto, unfolding(crate::specs::Forms::front_taken))]
     pub fn schedule_name(&mut self) -> &'a [u8]
         ensures { Takes schedule_named self.old result.now self.new }
@@ -103,7 +103,7 @@ impl<'a> Operands<'a> {
         }
     }
 
-    /// Takes the schedule of a run: its name, or the word for the list of Revolve.
+    /// Reads the schedule of a run: its name, or the word for Revolve's list.
     #[tactic(auto, unfolding(crate::specs::Forms::front_taken))]
     pub fn schedule(&mut self) -> Schedule<'a>
         ensures { Takes scheduled self.old (as_schedule result) self.new }
@@ -118,7 +118,7 @@ impl<'a> Operands<'a> {
         }
     }
 
-    /// Takes a number.
+    /// Reads a number.
     #[tactic(auto, unfolding(crate::specs::Forms::front_taken))]
     pub fn number(&mut self) -> u64
         ensures { Takes numbered self.old result self.new }
@@ -132,7 +132,7 @@ impl<'a> Operands<'a> {
         }
     }
 
-    /// Takes an address.
+    /// Reads an address.
     #[tactic(auto, unfolding(crate::specs::Forms::front_taken))]
     pub fn address(&mut self) -> u32
         ensures { Takes addressed self.old result self.new }
@@ -146,7 +146,7 @@ impl<'a> Operands<'a> {
         }
     }
 
-    /// Takes a digest.
+    /// Reads a digest.
     #[tactic(auto, unfolding(crate::specs::Forms::front_taken))]
     pub fn digest(&mut self) -> [u8; 32]
         ensures { Takes digested self.old result self.new }
@@ -160,7 +160,7 @@ impl<'a> Operands<'a> {
         }
     }
 
-    /// The command that was taken, if each word was taken.
+    /// The command, if each word was read.
     pub fn finish(self, command: Command<'a>) -> Option<Command<'a>>
         ensures { result ≡ finished self.entry command.entry }
     {
@@ -171,7 +171,7 @@ impl<'a> Operands<'a> {
     }
 }
 
-// The digest that a word is.
+// The digest of a word of 64 digits.
 #[tactic(auto, unfolding(crate::specs::Forms::digest_of))]
 fn read_digest(word: &[u8]) -> Option<[u8; 32]>
     ensures { Gives (λ d. d) result (digest_of word.now) }
@@ -187,7 +187,7 @@ fn read_digest(word: &[u8]) -> Option<[u8; 32]>
     }
 }
 
-// The address that a word is.
+// The address of a word: `0x` and eight digits.
 #[tactic(auto, unfolding(crate::specs::Forms::address_of))]
 fn read_address(word: &[u8]) -> Option<u32>
     ensures { Gives (λ a. a) result (address_of word.now) }

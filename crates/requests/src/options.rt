@@ -25,7 +25,7 @@ pub enum Choice<'a> {
 }
 
 impl Choice<'_> {
-    // Whether the other is of the same kind, of which one may stand.
+    // Whether the other is of the same kind, which may occur once.
     fn is_like(&self, other: &Choice<'_>) -> bool
         ensures { result ≡ is_like (as_choice self.now) (as_choice other.now) }
     {
@@ -49,16 +49,16 @@ impl Choice<'_> {
     }
 }
 
-// How many pages the stack has where nothing is said.
+// The default number of the stack's pages.
 const STACK_PAGES: u64 = 16;
 
-// How many workers there are where nothing is said.
+// The default number of workers.
 const WORKERS: u64 = 1;
 
-// How many instructions a step of a schedule is where nothing is said.
+// The default number of instructions in a step of a schedule.
 const UNIT: u64 = 1;
 
-/// Options in the order of the words. They take no memory: they are the words, and are read again where they are asked for.
+/// Options in the order of the words. They take no memory: they are the words, and are read again for each question.
 #[derive(Debug, Drop)]
 pub struct Options<'a> {
     words: &'a [Vec<u8>],
@@ -75,14 +75,14 @@ impl<'a> Model for Options<'a> {
 }
 
 impl<'a> Options<'a> {
-    /// Words that they stand at the front of.
+    /// The words that begin with these options.
     pub fn words(&self) -> &'a [Vec<u8>]
         ensures { options_at (map (λ w. w.items) result.now) ≡ self.now }
     {
         self.words
     }
 
-    /// Whether none is of the kind of another.
+    /// Whether no two options are of one kind.
     pub fn are_single(&self) -> bool
         ensures { result ≡ are_single self.now }
     {
@@ -103,7 +103,7 @@ impl<'a> Options<'a> {
         has_like(self.words(), &Choice::Raw)
     }
 
-    /// How many pages the stack has.
+    /// The number of the stack's pages, 16 by default.
     pub fn stack_pages(&self) -> u64
         ensures { result ≡ stack_pages self.now }
     {
@@ -160,7 +160,7 @@ fn has_like(words: &[Vec<u8>], choice: &Choice<'_>) -> bool
     false
 }
 
-/// The number that a whole word is.
+/// The number that a whole word spells.
 #[tactic(auto, unfolding(crate::specs::ChoiceReading::number_of))]
 pub fn number_in(word: &[u8]) -> Option<u64>
     ensures { Gives (λ n. n) result (number_of word.now) }
@@ -169,7 +169,7 @@ pub fn number_in(word: &[u8]) -> Option<u64>
     if rest.is_empty() { Some(n) } else { None }
 }
 
-// The option of the stack, behind the text that it begins with.
+// The option of the stack, after its prefix.
 fn stack_in(text: &[u8]) -> Option<Choice<'_>>
     ensures { Gives as_choice result (stack_of text.now) }
 {
@@ -177,7 +177,7 @@ fn stack_in(text: &[u8]) -> Option<Choice<'_>>
     Some(Choice::Stack(pages))
 }
 
-// The option of the workers, likewise.
+// The option of the workers, after its prefix.
 fn workers_in(text: &[u8]) -> Option<Choice<'_>>
     ensures { Gives as_choice result (workers_of text.now) }
 {
@@ -185,7 +185,7 @@ fn workers_in(text: &[u8]) -> Option<Choice<'_>>
     Some(Choice::Workers(count))
 }
 
-// The option of units, likewise.
+// The option of units, after its prefix.
 fn unit_in(text: &[u8]) -> Option<Choice<'_>>
     ensures { Gives as_choice result (unit_of text.now) }
 {
@@ -193,7 +193,7 @@ fn unit_in(text: &[u8]) -> Option<Choice<'_>>
     Some(Choice::Unit(count))
 }
 
-// The option of a level's files, likewise.
+// The option of a level's files, after its prefix.
 fn files_in(text: &[u8]) -> Option<Choice<'_>>
     ensures { Gives as_choice result (files_of text.now) }
 {
@@ -227,7 +227,7 @@ fn choice_in(word: &[u8]) -> Option<Choice<'_>>
     files_in(text)
 }
 
-/// The option that the first word is, and the words behind it.
+/// The option that the first word is, and the words after it.
 pub fn next_option(words: &[Vec<u8>]) -> Option<(Choice<'_>, &[Vec<u8>])>
     ensures { Gives (λ x. (as_choice x.0, map (λ w. w.items) x.1.now)) result (first_choice (map (λ w. w.items) words.now)) }
 {
@@ -238,7 +238,7 @@ pub fn next_option(words: &[Vec<u8>]) -> Option<(Choice<'_>, &[Vec<u8>])>
     Some((choice, behind))
 }
 
-/// The options at the front of the words, and the words behind them.
+/// The options at the front of the words, and the words after them.
 pub fn read_options(words: &[Vec<u8>]) -> (Options<'_>, &[Vec<u8>])
     ensures options { result.0 ≡ options_at (map (λ w. w.items) words.now) }
     ensures behind { map (λ w. w.items) result.1.now ≡ behind_options (map (λ w. w.items) words.now) }

@@ -15,13 +15,12 @@ use crate::words::Words;
 #[derive(Clone, Copy, Debug, PartialEq, Eq)]
 pub enum KeepAt {
     Memory,
-    /// In files of a folder. Its name is the end of the word with this number, counted from 1, from this byte on, counted
-    /// from 0.
+    /// In files of a folder. Its name is the end of this word, counted from 1, from this byte on, counted from 0.
     Folder { word: u32, start: u32 },
 }
 
 impl KeepAt {
-    /// The name of the folder, of the words that this is a place of.
+    /// The name of the folder, from the words of this place.
     pub fn folder(self, words: &Words) -> Option<&[u8]>
         ensures { option_copied result ≡ folder_at (words_of words.now) self }
     {
@@ -35,13 +34,13 @@ impl KeepAt {
     }
 }
 
-/// Where the words ask for the images of the levels 0 to 3 to be kept. Words that are refused ask for nothing, and all are
-/// kept in memory. It takes no memory.
+/// Where the words ask to keep the images of levels 0 to 3. Refused words ask for nothing, and all images are kept in
+/// memory. It takes no memory.
 pub fn keeper_places(words: &Words) -> [KeepAt; 4]
     ensures asked { (r : ARequest) → Asks (words_of words.now) r → result ≡ places_of r.options }
     ensures refused { (e : Ended) → RefusesWords (words_of words.now) e → result ≡ all_in_memory }
 
-    // What stands there are the folders that the options say.
+    // The places have the folders that the options name.
     ensures folders { (r : ARequest) → Asks (words_of words.now) r →
         map (folder_at (words_of words.now)) result ≡ map (λ level. folder_said level r.options) levels }
 {
@@ -67,7 +66,7 @@ fn places(words: &[Vec<u8>]) -> [KeepAt; 4]
     ]
 }
 
-// Where a folder's name begins in its word: behind `--files=K:`, where K is a digit.
+// Where a folder's name begins in its word: after `--files=K:`, where K is a digit.
 const FOLDER_START: u32 = 10;
 
 // Where the images of this level are kept, by the options at the front of the words.

@@ -1,4 +1,4 @@
-// What is asked of a run.
+// Questions about a run.
 
 /// A question about a run.
 #[derive(Clone, Copy, Debug)]

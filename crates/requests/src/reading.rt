@@ -14,7 +14,7 @@ use crate::request::{
     PlanPeriodic, Price, Run,
 };
 
-/// The command that the words behind the options are.
+/// The command that the words after the options are.
 pub fn read_command(words: &[Vec<u8>]) -> Option<Command<'_>>
     ensures { Gives as_command result (command_of (map (λ w. w.items) words.now)) }
 {
@@ -56,7 +56,6 @@ fn read_run(words: &[Vec<u8>]) -> Option<Command<'_>>
     words.finish(Command::Run(Backward { run, schedule }))
 }
 
-// The word of a kind of plans.
 fn kind_word(kind: PlanKind) -> &'static [u8]
     ensures { result.now ≡ kind_word kind }
 {
@@ -142,7 +141,7 @@ fn read_price(words: &[Vec<u8>]) -> Option<Command<'_>>
     }))
 }
 
-// The words of a question before what it asks about: those that say which question it is, the run, and the schedule.
+// The first words of a question: its kind, the run, and the schedule.
 fn read_asked<'a>(words: &mut Operands<'a>, word: &[u8]) -> (Run<'a>, &'a [u8])
     ensures { (p : Place) (v : Value p) (last : Option (List (List ℕ))) → Takes p words.new v last → TakesAll (ask_places word.now p) words.old
         (tt, (tt, (result.0.program.now, (option_map (λ name. name.now) result.0.journal, (result.0.book.now, (result.1.now, (result.0.steps, (v, tt)))))))) last }

@@ -20,7 +20,7 @@ use plan_types::{MOST_SLOTS, MOST_STEPS};
 // The address of the last word in the machine's memory.
 const LAST_WORD: u64 = 0xffff_fffc;
 
-// The most instructions that a step of a schedule is.
+// The most instructions in a step of a schedule.
 const MOST_UNIT: u64 = 1024;
 
 /// What the words ask for.
@@ -35,7 +35,7 @@ pub struct Request<'a> {
 pub enum Command<'a> {
     /// To run a program backward.
     Run(Backward<'a>),
-    /// To write a list that is made here.
+    /// To write a list that is made during the call.
     Plan(PlanFor<'a>),
     /// To write the periodic list.
     PlanPeriodic(PlanPeriodic<'a>),
@@ -43,11 +43,11 @@ pub enum Command<'a> {
     Check(Check<'a>),
     /// To show that no list takes fewer forward steps.
     Certify(Certify<'a>),
-    /// To tell what a schedule costs.
+    /// To print what a schedule costs.
     Price(Price<'a>),
     /// To ask something of a run.
     Ask(Ask<'a>),
-    /// To find the last state of a run that has a digest.
+    /// To find the last state of a run with a digest.
     Find(Find<'a>),
     /// To write the instruction words that a source means.
     Assemble(Assemble<'a>),
@@ -55,7 +55,7 @@ pub enum Command<'a> {
     Disassemble(Disassemble<'a>),
     /// To move about in a run by the orders of a script.
     MoveAbout(MoveAbout<'a>),
-    /// To run a program that is made from a number.
+    /// To run a program made from a number.
     Demo(Demo),
 }
 
@@ -83,7 +83,7 @@ pub struct PlanFor<'a> {
     pub steps: u64,
 }
 
-/// To write the periodic list for a book and so many steps, with an image on the slow level every `period` steps.
+/// To write the periodic list for a book and so many steps. The slow level gets an image every `period` steps.
 #[derive(Clone, Copy, Debug)]
 pub struct PlanPeriodic<'a> {
     pub book: &'a [u8],
@@ -99,7 +99,7 @@ pub struct Check<'a> {
     pub steps: u64,
 }
 
-/// To show by a certificate that no list takes fewer forward steps than a schedule, for a book and so many steps.
+/// To show by a certificate that a schedule is the least, for a book and so many steps.
 #[derive(Clone, Copy, Debug)]
 pub struct Certify<'a> {
     pub book: &'a [u8],
@@ -108,7 +108,7 @@ pub struct Certify<'a> {
     pub steps: u64,
 }
 
-/// To tell what a schedule costs, for a book and so many steps.
+/// To print what a schedule costs, for a book and so many steps.
 #[derive(Clone, Copy, Debug)]
 pub struct Price<'a> {
     pub book: &'a [u8],
@@ -124,7 +124,7 @@ pub struct Ask<'a> {
     pub schedule: &'a [u8],
 }
 
-/// To find the last of the states of a run over so many steps whose image has this SHA-256.
+/// To find the last state of a run over so many steps whose image has this SHA-256.
 #[derive(Clone, Copy, Debug)]
 pub struct Find<'a> {
     pub program: &'a [u8],
@@ -145,7 +145,7 @@ pub struct Disassemble<'a> {
     pub program: &'a [u8],
 }
 
-/// To move about in a run of so many instructions by the orders of a script, with images at marks on the levels of a book.
+/// To move about in a run of so many instructions by the orders of a script. The levels of a book keep images at marks.
 #[derive(Clone, Copy, Debug)]
 pub struct MoveAbout<'a> {
     pub program: &'a [u8],
@@ -155,8 +155,7 @@ pub struct MoveAbout<'a> {
     pub steps: u64,
 }
 
-/// To run a program that is made from a number backward by the list of Revolve, over so many steps, with so many slots of
-/// memory.
+/// To run a program made from a number backward, by Revolve's list for so many steps and slots.
 #[derive(Clone, Copy, Debug)]
 pub struct Demo {
     pub number: u64,
@@ -188,7 +187,6 @@ fn workers_bound(count: u64) -> Bounded
     }
 }
 
-// The bounds of a unit.
 fn unit_bound(count: u64) -> Bounded
     ensures { result ≡ within unit_limit count }
 {
@@ -200,7 +198,6 @@ fn unit_bound(count: u64) -> Bounded
     }
 }
 
-// The bounds of a level.
 fn level_bound(level: u64) -> Bounded
     ensures { result ≡ within level_limit level }
 {
@@ -224,7 +221,7 @@ fn steps_bound(steps: u64) -> Bounded
     }
 }
 
-// The bounds of the instructions of a run that a list goes over.
+// The bounds of the number of instructions in a run that a list goes over.
 fn instructions_bound(instructions: u64) -> Bounded
     ensures { result ≡ within instructions_limit instructions }
 {
@@ -257,7 +254,6 @@ fn plan_bound(kind: PlanKind, steps: u64) -> Bounded
     }
 }
 
-// The bounds of a period.
 fn period_bound(period: u64) -> Bounded
     ensures { result ≡ within period_limit period }
 {
@@ -314,7 +310,7 @@ fn seed_bound(number: u64) -> Bounded
 }
 
 impl Request<'_> {
-    /// How a call ends for the first of the request's numbers that is outside its bounds.
+    /// How a call ends for the request's first number out of bounds.
     pub fn refusal(&self) -> Option<Ended>
         ensures { MatchOption result (AllByRecursion IsWithin (numbers (request_of self.now))) (RefusesFirst (numbers (request_of self.now))) }
     {
@@ -325,7 +321,7 @@ impl Request<'_> {
     }
 }
 
-// The same for the numbers of the options at the front of the words.
+// How a call ends for the first number out of bounds in the options.
 fn options_refusal(words: &[Vec<u8>]) -> Option<Ended>
     ensures { MatchOption result (AllByRecursion IsWithin (flat_map option_numbers (options_at (map (λ w. w.items) words.now))))
         (RefusesFirst (flat_map option_numbers (options_at (map (λ w. w.items) words.now)))) }
@@ -341,7 +337,7 @@ fn options_refusal(words: &[Vec<u8>]) -> Option<Ended>
 }
 
 impl Choice<'_> {
-    // The same for the number of an option.
+    // How a call ends if the number of this option is out of bounds.
     fn refusal(&self) -> Option<Ended>
         ensures { MatchOption result (AllByRecursion IsWithin (option_numbers (as_choice self.now))) (RefusesFirst (option_numbers (as_choice self.now))) }
     {
@@ -356,7 +352,7 @@ impl Choice<'_> {
 }
 
 impl Command<'_> {
-    // The same for the numbers of a command, whose steps are units of so many instructions.
+    // How a call ends for a command's first number out of bounds. Its steps are units of so many instructions.
     fn refusal(&self, unit: u64) -> Option<Ended>
         requires { unit ≤ 1024 }
         ensures { MatchOption result (AllByRecursion IsWithin (command_numbers unit (as_command self.now)))
@@ -384,7 +380,7 @@ impl Command<'_> {
     }
 }
 
-// The same for the steps of a run, each of them a unit.
+// How a call ends if the steps of a run are out of bounds. Each is a unit.
 fn run_refusal(unit: u64, steps: u64) -> Option<Ended>
     requires { unit ≤ 1024 }
     ensures { MatchOption result (AllByRecursion IsWithin (run_numbers unit steps)) (RefusesFirst (run_numbers unit steps)) }
@@ -395,7 +391,7 @@ fn run_refusal(unit: u64, steps: u64) -> Option<Ended>
     }
 }
 
-// The same for a question about such a run.
+// How a call ends if the numbers of a question about such a run are out of bounds.
 fn question_refusal(unit: u64, steps: u64, question: Question) -> Option<Ended>
     requires { unit ≤ 1024 }
     ensures { MatchOption result (AllByRecursion IsWithin (asked_numbers unit steps question)) (RefusesFirst (asked_numbers unit steps question)) }
@@ -409,7 +405,7 @@ fn question_refusal(unit: u64, steps: u64, question: Question) -> Option<Ended>
     }
 }
 
-/// The request that the words say, if they say one.
+/// The request that the words mean, if any.
 pub fn read_request(list: &[Vec<u8>]) -> Option<Request<'_>>
     ensures found { IfSome result (λ r. Says (map (λ w. w.items) list.now) (request_of r)) }
     ensures none { IfNone result ((r : ARequest) → Says (map (λ w. w.items) list.now) r → ⊥) }

@@ -1,7 +1,7 @@
 // A text at the front of the bytes.
 ghost use Rattle.requests.specs.Reading.{Gives, after_of};
 
-/// The bytes after this text, where it stands at the front.
+/// The bytes after this text, where it comes first.
 pub fn after<'a>(bytes: &'a [u8], text: &[u8]) -> Option<&'a [u8]>
     ensures { Gives (λ rest. rest.now) result (after_of text.now bytes.now) }
 {

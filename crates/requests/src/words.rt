@@ -1,6 +1,6 @@
 // The words of a command line.
 
-/// The words of a command line, without the name of the program. A word is any bytes.
+/// The words of a command line, without the program's name. A word is any bytes.
 #[derive(Drop)]
 pub struct Words {
     pub list: Vec<Vec<u8>>,

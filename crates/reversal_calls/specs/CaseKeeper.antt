@@ -1,4 +1,4 @@
--- What the keeper of a case counts, which is what its part does.
+-- What the keeper of a case counts: the counts of its part.
 use Rattle.std.specs.Prelude.{ℕ, Option, Some, None}
 use Rattle.keepers.specs.Told.{Images}
 use Rattle.reversal_calls.specs.declared.case_keeper.CaseKeeper.{CaseKeeper}

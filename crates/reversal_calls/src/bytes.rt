@@ -1,4 +1,4 @@
-// Bytes as a member of a case says them: a text, base64 in an object, or a text that is repeated.
+// Bytes as a member of a case gives them: a text, base64 in an object, or a repeated text.
 
 use base64::engine::general_purpose::STANDARD;
 use serde_json::{Value, json};
@@ -19,7 +19,7 @@ impl From<AllocError> for CaseFault {
     }
 }
 
-/// The bytes that a member says.
+/// The bytes of a member.
 pub fn bytes_of(alloc: Global, value: &Value) -> Result<Vec<u8>, CaseFault> {
     if let Some(text) = value.as_str() {
         return Ok(Vec::from_slice(alloc, text.as_bytes())?);
@@ -38,7 +38,7 @@ pub fn bytes_of(alloc: Global, value: &Value) -> Result<Vec<u8>, CaseFault> {
     }
 }
 
-// The same bytes so many times over.
+// So many copies of these bytes.
 fn repeated(alloc: Global, piece: &[u8], times: u64) -> Result<Vec<u8>, CaseFault> {
     let mut bytes = Vec::new(alloc);
     for _ in 0..times {
@@ -47,7 +47,7 @@ fn repeated(alloc: Global, piece: &[u8], times: u64) -> Result<Vec<u8>, CaseFaul
     Ok(bytes)
 }
 
-/// Bytes as a member says them.
+/// Bytes in the form of a member.
 pub fn value_of(alloc: Global, bytes: &[u8]) -> Result<Value, AllocError> {
     match str::from_utf8(bytes) {
         Ok(text) => json!(in alloc; text),

@@ -2,7 +2,7 @@
 
 use keepers::{FlipKeeper, KeepFault, Keeper, MemoryKeeper};
 
-/// A keeper in memory, of which listed calls fail, or one that gives a wrong bit.
+/// A keeper in memory with listed failing calls, or one that gives a wrong bit.
 #[derive(Drop)]
 pub enum CaseKeeper {
     Memory(MemoryKeeper),
@@ -18,7 +18,7 @@ impl CaseKeeper {
         }
     }
 
-    /// How many slots hold an image, where it tells.
+    /// How many slots hold an image, if it claims its content.
     pub fn filled(&self) -> Option<u32> {
         match self {
             CaseKeeper::Memory(keeper) => Some(keeper.filled()),

@@ -1,8 +1,8 @@
-//! Runs whole calls that stand in files, one JSON text a line, and tells for each file how many came as they had to, and how many of
-//! them came so over files too. A case has a name, words, inputs, what fails, and what has to come: `case.rt` reads the words, the
-//! inputs and what fails, `came.rt` tells what came, and `over_files.rt` makes the call again by the program, over disks in memory. It
-//! stands on `reversal` and `reversal_program`, whose contracts say what a call promises; what a case means is tested by the cases of
-//! `data/wrong.jsonl`, which have to differ. `docs/CASES.md` says how to add one.
+//! Runs whole calls from files, one JSON text a line, and prints for each file how many passed. It uses `reversal`,
+//! `reversal_program` and `memory_disk`. No crate uses it. It also prints how many passed over files too. A case has a
+//! name, words, inputs, failures, and the expected outcome. `case.rt` reads the words, the inputs and the failures.
+//! `came.rt` describes the outcome. `over_files.rt` repeats the call by the program, over disks in memory. The cases of
+//! `data/wrong.jsonl` must fail, which tests the reading of cases. `docs/CASES.md` says how to add one.
 #![tactic(auto)]
 
 ghost use Rattle.std.specs.Prelude.{◌≡◌, ◌<◌};
@@ -41,18 +41,18 @@ fn run_files<T: Threads + Sync>(threads: &T, rt: &HostRuntime) -> io::Result<()>
     Ok(())
 }
 
-/// How the case of a line came.
+/// The outcome of a line's case.
 #[derive(Clone, Copy, PartialEq, Eq)]
 enum Outcome {
-    /// Not as it had to.
+    /// Another outcome than expected.
     Failed,
-    /// As it had to. It isn't made over files.
+    /// The expected outcome. The case doesn't run over files.
     Passed,
-    /// As it had to, and over files too.
+    /// The expected outcome, over files too.
     PassedTwice,
 }
 
-// Runs the cases of a file, and tells how many came as they had to.
+// Runs the cases of a file, and prints how many passed.
 fn run_file<T: Threads + Sync>(threads: &T, rt: &HostRuntime, name: &str) -> io::Result<()> {
     let text = fs::read_to_string(rt, name)?;
     let mut outcomes = Vec::new(rt.alloc());
@@ -67,7 +67,7 @@ fn run_file<T: Threads + Sync>(threads: &T, rt: &HostRuntime, name: &str) -> io:
     println!(rt; "{name} {passed} passed, {failed} failed, {twice} over files too")
 }
 
-// Makes the call of a line, and where it came as it had to, makes it over files too.
+// Makes the call of a line. If it passes, makes it over files too.
 fn run_line<T: Threads + Sync>(
     threads: &T,
     rt: &HostRuntime,
@@ -135,7 +135,7 @@ fn run_again<T: Threads + Sync>(
     Ok(Outcome::PassedTwice)
 }
 
-// Whether each member came as it had to, and prints those that did not.
+// Whether each member is as expected, and prints those that aren't.
 fn all_came(
     rt: &HostRuntime,
     name: &str,
@@ -167,7 +167,7 @@ struct MemoryRun {
     out: MemorySink,
 }
 
-// What is seen of a call.
+// What a case sees of a call.
 fn seen_of(alloc: Global, called: &MemoryRun) -> Result<Seen<'_>, AllocError> {
     let mut keepers = Vec::new(alloc);
     for keeper in &called.keepers {
@@ -187,7 +187,7 @@ fn seen_of(alloc: Global, called: &MemoryRun) -> Result<Seen<'_>, AllocError> {
     })
 }
 
-// The one call.
+// Makes the call of a case.
 fn called<T: Threads + Sync, L: Ledger>(threads: &T, case: Case, blank: Blank) -> MemoryRun
     requires name { blank.name ≡ L.name }
     requires parts { blank.parts ≡ L.parts }

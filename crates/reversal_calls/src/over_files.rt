@@ -1,4 +1,4 @@
-// The call of a case made once more, by the program over disks in memory, where each level has its images in the files of a folder.
+// Repeats the call of a case by the program over disks in memory. Each level has its images in the files of a folder.
 ghost use Rattle.std.specs.Prelude.{◌≡◌, ◌<◌, ℕ, List, [], Some, IfOk, Vec};
 ghost use Rattle.std.specs.declared.alloc.Global.{Global as AGlobal};
 ghost use Rattle.std.specs.FinMap as finmap;
@@ -30,7 +30,7 @@ use std::thread::Threads;
 /// Calls of a disk that fail.
 type Failing = Vec<(DiskOp, u64)>;
 
-/// What the program is given: the words, a disk with the inputs, and which calls fail of the disk of each level.
+/// What the program gets: the words, a disk with the inputs, and the failing calls of each level's disk.
 #[derive(Drop)]
 pub struct FilesCase {
     pub alloc: Global,
@@ -39,7 +39,7 @@ pub struct FilesCase {
     pub failing: (Failing, Failing, Failing, Failing),
 }
 
-/// The words that say a folder for each level.
+/// The words that name a folder for each level.
 const FOLDERS: [&[u8]; 4] = [
     b"--files=0:images",
     b"--files=1:images",
@@ -47,13 +47,13 @@ const FOLDERS: [&[u8]; 4] = [
     b"--files=3:images",
 ];
 
-/// How long the words are that say which level an option is about.
+/// The length of the prefix that names an option's level.
 const FRONT: usize = 10;
 
 /// How many slots of a level are compared.
 const SLOTS: u32 = 64;
 
-/// The case over files. There is none where a case gives a bit wrong, lets a write fail, or bounds slots, rooms or the sink.
+/// The case over files. None if a case flips a bit, lets a write fail, or bounds slots, rooms or the sink.
 pub fn files_case_of(alloc: Global, value: &Value) -> Result<Option<FilesCase>, CaseFault> {
     let no_fails = Value::Null;
     let fails = value.get("fails").unwrap_or(&no_fails);
@@ -76,7 +76,7 @@ pub fn files_case_of(alloc: Global, value: &Value) -> Result<Option<FilesCase>, 
     }))
 }
 
-// The words, with a folder for each level of which they say none.
+// The words, with a folder for each level that has none.
 fn with_folders(alloc: Global, words: Words) -> Result<Words, CaseFault> {
     let mut list = Vec::new(alloc);
     for folder in FOLDERS {
@@ -134,7 +134,7 @@ fn op_of(value: &Value) -> Option<DiskOp> {
     }
 }
 
-/// The one call of the program. Each level begins empty and tells that it does, so it meets the premises of the theorem over files.
+/// The one call of the program. Each level begins empty and claims so, as the theorem over files requires.
 pub fn run_over_files<T: Threads + Sync, L: Ledger>(
     threads: &T,
     case: FilesCase,
@@ -170,7 +170,7 @@ pub fn run_over_files<T: Threads + Sync, L: Ledger>(
     program(threads, alloc, &words, disks, out, &mut steps)
 }
 
-/// What is seen of the program. The names that it asks for aren't noted.
+/// What a case sees of the program. The requested names aren't noted.
 pub fn seen_of_ran(alloc: Global, ran: &Ran<MemoryDisk, Vec<u8>>) -> Result<Seen<'_>, AllocError> {
     let keepers = seen_keepers(alloc, &ran.keepers)?;
     Ok(Seen {
@@ -209,7 +209,7 @@ fn seen_keeper(keeper: &AnyKeeper<MemoryDisk>) -> SeenKeeper {
     }
 }
 
-/// Whether the keepers of the program hold in each slot what those of the case hold there.
+/// Whether the keepers of the program and of the case hold equal images in each slot.
 pub fn hold_the_same(
     alloc: Global,
     in_memory: &mut [CaseKeeper],
@@ -240,8 +240,8 @@ fn have_same_images<A: Keeper, B: Keeper>(alloc: Global, one: &mut A, other: &mu
     true
 }
 
-// Gets the image of a slot, up to so many bytes, and says whether that was done. One call that is listed to fail may still be to
-// come, so it is tried twice.
+// Gets the image of a slot, up to so many bytes, and returns whether it did. One listed failure may still be to come,
+// so it tries twice.
 fn image_at<K: Keeper>(keeper: &mut K, slot: u32, most: u32, into: &mut Vec<u8>) -> bool {
     if slot >= keeper.slots() {
         return false;

@@ -1,5 +1,5 @@
-// What keepers and inputs over files do to the files of the system, of which no contract speaks: sizes at the pieces in which a
-// file is read, names that are no file, and what stands in the place of a slot's file.
+// What keepers and inputs do to files of the system, which no contract covers. Tested are sizes at the pieces of a
+// read, names without a file, and non-files as slots.
 ghost use Rattle.std.specs.Prelude.{◌≡◌, ◌<◌};
 
 use keepers::{
@@ -12,7 +12,7 @@ use std::os::unix::fs::symlink;
 use std::test::Fail;
 use std::{fs, io};
 
-// Calls of a keeper. Each says whether it did as it should.
+// Calls of a keeper. Each returns whether it did as it should.
 fn puts<K: Keeper>(keeper: &mut K, slot: u32, image: &[u8]) -> bool
     requires { slot < K.slot_count keeper.old }
     ensures { K.slot_count keeper.new ≡ K.slot_count keeper.old }
@@ -43,7 +43,7 @@ fn fails<K: Keeper>(keeper: &mut K, slot: u32, into: &mut Vec<u8>) -> bool
         && keeper.free(slot) == Err(KeepFault::Failed)
 }
 
-// So many bytes, of which no two pieces are alike.
+// So many bytes in which no two pieces are equal.
 fn bytes(alloc: Global, count: u32) -> Result<Vec<u8>, AllocError> {
     (0..count).map(|i| (i % 251) as u8).collect(alloc)
 }
@@ -152,7 +152,7 @@ fn what_is_no_file_is_left_as_it_is(rt: HostRuntime) -> Result<(), Fail> {
     Ok(())
 }
 
-// Errors of the system other than that nothing is there: a file in the place of the folder, a link to itself, and a long name.
+// Errors of the system other than a missing file: a file instead of the folder, a link to itself, a long name.
 #[test]
 fn a_folder_that_cannot_be_looked_into_is_a_fault(rt: HostRuntime) -> Result<(), Fail> {
     fs::write(&rt, "no-folder.txt", "a file")?;
@@ -171,7 +171,7 @@ fn a_folder_that_cannot_be_looked_into_is_a_fault(rt: HostRuntime) -> Result<(),
     Ok(())
 }
 
-// Takes bytes, and fails where it is to say that they arrived.
+// Takes bytes, but fails to flush them.
 #[derive(Drop)]
 struct Unflushed;
 

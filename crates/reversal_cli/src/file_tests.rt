@@ -1,5 +1,5 @@
-// Runs of the program over files of the system, and where the words place them. What a call does over objects in memory is told by
-// the cases of `reversal_calls`.
+// Runs of the program over files of the system, and where the words place them. The cases of `reversal_calls` cover
+// objects in memory.
 ghost use Rattle.std.specs.Prelude.{◌≡◌, ◌<◌};
 
 use keepers::SystemDisk;
@@ -50,7 +50,7 @@ fn words_of(alloc: Global, line: &str) -> Result<Words, AllocError> {
     Ok(Words { list })
 }
 
-// What the words make of files of the system.
+// The outcome of the words over files of the system.
 fn run_words<T: Threads + Sync, L: Ledger>(
     threads: &T,
     rt: &HostRuntime,
@@ -75,7 +75,7 @@ fn run_words<T: Threads + Sync, L: Ledger>(
     Ok(program(threads, rt.alloc(), words, disks, out, &mut steps)?)
 }
 
-// The same of the words of a line, with a count of steps that nobody reads.
+// Runs the program by the words of a line, without the count of its steps.
 pub(crate) fn ran<T: Threads + Sync>(
     threads: &T,
     rt: &HostRuntime,
@@ -100,7 +100,7 @@ fn a_run_over_files_writes_its_lines_and_leaves_no_file(rt: HostRuntime) -> Resu
     for (line, begins) in lines.zip(LINES) {
         assert!(rt; line.starts_with(begins));
     }
-    // An empty folder alone can be removed so.
+    // Only an empty folder can be removed so.
     fs::remove_dir(&rt, "images")?;
     fs::remove_file(&rt, "images.bin")?;
     fs::remove_file(&rt, "images.json")?;
@@ -149,7 +149,7 @@ fn a_folder_that_is_not_there_fails_at_the_first_store(rt: HostRuntime) -> Resul
 
 const M: KeepAt = KeepAt::Memory;
 
-// The folder of this word.
+// The place of a folder that this word names.
 fn folder(word: u32) -> KeepAt {
     KeepAt::Folder { word, start: 10 }
 }

@@ -1,4 +1,4 @@
-// Calls at the greatest numbers and with long inputs, with ample memory: each is done, and none is refused for want of memory.
+// Calls at the greatest numbers and with long inputs. Memory is ample, so each call is done, and none runs out of it.
 use crate::file_tests::ran;
 use std::alloc::{AllocError, Global};
 use std::fs;
@@ -11,7 +11,7 @@ const COUNTING: &[u8] = b"\x93\x82\x12\x00\x6f\xf0\xdf\xff";
 const FREE: &[u8] =
     b"{\"forward\":1,\"reverse\":1,\"levels\":[{\"name\":\"RAM\",\"slots\":5000,\"write\":0,\"read\":0}]}";
 
-// So many copies of a piece, one behind the other.
+// So many copies of a piece, one after the other.
 fn repeated(alloc: Global, piece: &[u8], count: u32) -> Result<Vec<u8>, AllocError> {
     let mut bytes = Vec::new(alloc);
     for _ in 0..count {
@@ -20,7 +20,7 @@ fn repeated(alloc: Global, piece: &[u8], count: u32) -> Result<Vec<u8>, AllocErr
     Ok(bytes)
 }
 
-// How many lines of a text begin so.
+// How many lines of a text begin with this.
 fn lines_with(text: &[u8], begin: &[u8]) -> usize {
     text.split(|byte| *byte == b'\n')
         .filter(|line| line.starts_with(begin))
@@ -44,8 +44,8 @@ fn the_longest_source_is_assembled_and_listed_again(rt: HostRuntime) -> Result<(
     Ok(())
 }
 
-// A word of zeros is illegal: state 1 and all behind it are one that trapped. No page has a byte that isn't 0, so the image has 164
-// bytes, which were written by hand, and its SHA-256 was taken by another program.
+// A word of zeros is illegal, so state 1 and all later ones have trapped. All pages are zero, so the image has 164
+// bytes, which were written by hand. Another program took their SHA-256.
 #[test]
 fn the_last_of_the_most_states_is_found(rt: HostRuntime) -> Result<(), Fail> {
     fs::write(&rt, "zeros.bin", [0; 4])?;
@@ -60,8 +60,8 @@ fn the_last_of_the_most_states_is_found(rt: HostRuntime) -> Result<(), Fail> {
     Ok(())
 }
 
-// The slots of two levels, the words of a plan over them, and how many steps it reverses and how many lines its certificate has:
-// of tables one for each number of free slots of a counted level, the kind, and the end.
+// The slots of two levels, the words of a plan, its steps, and the lines of its certificate. A certificate of tables
+// has a line for each number of free slots of a counted level. One line more is for the kind, and one for the end.
 const PLANS: &[(&str, &str, &str, usize, usize)] = &[
     (
         "64",
@@ -127,8 +127,8 @@ fn a_program_and_a_journal_of_two_megabytes_are_read(rt: HostRuntime) -> Result<
     Ok(())
 }
 
-// With a slot for each step no step is done again. Each step is taped and reversed, and the states of all but the last are stored
-// and taken. Two more lines are the ends.
+// With a slot for each step no step is done again. Each step is taped and reversed. The states of all but the last are
+// stored and taken. Two more lines are the ends.
 #[test]
 fn a_question_goes_over_a_list_of_20000_lines(rt: HostRuntime) -> Result<(), Fail> {
     fs::write(&rt, "asked.bin", COUNTING)?;

@@ -6,14 +6,15 @@ use plan_types::Action;
 use std::alloc::Global;
 use std::test::Fail;
 
-// Two levels of one slot each, of which the second costs.
+// Two levels of one slot each. The second has costs.
 fn two_levels(alloc: Global) -> Result<Book, Fail> {
     let text =
         br#"{"forward":1,"reverse":1,"levels":[{"name":"RAM","slots":1,"write":0,"read":0},{"name":"DISK","slots":1,"write":2,"read":1}]}"#;
     Ok(read_book(alloc, text)?)
 }
 
-// The list of Revolve for three steps and two slots, whose images are stored on these levels, and the second is moved from this one.
+// Revolve's list for three steps and two slots. Its images are stored on these levels, and the second is moved from
+// this one.
 fn three_steps(first: u8, second: u8, moved: u8) -> [Action; 12] {
     [
         Action::store(0, 1, first),

@@ -9,14 +9,14 @@ use Rattle.keepers.specs.SlotFiles.{folder_of, level_of, disk_of, slot_path, lev
 use Rattle.keepers.specs.declared.any_keeper.AnyKeeper.{AnyKeeper}
 use Rattle.keepers.specs.declared.any_keeper.AnyKeeper.TheVariants.{Memory, File}
 
--- Where no folder is said for a level, its keeper is one in memory that never fails; where one is, it has the files of this
--- folder, on the level's own disk, that are named by the level's number.
+-- A level without a folder has a keeper in memory that never fails. Otherwise its keeper has the folder's files that
+-- are named by the level's number. They are on the level's own disk.
 abbrev pub IsKeeperOf : {D : Type 0} → ℕ → Option (List ℕ) → D → AnyKeeper D → Type 0
 IsKeeperOf level None disk (Memory k) = k.failing ≡ []
 IsKeeperOf level (Some folder) disk (File k) = (folder_of k ≡ folder) × (level_of k ≡ level) × (disk_of k ≡ disk)
 IsKeeperOf level folder disk k = ⊥
 
--- what a level holds at first, where that is told: nothing in memory, and in a folder the images in the files of its slots
+-- what a level claims at first: nothing in memory, or the images in its folder's files
 abbrev pub held_at_first : {D : Type 0} → (D → Option Files) → ℕ → Option (List ℕ) → D → Option Images
 held_at_first told level None disk = Some finmap.empty
 held_at_first told level (Some folder) disk = option_map (level_images folder level MOST_SLOTS) (told disk)
@@ -31,19 +31,19 @@ pub record KeeperBegins {D : Type 0} (told : D → Option Files) (level : ℕ) (
   pub frees : frees_of k ≡ 0
   pub faults : faults_of k ≡ 0
 
--- those of the levels from this one on, by what is said for each, and by the disk that each is given
+-- the levels from this one on, each with its place and its disk
 abbrev pub AllBegin : {D : Type 0} → (D → Option Files) → ℕ → List (Option (List ℕ)) → List D → List (AnyKeeper D) → Type 0
 AllBegin told level [] [] [] = Unit {0}
 AllBegin told level (folder ∷ folders) (disk ∷ disks) (k ∷ ks) = KeeperBegins told level folder disk k × AllBegin told (level + 1) folders disks ks
 AllBegin told level folders disks ks = ⊥
 
--- Where a folder is said for a level, its disk tells its files, and none of them is an image of the level.
+-- If a level has a folder, its disk claims its files, but none is an image of the level.
 abbrev pub HasNoFiles : {D : Type 0} → (D → Option Files) → ℕ → Option (List ℕ) → D → Type 0
 HasNoFiles told level None disk = Unit {0}
 HasNoFiles told level (Some folder) disk =
     (files : Files) × (told disk ≡ Some files) × ((slot : ℕ) → slot < MOST_SLOTS → finmap.get files (slot_path folder level slot) ≡ None)
 
--- the same of the levels from this one on
+-- this holds of the levels from this one on
 abbrev pub HaveNoFiles : {D : Type 0} → (D → Option Files) → ℕ → List (Option (List ℕ)) → List D → Type 0
 HaveNoFiles told level [] [] = Unit {0}
 HaveNoFiles told level (folder ∷ folders) (disk ∷ disks) = HasNoFiles told level folder disk × HaveNoFiles told (level + 1) folders disks

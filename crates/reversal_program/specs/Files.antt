@@ -12,8 +12,8 @@ use Rattle.rv_machine.specs.MachineState.{MachineState}
 use Rattle.state_image.specs.Image.{image}
 use Rattle.reverse_runner.specs.LevelsStand.{Numbers}
 
--- The files of a level's slots in a folder are just the images of the states with these numbers: each is in the file of a slot of its
--- own, and no other slot has a file.
+-- The files of a level's slots in a folder are just the images of the states with these numbers. Each is in the file of
+-- its own slot. No other slot has a file.
 pub record FilesHoldJust (states : ℕ → MachineState) (numbers : Numbers) (folder : List ℕ) (level : ℕ) (files : Files) : Type 0 where
   pub slot_of : ℕ → ℕ
   pub own : (m n : ℕ) → set.contains numbers m ≡ true → set.contains numbers n ≡ true → slot_of m ≡ slot_of n → m ≡ n
@@ -21,7 +21,7 @@ pub record FilesHoldJust (states : ℕ → MachineState) (numbers : Numbers) (fo
   pub each : (n : ℕ) → set.contains numbers n ≡ true → finmap.get files (slot_path folder level (slot_of n)) ≡ Some (image (states n))
   pub only : (slot : ℕ) → slot < MOST_SLOTS → IsSome (finmap.get files (slot_path folder level slot)) → (n : ℕ) × ((set.contains numbers n ≡ true) × (slot_of n ≡ slot))
 
--- and they are on the disk of the level's keeper, which tells its files
+-- and they are on the disk of the level's keeper, which claims its files
 pub record LevelHoldsJust {D : Type 0} (told : D → Option Files) (states : ℕ → MachineState) (numbers : Numbers) (folder : List ℕ) (level : ℕ) (keepers : List (AnyKeeper D)) : Type 0 where
   pub keeper : FileKeeper D
   pub there : slice_get keepers level ≡ Some (File keeper)

@@ -1,4 +1,4 @@
--- What a call of the program does: what the top call of reversal does, to the objects of the program.
+-- What a call of the program does to its objects: what the top call of reversal does.
 use Rattle.std.specs.Prelude.{◌≡◌, ◌≢◌, ◌⊎◌, ◌↔◌, ℕ, List, ◌++◌, map, take, Option}
 use Rattle.keepers.specs.Counts.{Rose}
 use Rattle.keepers.specs.Told.{Files}
@@ -19,11 +19,11 @@ use Rattle.reversal.specs.Job.{Job}
 use Rattle.reversal.specs.Moment.{Moment, moment}
 use Rattle.reversal.specs.Course.{HaltsShowing}
 
--- what is seen of the program's objects at one moment, by what a disk tells of its files and a writer of its bytes
+-- the program's objects at one moment, by what the disks and the writer claim
 abbrev pub seen : {D W : Type 0} → (D → Option Files) → (W → Option (List ℕ)) → StdoutSink W → List (AnyKeeper D) → ℕ → Moment
 seen told contents out keepers steps = moment (λ s. contents (writer_of s)) writes_of sink_faults_of (told_of told) puts_of gets_of frees_of faults_of out keepers steps
 
--- A call by these words, over inputs that tell this, from what was there before it to what is there after it. The fields are the
+-- A call by these words, over inputs that claim this, from the objects before it to those after it. The fields are the
 -- clauses of the top call, in their order.
 pub record IsRun {D W : Type 0} (told : D → Option Files) (contents : W → Option (List ℕ)) (words : List (List ℕ)) (given : Option Files)
     (asked asked' : List (List ℕ)) (input_faults input_faults' : ℕ) (keepers keepers' : List (AnyKeeper D)) (out out' : StdoutSink W) (steps steps' : ℕ)

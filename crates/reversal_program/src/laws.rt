@@ -1,4 +1,4 @@
-// What follows of what levels hold when a call begins, and when it ends.
+// Consequences of what levels hold when a call begins, and when it ends.
 ghost use Rattle.std.specs.Prelude.{◌≡◌, ◌⊎◌, ℕ, ◌<◌, ◌≤◌, List, Option, Some, length, map, slice_get};
 ghost use Rattle.std.specs.FinMap as finmap;
 ghost use Rattle.keepers.specs.Counts.{Rose};
@@ -27,15 +27,15 @@ ghost use Rattle.reversal_program.specs.Run.{IsRun, seen};
 use keepers::{Disk, Output};
 use reversal::laws::{accepted_jobs_are_done, decisions_are_unique};
 
-/// Where the folders of the levels have no image of theirs, every level begins empty, and tells that it is.
+/// If the folders have no image of their levels, every level begins empty, and claims so.
 pub fn levels_without_files_begin_empty<D: Disk>()
     ensures { (level : ℕ) (folders : List (Option (List ℕ))) (disks : List D) (before : List (AnAnyKeeper D)) →
         AllBegin D.told level folders disks before → HaveNoFiles D.told level folders disks →
         (k : ℕ) → k < length before → told_by (told_of D.told) before k ≡ Some finmap.empty }
 {}
 
-/// Where the folders of the levels have no image of theirs, a run that was done leaves in each folder just the images of the states that
-/// its schedule leaves on that level, each in the file of a slot of its own.
+/// Let the folders have no image of their levels. A completed run leaves in each folder just the images that its
+/// schedule leaves on that level. Each is in the file of its own slot.
 pub fn runs_leave_the_images_of_their_schedule<D: Disk>()
     ensures { (folders : List (Option (List ℕ))) (disks : List D) (before after : List (AnAnyKeeper D)) (run : Run) (shown : Shown) (old new : Moment) →
         AllBegin D.told 0 folders disks before → HaveNoFiles D.told 0 folders disks → StayInPlace slots_of place_of before after →
@@ -45,8 +45,8 @@ pub fn runs_leave_the_images_of_their_schedule<D: Disk>()
         LevelHoldsJust D.told (unit_state run) (held_on valid.0 level) folder level after }
 {}
 
-/// A request that is accepted by what its inputs tell is done, where the keepers of its levels tell and no count of faults rises; or
-/// memory runs out. So neither a refusal nor a failure is ever made up.
+/// Over inputs and keepers that claim their content, an accepted request is done if no fault counter rises. Otherwise
+/// memory runs out. So no refusal and no failure is ever invented.
 pub fn accepted_requests_are_done<D: Disk, W: Output>()
     ensures { (words : List (List ℕ)) (files : Files) (asked asked2 : List (List ℕ)) (input_faults input_faults2 : ℕ)
         (before after : List (AnAnyKeeper D)) (out out2 : AStdoutSink W) (steps steps2 : ℕ) (ended : AnEnded) →

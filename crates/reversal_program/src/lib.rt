@@ -1,5 +1,6 @@
-//! The program over any disk and any writer: the keepers, the inputs and the sink that it makes of its words, and the one call
-//! of `reversal`. `main` calls it with the system's disk and standard output.
+//! The program over any disk and any writer. It uses `reversal`, `keepers` and crates that `reversal` uses.
+//! `reversal_cli` and `reversal_calls` use it. It makes keepers, inputs and a sink from its words, and calls `reversal`
+//! once. `main` calls it with the system's disk and standard output.
 #![tactic(auto)]
 
 ghost use Rattle.std.specs.Prelude.{◌≡◌, ℕ, List, [], ◌∷◌, map, drop, string_bytes, IfOk, OnErr};
@@ -21,7 +22,7 @@ use std::alloc::{AllocError, Global};
 use std::sync::ledger::Ledger;
 use std::thread::Threads;
 
-/// The disks that a call is given: one for its inputs, and one for each level, which only that level's files are put on.
+/// The disks of a call: one for its inputs, and one for each level. Only that level's files are put on it.
 #[derive(Drop)]
 pub struct Disks<D> {
     pub inputs: D,
@@ -46,14 +47,14 @@ pub fn program<T: Threads + Sync, D: Disk + Drop, W: Output + Drop, L: Ledger>(
     out: W,
     steps: &mut Steps<L>,
 ) -> Result<Ran<D, W>, AllocError>
-    // Each level begins with what it has in memory, which is nothing, or in the files of its folder; and what is done is what the
-    // top call is proved to do.
+    // Each level begins with its content: nothing in memory, or the files of its folder. The contract of the top call
+    // says what is done.
     ensures done { IfOk result (λ ran. (before : List (AnAnyKeeper D))
         × ((r : Request) → Asks (words_of words.now) r → AllBegin D.told 0 (map (λ level. folder_said level r.options) levels)
         (disks.levels.0 ∷ disks.levels.1 ∷ disks.levels.2 ∷ disks.levels.3 ∷ []) before)
         × IsRun D.told W.contents (words_of words.now) (D.told disks.inputs) [] (asked_of ran.inputs) 0 (input_faults_of ran.inputs)
         before ran.keepers.items (fresh out) ran.out steps.old steps.new ran.ended) }
-    // Without memory for the keepers nothing was done.
+    // If there is no memory for the keepers, nothing was done.
     ensures idle { OnErr result (steps.new ≡ steps.old) }
 {
     let mut keepers = keepers(alloc, words, disks.levels)?;
@@ -89,7 +90,7 @@ pub fn words_of_arguments(alloc: Global, arguments: &[String]) -> Result<Words, 
     })
 }
 
-// The bytes of each text.
+// The bytes of each argument.
 fn bytes_of(alloc: Global, texts: &[String]) -> Result<Vec<Vec<u8>>, AllocError>
     ensures { IfOk result (λ list. map (λ word. word.items) list.items ≡ map (λ text. string_bytes text) texts.now) }
 {
@@ -100,7 +101,7 @@ fn bytes_of(alloc: Global, texts: &[String]) -> Result<Vec<Vec<u8>>, AllocError>
     Ok(list)
 }
 
-// A keeper for each level, where the words want its images to be kept.
+// A keeper for each level, at the place that the words name.
 fn keepers<D: Disk + Drop>(
     alloc: Global,
     words: &Words,
@@ -119,7 +120,7 @@ fn keepers<D: Disk + Drop>(
     Ok(keepers)
 }
 
-// The keeper of a level whose images are kept at this place of the words, with as many slots as any level has.
+// The keeper of a level with images at this place, with as many slots as any level has.
 fn keeper_for<D: Disk + Drop>(
     alloc: Global,
     words: &Words,

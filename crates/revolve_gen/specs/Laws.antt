@@ -1,4 +1,4 @@
--- What holds of the written lists.
+-- Facts about the written lists.
 use Rattle.std.specs.Prelude.{◌≡◌, ℕ, suc, ◌+◌, ◌-◌, ◌*◌, ◌<◌, ◌≤◌, Bool, false, List, ◌∷◌, ◌++◌, length}
 use Rattle.plan_types.specs.declared.action.Keep.TheVariants.{Nothing, Store}
 use Rattle.plan_types.specs.declared.action.Dest.TheVariants.{Work}
@@ -14,8 +14,8 @@ use Rattle.revolve_gen.specs.Places.{level_at, first_slots, HasMore, IsRoomy}
 use Rattle.revolve_gen.specs.Plans.{HasPlan}
 use Rattle.revolve_gen.specs.Written.{one_step, fresh, held, revolve, revolve_list}
 
--- The two rules for a stretch of l steps from b: where it has one step, and where it has more and is split. The bounds on
--- the recursion are the steps. A stretch is split after fewer than l steps, and has a slot then.
+-- The two rules for a stretch of l steps from b, for one step and for more. The bounds on the recursion are the steps.
+-- A stretch is split after fewer than l steps, and then has a slot.
 pub record AreTheRules (level : ℕ → ℕ) (first : Bool) (b l c p : ℕ) : Type 0 where
   pub fresh_one : l ≡ 1 → fresh l level first b l c p ≡ one_step first b
   pub held_one : l ≡ 1 → held l level b l c p ≡ Move b (level p) Work ∷ one_step false b
@@ -29,26 +29,26 @@ pub record AreTheRules (level : ℕ → ℕ) (first : Bool) (b l c p : ℕ) : Ty
 abbrev pub WrittenByRules : ℕ → ℕ → Type 0
 WrittenByRules l c = IsStretch l c → (level : ℕ → ℕ) (first : Bool) (b p : ℕ) → AreTheRules level first b l c p
 
--- the list is valid for every book whose levels have room for the places, whichever way these stand on the levels
+-- the list is valid for every book with room for the places, in any assignment of places to levels
 abbrev pub RevolveIsValid : ℕ → List Slots → Type 0
 RevolveIsValid steps slots = (level : ℕ → ℕ) (c : ℕ) → IsRoomy slots level c → HasPlan steps c → Valid steps slots (revolve level steps c)
 
--- the level is the first whose slots, together with those of the levels before it, are more than the place
+-- the level is the first whose slots, summed with those of earlier levels, exceed the place
 pub record IsFirstLevel (slots : List Slots) (p level : ℕ) : Type 0 where
   pub known : level < length slots
   pub enough : HasMore (first_slots slots (suc level)) p
   pub none : (k : ℕ) → k ≤ level → HasMore (first_slots slots k) p → ⊥
 
--- so is the level of each place that there is a slot for
+-- so is the level of each place that has a slot
 abbrev pub LevelAtIsFirst : List Slots → ℕ → Type 0
 LevelAtIsFirst slots p = HasMore (first_slots slots (length slots)) p → IsFirstLevel slots p (level_at slots p)
 
--- the places of a book's slots in their order, so many as it has room for
+-- the places of a book's slots in order, as many as it has room for
 abbrev pub BookIsRoomy : ℕ → BookCosts → Type 0
 BookIsRoomy steps book = IsRoomy (slots_of book) (level_at (slots_of book)) (total_room book steps)
 
--- A list for so many steps with c slots has four actions for each step, and takes N + t(N, c) forward steps. For one step
--- these are one, and for none they are none.
+-- A list for N steps with c slots has four actions for each step. It takes N + t(N, c) forward steps: one for one step,
+-- none for no steps.
 pub record IsCounted (steps c : ℕ) (list : List Action) : Type 0 where
   pub actions : 1 ≤ steps → length list ≡ 4 * steps
   pub forward_steps : 1 ≤ steps → forward list ≡ steps + least_advances steps c
@@ -57,7 +57,7 @@ pub record IsCounted (steps c : ℕ) (list : List Action) : Type 0 where
 abbrev pub RevolveIsCounted : (ℕ → ℕ) → ℕ → ℕ → Type 0
 RevolveIsCounted level steps c = HasPlan steps c → IsCounted steps c (revolve level steps c)
 
--- the list for a book, where it has a plan, is valid and is counted so
+-- the list for a book with a plan is valid, and has these counts
 abbrev pub BookListIsRight : ℕ → BookCosts → Type 0
 BookListIsRight steps book =
     let list = revolve_list steps book in

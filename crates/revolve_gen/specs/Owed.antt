@@ -1,5 +1,5 @@
--- No public clause cites this file. What is still to be written, by the phase of the current stretch and the stack of held
--- stretches: the list `owed`, as which the stream of a stretch is seen.
+-- No public clause cites this file. What is still to be written: the list `owed`, which models the stream of a stretch.
+-- It depends on the phase of the current stretch and on the stack of held stretches.
 use Rattle.std.specs.Prelude.{ℕ, suc, ◌+◌, ◌-◌, ◌<◌, ◌≤◌, false, List, [], ◌∷◌, ◌++◌, length}
 use Rattle.plan_types.specs.declared.limits.TheConstants.{MOST_SLOTS, MOST_STEPS}
 use Rattle.plan_types.specs.declared.action.Keep.TheVariants.{Nothing}
@@ -11,12 +11,13 @@ use Rattle.revolve_gen.specs.declared.stretch.Phase.{Phase}
 use Rattle.revolve_gen.specs.declared.stretch.Phase.TheVariants.{Empty, Fresh, Ahead, Last, Taped, Back}
 use Rattle.revolve_gen.specs.Written.{fresh, held}
 
--- What the held stretches owe, the newest first, which stands last; p places lie below them. There are no more places than room.
+-- What the held stretches owe, the newest first, which is last in the stack. There are p places below them. There are
+-- no more places than room.
 abbrev pub owed_held : (ℕ → ℕ) → ℕ → ℕ → List Stretch → List Action → List Action
 owed_held level room p [] rest = rest
 owed_held level room p (s ∷ stack) rest = owed_held level room (suc p) stack (held s.steps level s.start s.steps (room - p) p ++ rest)
 
--- what is owed before `rest`, which the held stretches owe, where p images are held
+-- what is owed before `rest`, which the held stretches owe, with p images held
 abbrev pub owed_by : (ℕ → ℕ) → ℕ → ℕ → Phase → List Action → List Action
 owed_by level room p Empty rest = EndForward ∷ rest
 owed_by level room p (Fresh start steps first) rest = fresh steps level first start steps (room - p) p ++ rest
@@ -39,7 +40,7 @@ abbrev pub AreStretches : ℕ → ℕ → List Stretch → Type 0
 AreStretches room p [] = Unit {0}
 AreStretches room p (s ∷ stack) = IsWithin s.start s.steps (room - p) × AreStretches room (suc p) stack
 
--- the phase stands so, where p images are held
+-- the phase is possible with p images held
 abbrev pub IsPhase : ℕ → ℕ → Phase → Type 0
 IsPhase room p Empty = Unit {0}
 IsPhase room p (Fresh start steps first) = IsWithin start steps (room - p)
@@ -48,7 +49,7 @@ IsPhase room p (Last start) = start < MOST_STEPS
 IsPhase room p (Taped start) = start < MOST_STEPS
 IsPhase room p Back = Unit {0}
 
--- there is a place for each held stretch, and each stretch can be reversed with the slots that are left for it
+-- Each held stretch has a place. Each stretch can be reversed with the slots that are left for it.
 pub record IsOwing (room : ℕ) (phase : Phase) (stack : List Stretch) : Type 0 where
   pub few : length stack ≤ room
   pub small : room ≤ MOST_SLOTS

@@ -1,5 +1,6 @@
--- Lists whose images stand on a stack: a Store puts an image on top, and a Copy or a Move is of the one on top. So the image of
--- each of these actions has a place, counted from 0. Our own; what is written and read at a place is its traffic.
+-- Lists whose images form a stack. A Store puts an image on top, and a Copy or a Move is of the top one. So the image
+-- of each of these actions has a place, counted from 0. The traffic of a place is what is written and read there. These
+-- definitions are our own.
 use Rattle.std.specs.Prelude.{ℕ, ◌+◌, ◌-◌, ◌==◌, max, List, [], ◌∷◌, ◌++◌, count_by}
 use Rattle.plan_types.specs.declared.action.Keep.TheVariants.{Store}
 use Rattle.plan_types.specs.declared.action.Dest.TheVariants.{Work}
@@ -15,8 +16,8 @@ stack_step (Copy n from to) = Read
 stack_step (Move n from to) = Pop
 stack_step _ = Stay
 
--- How many images are held after it, where so many are held before it, and after a list. A Copy or a Move is only where one is held,
--- so held - 1 is one less, here and below.
+-- How many images are held after an action, and after a list, from so many before. A Copy or a Move needs a held image,
+-- so `held - 1` is one less, here and below.
 abbrev pub held_after : ℕ → StackStep → ℕ
 held_after held Push = held + 1
 held_after held Read = held
@@ -41,7 +42,7 @@ place_read held Read = (held - 1) ∷ []
 place_read held Pop = (held - 1) ∷ []
 place_read held _ = []
 
--- the places that a list writes, and those that it reads, in its order, where so many images are held at its start
+-- the places that a list writes and those that it reads, in order, from so many held images
 abbrev pub written : ℕ → List Action → List ℕ
 written held [] = []
 written held (a ∷ rest) = place_written held (stack_step a) ++ written (held_after held (stack_step a)) rest
@@ -54,7 +55,7 @@ read held (a ∷ rest) = place_read held (stack_step a) ++ read (held_after held
 abbrev pub times : ℕ → List ℕ → ℕ
 times p places = count_by (λ q. q == p) places
 
--- the least number that is greater than each place that is named
+-- the least number above all places that are named
 abbrev pub enough : List ℕ → ℕ
 enough [] = 0
 enough (p ∷ places) = max (p + 1) (enough places)

@@ -2,11 +2,11 @@
 
 use thiserror::Error;
 
-/// Why a generator gives no list.
+/// Why a generator has no list.
 #[derive(Clone, Copy, Debug, PartialEq, Eq, Error)]
 pub enum GenFault {
-    /// The book has no plan for so many steps, by the rule with this number. Rule 1: there are two steps or more, and no
-    /// slot. Rule 2: the plan is over two levels, and the book hasn't two. Rule 4: the slower level has too few slots.
+    /// The book has no plan for so many steps, by the rule with this number. Rule 1: two or more steps have no slot.
+    /// Rule 2: the plan needs two levels, and the book hasn't two. Rule 4: the slower level has too few slots.
     #[error("no plan, by rule {0}")]
     NoPlan(u8),
     /// There was no memory.

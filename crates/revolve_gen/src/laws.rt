@@ -5,22 +5,22 @@ ghost use Rattle.level_book.specs.BookCosts.{BookCosts};
 ghost use Rattle.revolve_gen.specs.Laws.{WrittenByRules, RevolveIsValid, LevelAtIsFirst, BookIsRoomy, RevolveIsCounted, BookListIsRight};
 ghost use Rattle.revolve_gen.specs.Multistage.{LevelsAreFree, UsesItsSlots, MultistageIsValid, CostIsByPlaces};
 
-/// The list is written by the two rules.
+/// The list follows the two rules.
 pub fn revolve_is_by_the_rules()
     ensures { (l c : ℕ) → WrittenByRules l c }
 {}
 
-/// The list is valid, on whichever levels its places stand.
+/// The list is valid, on whichever levels its places are.
 pub fn revolve_is_valid()
     ensures { (steps : ℕ) (slots : List Slots) → RevolveIsValid steps slots }
 {}
 
-/// The level of a place is the first whose slots, together with those of the levels before it, are more than the place.
+/// The level of a place is the first whose slots, summed with those of earlier levels, exceed the place.
 pub fn levels_are_the_first()
     ensures { (slots : List Slots) (p : ℕ) → LevelAtIsFirst slots p }
 {}
 
-/// The places of a book's slots in their order are as many as the book has room for.
+/// The slots of a book, in order, are as many places as the book has room for.
 pub fn books_are_roomy()
     ensures { (steps : ℕ) (book : BookCosts) → BookIsRoomy steps book }
 {}
@@ -30,13 +30,13 @@ pub fn revolve_is_counted()
     ensures { (level : ℕ → ℕ) (steps c : ℕ) → RevolveIsCounted level steps c }
 {}
 
-/// For every book that has a slot where there are two steps or more, the list is valid, and has so many actions and forward
-/// steps.
+/// If the book has a slot or there are fewer than two steps, the list is valid. Its counts of actions and forward steps
+/// are these.
 pub fn book_lists_are_right()
     ensures { (steps : ℕ) (book : BookCosts) → BookListIsRight steps book }
 {}
 
-/// Which levels the places stand on changes nothing else of the list.
+/// Nothing else of the list depends on the levels of the places.
 pub fn levels_are_free()
     ensures { (steps c : ℕ) → LevelsAreFree steps c }
 {}

@@ -1,9 +1,15 @@
-//! The lists of Revolve, the optimal schedule of Griewank and Walther, one action at a time. It stands on the actions, the
-//! book and the binomial numbers; every plan over few slots stands on it. A stream is seen as the list of the actions that
-//! are still to come, and keeps only a stack of held stretches. `specs/Written.antt` has the two rules by which a list is
-//! written, `specs/Places.antt` the levels on which its images stand, `specs/Plans.antt` where there is no list, and
-//! `specs/Laws.antt` that it is valid and how many steps it takes. `specs/Stack.antt` says what the images do on the stack, and
-//! `specs/Multistage.antt` which lists over two levels are multistage lists, and that their cost is a sum over their places.
+//! The lists of Revolve, the optimal schedule of Griewank and Walther, one action at a time. It uses `plan_types`,
+//! `level_book` and `binomials`. All generators of plans, class checks and certificates use it. A stream is modelled as
+//! the list of actions still to come. It keeps only a stack of held stretches.
+//!
+//! In `specs/`:
+//!
+//! - `Written`: the two rules by which a list is written.
+//! - `Places`: the levels of its images.
+//! - `Plans`: where there is no list.
+//! - `Stack`: what actions do to a stack of images.
+//! - `Multistage`: the multistage class, whose costs are sums over places.
+//! - `Laws`: the list is valid, and its number of steps.
 #![tactic(auto)]
 
 mod fault;

@@ -14,8 +14,8 @@ use level_book::Book;
 use plan_types::Action;
 use std::marker::Model;
 
-/// The actions of a stretch that are still to come. It holds no list: it works each action out from a stack with an entry for
-/// each held image. One stream serves for many stretches, one after the other.
+/// The actions of a stretch still to come. It holds no list. It computes each action from a stack with an entry for
+/// each held image. One stream serves many stretches, one after the other.
 #[derive(Drop)]
 pub struct StretchStream {
     places: Places,
@@ -38,7 +38,7 @@ impl Model for StretchStream {
 }
 
 impl StretchStream {
-    /// A stream of no stretch, with so many slots of a book's levels, and a stack in a room that was reserved for it.
+    /// A stream without a stretch, with so many slots of a book's levels. Its stack uses the reserved room.
     pub fn over(book: &Book, slots: u32, mut room: Vec<Stretch>) -> StretchStream
         requires small { slots ≤ MOST_SLOTS }
         requires reserved { slots ≤ vec_capacity room }
@@ -53,7 +53,7 @@ impl StretchStream {
         }
     }
 
-    /// The same with all slots on the fastest level.
+    /// A stream without a stretch, with all slots on the fastest level. Its stack uses the reserved room.
     pub fn on_fastest(slots: u32, mut room: Vec<Stretch>) -> StretchStream
         requires small { slots ≤ MOST_SLOTS }
         requires reserved { slots ≤ vec_capacity room }
@@ -68,7 +68,7 @@ impl StretchStream {
         }
     }
 
-    /// Begins a stretch, and drops what was still to come of another. It takes no memory.
+    /// Begins a stretch, and drops the rest of an earlier one. It takes no memory.
     pub fn begin(&mut self, start: u32, steps: u32, first: bool)
         requires plan { HasPlan steps self.old.slots }
         requires short { start + steps ≤ MOST_STEPS }
@@ -78,7 +78,7 @@ impl StretchStream {
         self.phase = first_phase(start, steps, first);
     }
 
-    /// The next action of the stretch, and None after the last and from then on. It takes no memory.
+    /// The next action of the stretch, and None after the last. It takes no memory.
     #[inline(always)]
     pub fn next(&mut self) -> Option<Action>
         ensures next { MatchOption result ((self.old.actions ≡ []) × (self.new.actions ≡ [])) (λ action. self.old.actions ≡ action ∷ self.new.actions) }

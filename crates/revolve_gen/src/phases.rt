@@ -13,7 +13,7 @@ use crate::stretch::{Phase, Stretch};
 use binomials::split;
 use plan_types::{Action, Dest, Keep};
 
-// What is to be written of a stretch, where nothing is held.
+// What is to be written of a stretch, if nothing is held.
 pub(crate) fn first_phase(start: u32, steps: u32, first: bool) -> Phase
     requires { start + steps ≤ MOST_STEPS }
     ensures written { (level : ℕ → ℕ) (room : ℕ) → owed level room result [] ≡ stretch level first start steps room }
@@ -32,7 +32,7 @@ pub(crate) fn first_phase(start: u32, steps: u32, first: bool) -> Phase
     Phase::Back
 }
 
-// Splits a stretch of two steps or more, and holds the part up to the split. It gives how many steps that part has.
+// Splits a stretch of two or more steps, and holds the part up to the split. It returns that part's steps.
 fn hold_front(room: u32, stack: &mut Vec<Stretch>, start: u32, steps: u32) -> u32
     requires some { 2 ≤ steps }
     requires short { steps ≤ MOST_STEPS }

@@ -48,7 +48,7 @@ impl Places {
         }
     }
 
-    // The level on which a place of the stack stands.
+    // The level of a place of the stack.
     pub(crate) fn level(&self, place: u32) -> u8
         ensures { result ≡ level_at self.now place }
     {

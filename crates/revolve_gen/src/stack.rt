@@ -4,7 +4,7 @@ ghost use Rattle.revolve_gen.specs.Stack.{stack_step, place, held_after, on_leve
 
 use plan_types::{Action, Dest, Keep};
 
-/// What an action does with a stack of images, of which a Copy or a Move is of the newest.
+/// What an action does to a stack of images. A Copy or a Move is of the newest.
 #[derive(Clone, Copy, Debug, PartialEq, Eq)]
 pub enum StackStep {
     /// It puts an image on top.
@@ -13,7 +13,7 @@ pub enum StackStep {
     Read,
     /// It reads the image on top, and takes it away.
     Pop,
-    /// It leaves the stack alone.
+    /// It doesn't change the stack.
     Stay,
 }
 
@@ -48,7 +48,7 @@ impl StackStep {
         }
     }
 
-    /// How many images are held after it, where so many are held before.
+    /// How many images are held after it, from so many before.
     pub fn held_after(self, held: usize) -> usize
         requires { held + 1 < 2 ^ 64 }
         ensures { result ≡ held_after held self }
@@ -62,7 +62,7 @@ impl StackStep {
     }
 }
 
-/// The action with its image on this level, where it is of one; a Copy or a Move goes to Work.
+/// The action with its image on this level, if it has an image. A Copy or a Move goes to Work.
 pub fn on_level(level: u8, action: Action) -> Action
     ensures { result ≡ on_level level action }
 {

@@ -13,8 +13,8 @@ use plan_types::Action;
 use std::alloc::Global;
 use std::marker::Model;
 
-/// The actions of a list that are still to come. It holds no list: it works each action out from a stack with an entry for
-/// each held image.
+/// The actions of a list still to come. It holds no list. It computes each action from a stack with an entry for each
+/// held image.
 #[derive(Drop)]
 pub struct Revolve {
     stretch: StretchStream,
@@ -32,7 +32,7 @@ impl Model for Revolve {
 }
 
 impl Revolve {
-    /// The list for so many steps, with a stack in a room that was reserved for it. It takes no memory.
+    /// The list for so many steps. Its stack uses the reserved room. It takes no memory.
     #[tactic(auto, using(crate::proofs::Owing::whole_stretch))]
     pub fn over(steps: u32, book: &Book, room: Vec<Stretch>) -> Revolve
         requires short { steps ≤ MOST_STEPS }
@@ -49,7 +49,7 @@ impl Revolve {
         }
     }
 
-    /// The list for so many steps, with a stack that has room for an entry for each slot.
+    /// The list for so many steps. Its stack has room for an entry for each slot.
     pub fn new(alloc: Global, steps: u32, book: &Book) -> Result<Revolve, GenFault>
         requires { steps ≤ MOST_STEPS }
         ensures list { IfOk result (λ r. r ≡ revolve_list steps book.now) }
@@ -66,7 +66,7 @@ impl Revolve {
         Ok(Revolve::over(steps, book, room))
     }
 
-    /// The next action, and None after the last and from then on. It takes no memory.
+    /// The next action, and None after the last. It takes no memory.
     #[inline(always)]
     pub fn next(&mut self) -> Option<Action>
         ensures { MatchOption result ((self.old ≡ []) × (self.new ≡ [])) (λ action. self.old ≡ action ∷ self.new) }

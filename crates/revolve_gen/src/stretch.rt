@@ -5,7 +5,7 @@
 pub struct Stretch {
     /// The number of its first state.
     pub start: u32,
-    /// How many steps it has.
+    /// The length of the stretch.
     pub steps: u32,
 }
 
@@ -14,9 +14,9 @@ pub struct Stretch {
 pub(crate) enum Phase {
     // The end forward of no steps.
     Empty,
-    // A stretch whose start is in work; `first` where no step was taped yet.
+    // A stretch whose start is in work; `first`: no step was taped yet.
     Fresh { start: u32, steps: u32, first: bool },
-    // The way from an image that was copied to work to where its stretch is split, and what is behind the split.
+    // From a copied image the work goes on to the split of its stretch. The part after it comes next.
     Ahead { start: u32, split: u32, end: u32 },
     // The end forward, with the last step on the tape.
     Last { start: u32 },

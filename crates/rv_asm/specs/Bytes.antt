@@ -1,4 +1,4 @@
--- No public clause cites this file. Where the first token and the first line lie in bytes.
+-- No public clause cites this file. Where the first token and the first line are in bytes.
 use Rattle.std.specs.Prelude.{◌≡◌, ℕ, ◌+◌, ◌==◌, false, List, [], ◌∷◌, Option, Some, None, if◌then◌else◌}
 use Rattle.rv_asm.specs.Tokens.{Token, is_blank, is_run_byte}
 
@@ -7,7 +7,7 @@ unfoldable pub without_blanks : List ℕ → List ℕ
 without_blanks [] = []
 without_blanks (b ∷ bs) = if is_blank b then without_blanks bs else b ∷ bs
 
--- the bytes behind this one, where it is the first
+-- the bytes after this one, where it comes first
 abbrev pub past : ℕ → List ℕ → Option (List ℕ)
 past byte [] = None
 past byte (b ∷ bs) = if b == byte then Some bs else None
@@ -17,7 +17,7 @@ unfoldable pub run_length : List ℕ → ℕ
 run_length [] = 0
 run_length (b ∷ bs) = if is_run_byte b then run_length bs + 1 else 0
 
--- how many bytes the token at the front has; none where a comment begins
+-- how many bytes the token at the front has; 0 where a comment begins
 abbrev pub token_length : List ℕ → ℕ
 token_length [] = 0
 token_length (b ∷ bs) = if b == 35 then 0 else (if is_run_byte b then run_length (b ∷ bs) else 1)

@@ -1,6 +1,6 @@
--- The canonical line of a word: the name, one blank, operands with a comma and one blank between two, `number(rs1)` without
--- blanks, numbers in decimal, targets as numbers. A word that no such line says is `.word 0x` and eight digits. The rows and
--- what stands behind their names are those of sources.
+-- The canonical line of a word. It has the name, one blank, and operands with a comma and one blank between them. There
+-- are no blanks in `number(rs1)`. Numbers are decimal, and targets are numbers. A word without such a line is `.word
+-- 0x` and eight digits. The rows and operands are those of sources.
 use Rattle.std.specs.Prelude.{◌≡◌, ◌⊎◌, ◌-◌, ◌/◌, ◌^◌, ◌==◌, ◌++◌, ℕ, List, [], ◌∷◌, Some, nat_lt, codes, decimal, if◌then◌else◌}
 use Rattle.std.specs.Int.{to_be_bytes, w32}
 use Rattle.std.specs.List.{flat_map}
@@ -17,7 +17,7 @@ use Rattle.rv_asm.specs.declared.table.Format.TheVariants.{Upper, Jump, Indexed,
 use Rattle.rv_asm.specs.declared.table.Operands.{Operands}
 use Rattle.rv_asm.specs.Table.{Statement, instruction, Row, wants, rows, named}
 
--- the operands of a word by the format: its registers rd, rs1 and rs2 and its immediate, 0 where the format has none
+-- the operands of a word by the format: rd, rs1, rs2 and the immediate, or 0
 abbrev pub of_four : ℕ → ℕ → ℕ → ℕ → Operands
 of_four d a b m = record { rd = d; rs1 = a; rs2 = b; imm = m }
 
@@ -43,7 +43,7 @@ register_in Rs2 o = o.rs2
 abbrev pub signed_text : ℕ → List ℕ
 signed_text imm = if nat_lt imm (2 ^ 31) then decimal imm else 45 ∷ decimal (2 ^ 32 - imm)
 
--- what is printed for a want: `x` and the register's number, the byte, with a blank behind a comma, or the number
+-- What is printed for a want: `x` and the register's number, the byte, or the number. A comma has a blank after it.
 abbrev pub printed_want : Operands → Want → List ℕ
 printed_want o (Register field) = 120 ∷ decimal (register_in field o)
 printed_want o (Mark byte) = if byte == 44 then codes ", " else byte ∷ []
@@ -58,7 +58,7 @@ abbrev pub operands_text : Operands → List Want → List ℕ
 operands_text o [] = []
 operands_text o (w ∷ ws) = 32 ∷ printed o (w ∷ ws)
 
--- the line of a word by a row: the row's instruction with the operands of the word is what the word says
+-- the line of a word by a row: the row's instruction with the word's operands means the word
 pub record IsSpelled (w : ℕ) (line : List ℕ) : Type 0 where
   pub name : List ℕ
   pub row : Row Statement
@@ -72,7 +72,7 @@ pub record IsSpelled (w : ℕ) (line : List ℕ) : Type 0 where
 abbrev pub hex_word : ℕ → List ℕ
 hex_word w = encode_lower (to_be_bytes w32 w)
 
--- the line of a word: that by a row, or, where there is none, the word as it is
+-- the line of a word: that of its row, or of the plain word if it has none
 abbrev pub IsCanonical : ℕ → List ℕ → Type 0
 IsCanonical w line =
     IsSpelled w line ⊎ ((((text : List ℕ) → IsSpelled w text → ⊥)) × (line ≡ codes ".word 0x" ++ hex_word w))

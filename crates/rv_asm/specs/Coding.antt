@@ -1,5 +1,5 @@
--- No public clause cites this file. What the assembler computes: words in place of statements, by its own table, and line by
--- line behind the words so far.
+-- No public clause cites this file. What the assembler computes. It makes words in place of statements, by its own
+-- table. It appends line by line.
 use Rattle.std.specs.Prelude.{◌≡◌, ◌+◌, ◌^◌, ◌<◌, ◌≤◌, ◌++◌, ℕ, Bool, List, [], ◌∷◌, map, length, Option, Some, None, Result, Ok, Err, if◌then◌else◌}
 use Rattle.std.specs.Str.{bytes_eq}
 use Rattle.std.specs.Map.{lookup}
@@ -23,7 +23,7 @@ use Rattle.rv_asm.specs.Source.{fault_at, names_in}
 use Rattle.rv_asm.specs.Bytes.{IsMark}
 use Rattle.rv_asm.specs.Packing.{packed}
 
--- the code's table: a format and a word of zeros for each name, what it has at a name, and its rows
+-- the code's table: format and word of zeros of each name, the lookup of a name, and the rows
 abbrev pub code_of : Format → ℕ → Code
 code_of format base = record { format = format; base = base }
 
@@ -39,7 +39,7 @@ code_row code = record { format = code.format; says = packed code.format code.ba
 unfoldable pub code_table : Table ℕ
 code_table = map (λ e. (e.0, code_row e.1)) entries
 
--- a line behind a label, or one without a label
+-- a line after a label, or one without a label
 abbrev pub behind : Bool → Names → ℕ → ℕ → List Token → Result (Option ℕ) LineFault
 behind labelled names place end ts =
     if labelled then instruction_of code_table names place end ts else unlabelled_of code_table names place end ts
@@ -54,14 +54,14 @@ abbrev pub in_line : {A : Type 0} → ℕ → Result A LineFault → Result A As
 in_line line (Ok x) = Ok x
 in_line line (Err fault) = Err (fault_at line fault)
 
--- what lines say behind a list, where the first has this number
+-- what lines add to a list, where the first line has this number
 unfoldable pub lines_from : {A : Type 0} → Table A → Names → List A → ℕ → List (List ℕ) → Result (List A) AsmFault
 lines_from table names list line [] = Ok list
 lines_from table names list line (l ∷ ls) =
     in_line line (line_of table names line (length list) (length l + 1) (tokens 1 l))
     >>= λ found. lines_from table names (list ++ option_to_list found) (line + 1) ls
 
--- a source that says nothing has a fault
+-- an empty source has a fault
 abbrev pub unless_empty : {A : Type 0} → List A → Result (List A) AsmFault
 unless_empty [] = Err (At 7 0 0)
 unless_empty (x ∷ list) = Ok (x ∷ list)
@@ -69,12 +69,12 @@ unless_empty (x ∷ list) = Ok (x ∷ list)
 unfoldable pub source_of : {A : Type 0} → Table A → List ℕ → Result (List A) AsmFault
 source_of table text = lines_from table (names_in table text) [] 1 (lines text) >>= λ list. unless_empty list
 
--- the operands with what the next token says
+-- the operands with the next token's value
 abbrev pub next_of : Names → ℕ → ℕ → Want → List Token → Operands → Result Operands LineFault
 next_of names place end w [] o = Err (not_instruction end)
 next_of names place end w (t ∷ ts) o = in_column t.column (taken names place w t.text o)
 
--- a number that can be one of 32 bits; wants whose ranges hold such numbers alone, and whose bytes are tokens by themselves
+-- A number that fits 32 bits. Wants whose ranges hold only such numbers, and whose bytes are tokens by themselves.
 abbrev pub IsOf32Bits : Signed → Type 0
 IsOf32Bits (Plus n) = n < 2 ^ 32
 IsOf32Bits (Minus n) = n ≤ 2 ^ 32
@@ -92,7 +92,7 @@ IsOperand (Mark byte) = ⊥
 IsOperand (Number low high) = Unit {0}
 IsOperand (Target low high) = Unit {0}
 
--- what is said by a list, in words
+-- the words of an optional statement
 abbrev pub encoded_option : Option Statement → Option ℕ
 encoded_option None = None
 encoded_option (Some s) = Some (encoded s)
@@ -105,7 +105,7 @@ abbrev pub encoded_list : Result (List Statement) AsmFault → Result (List ℕ)
 encoded_list (Ok list) = Ok (map encoded list)
 encoded_list (Err fault) = Err fault
 
--- what a function returned, seen by view, is what is read, unless memory ran out
+-- a function's result, seen through `view`, is what is read, unless memory ran out
 abbrev pub Fails : {Y : Type 0} → AsmFault → Result Y AsmFault → Type 0
 Fails Memory read = Unit {0}
 Fails (At rule line column) read = read ≡ Err (At rule line column)

@@ -1,7 +1,7 @@
--- Numbers, registers and names, by their spelling. A number is decimal digits without a leading zero, with `-` before it
--- where it is negative, or `0x` and 1 to 8 lower-case hexadecimal digits. One of more than 32 bits is none, since it stands
--- in no range. The registers are `x0` to `x31`, as the RISC-V unprivileged manual numbers them in its chapter "RV32I Base
--- Integer Instruction Set", section "Programmers' Model for Base Integer ISA"; the names of its calling convention are none.
+-- Numbers, registers and names, by their spelling. A number is decimal digits without a leading zero, after a `-` if it
+-- is negative. Or it is `0x` and 1 to 8 lower-case hexadecimal digits. A number above 32 bits is none, since no range
+-- holds it. The registers are `x0` to `x31`, without the names of the calling convention. Source: RISC-V unprivileged
+-- manual, chapter "RV32I Base Integer Instruction Set", section "Programmers' Model for Base Integer ISA".
 use Rattle.std.specs.Prelude.{ℕ, ◌+◌, ◌-◌, ◌*◌, ◌^◌, ◌==◌, ◌&&◌, ◌||◌, Bool, false, List, [], ◌∷◌, length, Option, Some, None, nat_lt, nat_le, not, option_map, if◌then◌else◌}
 use Rattle.std.specs.Char.{is_ascii_digit, is_ascii_alphabetic, is_ascii_alphanumeric}
 use Rattle.std.specs.List.{list_all}
@@ -12,7 +12,7 @@ use Rattle.rv_asm.specs.declared.number.Signed.TheVariants.{Plus, Minus}
 abbrev pub digit : ℕ → ℕ
 digit c = if is_ascii_digit c then c - 48 else (if nat_le 97 c && nat_le c 102 then c - 87 else 16)
 
--- the number that digits of a base make behind n; none where another byte is among them, or where it has more than 32 bits
+-- The number of n followed by digits of a base. None for another byte, or above 32 bits.
 unfoldable pub value_behind : ℕ → ℕ → List ℕ → Option ℕ
 value_behind base n [] = Some n
 value_behind base n (c ∷ cs) =
@@ -27,12 +27,12 @@ decimal_of (c ∷ cs) = if c == 48 then (if length cs == 0 then Some 0 else None
 unfoldable pub hex_of : List ℕ → Option ℕ
 hex_of digits = if nat_le 1 (length digits) && nat_le (length digits) 8 then value_behind 16 0 digits else None
 
--- what stands behind a `-`; `-0` is no number
+-- the number after a `-`; `-0` is no number
 abbrev pub negative : Option ℕ → Option Signed
 negative None = None
 negative (Some n) = if n == 0 then None else Some (Minus n)
 
--- the number that a text spells: behind `-`, behind `0x`, or as it stands
+-- the number that a text spells: after `-`, after `0x`, or without a sign
 unfoldable pub number_of : List ℕ → Option Signed
 number_of [] = None
 number_of (c ∷ []) = option_map Plus (decimal_of (c ∷ []))

@@ -1,5 +1,5 @@
--- No public clause cites this file. Words of the formats with given operands, from the word whose operands are all 0, which is
--- called base here.
+-- No public clause cites this file. Words of the formats with given operands, from the word with all operands 0, which
+-- is the base.
 use Rattle.std.specs.Prelude.{◌≡◌, ◌+◌, ◌*◌, ◌/◌, ◌%◌, ◌^◌, ◌<◌, ◌==◌, ◌&&◌, nat_lt, Bool, false, ℕ}
 use Rattle.rv_decode.specs.Formats.{opcode, funct3, funct7}
 use Rattle.rv_decode.specs.Ranges.{IsSigned}
@@ -24,8 +24,8 @@ packed Registers base o = base + o.rd * 2 ^ 7 + o.rs1 * 2 ^ 15 + o.rs2 * 2 ^ 20
 packed Plain base o = base
 packed Word base o = o.imm
 
--- a word is one of a row with this word of zeros: it has the same opcode, and where the format has them funct3 and funct7. No
--- word is one of the row of any word.
+-- A word belongs to a row with this word of zeros. It has the row's opcode, and where the format has them its funct3
+-- and funct7. No word belongs to the row of `.word`.
 abbrev pub takes : Format → ℕ → ℕ → Bool
 takes Upper base w = opcode w == base
 takes Jump base w = opcode w == base
@@ -38,7 +38,7 @@ takes Registers base w = (opcode w + funct3 w * 2 ^ 12 + funct7 w * 2 ^ 25) == b
 takes Plain base w = w == base
 takes Word base w = false
 
--- a base leaves room for the operands: of an opcode alone, of one with funct3, and of one with funct7 too
+-- a base leaves room for the operands: an opcode alone, one with funct3, and one with funct7 too
 abbrev pub is_small : ℕ → Bool
 is_small base = nat_lt base (2 ^ 15) && (base / 2 ^ 7 % 2 ^ 5 == 0)
 
@@ -57,7 +57,7 @@ is_base Registers base = is_wide base
 is_base Plain base = nat_lt base (2 ^ 32)
 is_base Word base = nat_lt base (2 ^ 32)
 
--- the same as facts
+-- the base leaves room, as facts
 pub record IsSmall (base : ℕ) : Type 0 where
   pub low : base < 2 ^ 15
   pub rd : base / 2 ^ 7 % 2 ^ 5 ≡ 0

@@ -1,6 +1,6 @@
--- What a line says, token by token, over a table of instructions and a map from names to labels; or the fault that is met,
--- with its rule and its column. A fault is at the first token that fits nothing that may stand there, or one column past the
--- line's bytes where the line ends too early.
+-- What a line means, token by token, over a table of instructions and a map from names to labels. Or its fault, with a
+-- rule and a column. A fault is at the first token that doesn't fit. It is one column past the line where the line ends
+-- too early.
 use Rattle.std.specs.Prelude.{◌-◌, ◌*◌, ◌%◌, ◌^◌, ◌==◌, ◌&&◌, ℕ, Bool, false, List, [], ◌∷◌, drop, Option, Some, None, Result, Ok, Err, nat_lt, nat_le, is_none, option_map, ok_or, codes, if◌then◌else◌}
 use Rattle.std.specs.Str.{bytes_eq}
 use Rattle.rv_asm.specs.declared.fault.Rule.{Rule}
@@ -18,13 +18,13 @@ use Rattle.rv_asm.specs.Tokens.{Token}
 use Rattle.rv_asm.specs.Numbers.{number_of, register_of, begins_number, begins_letter, is_name}
 use Rattle.rv_asm.specs.Table.{wants, Row, Table, named}
 
--- what comes behind a step that may meet a fault
+-- what comes after a step that may have a fault
 infixl 10 ◌>>=◌
 abbrev pub ◌>>=◌ : {A B F : Type 0} → Result A F → (A → Result B F) → Result B F
 (Ok x) >>= f = f x
 (Err e) >>= f = Err e
 
--- the label that a name stands for, if some line defines it
+-- the label of a name, if some line defines it
 abbrev pub Names : Type 0
 Names = List ℕ → Option Label
 
@@ -57,11 +57,11 @@ is_even (Minus n) = n % 2 == 0
 abbrev pub distance : ℕ → ℕ → Signed
 distance from to = if nat_le from to then Plus ((to - from) * 4) else Minus ((from - to) * 4)
 
--- the number that a text says, or the rule that it breaks
+-- the number that a text means, or the rule that it breaks
 unfoldable pub number_in : List ℕ → Result Signed Rule
 number_in text = if begins_number text then ok_or (number_of text) rule.Number else Err rule.NotInstruction
 
--- the distance that a text says in the word with this number: a number, or how far it is to the word behind a label
+-- the distance from the word with this number: a given number, or the way to a label's word
 unfoldable pub target_in : Names → ℕ → List ℕ → Result Signed Rule
 target_in names place text =
     if begins_number text then ok_or (number_of text) rule.Number
@@ -76,7 +76,7 @@ abbrev pub put_register : Field → Operands → Bool → Option ℕ → Result 
 put_register field o is_letter (Some n) = Ok (put field n o)
 put_register field o is_letter None = Err (if is_letter then rule.Register else rule.NotInstruction)
 
--- the operands with what a token says, or the rule that it breaks
+-- the operands with a token's value, or the rule that it breaks
 unfoldable pub taken : Names → ℕ → Want → List ℕ → Operands → Result Operands Rule
 taken names place (Register field) text o = put_register field o (begins_letter text) (register_of text)
 taken names place (Mark byte) text o = if bytes_eq text (byte ∷ []) then Ok o else Err rule.NotInstruction
@@ -91,7 +91,7 @@ in_column column (Err r) = Err (record { rule = r; column = column })
 abbrev pub not_instruction : ℕ → LineFault
 not_instruction column = record { rule = rule.NotInstruction; column = column }
 
--- the operands that tokens say, one for each want; end is the column one past the line's bytes
+-- the operands that tokens mean, one for each want; end is the column one past the line's bytes
 unfoldable pub operands_of : Names → ℕ → ℕ → List Want → List Token → Operands → Result Operands LineFault
 operands_of names place end [] [] o = Ok o
 operands_of names place end [] (t ∷ ts) o = Err (not_instruction t.column)
@@ -101,14 +101,14 @@ operands_of names place end (w ∷ ws) (t ∷ ts) o =
 
 -- ---- lines
 
--- what a row says with the operands behind its name, which stands in this column; a source has at most 1,048,576 words
+-- What a row means with the operands after its name, which is in this column. A source has at most 1,048,576 words.
 abbrev pub said : {A : Type 0} → Names → ℕ → ℕ → ℕ → List Token → Option (Row A) → Result (Option A) LineFault
 said names place end column ts None = Err (not_instruction column)
 said names place end column ts (Some row) =
     if place == 1048576 then Err (record { rule = rule.TooLong; column = column })
     else (operands_of names place end (wants row.format) ts no_operands >>= λ o. Ok (Some (row.says o)))
 
--- an instruction, or nothing
+-- an instruction, or none
 unfoldable pub instruction_of : {A : Type 0} → Table A → Names → ℕ → ℕ → List Token → Result (Option A) LineFault
 instruction_of table names place end [] = Ok None
 instruction_of table names place end (t ∷ ts) = said names place end t.column ts (named table t.text)
@@ -128,11 +128,11 @@ begins_label [] = false
 begins_label (t ∷ []) = false
 begins_label (t ∷ u ∷ ts) = is_name t.text && bytes_eq u.text (codes ":")
 
--- what stands behind the label, if there is one
+-- what comes after the label, if there is one
 abbrev pub behind_label : List Token → List Token
 behind_label ts = if begins_label ts then drop 2 ts else ts
 
--- the first token is a name, and of no instruction: a label could begin so, and the next token is the one that doesn't fit
+-- The first token is a name, but not an instruction's. A label could begin so, and then the next token is the misfit.
 abbrev pub is_bare_name : {A : Type 0} → Table A → List Token → Bool
 is_bare_name table [] = false
 is_bare_name table (t ∷ ts) = is_name t.text && is_none (named table t.text)
@@ -143,12 +143,12 @@ unlabelled_of table names place end ts =
     if is_bare_name table ts then Err (not_instruction (column_in end (drop 1 ts)))
     else instruction_of table names place end ts
 
--- a label that stands before this line
+-- a label of an earlier line
 abbrev pub is_earlier : ℕ → Option Label → Bool
 is_earlier line None = false
 is_earlier line (Some label) = nat_lt label.line line
 
--- the line with this number, where so many words stand before it
+-- the line with this number, after so many words
 unfoldable pub line_of : {A : Type 0} → Table A → Names → ℕ → ℕ → ℕ → List Token → Result (Option A) LineFault
 line_of table names line place end ts =
     if begins_label ts

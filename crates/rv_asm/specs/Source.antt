@@ -15,11 +15,11 @@ use Rattle.rv_asm.specs.Reading.{Names, begins_label, behind_label, text_in, lin
 
 -- ---- labels
 
--- the label of a line with this number, where so many words stand before it
+-- the label of a line with this number, after so many words
 abbrev pub label_in : ℕ → ℕ → List Token → List (List ℕ × labels.Label)
 label_in line place ts = if begins_label ts then (text_in ts, record { line = line; place = place }) ∷ [] else []
 
--- how many words a line has: one where the name of an instruction stands behind its label, if it has one
+-- how many words a line has: one if the name of an instruction comes first or after the label
 abbrev pub words_in : {A : Type 0} → Table A → List Token → ℕ
 words_in table ts = if is_some (named table (text_in (behind_label ts))) then 1 else 0
 
@@ -29,7 +29,7 @@ labels_of table line place [] = []
 labels_of table line place (l ∷ ls) =
     label_in line place (tokens 1 l) ++ labels_of table (line + 1) (place + words_in table (tokens 1 l)) ls
 
--- a name stands for the first label of a text that has it
+-- a name means the first label of a text that has it
 unfoldable pub names_in : {A : Type 0} → Table A → List ℕ → Names
 names_in table text name = lookup (bytes_eq name) (labels_of table 1 0 (lines text))
 
@@ -38,7 +38,7 @@ names_of = names_in rows
 
 -- ---- the meaning
 
--- what the line with this number says, where so many words stand before it: a statement, nothing, or a fault
+-- what the line with this number means, after so many words: a statement, nothing, or a fault
 abbrev pub reading : Names → ℕ → ℕ → List ℕ → Result (Option Statement) LineFault
 reading names line place bytes = line_of rows names line place (length bytes + 1) (tokens 1 bytes)
 
@@ -58,7 +58,7 @@ AreWordsOf [] (w ∷ ws) = ⊥
 AreWordsOf (s ∷ ss) [] = ⊥
 AreWordsOf (s ∷ ss) (w ∷ ws) = IsWordOf s w × AreWordsOf ss ws
 
--- the text says some statements, and these are their words
+-- the text means some statements, and these are their words
 pub record Means (text : List ℕ) (words : List ℕ) : Type 0 where
   pub statements : List Statement
   pub says : LinesSay (names_of text) 1 0 (lines text) statements
@@ -91,6 +91,6 @@ pub record IsFirstFault (text : List ℕ) (fault : AsmFault) : Type 0 where
   pub met : reading (names_of text) (length before + 1) (length statements) here ≡ Err of_line
   pub is : fault ≡ fault_at (length before + 1) of_line
 
--- the fault of a text: its first one, or that it says nothing. Want of memory is none.
+-- the fault of a text: its first one, or that it is empty; a lack of memory is none
 abbrev pub HasFault : List ℕ → AsmFault → Type 0
 HasFault text fault = IsFirstFault text fault ⊎ (LinesSay (names_of text) 1 0 (lines text) [] × (fault ≡ At 7 0 0))

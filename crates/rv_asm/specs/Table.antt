@@ -1,7 +1,7 @@
--- The instructions of a source: a row for each name, to be laid beside the table of the instruction words. The names are those
--- of the RISC-V unprivileged manual, chapter "RV32/64G Instruction Set Listings", in lower case. Operands stand in the order
--- of its chapter "RISC-V Assembly Programmer's Handbook", where `fence` alone is a fence of all on all, the word 0ff0000f.
--- An extension of the instruction set is a line more for each of its instructions.
+-- The instructions of a source, a row for each name. Compare it with the table of the instruction words. The lower-case
+-- names are those of the RISC-V unprivileged manual, chapter "RV32/64G Instruction Set Listings". The order of operands
+-- is from its chapter "RISC-V Assembly Programmer's Handbook". There `fence` without operands is a fence of all on all,
+-- the word 0ff0000f. An extension of the instruction set adds a line for each of its instructions.
 use Rattle.std.specs.Prelude.{◌≡◌, ℕ, ◌*◌, ◌^◌, ◌<◌, List, [], ◌∷◌, Option, Some, codes}
 use Rattle.std.specs.Str.{bytes_eq}
 use Rattle.std.specs.Map.{lookup}
@@ -15,8 +15,8 @@ use Rattle.rv_asm.specs.declared.table.Format.{Format}
 use Rattle.rv_asm.specs.declared.table.Format.TheVariants.{Upper, Jump, Indexed, Branch, Store, Immediate, Shift, Registers, Plain, Word}
 use Rattle.rv_asm.specs.declared.table.Operands.{Operands}
 
--- what stands behind the name by its format: registers, bytes, and a number or a target with its range, so much below 0 and
--- so much above
+-- The operands of each format: registers, bytes, and a number or a target with its range. A range goes so far below 0
+-- and so far above.
 abbrev pub comma : Want
 comma = Mark 44
 
@@ -38,12 +38,12 @@ wants Registers = Register Rd ∷ comma ∷ Register Rs1 ∷ comma ∷ Register 
 wants Plain = []
 wants Word = Number 0 4294967295 ∷ []
 
--- what a line says: an instruction, or a word as it is
+-- what a line means: an instruction, or a plain word
 pub data Statement : Type 0 where
   instruction : Inst → Statement
   bare : ℕ → Statement
 
--- a row: the format of what stands behind a name, and what a line with these operands says
+-- a row: the format of the operands, and what a line with these operands means
 pub record Row (A : Type 0) : Type 0 where
   pub format : Format
   pub says : Operands → A
@@ -52,7 +52,8 @@ pub record Row (A : Type 0) : Type 0 where
 abbrev pub Table : Type 0 → Type 0
 Table A = List (List ℕ × Row A)
 
--- the row of an instruction, by its format: which operands are its fields. A number of LUI and AUIPC is the upper 20 bits.
+-- The row of an instruction, by its format: how operands become its fields. A number of LUI and AUIPC is the upper 20
+-- bits.
 abbrev pub row : Format → (Operands → Inst) → Row Statement
 row format inst = record { format = format; says = λ o. instruction (inst o) }
 
@@ -145,7 +146,7 @@ rows =
 unfoldable pub named : {A : Type 0} → Table A → List ℕ → Option (Row A)
 named table name = lookup (bytes_eq name) table
 
--- a word says what a line says: it is decoded as the instruction, or is the one that stands there
+-- a word means what a line means: it decodes to the instruction, or is the line's word
 abbrev pub IsWordOf : Statement → ℕ → Type 0
 IsWordOf (instruction inst) w = (w < 2 ^ 32) × (decoded w ≡ Some inst)
 IsWordOf (bare n) w = w ≡ n

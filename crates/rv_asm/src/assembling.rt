@@ -15,16 +15,16 @@ use crate::line::{line, take_colon, words};
 use crate::tokens::{Lines, Tokens};
 use std::alloc::Global;
 
-/// The words of a source, or its first fault. It goes through the text twice, for the labels and then for the words, and takes
+/// The words of a source, or its first fault. It reads the text twice, for the labels and then for the words. It takes
 /// memory for these alone.
 pub fn assemble(alloc: Global, text: &[u8]) -> Result<Vec<u32>, AsmFault>
     requires { length text.now < 2 ^ 31 }
-    // What is assembled is what the text means, and what it means is assembled, unless memory runs out.
+    // The text means the words that are assembled. A text that means words is assembled, unless memory runs out.
     ensures found { IfOk result (λ words. Means text.now words.items) }
     ensures only { (words : List ℕ) → Means text.now words →
         MatchResult result (λ v. v.items ≡ words) (λ e. e ≡ AsmFault.Memory) }
 
-    // What is refused has that fault first, and what has a fault is refused for it, unless memory runs out.
+    // A refusal has the first fault. Bytes with a fault are refused for it, unless memory runs out.
     ensures refused { IfErr result (λ e. e ≢ AsmFault.Memory → HasFault text.now e) }
     ensures first { (e : AsmFault) → HasFault text.now e →
         MatchResult result (λ _. ⊥) (λ answer. (answer ≡ e) ⊎ (answer ≡ AsmFault.Memory)) }
@@ -74,7 +74,7 @@ fn labels_of<'a>(alloc: Global, text: &'a [u8]) -> Result<Labels<'a>, AsmFault>
     Ok(labels)
 }
 
-// Adds the label of a line, if it has one. The answer is how many words the line has.
+// Adds the label of a line, if it has one. It returns how many words the line has.
 fn add_label<'a>(
     labels: &mut Labels<'a>,
     bytes: &'a [u8],

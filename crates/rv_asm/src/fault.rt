@@ -8,8 +8,8 @@ use thiserror::Error;
 /// The first fault of a source.
 #[derive(Clone, Copy, Debug, PartialEq, Eq, Error)]
 pub enum AsmFault {
-    /// The rule that is broken (1 NotInstruction, 2 Number, 3 Register, 4 Label, 5 Twice, 6 TooLong, 7 Empty), and where it is
-    /// met: lines and columns are counted from 1, columns in bytes. Of rule 7 both are 0.
+    /// The broken rule, and where. The rules are 1 NotInstruction, 2 Number, 3 Register, 4 Label, 5 Twice, 6 TooLong
+    /// and 7 Empty. Lines and columns count from 1, columns in bytes. For rule 7 both are 0.
     #[error("line {line}, column {column}: rule {rule}")]
     At { rule: u8, line: u32, column: u32 },
     /// There was no memory.
@@ -50,7 +50,7 @@ pub(crate) enum Rule {
     TooLong,
 }
 
-// A fault of a line that is known.
+// A fault within a line.
 #[derive(Clone, Copy)]
 pub(crate) struct LineFault {
     pub rule: Rule,
@@ -58,7 +58,7 @@ pub(crate) struct LineFault {
 }
 
 impl LineFault {
-    // The same, in the line with this number.
+    // A fault of a line, as one of the source whose line has this number.
     pub(crate) fn at(self, line: u32) -> AsmFault
         ensures { result ≡ fault_at line self }
     {

@@ -7,7 +7,7 @@ ghost use Rattle.rv_asm.specs.Named.{names_at};
 use std::alloc::{AllocError, Global};
 use std::collections::HashMap;
 
-// Where a label stands: the number of its line, and how many words stand before it.
+// A label: the number of its line, and how many words come before it.
 #[derive(Clone, Copy)]
 pub(crate) struct Label {
     pub line: u32,

@@ -12,7 +12,7 @@ pub fn faults_are_unique()
     ensures none { MeaningsHaveNoFault }
 {}
 
-/// Each text means some words or has a fault.
+/// Each text means words, or has a fault.
 pub fn texts_mean_words_or_have_a_fault()
     ensures { MeaningOrFault }
 {}
@@ -23,7 +23,7 @@ pub fn words_have_one_line()
     ensures some { SomeLine }
 {}
 
-/// The canonical lines of words, a line end after each, are assembled to these words.
+/// The canonical lines of words, a line end after each, assemble to these words.
 pub fn canonical_lines_are_assembled()
     ensures { CanonicalIsAssembled }
 {}

@@ -1,9 +1,15 @@
-//! Sources of RV32IM in both directions: `assemble` makes the words that a text of instructions, labels and comments means,
-//! and `disassemble` the one line of a word that is read as that word again. It stands on `rv_decode`, whose table says what a
-//! word is, and on the line of `plan_types`; no crate but the top call is to stand on it. The files of `specs/` are to be read
-//! in this order: `Tokens` and `Numbers` (what bytes spell), `Table` (the instructions and what stands behind their names),
-//! `Reading` (what a line says), `Source` (which words a text means, and its first fault), `Canonical` (the line of a word)
-//! and `Laws`.
+//! The assembler and disassembler of RV32IM. It uses `plan_types` and `rv_decode`. `requests` and `reversal` use it.
+//! `assemble` makes the words of a text of instructions, labels and comments. `disassemble` prints a word as the one
+//! line that reads as that word again.
+//!
+//! Read `specs/` in this order:
+//!
+//! - `Tokens`, `Numbers`: what bytes spell.
+//! - `Table`: the instructions, and their operands.
+//! - `Reading`: what a line means.
+//! - `Source`: which words a text means, and its first fault.
+//! - `Canonical`: the line of a word.
+//! - `Laws`: what the definitions imply.
 #![tactic(auto)]
 
 mod assembling;

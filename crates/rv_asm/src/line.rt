@@ -1,4 +1,4 @@
-// What a line of a source says.
+// What a line of a source means.
 ghost use Rattle.std.specs.Prelude.{◌≡◌, ◌<◌, ◌^◌, ◌+◌, ◌&&◌, ◌∷◌, Some, not, drop, length, is_some, if◌then◌else◌};
 ghost use Rattle.rv_asm.specs.Tokens.{tokens as tokens_of};
 ghost use Rattle.rv_asm.specs.Numbers.{is_name as is_a_name};
@@ -20,7 +20,7 @@ use crate::tokens::{Token, Tokens};
 // The most words of a source.
 const MOST_WORDS: u32 = 1_048_576;
 
-// The word of a line, or none, where so many words stand before it.
+// The word of a line, if any, after so many words.
 #[tactic(auto, unfolding(crate::specs::Reading::line_of))]
 pub(crate) fn line(
     bytes: &[u8],
@@ -51,7 +51,7 @@ pub(crate) fn line(
     }
 }
 
-// Whether a label begins the line, whose first token is this and which has these tokens behind it. Its colon is gone past.
+// Whether a label begins the line, which has this first token and these after it. It skips the label's colon.
 pub(crate) fn take_colon<'a>(first: Token<'a>, tokens: &mut Tokens<'a>) -> bool
     ensures label { result ≡ begins_label (token_of first.entry.column first.entry.text.now ∷ tokens.old) }
     ensures goes { tokens.new ≡ (if result then drop 1 tokens.old else tokens.old) }
@@ -74,7 +74,8 @@ fn is_earlier(labels: &Labels, name: &[u8], number: u32) -> bool
     }
 }
 
-// The word of the instruction with this name, behind a label or in a line without one, with the tokens behind it.
+// The word of the instruction with this name and these tokens after it. The name comes after a label, or first in its
+// line.
 fn instruction(
     is_labelled: bool,
     name: Token,
@@ -94,8 +95,8 @@ fn instruction(
     }
 }
 
-// Where a line fits nothing whose token names no instruction, with these tokens behind it. A name could be that of a label, so
-// that the token behind it doesn't fit.
+// The column of the misfit in a line whose token names no instruction and has these tokens after it. A name could be
+// that of a label. Then the token after it is the misfit.
 fn unnamed_column(is_labelled: bool, name: Token, tokens: &Tokens, end: u32) -> u32
     ensures { result ≡ (if not is_labelled && is_a_name name.entry.text.now then column_in end tokens.now else name.entry.column) }
 {
@@ -106,7 +107,7 @@ fn unnamed_column(is_labelled: bool, name: Token, tokens: &Tokens, end: u32) -> 
     }
 }
 
-// The word of an instruction with what stands behind its name, which is in this column.
+// The word of an instruction with the operands after its name, which is in this column.
 fn said(
     code: Code,
     column: u32,
@@ -130,7 +131,7 @@ fn said(
     }
 }
 
-// How many words a line has with this token in the place of a name: one, where it names an instruction.
+// How many words a line with this token as its name has: one, if it names an instruction.
 pub(crate) fn words(name: &[u8]) -> u32
     ensures { result ≡ (if is_some (row_named code_table name.now) then 1 else 0) }
 {

@@ -24,7 +24,7 @@ fn digit(c: u8) -> u64
     }
 }
 
-// The number that digits of a base make; none where another byte is among them, or where it has more than 32 bits.
+// The number of the digits in a base. None if another byte is among them, or above 32 bits.
 #[tactic(auto, unfolding(crate::specs::Numbers::value_behind))]
 fn value(base: u64, digits: &[u8]) -> Option<u64>
     requires { base ≤ 16 }
@@ -102,7 +102,7 @@ fn plus(found: Option<u64>) -> Option<Signed>
     }
 }
 
-// A number behind `-`.
+// The number after a `-`.
 fn minus(found: Option<u64>) -> Option<Signed>
     ensures { result ≡ negative found }
 {
@@ -144,7 +144,7 @@ pub(crate) fn begins_letter(text: &[u8]) -> bool
     }
 }
 
-// Whether it is a name.
+// Whether a token is a name: 1 to 32 letters, digits and `_`, and no digit first.
 #[tactic(auto, unfolding(crate::specs::Numbers::is_name))]
 pub(crate) fn is_name(text: &[u8]) -> bool
     ensures { result ≡ is_a_name text.now }
@@ -155,7 +155,7 @@ pub(crate) fn is_name(text: &[u8]) -> bool
     }
 }
 
-// Whether all bytes may stand in a name.
+// Whether all bytes are allowed in a name.
 fn are_name_bytes(bytes: &[u8]) -> bool
     ensures { result ≡ list_all is_name_byte bytes.now }
 {

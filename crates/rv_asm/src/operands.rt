@@ -1,4 +1,4 @@
-// What stands behind the name of an instruction.
+// The operands after the name of an instruction.
 ghost use Rattle.std.specs.Prelude.{◌≡◌, IsTrue, [], ◌∷◌, drop, Ok, Err, OnOk, if◌then◌else◌};
 ghost use Rattle.std.specs.List.{AllByRecursion};
 ghost use Rattle.std.specs.Str.{bytes_eq};
@@ -14,7 +14,7 @@ use crate::number::{Signed, begins_letter, begins_number, is_name, number_of, re
 use crate::table::{Field, Operands, Want};
 use crate::tokens::Tokens;
 
-// The operands that the tokens of a line say, one for each want, in the word with this number.
+// The operands that the tokens of a line mean, one for each want, in the word with this number.
 #[tactic(auto, unfolding(crate::specs::Reading::operands_of))]
 pub(crate) fn operands(
     wants: &[Want],
@@ -49,7 +49,7 @@ pub(crate) fn operands(
     }
 }
 
-// The operands with what the next token says.
+// Adds the next token's value to the operands.
 fn next_operand(
     want: Want,
     tokens: &mut Tokens,
@@ -80,7 +80,7 @@ fn next_operand(
     }
 }
 
-// The operands as they are, where the next token is this byte.
+// The operands unchanged, if the next token is this byte.
 #[tactic(auto, unfolding(crate::specs::Reading::taken))]
 fn mark(byte: u8, tokens: &mut Tokens, end: u32, operands: Operands) -> Result<Operands, LineFault>
     requires { IsMark byte }
@@ -96,7 +96,7 @@ fn mark(byte: u8, tokens: &mut Tokens, end: u32, operands: Operands) -> Result<O
     })
 }
 
-// The operands with what a token says, or the rule that it breaks.
+// Adds a token's value to the operands, or returns the rule that it breaks.
 #[tactic(auto, unfolding(crate::specs::Reading::taken))]
 fn taken(
     want: Want,
@@ -217,7 +217,7 @@ fn is_even(number: Signed) -> bool
     }
 }
 
-// The number that a text says, or the rule that it breaks.
+// The number that a text means, or the rule that it breaks.
 #[tactic(auto, unfolding(crate::specs::Reading::number_in))]
 fn number_in(text: &[u8]) -> Result<Signed, Rule>
     ensures { result ≡ number_said text.now }
@@ -229,7 +229,7 @@ fn number_in(text: &[u8]) -> Result<Signed, Rule>
     }
 }
 
-// The distance that a text says in the word with this number.
+// The distance that a text means in the word with this number.
 #[tactic(auto, unfolding(crate::specs::Reading::target_in))]
 fn target_in(text: &[u8], place: u32, labels: &Labels) -> Result<Signed, Rule>
     ensures { result ≡ target_said (names_at labels.now.by_name) place text.now }

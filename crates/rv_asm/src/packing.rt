@@ -49,7 +49,7 @@ fn jump(base: u32, operands: Operands) -> u32
     base + (u32::from(operands.rd) << 7) + high + low
 }
 
-// The word of an instruction whose immediate stands where that of a load does.
+// The word of an instruction whose immediate is where a load has it.
 fn with_immediate(base: u32, operands: Operands) -> u32
     requires base { IsSmall base }
     requires rd { operands.rd < 32 }
@@ -84,7 +84,7 @@ fn branch(base: u32, operands: Operands) -> u32
     base + (low << 7) + registers + (high << 25)
 }
 
-// The word of an instruction with three registers, the last of which may be how far to shift.
+// The word of an instruction with three registers, or with a shift amount as the last.
 fn of_registers(base: u32, rd: u8, rs1: u8, last: u32) -> u32
     requires base { IsWide base }
     requires rd { rd < 32 }

@@ -8,7 +8,7 @@ use crate::table::{Code, Field, Format, Operands, TABLE, Want, wants};
 use crate::unpacking::{is_word_of, unpacked};
 use plan_types::Line;
 
-/// Puts the canonical line of a word into a line, in place of what was in it, without a line end. It takes no memory.
+/// Replaces a line by the canonical line of a word, without a line end. It takes no memory.
 pub fn disassemble(word: u32, line: &mut Line)
     ensures canonical { IsCanonical word line.new }
     ensures short { length line.new ≤ 80 }
@@ -26,7 +26,7 @@ pub fn disassemble(word: u32, line: &mut Line)
     }
 }
 
-// The name of the instruction that a word says, and what the table has there.
+// The name of the instruction that a word means, and what the table has there.
 #[tactic(auto, unfolding(crate::specs::Coding::entries))]
 fn row_of(word: u32) -> Option<(&'static [u8], Code)>
     ensures row { MatchOption result
@@ -88,7 +88,7 @@ fn push_want(line: &mut Line, want: Want, operands: Operands)
     }
 }
 
-// The register of a field.
+// The operand register for a field.
 fn register(field: Field, operands: Operands) -> u8
     ensures { result ≡ register_in field operands }
 {

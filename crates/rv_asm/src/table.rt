@@ -1,4 +1,4 @@
-// The instructions of a source, and what stands behind the name of each.
+// The instructions of a source, and the operands after the name of each.
 ghost use Rattle.std.specs.Prelude.{◌≡◌, map};
 ghost use Rattle.std.specs.Str.{bytes_eq};
 ghost use Rattle.std.specs.Map.{lookup};
@@ -13,7 +13,7 @@ pub(crate) enum Field {
     Rs2,
 }
 
-// What may stand at one place: a register, this byte, a number or a target that is at least `-low` and at most `high`.
+// What is allowed at one place: a register, this byte, or a number or target from `-low` to `high`.
 #[derive(Clone, Copy)]
 pub(crate) enum Want {
     Register(Field),
@@ -22,7 +22,7 @@ pub(crate) enum Want {
     Target { low: u64, high: u64 },
 }
 
-// The formats of what stands behind a name.
+// The formats of the operands after a name.
 #[derive(Clone, Copy)]
 pub(crate) enum Format {
     Upper,
@@ -37,7 +37,7 @@ pub(crate) enum Format {
     Word,
 }
 
-// What a line has behind the name: registers, and a number or a target as 32 bits.
+// The operands of a line: registers, and a number or a target as 32 bits.
 #[derive(Clone, Copy)]
 pub(crate) struct Operands {
     pub rd: u8,
@@ -116,7 +116,7 @@ const WORD: [Want; 1] = [Want::Number {
     high: 4294967295,
 }];
 
-// What stands behind a name, by its format.
+// The operands after a name, by its format.
 pub(crate) fn wants(format: Format) -> &'static [Want]
     ensures { result.now ≡ wants_of format }
 {
@@ -134,7 +134,7 @@ pub(crate) fn wants(format: Format) -> &'static [Want]
     }
 }
 
-// A row for each instruction, and the last for any word: the name, the format, and the word whose operands are all 0.
+// A row for each instruction, and the last for any word. It has the name, the format, and the word with all operands 0.
 pub(crate) const TABLE: [(&[u8], Format, u32); 49] = [
     (b"lui", Format::Upper, 0x00000037),
     (b"auipc", Format::Upper, 0x00000017),
@@ -210,7 +210,7 @@ fn find(mut table: &[(&[u8], Format, u32)], name: &[u8]) -> Option<Code>
     None
 }
 
-// Whether two texts have the same bytes. Most names have another first byte, so that one comparison tells it of them.
+// Whether two texts have the same bytes. Most names differ in their first byte, so one comparison usually decides.
 fn is_text(text: &[u8], other: &[u8]) -> bool
     ensures { result ≡ bytes_eq text.now other.now }
 {

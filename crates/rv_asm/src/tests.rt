@@ -3,7 +3,7 @@ use crate::{assemble, disassemble};
 use plan_types::Line;
 use std::test::Fail;
 
-// Adds up the bytes of its input, at 0x11000.
+// Sums the bytes of its input, at 0x11000.
 const SOURCE: &[u8] = b"lui x8, 17
 next: addi x10, x0, 0
 addi x11, x8, 4

@@ -54,7 +54,7 @@ impl<'a> Tokens<'a> {
         }
     }
 
-    // Goes past the next token.
+    // Reads the next token.
     pub(crate) fn next(&mut self) -> Option<Token<'a>>
         ensures { MatchOption result ((self.old ≡ []) × (self.new ≡ []))
             (λ t. self.old ≡ token_of t.column t.text.now ∷ self.new) }
@@ -71,7 +71,7 @@ impl<'a> Tokens<'a> {
         Some(Token { text, column })
     }
 
-    // Goes past the next token, where it is this byte alone.
+    // Reads the next token, if it is this byte alone.
     pub(crate) fn take_mark(&mut self, byte: u8) -> bool
         requires { IsMark byte }
         ensures taken { result ≡ bytes_eq (text_in self.old) (byte ∷ []) }
@@ -85,7 +85,7 @@ impl<'a> Tokens<'a> {
         true
     }
 
-    // The column of the next token, or this one where there is none.
+    // The column of the next token, or this one if there is none.
     pub(crate) fn column_or(&self, end: u32) -> u32
         ensures { result ≡ column_in end self.now }
     {
@@ -112,14 +112,14 @@ fn after_blanks(bytes: &[u8]) -> &[u8]
     rest
 }
 
-// Most bytes come after all blanks, so that one comparison tells it of them.
+// Most bytes are above all blanks, so one comparison rules them out.
 fn is_blank(b: u8) -> bool
     ensures { result ≡ blank b }
 {
     b <= b' ' && (b == b' ' || b == b'\t' || b == b'\r')
 }
 
-// The bytes behind this one, where it is the first.
+// The bytes after this one, where it comes first.
 fn past(bytes: &[u8], byte: u8) -> Option<&[u8]>
     ensures value { MatchOption result (past byte bytes.now ≡ None) (λ rest. past byte bytes.now ≡ Some rest.now) }
     ensures within { IfSome result (λ rest. length rest.now < length bytes.now) }
@@ -130,7 +130,7 @@ fn past(bytes: &[u8], byte: u8) -> Option<&[u8]>
     }
 }
 
-// How many bytes the token at the front has; none where a comment begins.
+// How many bytes the token at the front has; 0 where a comment begins.
 fn token_length(bytes: &[u8]) -> usize
     ensures value { result ≡ length_of_token bytes.now }
     ensures within { result ≤ length bytes.now }
@@ -161,7 +161,7 @@ fn run_length(bytes: &[u8]) -> usize
     bytes.len()
 }
 
-// Letters and digits come in any order, so that it is told without a branch for each.
+// Letters and digits come in any order, so the test has no branch for each.
 fn is_run_byte(b: u8) -> bool
     ensures { result ≡ run_byte b }
 {
@@ -169,7 +169,7 @@ fn is_run_byte(b: u8) -> bool
     is_letter | b.is_ascii_digit() | (b == b'_') | (b == b'.') | (b == b'-')
 }
 
-// The lines of bytes that are left; the last has no end behind it.
+// The lines of the bytes that are left. The last has no line end.
 #[derive(Drop)]
 pub(crate) struct Lines<'a> {
     rest: &'a [u8],
@@ -199,7 +199,7 @@ impl<'a> Lines<'a> {
         }
     }
 
-    // Goes past the next line.
+    // Reads the next line.
     pub(crate) fn next(&mut self) -> Option<&'a [u8]>
         ensures value { MatchOption result ((self.old ≡ []) × (self.new ≡ []))
             (λ line. self.old ≡ line.now ∷ self.new) }
@@ -228,7 +228,7 @@ fn line_length(bytes: &[u8]) -> usize
     bytes.len()
 }
 
-// The bytes behind the first one.
+// The bytes after the first one.
 pub(crate) fn without_first(bytes: &[u8]) -> &[u8]
     ensures { result.now ≡ drop 1 bytes.now }
 {

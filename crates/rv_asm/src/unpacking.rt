@@ -65,7 +65,7 @@ fn of_sources(rs1: u8, rs2: u8, imm: u32) -> Operands
     }
 }
 
-// Whether the word is one of the instruction. None is of the row of any word.
+// Whether the word is one of the instruction. No word belongs to the row of `.word`.
 pub(crate) fn is_word_of(code: Code, word: u32) -> bool
     ensures { result ≡ takes code.format code.base word }
 {

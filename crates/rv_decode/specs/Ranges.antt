@@ -1,11 +1,11 @@
--- Which fields an instruction may have: a register is one of x0 to x31, and an immediate is one that its format can say.
+-- Which fields an instruction may have. A register is one of x0 to x31. An immediate is one that its format can encode.
 use Rattle.std.specs.Prelude.{◌≡◌, ℕ, ◌-◌, ◌%◌, ◌^◌, ◌<◌, ◌≤◌, ◌⊎◌}
 use Rattle.rv_decode.specs.declared.instruction.Inst.{Inst}
 use Rattle.rv_decode.specs.declared.instruction.Inst.TheVariants.{Lui, Auipc, Jal, Jalr, Beq, Bne, Blt, Bge, Bltu, Bgeu, Lb, Lh, Lw, Lbu, Lhu, Sb, Sh, Sw, Addi, Slti, Sltiu, Xori, Ori, Andi, Slli, Srli, Srai, Add, Sub, Sll, Slt, Sltu, Xor, Srl, Sra, Or, And, Mul, Mulh, Mulhsu, Mulhu, Div, Divu, Rem, Remu, Fence, Ecall, Ebreak}
 use Rattle.rv_decode.specs.Formats.{opcode, funct3}
 
--- A number of 32 bits that is one of so many bits in two's complement: near 0, or near 2 ^ 32. There are 1 to 32 bits, so
--- no difference is cut.
+-- A number of 32 bits that fits so many bits in two's complement: near 0, or near 2 ^ 32. There are 1 to 32 bits, so
+-- the subtraction doesn't truncate.
 abbrev pub IsSigned : ℕ → ℕ → Type 0
 IsSigned width n = (n < 2 ^ (width - 1)) ⊎ ((2 ^ 32 - 2 ^ (width - 1) ≤ n) × (n < 2 ^ 32))
 

@@ -1,6 +1,6 @@
--- The table of the instructions of RV32IM, a row each: which words say the instruction, and with which fields (RISC-V
--- unprivileged manual, chapter "RV32/64G Instruction Set Listings", tables "RV32I Base Instruction Set" and "RV32M Standard
--- Extension"). What an instruction does is not said here.
+-- The table of the instructions of RV32IM, a row each: which words encode the instruction, and its fields. Source:
+-- RISC-V unprivileged manual, chapter "RV32/64G Instruction Set Listings", tables "RV32I Base Instruction Set" and
+-- "RV32M Standard Extension". What an instruction does is defined elsewhere.
 use Rattle.std.specs.Prelude.{ℕ, ◌==◌, Bool, ◌&&◌, cond, List, [], ◌∷◌, ◌++◌, Option, Some, None}
 use Rattle.rv_decode.specs.declared.instruction.Inst.{Inst}
 use Rattle.rv_decode.specs.declared.instruction.Inst.TheVariants.{Lui, Auipc, Jal, Jalr, Beq, Bne, Blt, Bge, Bltu, Bgeu, Lb, Lh, Lw, Lbu, Lhu, Sb, Sh, Sw, Addi, Slti, Sltiu, Xori, Ori, Andi, Slli, Srli, Srai, Add, Sub, Sll, Slt, Sltu, Xor, Srl, Sra, Or, And, Mul, Mulh, Mulhsu, Mulhu, Div, Divu, Rem, Remu, Fence, Ecall, Ebreak}
@@ -9,7 +9,7 @@ use Rattle.rv_decode.specs.Formats.{opcode, rd, funct3, rs1, rs2, funct7, imm_i,
 pub record Row : Type 0 where
   -- whether a word is of the row
   pub takes : ℕ → Bool
-  -- the instruction that such a word says
+  -- the instruction that such a word means
   pub says : ℕ → Inst
 
 -- Rows by their formats: an opcode, and where the format has them funct3 and funct7.
@@ -39,7 +39,7 @@ shift_row code f3 f7 inst = record { takes = λ w. (opcode w == code) && (funct3
 abbrev pub fence_row : ℕ → ℕ → (ℕ → Inst) → Row
 fence_row code f3 inst = record { takes = λ w. (opcode w == code) && (funct3 w == f3); says = λ w. inst w }
 
--- an instruction that one word alone says
+-- an instruction of a single word
 abbrev pub word_row : ℕ → Inst → Row
 word_row word inst = record { takes = λ w. w == word; says = λ w. inst }
 
@@ -132,11 +132,11 @@ others =
 abbrev pub rows : List Row
 rows = uppers ++ jumps ++ branches ++ loads ++ stores ++ on_immediates ++ on_registers ++ others
 
--- what the first of some rows that takes a word says
+-- what the first of some rows that takes a word means
 abbrev pub first_of : List Row → ℕ → Option Inst
 first_of [] w = None
 first_of (row ∷ rest) w = cond (row.takes w) (Some (row.says w)) (first_of rest w)
 
--- the instruction that a word says; a word of no row is illegal
+-- the instruction that a word means; a word of no row is illegal
 unfoldable pub decoded : ℕ → Option Inst
 decoded w = first_of rows w

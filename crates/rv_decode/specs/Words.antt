@@ -1,4 +1,4 @@
--- The words of the formats with given fields: what an encoder writes. The table of rows knows nothing of it.
+-- The words of the formats with given fields: an encoder's output. It doesn't use the table of rows.
 use Rattle.std.specs.Prelude.{ℕ, ◌+◌, ◌*◌, ◌/◌, ◌%◌, ◌^◌}
 use Rattle.rv_decode.specs.declared.instruction.Inst.{Inst}
 use Rattle.rv_decode.specs.declared.instruction.Inst.TheVariants.{Lui, Auipc, Jal, Jalr, Beq, Bne, Blt, Bge, Bltu, Bgeu, Lb, Lh, Lw, Lbu, Lhu, Sb, Sh, Sw, Addi, Slti, Sltiu, Xori, Ori, Andi, Slli, Srli, Srai, Add, Sub, Sll, Slt, Sltu, Xor, Srl, Sra, Or, And, Mul, Mulh, Mulhsu, Mulhu, Div, Divu, Rem, Remu, Fence, Ecall, Ebreak}
@@ -7,7 +7,7 @@ use Rattle.rv_decode.specs.declared.instruction.Inst.TheVariants.{Lui, Auipc, Ja
 abbrev pub word_r : ℕ → ℕ → ℕ → ℕ → ℕ → ℕ → ℕ
 word_r code f3 f7 rd rs1 rs2 = code + rd * 2 ^ 7 + f3 * 2 ^ 12 + rs1 * 2 ^ 15 + rs2 * 2 ^ 20 + f7 * 2 ^ 25
 
--- the same with an immediate, of which each format puts the bits elsewhere
+-- the word of registers and an immediate; each format puts the immediate's bits elsewhere
 abbrev pub word_i : ℕ → ℕ → ℕ → ℕ → ℕ → ℕ
 word_i code f3 rd rs1 imm = word_r code f3 (imm / 2 ^ 5 % 2 ^ 7) rd rs1 (imm % 2 ^ 5)
 

@@ -1,4 +1,4 @@
-// From a word to the instruction that it says.
+// From a word to its instruction.
 ghost use Rattle.std.specs.Prelude.{◌≡◌, IfSome};
 ghost use Rattle.rv_decode.specs.Formats.{opcode as opcode_of};
 ghost use Rattle.rv_decode.specs.Rows.{decoded, first_of, branches, loads, stores, on_immediates, on_registers, others, jumps};
@@ -19,7 +19,7 @@ const ECALL: u32 = 0x00000073;
 
 const EBREAK: u32 = 0x00100073;
 
-/// The instruction that a word says, or `None` for an illegal word. It takes no memory.
+/// The instruction that a word means, or `None` for an illegal word. It takes no memory.
 #[inline(always)]
 pub fn decode(word: u32) -> Option<Inst>
     ensures table { result ≡ decoded word }

@@ -1,4 +1,4 @@
-// From an instruction to the word that says it.
+// From an instruction to its word.
 ghost use Rattle.std.specs.Prelude.{◌≡◌, ℕ, ◌%◌, ◌^◌, ◌<◌, Some};
 ghost use Rattle.rv_decode.specs.Rows.{decoded};
 ghost use Rattle.rv_decode.specs.Ranges.{HasRanges, IsSigned};
@@ -22,7 +22,7 @@ const OP_IMM: u32 = 0b0010011;
 
 const OP: u32 = 0b0110011;
 
-/// The word that says an instruction.
+/// The word of an instruction.
 pub fn encode(inst: &Inst) -> u32
     requires { HasRanges inst.now }
     ensures read_again { decoded result ≡ Some inst.now }

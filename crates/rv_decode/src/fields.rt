@@ -50,7 +50,7 @@ pub fn funct7(word: u32) -> u32
     word >> 25
 }
 
-// A number whose sign bit has the given value, as one of 32 bits.
+// A number with this sign bit, extended to 32 bits.
 #[inline(always)]
 fn extended(n: u32, sign: u32) -> u32
     requires sign { sign ≤ 2 ^ 30 }

@@ -1,7 +1,7 @@
 // The instructions of RV32IM.
 
-/// An instruction of RV32IM with its registers. An immediate is sign-extended to 32 bits; of SLLI, SRLI and SRAI it is the
-/// number of places.
+/// An instruction of RV32IM with its registers. An immediate is sign-extended to 32 bits. For SLLI, SRLI and SRAI it is
+/// the number of places.
 #[derive(Clone, Copy, Debug, PartialEq, Eq)]
 pub enum Inst {
     Lui { rd: u8, imm: u32 },
@@ -49,7 +49,7 @@ pub enum Inst {
     Divu { rd: u8, rs1: u8, rs2: u8 },
     Rem { rd: u8, rs1: u8, rs2: u8 },
     Remu { rd: u8, rs1: u8, rs2: u8 },
-    /// A FENCE keeps its whole word, of which only the opcode and funct3 are looked at.
+    /// A FENCE keeps its whole word, since only the opcode and funct3 are decoded.
     Fence { word: u32 },
     Ecall,
     Ebreak,

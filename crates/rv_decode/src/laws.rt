@@ -2,7 +2,7 @@
 ghost use Rattle.std.specs.Prelude.{ℕ, ◌≤◌, count_by};
 ghost use Rattle.rv_decode.specs.Rows.{rows};
 
-/// No two rows of the table take one word.
+/// No two rows of the table match one word.
 pub fn rows_are_apart()
     ensures { (word : ℕ) → count_by (λ row. row.takes word) rows ≤ 1 }
 {}

@@ -1,6 +1,6 @@
-//! The instruction words of RV32IM: from a word to the instruction that it says, and back. It stands on nothing, and the
-//! machine stands on it. `specs/Formats.antt` has the fields and immediates of the formats, and `specs/Rows.antt` the
-//! table of the instructions, to be laid beside the manual; what an instruction does is the machine's.
+//! Decodes and encodes the instruction words of RV32IM. It uses no other crate. `rv_machine`, `rv_manual`, `rv_asm` and
+//! `reversal` use it. What an instruction does is defined in `rv_machine`. `specs/Formats.antt` has the fields and
+//! immediates of the formats. `specs/Rows.antt` has the table of the instructions, to be compared with the manual.
 #![tactic(auto)]
 
 mod decoding;

@@ -1,16 +1,16 @@
--- Loads and stores of bytes, halfwords and words. They are little-endian, need no alignment, and go round from the last
--- address to the first (RISC-V unprivileged manual, section "Load and Store Instructions").
+-- Loads and stores of bytes, halfwords and words. They are little-endian, need no alignment, and wrap from the last
+-- address to the first. Source: RISC-V unprivileged manual, section "Load and Store Instructions".
 use Rattle.std.specs.Prelude.{ℕ, ◌+◌, ◌*◌, ◌^◌, Option, Some, None}
 use Rattle.rv_pages.specs.Memory.{Memory, wrapped, byte_at}
 use Rattle.std.specs.FinMap as finmap
 use Rattle.rv_manual.specs.Fields.{bits}
 
--- a lower and an upper part, if both are mapped: the upper one counts so many times
+-- the number of a lower and an upper part, if both are mapped
 abbrev pub joined : ℕ → Option ℕ → Option ℕ → Option ℕ
 joined times (Some lower) (Some upper) = Some (lower + upper * times)
 joined times _ _ = None
 
--- what stands at an address, if all its bytes are mapped
+-- the bytes at an address, if all are mapped
 abbrev pub byte : Memory → ℕ → Option ℕ
 byte m at = byte_at m at
 

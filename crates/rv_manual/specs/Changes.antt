@@ -1,5 +1,5 @@
--- What instructions do to registers, pc and memory. Traps are our own choice, where the manual leaves them to the execution
--- environment: the status changes, and nothing else.
+-- What instructions do to registers, pc and memory. Traps are our own choice, where the manual leaves them to the
+-- execution environment. A trap changes only the status.
 use Rattle.std.specs.Prelude.{ℕ, ◌==◌, Bool, cond, List, slice_index, slice_set, Option, Some, None, ℤ, pos, ◌+ℤ◌}
 use Rattle.rv_pages.specs.Memory.{Memory}
 use Rattle.rv_machine.specs.MachineState.{MachineState}
@@ -19,7 +19,7 @@ with_rd registers rd value = slice_set (slice_set registers rd (word_of value)) 
 abbrev pub following : MachineState → ℤ
 following s = pos s.pc +ℤ pos 4
 
--- rd gets a value, and pc goes on
+-- rd gets a value, and pc moves to the next instruction
 abbrev pub gives : MachineState → ℕ → ℤ → MachineState
 gives s rd value = record s { pc = word_of (following s); registers = with_rd s.registers rd value }
 
@@ -31,12 +31,12 @@ jumps s rd target = cond (bits 1 0 target == 0) (record s { pc = target; registe
 abbrev pub branches : Bool → MachineState → ℕ → MachineState
 branches taken s target = cond taken (cond (bits 1 0 target == 0) (record s { pc = target }) (trapped s 0)) (record s { pc = word_of (following s) })
 
--- rd gets the integer for which what was loaded stands. Trap 5: a byte of it is not mapped
+-- rd gets the integer of what was loaded. Trap 5: a byte of it is not mapped
 abbrev pub loads : (ℕ → ℤ) → MachineState → ℕ → Option ℕ → MachineState
 loads integer s rd None = trapped s 5
 loads integer s rd (Some n) = gives s rd (integer n)
 
--- memory becomes another one, where all bytes that are stored are mapped. Trap 7: one is not
+-- memory changes, if all stored bytes are mapped. Trap 7: one is not
 abbrev pub stores : Bool → MachineState → Memory → MachineState
 stores mapped s memory = cond mapped (record s { pc = word_of (following s); memory = memory }) (trapped s 7)
 

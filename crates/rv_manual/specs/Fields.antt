@@ -1,8 +1,9 @@
--- The fields of an instruction word and its immediate, as the figures of the RISC-V unprivileged manual draw them (chapter
--- "RV32I Base Integer Instruction Set", sections "Base Instruction Formats" and "Immediate Encoding Variants").
+-- The fields of an instruction word and its immediate, as the manual's figures draw them. Source: RISC-V unprivileged
+-- manual, chapter "RV32I Base Integer Instruction Set", sections "Base Instruction Formats" and "Immediate Encoding
+-- Variants".
 use Rattle.std.specs.Prelude.{ℕ, ◌+◌, ◌*◌, ◌/◌, ◌%◌, ◌^◌, ℤ, pos, ◌-ℤ◌}
 
--- the bits of a word from a high one down to a low one, as a number: the bits up to the high one, without those below the low one
+-- the bits of a word from a high one down to a low one, as a number
 abbrev pub bits : ℕ → ℕ → ℕ → ℕ
 bits high low w = w % 2 ^ (high + 1) / 2 ^ low
 
@@ -19,7 +20,7 @@ rs2 w = bits 24 20 w
 abbrev pub shamt : ℕ → ℕ
 shamt w = bits 24 20 w
 
--- Immediates are integers. In each of them bit 31 of the word is the sign bit, which is counted negative.
+-- Immediates are integers. Bit 31 of the word is the sign bit of each.
 abbrev pub i_immediate : ℕ → ℤ
 i_immediate w = pos (bits 30 20 w) -ℤ pos (bits 31 31 w * 2 ^ 11)
 

@@ -1,8 +1,8 @@
--- Integers, and the words of 32 bits that stand for them.
+-- Integers, and their words of 32 bits.
 use Rattle.std.specs.Prelude.{ℕ, ◌*◌, ◌/◌, ◌%◌, ◌^◌, Bool, not, cond, ℤ, pos, ◌-ℤ◌, neg_ℤ, unsigned_abs}
 use Rattle.std.specs.Int.{int_div_euclid, int_rem_euclid, is_negative, sum_through, bit_at}
 
--- The integer that a number stands for in two's complement: the sign bit, the one with this number, is counted negative.
+-- the integer of a number in two's complement: the sign bit, the one with this number, counts negative
 abbrev pub twos_complement : ℕ → ℕ → ℤ
 twos_complement sign n = pos (n % 2 ^ sign) -ℤ pos (n / 2 ^ sign * 2 ^ sign)
 
@@ -10,11 +10,11 @@ twos_complement sign n = pos (n % 2 ^ sign) -ℤ pos (n / 2 ^ sign * 2 ^ sign)
 abbrev pub signed : ℕ → ℤ
 signed a = twos_complement 31 a
 
--- the lowest bits of an integer, so many: what it is modulo that power of 2, from 0 on
+-- the lowest bits of an integer, so many: its residue modulo that power of 2, from 0 on
 abbrev pub low_bits : ℕ → ℤ → ℕ
 low_bits n z = unsigned_abs (int_rem_euclid z (pos (2 ^ n)))
 
--- the word of an integer. What doesn't fit is ignored.
+-- the word of an integer; overflow is ignored
 abbrev pub word_of : ℤ → ℕ
 word_of z = low_bits 32 z
 
@@ -33,10 +33,10 @@ signs_differ x y = cond (is_negative x) (not (is_negative y)) (is_negative y)
 abbrev pub rounded_towards_zero : ℤ → ℤ → ℤ
 rounded_towards_zero x y = cond (signs_differ x y) (neg_ℤ (pos (unsigned_abs x / unsigned_abs y))) (pos (unsigned_abs x / unsigned_abs y))
 
--- a truth as a number
+-- a truth value as a number
 abbrev pub one_if : Bool → ℤ
 one_if test = cond test (pos 1) (pos 0)
 
--- the word whose bits are made of the bits of two words, each of the two with its number
+-- a word computed bit by bit from two words
 abbrev pub bitwise : (ℕ → ℕ → ℕ) → ℕ → ℕ → ℤ
 bitwise of_bits a b = pos (sum_through (λ i. of_bits (bit_at a i) (bit_at b i) * 2 ^ i) 31)

@@ -1,6 +1,6 @@
--- The instructions of RV32I and RV32M, a row each, by their formats (RISC-V unprivileged manual, chapter "RV32/64G Instruction
--- Set Listings", tables "RV32I Base Instruction Set" and "RV32M Standard Extension"). A row has the bits that are fixed, in
--- the order of the manual's columns, and then what the instruction computes.
+-- The instructions of RV32I and RV32M, a row each, by their formats. Source: RISC-V unprivileged manual, chapter
+-- "RV32/64G Instruction Set Listings", tables "RV32I Base Instruction Set" and "RV32M Standard Extension". A row has
+-- the fixed bits, in the order of the manual's columns, and then what the instruction computes.
 use Rattle.std.specs.Prelude.{List, [], ◌∷◌, ◌++◌, pos, ◌+ℤ◌}
 use Rattle.rv_machine.specs.StateChanges.{trapped}
 use Rattle.rv_machine.specs.SystemCalls.{called}

@@ -13,7 +13,7 @@ use Rattle.rv_manual.specs.Listing.{listing}
 abbrev pub is_listed : ℕ → Bool
 is_listed w = list_any (λ row. takes w row) listing
 
--- What a word does by the row that takes it. Trap 2: none does, so it is illegal
+-- What a word does by its row. Trap 2: it has no row, so it is illegal
 abbrev pub by_rows : List Row → ℕ → MachineState → List (List ℕ) → MachineState
 by_rows [] w s journal = trapped s 2
 by_rows (row ∷ rows) w s journal = cond (takes w row) (row.after w s journal) (by_rows rows w s journal)
@@ -23,7 +23,7 @@ abbrev pub by_word : Option ℕ → MachineState → List (List ℕ) → Machine
 by_word None s journal = trapped s 1
 by_word (Some w) s journal = by_rows listing w s journal
 
--- the state after one step; a machine that was stopped stays as it is
+-- the state after one step; a stopped machine doesn't change
 abbrev pub by_status : Status → MachineState → List (List ℕ) → MachineState
 by_status Running s journal = by_word (word s.memory s.pc) s journal
 by_status _ s journal = s

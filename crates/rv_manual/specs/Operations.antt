@@ -1,6 +1,7 @@
--- What the instructions compute of two operands, which are words: of two registers, or of a register and an immediate. The
--- answer is an integer; the word of it is kept (RISC-V unprivileged manual, chapters "RV32I Base Integer Instruction Set",
--- section "Integer Computational Instructions", and "M" Extension for Integer Multiplication and Division).
+-- What the instructions compute of two operands: of two registers, or of a register and an immediate. Operands are
+-- words. The answer is an integer, and the machine keeps its word. Source: RISC-V unprivileged manual, chapters "RV32I
+-- Base Integer Instruction Set", section "Integer Computational Instructions", and "M" Extension for Integer
+-- Multiplication and Division.
 use Rattle.std.specs.Prelude.{ℕ, ◌*◌, ◌%◌, ◌^◌, ◌+◌, ◌==◌, Bool, not, ◌&&◌, cond, min, max, nat_lt, nat_le, int_lt, int_le, ℤ, pos, ◌+ℤ◌, ◌-ℤ◌, ◌*ℤ◌, neg_ℤ}
 use Rattle.std.specs.Ordering.{int_eq}
 use Rattle.rv_manual.specs.Integers.{signed, upper_word, rounded_down, rounded_towards_zero, one_if, bitwise}
@@ -12,14 +13,14 @@ add a b = signed a +ℤ signed b
 abbrev pub sub : ℕ → ℕ → ℤ
 sub a b = signed a -ℤ signed b
 
--- 1 where the first operand is less than the second, else 0: both with signs, or both without
+-- 1 if the first operand is less than the second, and 0 otherwise: signed, and unsigned
 abbrev pub slt : ℕ → ℕ → ℤ
 slt a b = one_if (int_lt (signed a) (signed b))
 
 abbrev pub sltu : ℕ → ℕ → ℤ
 sltu a b = one_if (nat_lt a b)
 
--- bitwise: one of two bits and not both, one of them or both, both
+-- bitwise: exclusive or, or, and
 abbrev pub xor : ℕ → ℕ → ℤ
 xor a b = bitwise (λ p q. (p + q) % 2) a b
 
@@ -29,7 +30,7 @@ or a b = bitwise max a b
 abbrev pub and : ℕ → ℕ → ℤ
 and a b = bitwise min a b
 
--- shifts by the lowest five bits of the second operand: left, right with zeros in, and right with copies of the sign bit in
+-- shifts by the lowest five bits of the second operand: left, logical right, and arithmetic right
 abbrev pub sll : ℕ → ℕ → ℤ
 sll a b = pos (a * 2 ^ (b % 32))
 
@@ -39,7 +40,7 @@ srl a b = rounded_down (pos a) (2 ^ (b % 32))
 abbrev pub sra : ℕ → ℕ → ℤ
 sra a b = rounded_down (signed a) (2 ^ (b % 32))
 
--- products: the lower word, and the upper word of signed by signed, of signed by unsigned, and of unsigned by unsigned
+-- products: the lower word, and the upper words of signed by signed, signed by unsigned, and unsigned by unsigned
 abbrev pub mul : ℕ → ℕ → ℤ
 mul a b = signed a *ℤ signed b
 
@@ -52,8 +53,8 @@ mulhsu a b = pos (upper_word (signed a *ℤ pos b))
 abbrev pub mulhu : ℕ → ℕ → ℤ
 mulhu a b = pos (upper_word (pos a *ℤ pos b))
 
--- The table "Semantics for division by zero and division overflow", a column each. Division overflows where the least
--- number, -2 ^ 31, is divided by -1. A remainder is what the product of divisor and quotient leaves of the dividend.
+-- The table "Semantics for division by zero and division overflow", a column each. Division overflows if the least
+-- number, -2 ^ 31, is divided by -1. A remainder is the dividend minus the product of divisor and quotient.
 abbrev pub least : ℤ
 least = neg_ℤ (pos (2 ^ 31))
 

@@ -1,4 +1,4 @@
--- How pages are kept: their numbers in ascending order, and the bytes of all of them, one page after the other.
+-- How pages are kept: their numbers in ascending order, and their bytes, one page after the other.
 use Rattle.std.specs.Prelude.{◌≡◌, ℕ, ◌*◌, ◌/◌, ◌^◌, ◌<◌, ◌≤◌, List, [], ◌∷◌, ◌++◌, length, take, drop, slice_index}
 use Rattle.std.specs.List.{All, enumerate_from}
 use Rattle.std.specs.List.Sorted.{IsStrictlyIncreasing}
@@ -16,15 +16,15 @@ entries_kept size (number ∷ numbers) bytes = enumerate_from (number * size) (t
 unfoldable pub memory_kept : List ℕ → List ℕ → Memory
 memory_kept numbers bytes = finmap.from_sorted (entries_kept 4096 numbers bytes)
 
--- what is true of pages that are kept
+-- the invariant of kept pages
 pub record AreKept (numbers bytes : List ℕ) : Type 0 where
   pub ascending : IsStrictlyIncreasing numbers
   pub below : All (λ number. number < 2 ^ 20) numbers
   pub few : length numbers ≤ 4096
   pub whole : length bytes ≡ 4096 * length numbers
 
--- What is true of all that a value of pages holds: the tables find the pages, only pages that are mapped are marked, and
--- a page that isn't marked is all zero.
+-- The invariant of pages. The tables find the pages. Only mapped pages are marked, and a page that isn't marked is all
+-- zero.
 pub record ArePages (numbers tops lows bytes words : List ℕ) : Type 0 where
   pub kept : AreKept numbers bytes
   pub tables : AreTables tops lows

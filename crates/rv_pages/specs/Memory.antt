@@ -1,5 +1,5 @@
 -- Memory as a finite map from mapped addresses to bytes. Addresses are below 2 ^ 32 and are mapped by whole pages of
--- 4,096 bytes. How the pages are kept is not said here.
+-- 4,096 bytes. This says nothing of how the pages are kept.
 use Rattle.std.specs.Prelude.{◌≡◌, ◌≢◌, ℕ, zero, suc, ◌+◌, ◌*◌, ◌/◌, ◌%◌, ◌^◌, ◌==◌, ◌<◌, ◌≤◌, cond, List, [], ◌∷◌, map, filter, length, slice_index, Option, None, Some, IsSome, MatchOption}
 use Rattle.std.specs.Option.{option_map}
 use Rattle.std.specs.List.{All, enumerate_from, filter_map, flat_map}
@@ -23,7 +23,7 @@ abbrev pub followed_by : Option ℕ → Option (List ℕ) → Option (List ℕ)
 followed_by (Some b) (Some bs) = Some (b ∷ bs)
 followed_by _ _ = None
 
--- so many bytes from an address on, each at its address modulo 2 ^ 32, if all of them are mapped
+-- so many bytes from an address on, if all are mapped; addresses are modulo 2 ^ 32
 abbrev pub bytes_at : Memory → ℕ → ℕ → Option (List ℕ)
 bytes_at m at zero = Some []
 bytes_at m at (suc n) = followed_by (byte_at m at) (bytes_at m (at + 1) n)
@@ -33,7 +33,7 @@ abbrev pub little_endian : List ℕ → ℕ
 little_endian [] = 0
 little_endian (b ∷ bs) = b + little_endian bs * 2 ^ 8
 
--- the lowest bytes of a number, so many, the lowest first
+-- the lowest bytes of a number, so many, in little-endian order
 abbrev pub low_bytes : ℕ → ℕ → List ℕ
 low_bytes zero value = []
 low_bytes (suc n) value = value % 2 ^ 8 ∷ low_bytes n (value / 2 ^ 8)
@@ -50,7 +50,7 @@ word_at m at = number_at m at 4
 abbrev pub IsMapped : Memory → ℕ → ℕ → Type 0
 IsMapped m at n = (k : ℕ) → k < n → IsSome (byte_at m (at + k))
 
--- the memory with these bytes from an address on, each at its address modulo 2 ^ 32, and all else as before
+-- the memory with these bytes from an address on, modulo 2 ^ 32, and all else as before
 abbrev pub with_bytes : Memory → ℕ → List ℕ → Memory
 with_bytes m at [] = m
 with_bytes m at (b ∷ bs) = with_bytes (finmap.insert m (wrapped at) b) (at + 1) bs
@@ -67,14 +67,14 @@ page_numbers m = filter_map (λ at. cond (at % 4096 == 0) (Some (at / 4096)) Non
 abbrev pub page_bytes : Memory → ℕ → List ℕ
 page_bytes m page = map (λ e. e.1) (filter (λ e. e.0 / 4096 == page) (finmap.entries m))
 
--- where a number stands in a list, if it does
+-- the place of a number in a list, if it is there
 abbrev pub IsPlaceOf : List ℕ → ℕ → Option ℕ → Type 0
 IsPlaceOf numbers number place =
     MatchOption place
     ((k : ℕ) → k < length numbers → slice_index numbers k ≡ number → ⊥)
     (λ k. (k < length numbers) × (slice_index numbers k ≡ number))
 
--- all mapped pages but the one at this index have the bytes that they had
+-- all mapped pages but the one at this index keep their bytes
 abbrev pub KeepsPagesBut : ℕ → Memory → Memory → Type 0
 KeepsPagesBut index old new = (k : ℕ) → k < length (page_numbers old) → k ≢ index →
     page_bytes new (slice_index (page_numbers old) k) ≡ page_bytes old (slice_index (page_numbers old) k)
@@ -83,7 +83,7 @@ KeepsPagesBut index old new = (k : ℕ) → k < length (page_numbers old) → k 
 abbrev pub IsZeroPage : Memory → ℕ → Type 0
 IsZeroPage m page = All (λ b. b ≡ 0) (page_bytes m page)
 
--- the addresses from this one on, so many, each with the byte 0
+-- so many addresses from this one on, each with the byte 0
 abbrev pub zeros_from : ℕ → ℕ → List (ℕ × ℕ)
 zeros_from at zero = []
 zeros_from at (suc n) = (at, 0) ∷ zeros_from (at + 1) n
@@ -96,14 +96,13 @@ zeroed pages = finmap.from_entries (flat_map (λ page. zeros_from (page * 4096) 
 unfoldable pub of_pages : (ℕ → List ℕ) → List ℕ → Memory
 of_pages bytes pages = finmap.from_entries (flat_map (λ page. enumerate_from (page * 4096) (bytes page)) pages)
 
--- a page as it may stand in the memory of a machine
+-- a page that a machine's memory can have
 pub record IsPage (m : Memory) (page : ℕ) : Type 0 where
   pub below : page < 2 ^ 20
   pub full : length (page_bytes m page) ≡ 4096
   pub bytes : All (λ b. b < 256) (page_bytes m page)
 
--- Memory as a machine has it: it is made of its pages and of nothing else, and these are whole pages of bytes, at most
--- 4,096 of them.
+-- Memory as a machine has it. It consists of whole pages, at most 4,096 of them, and of nothing else.
 pub record IsMemory (m : Memory) : Type 0 where
   pub made : m ≡ of_pages (page_bytes m) (page_numbers m)
   pub ascending : IsStrictlyIncreasing (page_numbers m)

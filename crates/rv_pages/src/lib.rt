@@ -1,6 +1,7 @@
-//! The memory of the machine: pages of 4,096 bytes that are mapped or not. It stands on nothing, and the machine stands
-//! on it. It is seen as a finite map from addresses to bytes, `specs/Memory.antt`; that there are pages is seen only
-//! by the numbers and the bytes of the mapped ones, of which images are made, and by which of them are touched.
+//! The memory of the machine: pages of 4,096 bytes that are mapped or not. It uses no other crate. `rv_machine` and
+//! most crates above it use it. Memory is modelled as a finite map from addresses to bytes: see `specs/Memory.antt`.
+//! Pages are visible only in two ways. Images list the numbers and bytes of the mapped ones, and calls report which of
+//! them are touched.
 #![tactic(auto)]
 
 mod marks;

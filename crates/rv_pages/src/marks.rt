@@ -7,7 +7,7 @@ const BITS: usize = 64;
 
 const WORDS: usize = 64;
 
-/// A mark for each index of a page.
+/// A bit for each index of a page.
 #[derive(Clone, Copy)]
 pub(crate) struct Marks {
     words: [u64; WORDS],
@@ -22,7 +22,7 @@ impl Marks {
         Marks { words: [0; WORDS] }
     }
 
-    /// Marks an index.
+    /// Sets the mark of an index.
     #[inline(always)]
     pub(crate) fn mark(&mut self, index: usize)
         requires index { index < 4096 }
@@ -34,7 +34,7 @@ impl Marks {
         self.words[index / BITS] |= 1 << (index % BITS);
     }
 
-    /// Takes the mark of an index away.
+    /// Clears the mark of an index.
     pub(crate) fn unmark(&mut self, index: usize)
         requires index { index < 4096 }
         requires size { length self.old.words ≡ 64 }

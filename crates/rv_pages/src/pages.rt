@@ -14,10 +14,10 @@ use std::marker::Model;
 /// The bytes of a page.
 pub const PAGE: usize = 4096;
 
-// The same, as a part of an address.
+// The size of a page, as an address.
 const SIZE: u32 = 4096;
 
-// As many numbers of pages as there are.
+// The number of page numbers.
 const NUMBERS: u32 = 0x10_0000;
 
 // Where in a page the last whole half and the last whole word begin.
@@ -25,8 +25,8 @@ const LAST_HALF: usize = 4094;
 
 const LAST_WORD: usize = 4092;
 
-/// Memory of mapped pages. Only `map` and `clone` take memory, and make the zeros of all pages. After that a page that was
-/// never written costs nothing: `copy_from` doesn't copy it, and `next_touched` passes it over.
+/// Memory of mapped pages. Only `map` and `clone` take memory, and make the zeros of all pages. After that, a page that
+/// was never written costs nothing: `copy_from` doesn't copy it, and `next_touched` skips it.
 #[derive(Drop)]
 pub struct Pages {
     // The numbers of the pages in ascending order, and the tables that find their indices.
@@ -146,7 +146,7 @@ impl Pages {
         u32::from_le_bytes(word)
     }
 
-    // A half and a word that lie in two pages.
+    // A half and a word that cross from one page to the next.
     #[inline(never)]
     fn split_half(&self, at: u32) -> Option<u16>
         ensures { result ≡ number_at self.now at 2 }
@@ -171,7 +171,7 @@ impl Pages {
         }
     }
 
-    // Loads bytes one by one, and answers whether all are mapped.
+    // Loads bytes one by one, and returns whether all are mapped.
     fn load_bytes(&self, at: u32, into: &mut [u8]) -> bool
         requires { length into.old < 2 ^ 32 }
         ensures all { IsTrue result → bytes_at self.now at (length into.old) ≡ Some into.new }
@@ -186,7 +186,7 @@ impl Pages {
         true
     }
 
-    /// Writes a byte, if it is mapped, and answers whether it did.
+    /// Writes a byte, if it is mapped, and returns whether it did.
     pub fn store8(&mut self, at: u32, value: u8) -> bool
         ensures stored { IsTrue result ↔ IsMapped self.old at 1 }
         ensures written { IsTrue result → self.new ≡ with_number self.old at 1 value }
@@ -196,7 +196,7 @@ impl Pages {
         self.store(at, &[value])
     }
 
-    /// Writes a half, if its two bytes are mapped, and answers whether it did.
+    /// Writes a half, if its two bytes are mapped, and returns whether it did.
     pub fn store16(&mut self, at: u32, value: u16) -> bool
         ensures stored { IsTrue result ↔ IsMapped self.old at 2 }
         ensures written { IsTrue result → self.new ≡ with_number self.old at 2 value }
@@ -206,7 +206,7 @@ impl Pages {
         self.store(at, &value.to_le_bytes())
     }
 
-    /// Writes a word, if its four bytes are mapped, and answers whether it did.
+    /// Writes a word, if its four bytes are mapped, and returns whether it did.
     pub fn store32(&mut self, at: u32, value: u32) -> bool
         ensures stored { IsTrue result ↔ IsMapped self.old at 4 }
         ensures written { IsTrue result → self.new ≡ with_number self.old at 4 value }
@@ -216,8 +216,8 @@ impl Pages {
         self.store(at, &value.to_le_bytes())
     }
 
-    /// Whether all of so many bytes from an address on are mapped. It looks at each page that they lie in once. Behind the
-    /// last address the next is 0.
+    /// Whether all of so many bytes from an address on are mapped. It checks each of their pages once. After the last
+    /// address the next is 0.
     pub fn are_mapped(&self, at: u32, count: u32) -> bool
         ensures { result ≡ is_some (bytes_at self.now at count) }
     {
@@ -232,8 +232,8 @@ impl Pages {
         true
     }
 
-    /// Writes bytes, if all of them are mapped, and answers whether it did. Those that lie in one page are copied at once.
-    /// Behind the last address the next is 0.
+    /// Writes bytes, if all of them are mapped, and says whether it did. Bytes in one page are copied at once. After
+    /// the last address the next is 0.
     #[inline(never)]
     pub fn store_bytes(&mut self, at: u32, bytes: &[u8]) -> bool
         requires { length bytes.now < 2 ^ 32 }
@@ -271,7 +271,7 @@ impl Pages {
         self.store_within(at, bytes)
     }
 
-    // Writes bytes that lie in one page.
+    // Writes bytes that are all in one page.
     #[inline(always)]
     fn store_within(&mut self, at: u32, bytes: &[u8]) -> bool
         requires some { 0 < length bytes.now }
@@ -290,7 +290,7 @@ impl Pages {
         true
     }
 
-    /// Takes over the bytes of memory that maps the same pages. Only pages that were written in either are copied.
+    /// Copies the bytes of memory that maps the same pages. Only pages that were written in either are copied.
     pub fn copy_from(&mut self, other: &Pages)
         requires { page_numbers self.old ≡ page_numbers other.now }
         ensures { self.new ≡ other.now }
@@ -300,7 +300,7 @@ impl Pages {
         self.written = other.written;
     }
 
-    /// Does nothing. Its contract is a law: mapped pages are memory as a machine has it.
+    /// Does nothing. Its contract is a law: mapped pages are memory of a machine.
     pub fn are_memory(&self)
         ensures { IsMemory self.now }
     {
@@ -363,7 +363,7 @@ impl Pages {
         self.bytes[start..start + PAGE].copy_from_slice(bytes);
     }
 
-    /// Makes all bytes of the page with this index 0, and takes it for one that was never written.
+    /// Makes all bytes of the page with this index 0, and treats it as never written.
     pub fn clear_page(&mut self, index: u32)
         requires { index < length (page_numbers self.old) }
         ensures pages { page_numbers self.new ≡ page_numbers self.old }
@@ -375,8 +375,8 @@ impl Pages {
         self.bytes[start..start + PAGE].fill(0);
     }
 
-    /// The first index, from this one on, of a page that may have a byte other than 0. The pages that are passed over are
-    /// all zero. To go over the pages that were written takes the time of these, whatever the number of mapped ones.
+    /// The first index, from this one on, of a page that may have a byte other than 0. All skipped pages are zero.
+    /// Visiting all written pages takes time in their number, not in that of the mapped ones.
     pub fn next_touched(&self, from: u32) -> Option<u32>
         ensures index { IfSome result (λ index. (from ≤ index) × (index < length (page_numbers self.now))) }
         ensures few { IfSome result (λ index. index < 4096) }
@@ -390,7 +390,7 @@ impl Pages {
     }
 }
 
-// So many pages of zeros.
+// New memory for so many pages of zeros.
 fn zero_pages(alloc: Global, count: usize) -> Result<Vec<u8>, AllocError>
     requires { count ≤ 4096 }
     ensures { IfOk result (λ v. v.items ≡ replicate (4096 * count) 0) }

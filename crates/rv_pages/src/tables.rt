@@ -12,8 +12,8 @@ const ENTRIES: usize = 1024;
 
 const TEN_BITS: u32 = 1024;
 
-/// Two levels of tables. An entry of `tops` is the number of a lower table, and `lows` has the lower tables one after the
-/// other, with the indices of pages plus one. The lower table 0 has no page, and is that of all numbers far from a page.
+/// Two levels of tables. An entry of `tops` is the number of a lower table. `lows` has the lower tables one after the
+/// other, with the indices of pages plus one. Lower table 0 has no page, and serves all numbers far from a page.
 #[derive(Drop)]
 pub(crate) struct Tables {
     tops: Vec<u16>,
@@ -91,7 +91,7 @@ impl Tables {
         }
     }
 
-    /// The same tables.
+    /// A copy of the tables, in new memory.
     pub(crate) fn copied(&self, alloc: Global) -> Result<Tables, AllocError>
         ensures tops { IfOk result (λ t. t.tops.items ≡ self.now.tops.items) }
         ensures lows { IfOk result (λ t. t.lows.items ≡ self.now.lows.items) }

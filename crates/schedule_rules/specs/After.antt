@@ -1,4 +1,4 @@
--- The table of changes: what a configuration becomes where an action is done. Whether it may be done isn't asked here.
+-- The table of changes: the configuration after an action. Whether the action is allowed is no matter here.
 use Rattle.std.specs.Prelude.{true, None, Some}
 use Rattle.plan_types.specs.declared.action.Keep.TheVariants.{Nothing, Store, Tape}
 use Rattle.plan_types.specs.declared.action.Dest.TheVariants.{Work, Level}

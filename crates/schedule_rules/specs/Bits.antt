@@ -1,4 +1,4 @@
--- The set of positions that words of 64 bits stand for: the bit with the number n says whether n is in it.
+-- The set of positions that words of 64 bits represent: n is in it if bit n is set.
 use Rattle.std.specs.Prelude.{ℕ, ◌*◌, ◌/◌, ◌%◌, ◌==◌, Bool, List, length, filter, slice_index}
 use Rattle.std.specs.Int.{bit_at}
 use Rattle.std.specs.List.{range_with_len}

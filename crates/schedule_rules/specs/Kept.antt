@@ -1,4 +1,4 @@
--- How a configuration is kept: the fields of `Config` as what they stand for, and what holds of them.
+-- How a configuration is kept: the fields of `Config`, their meaning, and their invariant.
 use Rattle.std.specs.Prelude.{◌≤◌}
 use Rattle.std.specs.List.{AllByRecursion}
 use Rattle.plan_types.specs.declared.limits.TheConstants.{MOST_STEPS}
@@ -22,8 +22,8 @@ situation_of c = record {
   };
 }
 
--- There are no more steps than a schedule may have, each level has a bit for each state, and some list of actions leads
--- to the configuration.
+-- There are no more steps than a schedule may have. Each level has a bit for each state. Some list of actions leads to
+-- the configuration.
 pub record IsKept (c : Inside) : Type 0 where
   pub most : c.steps ≤ MOST_STEPS
   pub within : c.reverse ≤ c.steps

@@ -9,8 +9,8 @@ use Rattle.level_book.specs.Rules.{rule}
 use Rattle.level_book.specs.Valid.{Valid, BrokenAt}
 use Rattle.schedule_rules.specs.Reached.{IsReached, IsSound}
 
--- Where no more is to be reversed than there are steps, no rule is broken exactly where the action leads somewhere. So it is
--- at every configuration that is reached, since that is sound.
+-- Let no more be left to reverse than there are steps. Then an action breaks no rule exactly if it leads somewhere.
+-- Every reachable configuration is like that, since it is sound.
 abbrev pub RulesAreMoves : ℕ → List Slots → Configuration → Action → Type 0
 RulesAreMoves steps slots c a = c.reverse ≤ steps → (rule steps slots c a ≡ 0) ↔ ((d : Configuration) × Goes steps slots c a d)
 
@@ -18,15 +18,15 @@ RulesAreMoves steps slots c a = c.reverse ≤ steps → (rule steps slots c a �
 abbrev pub MovesAreUnique : ℕ → List Slots → Configuration → Action → Type 0
 MovesAreUnique steps slots c a = (d e : Configuration) → Goes steps slots c a d → Goes steps slots c a e → d ≡ e
 
--- what is reached is sound
+-- every reachable configuration is sound
 abbrev pub ReachedIsSound : ℕ → List Slots → Configuration → Type 0
 ReachedIsSound steps slots c = IsReached steps slots c → IsSound steps slots c
 
--- an action of the list is EndReverse exactly where it is the last
+-- an action of the list is EndReverse exactly if it is the last
 abbrev pub EndReverseIsLast : List Action → Type 0
 EndReverseIsLast list = (k : ℕ) → k < length list → (slice_get list k ≡ Some EndReverse) ↔ (k + 1 ≡ length list)
 
--- two places at which a list is broken are one, and so are the rules and the levels
+-- two places at which a list is first broken are equal, and so are the rules and the levels
 abbrev pub FirstBrokenIsUnique : ℕ → List Slots → List Action → Type 0
 FirstBrokenIsUnique steps slots list =
     (place place' number number' level level' : ℕ) → BrokenAt steps slots list place number level → BrokenAt steps slots list place' number' level' →

@@ -1,4 +1,4 @@
--- What the levels that are kept stand for.
+-- What the kept levels mean.
 use Rattle.std.specs.Prelude.{ℕ, ◌/◌, ◌<◌, List, length, map}
 use Rattle.std.specs.Ordering.{nat_cmp}
 use Rattle.std.specs.FinSet as set

@@ -17,8 +17,8 @@ abbrev pub IsWithin : Slots → set.FinSet nat_cmp → Type 0
 IsWithin (Count slots) images = set.len images ≤ slots
 IsWithin Unlimited images = Unit {0}
 
--- No more is to be reversed than there are steps, each level is within its slots, and the tape is empty or holds the
--- state before the next step to be reversed.
+-- No more is to be reversed than there are steps. Each level is within its slots. The tape is empty or holds the state
+-- before the next step to be reversed.
 pub record IsSound (steps : ℕ) (slots : List Slots) (c : Configuration) : Type 0 where
   pub within : c.reverse ≤ steps
   pub level_count : length c.held ≡ length slots

@@ -1,4 +1,4 @@
--- What a list is judged for, and how far it has come: all that a validator knows.
+-- What a list is judged for, and its progress: all that a validator knows.
 use Rattle.std.specs.Prelude.{ℕ, Bool, List, Option, refl}
 use Rattle.std.specs.Ordering.{nat_cmp}
 use Rattle.std.specs.FinSet as set

@@ -1,4 +1,4 @@
--- What the validator answers, in the words of the rules.
+-- What the validator returns, in terms of the rules.
 use Rattle.std.specs.Prelude.{ℕ, List}
 use Rattle.plan_types.specs.declared.action.Action.{Action}
 use Rattle.level_book.specs.declared.book.Slots.{Slots}

@@ -18,14 +18,14 @@ use plan_types::{Action, Dest, Keep};
 use std::alloc::{AllocError, Global};
 use std::marker::Model;
 
-/// Why an action may not be done.
+/// Why an action isn't allowed.
 #[derive(Clone, Copy, Debug, PartialEq, Eq)]
 pub enum Broken {
-    /// It breaks the rule with this number, and no rule with a lower one. The level is that of rule 4, and else 0.
+    /// It breaks the rule with this number, and no lower one. The level is set for rule 4, and 0 otherwise.
     Rule { rule: u8, level: u8 },
 }
 
-// One level of the book: how many images it may hold, and which it holds.
+// One level of the book: its slots, and the images that it holds.
 #[derive(Drop)]
 pub(crate) struct LevelHeld {
     pub slots: Slots,
@@ -113,7 +113,7 @@ impl Config {
         }
     }
 
-    /// Does nothing. Its contract is a law: some list leads to the configuration at hand, and the configuration is sound.
+    /// Does nothing. Its contract is a law: some list leads to the current configuration, which is sound.
     pub fn is_sound(&self)
         ensures reached { ∥ IsReached self.now.steps self.now.slots self.now.at ∥₁ }
         ensures sound { IsSound self.now.steps self.now.slots self.now.at }
@@ -156,7 +156,7 @@ impl Config {
         self.ended
     }
 
-    /// Whether the image of state `n` is held on a level. A level that the book doesn't have holds nothing.
+    /// Whether a level holds the image of state `n`. A level that the book doesn't have holds nothing.
     pub fn held(&self, n: u32, level: u8) -> bool
         ensures { result ≡ set.contains (held_on self.now.at level) n }
     {
@@ -195,7 +195,8 @@ impl Config {
         }
     }
 
-    /// Whether an action may be done, and if not, the lowest rule that it breaks. It changes nothing and takes no memory.
+    /// Whether an action is allowed, and if not, the lowest rule that it breaks. It changes nothing and takes no
+    /// memory.
     #[inline(always)]
     pub fn judge(&self, action: &Action) -> Result<(), Broken>
         ensures { MatchResult result
@@ -230,7 +231,7 @@ impl Config {
         requires { self.now.at.ended ≡ false }
         ensures { result ≡ rule self.now.steps self.now.slots self.now.at (Action.Forward from to keep) }
     {
-        // One test for three rules: nearly every action passes it, and a branch for each takes longer.
+        // One test for three rules: nearly every action passes it, and separate branches take longer.
         if (from == self.work) & (from < to) & (to <= self.reverse) {
             match keep {
                 Keep::Nothing => 0,
@@ -246,7 +247,7 @@ impl Config {
         }
     }
 
-    // The same of what a Tape adds to a Forward.
+    // The rule that a Tape breaks, beyond those of its Forward; 0 for none.
     fn judge_tape(&self, from: u32, to: u32) -> u8
         requires { from < to }
         ensures { result ≡ cond (not (to == from + 1) || not (to == self.now.at.reverse)) 8 (cond (is_some self.now.at.tape) 9 0) }
@@ -260,7 +261,7 @@ impl Config {
         }
     }
 
-    // The same of what a Store adds.
+    // The rule that a Store breaks, beyond those of its Forward; 0 for none.
     fn judge_store(&self, n: u32, level: u8) -> u8
         ensures { result ≡ cond (nat_lt level (length self.now.slots))
             (cond (is_full (slice_index_or self.now.slots level (Slots.Count 0)) (held_on self.now.at level)) 4
@@ -299,7 +300,7 @@ impl Config {
         }
     }
 
-    // The same where it goes to a level.
+    // The rule that a Copy or a Move to a level breaks; 0 for none.
     #[inline(always)]
     fn judge_to_level(&self, n: u32, from: u8, to: u8) -> u8
         requires { self.now.at.ended ≡ false }
@@ -367,7 +368,7 @@ impl Config {
     }
 }
 
-// Holds the image of state `n` on a level that doesn't hold it.
+// Adds the image of state `n` to a level that doesn't hold it.
 #[inline(always)]
 fn hold(levels: &mut Vec<LevelHeld>, n: u32, level: u8)
     requires level { level < vec_len levels.old }
@@ -381,7 +382,7 @@ fn hold(levels: &mut Vec<LevelHeld>, n: u32, level: u8)
     levels[level as usize].images.insert(n);
 }
 
-// Holds the image of state `n` on a level no longer.
+// Drops the image of state `n` from a level.
 #[inline(always)]
 fn release(levels: &mut Vec<LevelHeld>, n: u32, level: u8)
     requires level { level < vec_len levels.old }
@@ -412,7 +413,7 @@ fn empty_levels(alloc: Global, steps: u32, book: &Book) -> Result<Vec<LevelHeld>
     Ok(levels)
 }
 
-// The level to which an action adds an image, 0 where there is none.
+// The level to which an action adds an image, 0 if there is none.
 fn target(action: &Action) -> u8
     ensures { result ≡ target action.now }
 {

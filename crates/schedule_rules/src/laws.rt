@@ -6,7 +6,7 @@ ghost use Rattle.level_book.specs.Configuration.{Configuration};
 ghost use Rattle.level_book.specs.Valid.{Valid};
 ghost use Rattle.schedule_rules.specs.Laws.{RulesAreMoves, MovesAreUnique, ReachedIsSound, EndReverseIsLast, FirstBrokenIsUnique, ValidIsUnbroken, IsValidOrBroken};
 
-/// Where no more is to be reversed than there are steps, an action breaks no rule exactly where it leads somewhere.
+/// Let no more be left to reverse than there are steps. Then an action breaks no rule exactly if it leads somewhere.
 pub fn rules_are_moves()
     ensures { (steps : ℕ) (slots : List Slots) (c : Configuration) (a : Action) → RulesAreMoves steps slots c a }
 {}
@@ -16,19 +16,19 @@ pub fn moves_are_unique()
     ensures { (steps : ℕ) (slots : List Slots) (c : Configuration) (a : Action) → MovesAreUnique steps slots c a }
 {}
 
-/// Every configuration that is reached is sound: no more is to be reversed than there are steps, each level of the book
-/// is within its slots, and the tape is empty or holds the state before the next step to be reversed.
+/// Every reachable configuration is sound. No more is to be reversed than there are steps. Each level of the book is
+/// within its slots. The tape is empty or holds the state before the next step to be reversed.
 pub fn reached_is_sound()
     ensures { (steps : ℕ) (slots : List Slots) (c : Configuration) → ReachedIsSound steps slots c }
 {}
 
-/// A valid list has an action. The last is EndReverse, which stands nowhere else in it.
+/// A valid list has an action. Its last one is its only EndReverse.
 pub fn end_reverse_is_last()
     ensures not_empty { (steps : ℕ) (slots : List Slots) (list : List Action) → Valid steps slots list → 0 < length list }
     ensures last { (steps : ℕ) (slots : List Slots) (list : List Action) → Valid steps slots list → EndReverseIsLast list }
 {}
 
-/// A list is broken at one place at most, and there by one rule.
+/// A list is first broken at one place at most, and there by one rule.
 pub fn first_broken_is_unique()
     ensures { (steps : ℕ) (slots : List Slots) (list : List Action) → FirstBrokenIsUnique steps slots list }
 {}
@@ -38,7 +38,7 @@ pub fn valid_lists_are_unbroken()
     ensures { (steps : ℕ) (slots : List Slots) (list : List Action) → ValidIsUnbroken steps slots list }
 {}
 
-/// Every list is valid, or there is a place at which it is first broken.
+/// Every list is valid, or has a first place at which it is broken.
 pub fn lists_are_valid_or_broken()
     ensures { (steps : ℕ) (slots : List Slots) (list : List Action) → IsValidOrBroken steps slots list }
 {}

@@ -1,7 +1,7 @@
-//! The validator: what an action does to a configuration, which rule it breaks, and whether a list is valid. It stands on
-//! the actions and the book, and the runner and the top call stand on it. Which action leads where is defined in
-//! `level_book`; here a configuration is kept in bits and counts that are reserved at the start, and no public contract
-//! mentions them. Nothing here runs a machine or reads text.
+//! The validator: what an action does to a configuration, which rule it breaks, and whether a list is valid. It uses
+//! `plan_types` and `level_book`. `class_rules`, `pebble_bound`, `reverse_runner` and many more use it. The moves are
+//! defined in `level_book`. Here a configuration is kept in bits and counts, reserved at the start. No public contract
+//! mentions them.
 #![tactic(auto)]
 
 mod config;

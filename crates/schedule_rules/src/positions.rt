@@ -38,7 +38,7 @@ impl Positions {
         }
     }
 
-    /// Adds a position that isn't there.
+    /// Adds a position that isn't in the set.
     #[inline]
     pub fn insert(&mut self, n: u32)
         requires room { n / 64 < length self.old.words.items }
@@ -51,7 +51,7 @@ impl Positions {
         self.count += 1;
     }
 
-    /// Takes a position away that is there.
+    /// Removes a position that is in the set.
     #[inline]
     pub fn remove(&mut self, n: u32)
         requires { set.contains (set_of self.old.words.items) n ≡ true }

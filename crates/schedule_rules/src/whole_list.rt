@@ -9,13 +9,14 @@ use level_book::Book;
 use plan_types::Action;
 use std::alloc::{AllocError, Global};
 
-/// What a whole list is.
+/// The verdict on a whole list.
 #[derive(Clone, Copy, Debug, PartialEq, Eq)]
 pub enum Verdict {
     /// It reverses the computation.
     Valid,
-    /// The action at this place, counted from 1, is the first that breaks a rule, and this is the lowest that it breaks;
-    /// the level is that of rule 4, and else 0. A list that ends without EndReverse breaks rule 16 one past its end.
+    /// The action at this place, counted from 1, is the first that breaks a rule. This rule is the lowest that it
+    /// breaks. The level is set for rule 4, and 0 otherwise. A list that ends without EndReverse breaks rule 16 one
+    /// past its end.
     Broken { place: u64, rule: u8, level: u8 },
 }
 

@@ -21,7 +21,7 @@ pub record IsPlace (q : Quest) (n : ℕ) : Type 0 where
   pub within : n ≤ q.count
   pub digest : HasDigest q n
 
--- the answer: the greatest place, or None where there is none
+-- the answer: the greatest place, or None if there is none
 abbrev pub Found : Quest → Option ℕ → Type 0
 Found q (Some n) = IsPlace q n × ((m : ℕ) → IsPlace q m → m ≤ n)
 Found q None = (m : ℕ) → IsPlace q m → ⊥

@@ -5,21 +5,21 @@ use Rattle.rv_machine.specs.MachineState.{MachineState}
 use Rattle.rv_machine.specs.StateCode.{state_code}
 use Rattle.rv_machine.specs.States.{state_number}
 
--- Segment i of a run begins with the state i · width, and ends before the next one begins or with the state count.
+-- Segment i of a run begins with state i · width. It ends before the next one, or with state `count`.
 pub record MarkedRun : Type 0 where
   -- the first state of each segment
   pub states : List MachineState
   pub count : ℕ
   pub width : ℕ
 
--- Marks stand for the run from a state: mark i is the state i · width, and there is one for each such number up to count.
+-- The marks of the run from a state. Mark i is state i · width, and there is one for each such number up to count.
 pub record StandFor (start : MachineState) (journal : List (List ℕ)) (m : MarkedRun) : Type 0 where
   pub wide : 0 < m.width
   pub within : (i : ℕ) → i < length m.states → i * m.width ≤ m.count
   pub enough : m.count < length m.states * m.width
   pub each : (i : ℕ) → i < length m.states → slice_get m.states i ≡ Some (state_number start journal (i * m.width))
 
--- the width of segments for so many workers: the least that, taken for each of them, reaches past the state count
+-- the width of segments for so many workers: the least w for which workers · w exceeds the count
 abbrev pub segment_width : ℕ → ℕ → ℕ
 segment_width count workers = count / workers + 1
 

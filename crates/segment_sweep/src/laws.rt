@@ -9,8 +9,8 @@ pub fn quests_have_one_answer()
     ensures one { (q : Quest) (a b : Option ℕ) → Found q a → Found q b → a ≡ b }
 {}
 
-/// Segments have the least width with which as many of them as there are workers reach past the state `count`. The last one
-/// begins no later than this state, and has it.
+/// Segments have the least width with which they reach past state `count`. The last one begins no later than this
+/// state, and has it.
 pub fn segments_reach_past_the_last_state()
     ensures reach { (count workers : ℕ) → 1 ≤ workers → count < segment_width count workers * workers }
     ensures least { (count workers width : ℕ) → count < width * workers → segment_width count workers ≤ width }

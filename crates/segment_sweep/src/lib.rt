@@ -1,7 +1,7 @@
-//! The search of a run for the last state whose image has a digest. The run is marked at the starts of segments; a worker
-//! goes through the states of each, and one word tells all workers of a place that one of them found. It stands on the machine
-//! and on the image of a state, for the top call to stand on it. `specs/Found.antt` says which place is found,
-//! `specs/MarkedRun.antt` what marks are, and `specs/Covering.antt` what a worker gives and what the word says.
+//! Searches a run for the last state whose image has a digest. It uses `rv_machine`, `state_image` and the crates below
+//! them. `reversal` uses it. The run is marked at the starts of segments. A worker goes through the states of each
+//! segment. An atomic word shares the last found place among all workers. `specs/Found.antt` says which place is found,
+//! and `specs/MarkedRun.antt` what marks are. `specs/Covering.antt` says what a worker returns and what the word means.
 #![tactic(auto)]
 
 pub mod laws;

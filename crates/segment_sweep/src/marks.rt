@@ -30,8 +30,8 @@ impl Model for Marks {
 }
 
 impl Marks {
-    /// Marks the run from `start` with the states 0 to `count`, for at most so many workers. It takes memory for each mark
-    /// and for one state more. No image is made and no digest is taken: that is left to the workers.
+    /// Marks the run from `start` with the states 0 to `count`, for at most so many workers. It takes memory for each
+    /// mark and for one state more. It makes no image and takes no digest.
     pub fn make<L: Ledger>(
         alloc: Global,
         start: &State,
@@ -47,7 +47,7 @@ impl Marks {
         ensures width { IfOk result (λ m. m.width ≡ segment_width count workers) }
         ensures segments { IfOk result (λ m. (length m.states ≡ count / m.width + 1) × (length m.states ≤ workers)) }
 
-        // Each step is counted, and those are as many as lie before the last segment; where memory runs out, some of them.
+        // Each step is counted: all steps before the last segment, or some of them where memory runs out.
         ensures counted { OnOk result (steps.new ≡ steps.old + last_start count workers) }
         ensures most { steps.new ≤ steps.old + last_start count workers }
         ensures least { steps.old ≤ steps.new }
@@ -81,7 +81,7 @@ impl Marks {
         self.width
     }
 
-    /// How many segments there are.
+    /// The number of segments.
     pub(crate) fn segments(&self) -> usize
         ensures { result ≡ length self.now.states }
     {

@@ -27,7 +27,7 @@ fn later(first: Option<u32>, second: Option<u32>) -> Option<u32>
     }
 }
 
-// The last place that workers gave. One that found no memory leaves no answer.
+// The last place that workers found. If one ran out of memory, there is no answer.
 fn last_place<K: Sought>(
     answers: &[Result<Option<u32>, AllocError>],
     width: u32,
@@ -46,7 +46,7 @@ fn last_place<K: Sought>(
     Ok(last)
 }
 
-// The search for the quest that the caller names.
+// The search for a given quest.
 fn search<K: Sought + Sync, R: Threads + Sync, G: Gate + Sync>(
     rt: &R,
     alloc: Global,
@@ -67,9 +67,9 @@ fn search<K: Sought + Sync, R: Threads + Sync, G: Gate + Sync>(
     last_place::<K>(&answers, marks.width())
 }
 
-/// The number of the last state of the run, from 0 to the marks' count, whose image has the digest. Each segment has a worker,
-/// in a thread of its own where one can be made. Before each digest a worker passes the gate, with the number of its segment
-/// counted from 0. It takes memory for one state, and none for images. Its steps are counted in a count of its own.
+/// The number of the last state, from 0 to the marks' count, whose image has the digest. Each segment has a worker, in
+/// a thread of its own if one can be started. Before each digest a worker passes the gate, with its segment's number
+/// counted from 0. It takes memory for one state, and none for images. Its steps have their own count.
 pub fn find_digest<R: Threads + Sync, G: Gate + Sync>(
     rt: &R,
     alloc: Global,

@@ -1,4 +1,4 @@
-// That a worker ends at a place behind its segment and at no other, and that every number of workers gives the same answer.
+// That a worker ends only at a place after its segment. That every number of workers gives the same answer.
 ghost use Rattle.std.specs.Prelude.{◌≡◌, ◌≤◌, ◌<◌, IfOk};
 ghost use Rattle.plan_types.specs.declared.limits.TheConstants.{MOST_STEPS};
 ghost use Rattle.segment_sweep.specs.MarkedRun.{StandFor};
@@ -17,8 +17,8 @@ use std::sync::ledger::{Blank, Ledger};
 use std::test::Fail;
 use std::thread;
 
-// ADDI x5, x5, 1 and XORI x5, x5, 1: with a jump back to it, all states of the first differ, and those of the second come
-// again after four steps.
+// ADDI x5, x5, 1 and XORI x5, x5, 1, each followed by a jump back. The states of the first all differ. Those of the
+// second repeat after four steps.
 const COUNT_UP: u32 = 0x00128293;
 
 const TURN_OVER: u32 = 0x0012C293;
@@ -88,8 +88,8 @@ fn wait(calls: &AtomicU32, count: u32) {
     }
 }
 
-// Segment 1 waits at its first state until segment 0 comes to a state, counted from 1, and there segment 0 waits until segment 1 comes
-// to another one.
+// Segment 1 waits at its first state until segment 0 comes to a certain state, counted from 1. There segment 0 waits
+// until segment 1 comes to another one.
 #[derive(Drop)]
 struct Handover {
     calls: [AtomicU32; 2],
@@ -128,7 +128,7 @@ fn a_worker_ends_at_a_place_behind_its_segment(rt: HostRuntime) -> Result<(), Fa
     let start = start(rt.alloc(), COUNT_UP)?;
     let marks = marks_of(rt.alloc(), &start, &journal, 1000, 2)?;
     assert_eq!(rt; (marks.segments(), marks.width()), (2, 501));
-    // Of two segments for the states up to 1,019 the second begins with state 510, the tenth of the segment here.
+    // For states up to 1,019 the second of two segments begins with state 510. That is the tenth of the segment here.
     let ahead = marks_of(rt.alloc(), &start, &journal, 1019, 2)?;
     assert_eq!(rt; ahead.segments(), 2);
     let digest = image_digest(ahead.mark(1));
@@ -146,7 +146,7 @@ fn a_place_that_was_stored_ends_no_worker_behind_it(rt: HostRuntime) -> Result<(
     let half = marks_of(rt.alloc(), &start, &journal, 3, 2)?;
     let marks = marks_of(rt.alloc(), &start, &journal, 7, 2)?;
     assert_eq!(rt; (marks.segments(), marks.width()), (2, 4));
-    // State 2, as which state 6 is.
+    // State 2, which equals state 6.
     assert_eq!(rt; half.segments(), 2);
     let digest = image_digest(half.mark(1));
     let gate = Handover::new(4, 0);

@@ -1,4 +1,4 @@
-// What one worker does, and the word that all of them share.
+// What one worker does, and the word that all workers share.
 ghost use Rattle.std.specs.Prelude.{◌≡◌, ◌+◌, ◌<◌, ◌≤◌, length};
 ghost use Rattle.std.specs.Bool.{Decides};
 ghost use Rattle.plan_types.specs.declared.limits.TheConstants.{MOST_STEPS};
@@ -19,7 +19,7 @@ use std::sync::atomic::Ordering::SeqCst;
 use std::sync::atomic::{AtomicIn, Rule};
 use std::sync::ledger::{Blank, Ledger};
 
-/// What a search looks for. Each search names a quest of its own.
+/// What a search looks for. Each search has a quest of its own.
 pub(crate) trait Sought {
     ghost quest: { Quest };
 }
@@ -44,8 +44,8 @@ fn has_digest(state: &State, digest: &[u8; 32]) -> bool
     image_digest(state) == *digest
 }
 
-// Goes through the states from `from` on and below `to`, of which the first is given, and answers the last place among them.
-// Where the word names a place behind them all, it ends, and answers that place.
+// Searches the states from `from` up to below `to`, and returns the last place among them. It starts with the given
+// one. It ends early where the word has a later place, and returns that.
 fn sweep<K: Sought, G: Gate, L: Ledger>(
     journal: &Journal,
     digest: &[u8; 32],
@@ -85,8 +85,8 @@ fn sweep<K: Sought, G: Gate, L: Ledger>(
     found
 }
 
-/// What the worker of the segment with this number gives. It takes memory for its state. Its steps are counted in a count
-/// of their own.
+/// The answer of the worker of the segment with this number. It takes memory for its state. Its steps have their own
+/// count.
 pub(crate) fn worker<K: Sought, G: Gate>(
     marks: &Marks,
     journal: &Journal,

@@ -1,5 +1,5 @@
--- The image of a state: the bytes that are stored of it. The form is our own: numbers are little-endian, and of the
--- mapped pages those that are all zero are left out.
+-- The image of a state: its stored bytes. The form is our own. Numbers are little-endian. Mapped pages that are all
+-- zero are left out.
 use Rattle.std.specs.Prelude.{ℕ, Bool, not, ◌==◌, ◌++◌, List, length, filter, drop, codes}
 use Rattle.std.specs.List.{flat_map, list_all}
 use Rattle.std.specs.Int.{to_le_bytes, w32, w64}

@@ -4,7 +4,7 @@ use Rattle.std.specs.List.{list_all, list_any, range_with_len, starts_with}
 use Rattle.std.specs.Int.{from_le_bytes, w32}
 use Rattle.rv_machine.specs.MachineState.{trap_causes}
 
--- a field: where it starts, how many bytes it has, and what is right of it, as a test on all the bytes
+-- a field: its start, its length, and a test on all the bytes of whether it is right
 pub record Field : Type 0 where
   pub start : ℕ
   pub size : ℕ
@@ -18,7 +18,7 @@ part bytes at size = take size (drop at bytes)
 abbrev pub number_at : List ℕ → ℕ → ℕ
 number_at bytes at = from_le_bytes w32 (part bytes at 4)
 
--- the value that may go with a kind of status: 0 if it runs, an exit code if it ended, a cause of traps if it trapped
+-- a value that fits a status: 0 if it runs, an exit code, or a cause of traps
 abbrev pub is_value : ℕ → ℕ → Bool
 is_value zero value = value == 0
 is_value (suc zero) value = nat_le value 255
@@ -103,12 +103,12 @@ start_or None other = other
 abbrev pub trailing : List ℕ → Option ℕ
 trailing bytes = if nat_lt (page_start (page_count bytes)) (length bytes) then Some (page_start (page_count bytes)) else None
 
--- where the first field starts that is wrong, or else the bytes that follow the last page; None says that bytes are an image
+-- Where the first wrong field starts, or the bytes after the last page. None: the bytes are an image.
 abbrev pub first_wrong : List ℕ → Option ℕ
 first_wrong bytes = start_or (find (is_wrong bytes) (fields bytes)) (trailing bytes)
 
--- Behind the pages before this place there are numbers, below 2^20, for those that the count says still have to follow. A page
--- whose number is so great that there are not isn't found wrong itself; one of those after it is.
+-- After the pages before this place enough numbers below 2^20 are left for the pages still to follow. If a page's
+-- number leaves too few, that page isn't found wrong. A later page is.
 abbrev pub HasNumbersLeft : List ℕ → ℕ → Type 0
 HasNumbersLeft bytes at = (k : ℕ) → k + 1 < page_count bytes → at ≡ page_start (k + 1) → page_number bytes k + page_count bytes ≤ k + 1048576
 

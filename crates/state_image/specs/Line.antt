@@ -1,5 +1,5 @@
--- The line of a state: words that are separated by one space, without a line end. The form is our own; the digest is
--- SHA-256 (FIPS 180-4).
+-- The line of a state: words separated by one space, without a line end. The form is our own. The digest is SHA-256
+-- (FIPS 180-4).
 use Rattle.std.specs.Prelude.{ℕ, ◌++◌, List, drop, codes, decimal}
 use Rattle.std.specs.List.{flat_map}
 use Rattle.std.specs.Int.{to_be_bytes, w32}
@@ -23,7 +23,7 @@ status_word (Trapped cause) = codes "trap:" ++ decimal cause
 abbrev pub digest_word : MachineState → List ℕ
 digest_word s = encode_lower (sha256 (image s))
 
--- the line of state s with the number n, but for its digest
+-- the line of state s with the number n, without its digest
 abbrev pub line_front : ℕ → MachineState → List ℕ
 line_front n s =
     decimal n

@@ -1,4 +1,4 @@
-// The state that an image is of.
+// The state of an image.
 ghost use Rattle.std.specs.Prelude.{◌≡◌, ◌↔◌, ℕ, ◌+◌, ◌≤◌, ◌<◌, false, true, length, slice_index, slice_index_or, None, Some, IfNone, Ok, Err, OnOk, OnErr};
 ghost use Rattle.rv_pages.specs.Memory.{page_numbers, page_bytes, IsZeroPage};
 ghost use Rattle.rv_machine.specs.MachineState.{MachineState, IsMachineState, IsStatus};
@@ -15,8 +15,8 @@ use crate::image::MAX_PAGES;
 use rv_machine::{State, Status};
 use rv_pages::{PAGE, Pages};
 
-/// Makes a state the one of an image. After a refusal it is as before. It takes no memory: the pages are those that are
-/// mapped already, and of these only those of the image and those that were written are touched.
+/// Replaces a state by that of an image. After a refusal it is unchanged. It takes no memory, since the pages are
+/// already mapped. It touches only pages of the image and pages that were written.
 pub fn decode_image(bytes: &[u8], state: &mut State) -> Result<(), ImageFault>
     ensures not_image { (at : ℕ) → (result ≡ Err (ImageFault.NotImage at)) ↔ (first_wrong bytes.now ≡ Some at) }
     ensures other_pages { (page : ℕ) → (result ≡ Err (ImageFault.OtherPages page)) ↔ ((first_wrong bytes.now ≡ None)
@@ -41,7 +41,7 @@ pub fn decode_image(bytes: &[u8], state: &mut State) -> Result<(), ImageFault>
     Ok(())
 }
 
-// The first page of the bytes that isn't mapped. The others are marked by their indices.
+// The first page in the bytes that isn't mapped. The others are marked by their indices.
 fn first_unmapped(bytes: &[u8], pages: &Pages, named: &mut [bool]) -> Option<u32>
     requires image { IsRight bytes.now }
     requires room { length named.old ≡ 4096 }
@@ -61,7 +61,7 @@ fn first_unmapped(bytes: &[u8], pages: &Pages, named: &mut [bool]) -> Option<u32
     None
 }
 
-// Takes the state over from the bytes of its image.
+// Reads a state from the bytes of its image.
 fn take_state(bytes: &[u8], named: &[bool], state: &mut State)
     requires image { IsRight bytes.now }
     requires mapped { AreMapped bytes.now (page_numbers state.old.memory) }
@@ -109,7 +109,7 @@ fn status_in(bytes: &[u8]) -> Status
     }
 }
 
-// Makes the pages zero that were written and aren't named.
+// Clears the pages that were written and aren't named.
 fn clear_unnamed(named: &[bool], pages: &mut Pages)
     requires room { length named.now ≡ 4096 }
     ensures pages { page_numbers pages.new ≡ page_numbers pages.old }

@@ -24,7 +24,7 @@ pub fn max_image(state: &State) -> u32
     HEADER + PAGE_FIELD * state.pages.count()
 }
 
-/// Writes the image of a state into memory that is reserved for it, in place of what was there. It takes no memory.
+/// Writes the image of a state into reserved memory, replacing what was there. It takes no memory.
 pub fn encode_image(state: &State, into: &mut Vec<u8>)
     requires { 164 + 4100 * length (page_numbers state.now.memory) ≤ vec_capacity into.old }
     ensures image { into.new.items ≡ image state.now }
@@ -35,7 +35,7 @@ pub fn encode_image(state: &State, into: &mut Vec<u8>)
     append_image(state, into);
 }
 
-/// Writes the image of a state behind what is there, into memory that is reserved for it. It takes no memory.
+/// Appends the image of a state, into reserved memory. It takes no memory.
 pub fn append_image(state: &State, into: &mut Vec<u8>)
     requires { vec_len into.old + 164 + 4100 * length (page_numbers state.now.memory) ≤ vec_capacity into.old }
     ensures image { into.new.items ≡ into.old.items ++ image state.now }
@@ -48,7 +48,7 @@ pub fn append_image(state: &State, into: &mut Vec<u8>)
     push_pages(&state.pages, &stored, into);
 }
 
-// Writes all of the image before its pages, of which so many are stored.
+// Writes the image's part before its pages. So many pages are stored.
 fn push_header(state: &State, stored: u32, into: &mut Vec<u8>)
     requires stored { stored ≡ length (pages_stored state.now.memory) }
     requires room { vec_len into.old + 164 ≤ vec_capacity into.old }

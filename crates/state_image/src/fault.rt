@@ -7,7 +7,7 @@ pub enum ImageFault {
     /// They are no image: the first field that is wrong starts here.
     #[error("no image: the field at byte {0} is wrong")]
     NotImage(u64),
-    /// They are the image of a state with other pages: this page is the first that isn't mapped.
+    /// They are the image of a state with other pages: this page isn't mapped, and is the first such.
     #[error("the image has page {0}, which isn't mapped")]
     OtherPages(u32),
 }

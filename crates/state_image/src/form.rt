@@ -67,7 +67,7 @@ fn wrong_in_header(bytes: &[u8]) -> Option<usize>
     wrong_in_rest(bytes)
 }
 
-// The same of the letters, the version, pc and the registers.
+// Where the letters, the version, pc and the registers are wrong first.
 fn wrong_in_front(bytes: &[u8]) -> Option<usize>
     ensures { result ≡ start_or (find (is_wrong bytes.now) (magic ∷ version ∷ pc ∷ registers ∷ [])) None }
 {
@@ -86,7 +86,7 @@ fn wrong_in_front(bytes: &[u8]) -> Option<usize>
     None
 }
 
-// The same of the status.
+// Where the status is wrong first.
 fn wrong_in_status(bytes: &[u8]) -> Option<usize>
     ensures { result ≡ start_or (find (is_wrong bytes.now) (kind ∷ value ∷ [])) None }
 {
@@ -99,7 +99,7 @@ fn wrong_in_status(bytes: &[u8]) -> Option<usize>
     None
 }
 
-// The same of the place in the input, the number of bytes written, and the number of pages.
+// Where the place in the input, the number of bytes written, or the number of pages is wrong first.
 fn wrong_in_rest(bytes: &[u8]) -> Option<usize>
     ensures value { result ≡ start_or (find (is_wrong bytes.now) (item ∷ offset ∷ written ∷ count ∷ [])) None }
     ensures whole { result ≡ None → 164 ≤ length bytes.now }
@@ -120,7 +120,7 @@ fn wrong_in_rest(bytes: &[u8]) -> Option<usize>
     None
 }
 
-// Whether a value goes with a kind of status.
+// Whether a value fits a kind of status.
 fn is_value(kind: u32, value: u32) -> bool
     ensures { result ≡ is_value kind value }
 {

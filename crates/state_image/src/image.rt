@@ -1,4 +1,4 @@
-// The digest of a state's image. The image itself is nowhere in memory: it goes into the hash piece by piece.
+// The digest of a state's image. No memory holds the whole image: it goes into the hash piece by piece.
 ghost use Rattle.std.specs.Prelude.{◌≡◌, ◌==◌, ℕ, false, length, drop, slice_index_or};
 ghost use Rattle.std.specs.List.{flat_map, list_all};
 ghost use Rattle.std.specs.Int.{to_le_bytes, w32};
@@ -18,7 +18,7 @@ pub(crate) const VERSION: u32 = 1;
 // As many pages as may be mapped.
 pub(crate) const MAX_PAGES: usize = 4096;
 
-// So many bytes of a page are looked at together, for one that isn't 0.
+// So many bytes of a page are tested at once for one that isn't 0.
 const PIECE: usize = 256;
 
 /// The SHA-256 of a state's image. It takes no memory.
@@ -32,7 +32,7 @@ pub fn image_digest(state: &State) -> [u8; 32]
     hasher.finalize()
 }
 
-// The hash of all of the image before its pages, of which so many are stored.
+// The hash of the image's part before its pages. So many pages are stored.
 fn hash_header(state: &State, stored: u32) -> Sha256
     requires { stored ≡ length (pages_stored state.now.memory) }
     ensures { Holds256 result (header state.now) }
@@ -52,7 +52,7 @@ fn hash_header(state: &State, stored: u32) -> Sha256
     hasher
 }
 
-// Feeds x1 to x31.
+// Hashes x1 to x31.
 fn feed_registers(hasher: &mut Sha256, x: &[u32; 32])
     ensures { Feeds hasher.old hasher.new (flat_map (to_le_bytes w32) (drop 1 x.now)) }
 {
@@ -92,7 +92,7 @@ pub(crate) fn mark_stored(pages: &Pages, stored: &mut [bool]) -> u32
     count
 }
 
-// Feeds the pages that are stored.
+// Hashes the pages that are stored.
 fn feed_pages(hasher: &mut Sha256, pages: &Pages, stored: &[bool])
     requires room { length stored.now ≡ 4096 }
     requires marked { MarksStored pages.now stored.now }
@@ -108,7 +108,7 @@ fn feed_pages(hasher: &mut Sha256, pages: &Pages, stored: &[bool])
     }
 }
 
-// Whether all bytes are 0. What isn't is mostly seen in the first piece.
+// Whether all bytes are 0. Other bytes mostly occur in the first piece.
 pub(crate) fn is_zero(bytes: &[u8]) -> bool
     ensures { result ≡ list_all (λ b. b == 0) bytes.now }
 {
@@ -120,7 +120,8 @@ pub(crate) fn is_zero(bytes: &[u8]) -> bool
     true
 }
 
-// The same, of a piece. It reads all of it, many bytes at a time, which is faster than to stop at the first one that isn't 0.
+// Whether a piece is all zero. It reads all of it, many bytes at a time. That is faster than to stop at the first other
+// byte.
 fn is_zero_piece(bytes: &[u8]) -> bool
     ensures { result ≡ list_all (λ b. b == 0) bytes.now }
 {

@@ -6,13 +6,12 @@ ghost use Rattle.rv_machine.specs.MachineState.{MachineState, IsMachineState};
 ghost use Rattle.rv_machine.specs.States.{state_number};
 ghost use Rattle.state_image.specs.Image.{image};
 
-/// Two states that a machine can be in, that map the same pages and have the same image, are the same state.
+/// Two machine states with the same mapped pages and the same image are equal.
 pub fn images_tell_states()
     ensures { (s t : MachineState) → IsMachineState s → IsMachineState t → page_numbers s.memory ≡ page_numbers t.memory → image s ≡ image t → s ≡ t }
 {}
 
-/// Two states of one run, from any state that a machine can be in and with recorded input, that have the same image are
-/// the same state.
+/// Two states of one run with the same image are equal. The run has recorded input and starts in a machine state.
 pub fn images_tell_states_of_a_run()
     ensures { (first : MachineState) (journal : List (List ℕ)) (m n : ℕ) → IsMachineState first → IsRecorded journal
         → image (state_number first journal m) ≡ image (state_number first journal n)

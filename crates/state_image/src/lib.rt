@@ -1,5 +1,6 @@
-//! What is stored and what is shown of a state: its image, and its line. It stands on the machine, and the runner stands
-//! on it. `specs/Image.antt` says which bytes an image has, `specs/Line.antt` which a line has.
+//! The stored image of a state, and the text line that shows it. It uses `plan_types`, `rv_pages`, `input_journal` and
+//! `rv_machine`. `segment_sweep`, `reverse_runner`, `reverse_console` and many more use it. `specs/Image.antt` says
+//! which bytes an image has, and `specs/Line.antt` which bytes a line has.
 #![tactic(auto)]
 
 mod decoding;

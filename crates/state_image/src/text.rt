@@ -7,7 +7,7 @@ ghost use Rattle.state_image.specs.Line.{line_front, hex_word, status_word};
 use plan_types::Line;
 use rv_machine::{State, Status};
 
-/// Writes the line of the state with the number `n` but for its digest, in place of what was in `text`. It takes no memory.
+/// Replaces `text` by the line of the state with the number `n`, without its digest. It takes no memory.
 pub fn line_front(n: u32, state: &State, text: &mut Line)
     ensures text { text.new ≡ line_front n state.now }
     ensures short { length text.new ≤ 355 }

@@ -1,5 +1,6 @@
--- Which clause of an under-table fails, and where: what a check of tables answers that aren't one. The clauses are those of
--- `UnderTable.antt` and `DiskUnderTable.antt` of level_book, with their numbers; the order of entries is our own.
+-- Which clause of an under-table fails, and where: the answer of a check of tables that aren't one. The clauses are
+-- those of `UnderTable.antt` and `DiskUnderTable.antt` of level_book, with their numbers. The order of entries is our
+-- own.
 use Rattle.std.specs.Prelude.{◌≡◌, ◌⊎◌, ℕ, suc, ◌+◌, ◌*◌, ◌<◌, ◌≤◌, length}
 use Rattle.level_book.specs.BookCosts.{BookCosts, room}
 use Rattle.level_book.specs.UnderTable.{Entry, number, IsAtMost, sum_of, write_cost, read_cost, Tables}
@@ -12,7 +13,7 @@ IsAbove a b = IsAtMost a b → ⊥
 
 -- ---- which clause fails
 
--- the clause with this number fails at the entry of table F for level k, m free slots and l steps
+-- clause n fails at the entry of table F for level k, m free slots and l steps
 abbrev pub FreshFails : ℕ → BookCosts → Tables → ℕ → ℕ → ℕ → ℕ → Type 0
 FreshFails steps book t k m l clause =
     ((clause ≡ 1) × (l ≡ 1) × IsAbove (t.fresh k 1 m) (number (book.forward + book.reverse)))
@@ -22,7 +23,7 @@ FreshFails steps book t k m l clause =
     × IsAbove (t.fresh k l m) (sum_of (write_cost book k + j * book.forward) (t.fresh k i n) (t.held k j n)))))
     ⊎ ((clause ≡ 4) × ((n : ℕ) × (suc n ≡ m) × IsAbove (t.fresh k l m) (sum_of (write_cost book k) (number 0) (t.held k l n))))
 
--- the same of table H
+-- clause n fails at the entry of table H for level k, m free slots and l steps
 abbrev pub HeldFails : ℕ → BookCosts → Tables → ℕ → ℕ → ℕ → ℕ → Type 0
 HeldFails steps book t k m l clause =
     ((clause ≡ 5) × (l ≡ 1) × IsAbove (t.held k 1 m) (number (read_cost book k + book.forward + book.reverse)))
@@ -30,8 +31,8 @@ HeldFails steps book t k m l clause =
     ⊎ ((clause ≡ 7) × ((j : ℕ) × (i : ℕ) × (1 ≤ j) × (1 ≤ i) × (j + i ≡ l)
     × IsAbove (t.held k l m) (sum_of (read_cost book k + j * book.forward) (t.fresh k i m) (t.held k j m))))
 
--- The place is that of an entry: table 0 is F and table 1 is H; the level is one of the book's, and the steps and the free slots
--- are in range. The clause with its number fails there.
+-- The place is an entry, and its clause fails there. Table 0 is F and table 1 is H. The level is in the book, and the
+-- steps and free slots are in range.
 abbrev pub Breaks : ℕ → BookCosts → Tables → Place → Type 0
 Breaks steps book t p =
     (p.level < length book.levels) × (1 ≤ p.steps) × (p.steps ≤ steps)
@@ -40,7 +41,7 @@ Breaks steps book t p =
 
 -- ---- which comes first
 
--- one place comes before another: by the table, the level, the free slots, the steps, and last the clause
+-- one place comes before another: by table, level, free slots, steps, and last by clause
 abbrev pub ComesBefore : Place → Place → Type 0
 ComesBefore p q =
     (p.table < q.table) ⊎ ((p.table ≡ q.table) × (
@@ -53,7 +54,7 @@ pub record IsFirst (Broken : Place → Type 0) (p : Place) : Type 0 where
   pub broken : Broken p
   pub none_before : (q : Place) → ComesBefore q p → Broken q → ⊥
 
--- ---- the same of disk tables
+-- ---- disk tables
 
 -- Table 2 is Fd and table 3 is Hd; their places have level 1 and no free slot. For tables F and H the level is 0.
 abbrev pub DiskFreshFails : ℕ → BookCosts → DiskTables → ℕ → ℕ → Type 0

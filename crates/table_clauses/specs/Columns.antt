@@ -66,7 +66,7 @@ pub record AreLongHeld (steps : ℕ) (columns : HeldColumns) : Type 0 where
 abbrev pub IsFirstClause : (ℕ → Type 0) → Option ℕ → Type 0
 IsFirstClause Fails o = MatchOption o ((c : ℕ) → Fails c → ⊥) (λ c. Fails c × ((d : ℕ) → d < c → Fails d → ⊥))
 
--- the first place at which something is broken, or None where nothing is
+-- the first place at which something is broken, or None
 abbrev pub Finds : (Place → Type 0) → Option Place → Type 0
 Finds Broken o = MatchOption o ((p : Place) → Broken p → ⊥) (IsFirst Broken)
 
@@ -107,11 +107,11 @@ pub record IsPair (t : TableRows) (k m : ℕ) (pair : Pair) : Type 0 where
   pub fresh : IsColumn t.steps (λ l. (tables_in t).fresh k l m) pair.fresh.items
   pub held : IsColumn t.steps (λ l. (tables_in t).held k l m) pair.held.items
 
--- those for a free slot less, where there is one at least
+-- those for a free slot less, if there is one at least
 abbrev pub IsPairBefore : TableRows → ℕ → ℕ → Option Pair → Type 0
 IsPairBefore t k m o = MatchOption o (m ≡ 0) (λ pair. (1 ≤ m) × IsPair t k (m - 1) pair)
 
--- the column of the faster level with all its slots, where there is one
+-- the column of the faster level with all its slots, if there is one
 abbrev pub IsFaster : TableRows → ℕ → Option (Vec Cost Global) → Type 0
 IsFaster t k o = MatchOption o (k ≡ 0) (λ column. (1 ≤ k) × IsColumn t.steps (λ l. (tables_in t).fresh (k - 1) l (slice_index t.rooms (k - 1))) column.items)
 
@@ -126,16 +126,16 @@ pub record AreHeldColumns (t : TableRows) (k m : ℕ) (columns : HeldColumns) : 
 
 -- ---- splits of tables
 
--- for level k at m free slots, numbers that are at most what the splits of each stretch cost
+-- for level k at m free slots, lower bounds for the splits of each stretch
 pub record AreSplitsAt (t : TableRows) (forward k m : ℕ) (least : List ℕ) : Type 0 where
   pub count : length least ≡ t.steps
   pub below : AreBelowSplits forward (λ l. (tables_in t).fresh k l m) (λ l. (tables_in t).held k l m) least
 
--- the same for a level, at each number of free slots from 0 on
+-- for a level, such bounds at each number of free slots from 0 on
 pub record AreSplitsOf (t : TableRows) (forward k : ℕ) (splits : List (Vec ℕ Global)) : Type 0 where
   pub count : length splits ≡ slice_index t.rooms k
   pub each : (m : ℕ) (d : Vec ℕ Global) → m < length splits → AreSplitsAt t forward k m (slice_index_or splits m d).items
 
--- the same for each of the first levels
+-- such bounds for each of the first levels
 abbrev pub AreSplits : TableRows → ℕ → List (Vec (Vec ℕ Global) Global) → Type 0
 AreSplits t forward levels = (k : ℕ) (d : Vec (Vec ℕ Global) Global) → k < length levels → AreSplitsOf t forward k (slice_index_or levels k d).items

@@ -24,7 +24,7 @@ pub record AreLongDisk (steps : ℕ) (columns : DiskColumns) : Type 0 where
   pub fresh_splits : steps ≤ length columns.fresh_splits.items
   pub held_splits : steps ≤ length columns.held_splits.items
 
--- the numbers beside the columns are at most what splits cost
+-- the numbers beside the columns are lower bounds of splits
 pub record AreDiskSplits (forward : ℕ) (columns : DiskColumns) : Type 0 where
   pub fresh : AreBelowSplits forward (at_step columns.fresh.items) (at_step columns.held.items) columns.fresh_splits.items
   pub held : AreBelowSplits forward (at_step columns.fast.items) (at_step columns.held.items) columns.held_splits.items

@@ -6,11 +6,11 @@ use Rattle.level_book.specs.DiskUnderTable.{DiskTables, IsDiskUnderTable}
 use Rattle.table_clauses.specs.declared.entry.Entry.{Entry as Place}
 use Rattle.table_clauses.specs.Broken.{Breaks, DiskBreaks, IsFirst}
 
--- Tables are an under-table exactly where no clause fails at any place.
+-- Tables are an under-table exactly if no clause fails at any place.
 abbrev pub UnderWhereNoneFails : ℕ → BookCosts → Tables → Type 0
 UnderWhereNoneFails steps book t = IsUnderTable steps book t ↔ ((p : Place) → Breaks steps book t p → ⊥)
 
--- The same of disk tables.
+-- Disk tables are a disk under-table exactly if no clause fails at any place.
 abbrev pub DiskUnderWhereNoneFails : ℕ → BookCosts → DiskTables → Type 0
 DiskUnderWhereNoneFails steps book t = IsDiskUnderTable steps book t ↔ ((p : Place) → DiskBreaks steps book t p → ⊥)
 
@@ -18,6 +18,6 @@ DiskUnderWhereNoneFails steps book t = IsDiskUnderTable steps book t ↔ ((p : P
 abbrev pub UnderOrFirst : ℕ → BookCosts → Tables → Type 0
 UnderOrFirst steps book t = IsUnderTable steps book t ⊎ ((p : Place) × IsFirst (Breaks steps book t) p)
 
--- The same of disk tables.
+-- Disk tables are a disk under-table, or a clause fails at a first place.
 abbrev pub DiskUnderOrFirst : ℕ → BookCosts → DiskTables → Type 0
 DiskUnderOrFirst steps book t = IsDiskUnderTable steps book t ⊎ ((p : Place) × IsFirst (DiskBreaks steps book t) p)

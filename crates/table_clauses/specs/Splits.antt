@@ -6,7 +6,7 @@ use Rattle.cost_tables.specs.declared.cost.Cost.TheVariants.{Number}
 use Rattle.cost_tables.specs.TableRows.{value_of}
 use Rattle.table_clauses.specs.Broken.{IsAbove}
 
--- the entry of a column for so many steps, of which the first is for 1; none is asked for 0 steps
+-- the entry of a column for so many steps, from 1 on; it isn't used for 0 steps
 abbrev pub at_step : List Cost → ℕ → Entry
 at_step column l = value_of (slice_index_or column (l - 1) (Number 0))
 
@@ -15,28 +15,28 @@ pub record IsColumn (steps : ℕ) (entries : ℕ → Entry) (column : List Cost)
   pub count : length column ≡ steps
   pub value : (l : ℕ) → 1 ≤ l → l ≤ steps → at_step column l ≡ entries l
 
--- small numbers that are at most the entries of a column, from the last one back
+-- small numbers, at most the entries of a column, from the last one back
 pub record IsBackward (column : List Cost) (low : List ℕ) : Type 0 where
   pub count : length low ≡ length column
   pub small : All (λ n. n ≤ 2 ^ 61) low
   pub below : (i v : ℕ) → i < length column → slice_index_or column (length column - (i + 1)) (Number 0) ≡ Number v → slice_index low i ≤ v
 
--- numbers that are at most the entries of a column and what the steps to there cost
+-- numbers that are at most an entry plus the steps to there
 pub record IsAhead (forward : ℕ) (column : List Cost) (low : List ℕ) : Type 0 where
   pub count : length low ≡ length column
   pub small : All (λ n. n ≤ 2 ^ 62) low
   pub below : (i v : ℕ) → i < length column → slice_index_or column i (Number 0) ≡ Number v → slice_index low i ≤ (i + 1) * forward + v
 
--- a number is at most what each split of a stretch of l steps costs, besides what its first image costs
+-- a lower bound for the splits of a stretch of l steps, without the cost of its first image
 abbrev pub IsBelowSplits : ℕ → (ℕ → Entry) → (ℕ → Entry) → ℕ → ℕ → Type 0
 IsBelowSplits forward fresh held l n = (j i : ℕ) → 1 ≤ j → 1 ≤ i → j + i ≡ l → IsAtMost (number n) (sum_of (j * forward) (fresh i) (held j))
 
--- numbers of which each is so for its stretch, of 1 step and more
+-- lower bounds for the splits of each stretch, from 1 step on
 pub record AreBelowSplits (forward : ℕ) (fresh held : ℕ → Entry) (least : List ℕ) : Type 0 where
   pub small : All (λ n. n ≤ 2 ^ 63) least
   pub below : (l : ℕ) → 1 ≤ l → l ≤ length least → IsBelowSplits forward fresh held l (slice_index least (l - 1))
 
--- an entry for l steps is above what some split costs
+-- an entry for l steps is above the cost of some split
 abbrev pub SplitFails : Entry → ℕ → ℕ → List Cost → List Cost → ℕ → Type 0
 SplitFails own first forward fresh held l =
     (j : ℕ) × (i : ℕ) × (1 ≤ j) × (1 ≤ i) × (j + i ≡ l) × IsAbove own (sum_of (first + j * forward) (at_step fresh i) (at_step held j))

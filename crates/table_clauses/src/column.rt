@@ -1,14 +1,14 @@
-// The entries of a column as numbers that are at most these, in the order in which splits go through them.
+// The entries of a column, replaced by lower bounds, in the order in which splits scan them.
 ghost use Rattle.std.specs.Prelude.{◌≡◌, ℕ, ◌+◌, ◌*◌, ◌^◌, ◌<◌, ◌≤◌, IfOk, length};
 ghost use Rattle.table_clauses.specs.Splits.{IsBackward, IsAhead};
 
 use cost_tables::Cost;
 use std::alloc::{AllocError, Global};
 
-// The most that an entry counts for, so that sums don't wrap.
+// The cap of an entry, so that sums don't wrap.
 const MOST: u64 = 2305843009213693952;
 
-// A number that is at most an entry.
+// A lower bound of an entry.
 fn clipped(cost: Cost) -> u64
     ensures small { result ≤ 2 ^ 61 }
     ensures below { (v : ℕ) → cost ≡ Cost.Number v → result ≤ v }
@@ -30,7 +30,7 @@ pub(crate) fn backward(alloc: Global, column: &[Cost]) -> Result<Vec<u64>, Alloc
     Ok(low)
 }
 
-// A number that is at most what an entry and the i + 1 steps to there cost.
+// A lower bound of an entry plus the i + 1 steps to there.
 fn clipped_ahead(cost: Cost, i: usize, forward: u64) -> u64
     requires i { i < 8192 }
     requires forward { forward < 2 ^ 32 }
@@ -40,7 +40,7 @@ fn clipped_ahead(cost: Cost, i: usize, forward: u64) -> u64
     (i as u64 + 1) * forward + clipped(cost)
 }
 
-// The entries, and the steps that are taken to there.
+// The entries, each plus the steps to there.
 pub(crate) fn ahead(alloc: Global, column: &[Cost], forward: u64) -> Result<Vec<u64>, AllocError>
     requires forward { forward < 2 ^ 32 }
     requires few { length column.now ≤ 8192 }

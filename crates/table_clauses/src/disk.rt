@@ -17,8 +17,8 @@ use disk_gen::DiskTables;
 use level_book::Book;
 use std::alloc::{AllocError, Global};
 
-// The column of level 0 with all its slots, those over both levels, and numbers that are at most what the splits of the
-// stretches of tables Fd and Hd cost.
+// The column of level 0 with all its slots, and those over both levels. Also lower bounds for the costs of the splits
+// of tables Fd and Hd.
 #[derive(Drop)]
 pub(crate) struct DiskColumns {
     pub(crate) fast: Vec<Cost>,
@@ -28,8 +28,8 @@ pub(crate) struct DiskColumns {
     pub(crate) held_splits: Vec<u64>,
 }
 
-/// The first place at which the tables aren't a disk under-table, or None where they are one. The book may have one level; an
-/// image on level 1 costs nothing then. It is refused for want of memory alone.
+/// The first place at which the tables break a clause. None: they are a disk under-table. The book may have one level,
+/// and then an image on level 1 costs nothing. Only a lack of memory refuses it.
 pub fn first_broken_disk(
     alloc: Global,
     tables: &DiskTables,
@@ -101,7 +101,7 @@ fn disk_fresh_costs(alloc: Global, tables: &DiskTables) -> Result<Vec<Cost>, All
     Ok(column)
 }
 
-// The same of table Hd.
+// The entries of table Hd, in ascending order of steps.
 fn disk_held_costs(alloc: Global, tables: &DiskTables) -> Result<Vec<Cost>, AllocError>
     ensures { IfOk result (λ column. IsColumn tables.now.fast.steps (disk_tables_in tables.now).disk_held column.items) }
 {

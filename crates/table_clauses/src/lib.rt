@@ -1,7 +1,8 @@
-//! Which clause of an under-table a table of costs breaks, and at which entry first. The tables may be made by anyone. It
-//! stands on the tables of least costs over several levels, and over memory and an unlimited disk; `level_book` says what an
-//! under-table is, in its `specs/UnderTable.antt` and `specs/DiskUnderTable.antt`, and `specs/Broken.antt` which clause fails
-//! where, and which place comes first.
+//! Finds the first entry at which a table of costs breaks a clause of an under-table, and which clause. It uses
+//! `level_book`, `cost_tables` and `disk_gen`. `bound_cert`, `requests`, `reversal` and `reversal_cli` use it. Anyone
+//! may make the tables. There are tables over several levels, and tables over memory and an unlimited disk.
+//! `level_book` defines under-tables in `specs/UnderTable.antt` and `specs/DiskUnderTable.antt`. Here
+//! `specs/Broken.antt` says which clause fails where, and which place comes first.
 #![tactic(auto)]
 
 mod column;

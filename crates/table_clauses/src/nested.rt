@@ -14,8 +14,7 @@ use cost_tables::{Cost, Tables};
 use level_book::Book;
 use std::alloc::{AllocError, Global};
 
-/// The first place at which the tables aren't an under-table, or None where they are one. It is refused for want of memory
-/// alone.
+/// The first place at which the tables break a clause. None: they are an under-table. Only a lack of memory refuses it.
 pub fn first_broken(
     alloc: Global,
     tables: &Tables,
@@ -33,7 +32,7 @@ pub fn first_broken(
     first_held(alloc, tables, book, &splits)
 }
 
-// Numbers that are at most what splits cost, for each level, each number of free slots, and each stretch.
+// Lower bounds of splits, for each level, each number of free slots, and each stretch.
 fn all_splits(
     alloc: Global,
     tables: &Tables,
@@ -51,7 +50,7 @@ fn all_splits(
     Ok(splits)
 }
 
-// The same for one level.
+// Lower bounds for the splits of one level.
 pub(crate) fn level_splits(
     alloc: Global,
     tables: &Tables,
@@ -71,7 +70,7 @@ pub(crate) fn level_splits(
     Ok(splits)
 }
 
-// The same for one number of free slots.
+// Lower bounds for the splits at one number of free slots.
 fn slot_splits(
     alloc: Global,
     tables: &Tables,
@@ -186,7 +185,7 @@ pub(crate) fn held_level(
     Ok(None)
 }
 
-// Those for a free slot less, where there is one.
+// Those for a free slot less, if there is one.
 fn splits_before(splits: &[Vec<u64>], m: u32) -> &[u64]
     requires { m ≤ length splits.now }
     ensures { (d : _) → 1 ≤ m → result.now ≡ (slice_index_or splits.now (m - 1) d).items }
@@ -236,7 +235,7 @@ fn held_columns(alloc: Global, tables: &Tables, k: u8, m: u32) -> Result<HeldCol
     })
 }
 
-// The column of the faster level with all its slots, where there is one.
+// The column of the faster level with all its slots, if there is one.
 fn faster_costs(alloc: Global, tables: &Tables, k: u8) -> Result<Option<Vec<Cost>>, AllocError>
     requires { k < length tables.now.rooms }
     ensures { IfOk result (IsFaster tables.now k) }
@@ -248,7 +247,7 @@ fn faster_costs(alloc: Global, tables: &Tables, k: u8) -> Result<Option<Vec<Cost
     Ok(Some(column))
 }
 
-// The columns for a free slot less, where there is one.
+// The columns for a free slot less, if there is one.
 fn pair_before(alloc: Global, tables: &Tables, k: u8, m: u32) -> Result<Option<Pair>, AllocError>
     requires k { k < length tables.now.rooms }
     requires m { m ≤ slice_index tables.now.rooms k }
@@ -291,7 +290,7 @@ pub(crate) fn fresh_costs(
     Ok(column)
 }
 
-// The same of table H.
+// The entries of table H at one number of free slots, in ascending order of steps.
 fn held_costs(alloc: Global, tables: &Tables, k: u8, m: u32) -> Result<Vec<Cost>, AllocError>
     requires k { k < length tables.now.rooms }
     requires m { m < slice_index tables.now.rooms k }

@@ -27,8 +27,8 @@ pub(crate) struct Pair {
     pub(crate) held: Vec<Cost>,
 }
 
-// What the clauses of an entry of table F speak of: its own column, that of the faster level with all its slots, and those
-// of its level with a free slot less.
+// The columns that the clauses of table F mention. They are its own, the faster level's with all its slots, and its
+// level's with a free slot less.
 #[derive(Drop)]
 pub(crate) struct FreshColumns {
     pub(crate) own: Vec<Cost>,
@@ -36,8 +36,8 @@ pub(crate) struct FreshColumns {
     pub(crate) before: Option<Pair>,
 }
 
-// What the clauses of an entry of table H speak of: the columns of its level and free slots, and that of the faster level
-// with all its slots.
+// The columns that the clauses of table H mention. They are those of its level and free slots, and that of the faster
+// level with all its slots.
 #[derive(Drop)]
 pub(crate) struct HeldColumns {
     pub(crate) faster: Option<Vec<Cost>>,

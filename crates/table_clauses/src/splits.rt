@@ -8,10 +8,10 @@ use crate::compare::{is_at_most, is_within};
 use cost_tables::Cost;
 use std::alloc::{AllocError, Global};
 
-// Above all sums of two numbers that splits go through.
+// Above all sums of two numbers that splits add.
 const ABOVE: u64 = 9223372036854775808;
 
-// The least sum of two numbers that stand at the same place.
+// The least sum of two numbers at the same place.
 fn least_sum(xs: &[u64], ys: &[u64]) -> u64
     requires long { length xs.now ≡ length ys.now }
     requires xs { All (λ n. n ≤ 2 ^ 61) xs.now }
@@ -29,7 +29,7 @@ fn least_sum(xs: &[u64], ys: &[u64]) -> u64
     least
 }
 
-// The least that the splits of row r's stretch cost, besides what its first image costs.
+// The least cost of the splits of row r's stretch, without that of its first image.
 fn least_split(back: &[u64], ahead: &[u64], r: usize) -> u64
     requires rows { (r ≤ length back.now) × (r ≤ length ahead.now) }
     requires back { All (λ n. n ≤ 2 ^ 61) back.now }
@@ -40,8 +40,8 @@ fn least_split(back: &[u64], ahead: &[u64], r: usize) -> u64
     least_sum(&back[back.len() - r..], &ahead[..r])
 }
 
-// Numbers that are at most what each split of a stretch costs, besides what its first image costs: one for each number of
-// steps from 1 on.
+// A lower bound for each stretch's splits, without the cost of its first image. There is one for each number of steps
+// from 1 on.
 pub(crate) fn least_splits(
     alloc: Global,
     fresh: &[Cost],
@@ -63,7 +63,7 @@ pub(crate) fn least_splits(
     Ok(least)
 }
 
-// Whether an entry for l steps is above what some split costs, decided split by split.
+// Whether an entry for l steps is above the cost of some split, decided split by split.
 fn breaks_some_split(
     own: Cost,
     first: u64,
@@ -88,7 +88,7 @@ fn breaks_some_split(
     false
 }
 
-// The same, where most entries are seen to be low enough at once.
+// Whether a split costs less than an entry; a lower bound decides it for most entries at once.
 pub(crate) fn breaks_split(
     own: Cost,
     first: u64,

@@ -1,4 +1,4 @@
-// Why a line isn't what it has to be.
+// Why a line isn't as it must be.
 
 use std::alloc::AllocError;
 

@@ -1,10 +1,14 @@
-//! Takes walks over runs of the machine by timelines, and tells how many came as they had to. The first argument names a file of inputs,
-//! and each other one a file of walks. Both have a JSON text a line.
+//! Replays walks of timelines over runs of the machine, and prints how many passed. It uses `rv_machine`, `elf_load`
+//! and `run_timeline`. No crate uses it. The first argument names a file of inputs, and each other one a file of walks.
+//! Both have a JSON text a line.
 //!
-//! An input is a program, or recorded input: `name`, and its bytes in `base64`. A program whose name ends in `.elf` is an ELF file, and any
-//! other has raw words. A walk has the names of a `program` and of a `journal`, if it reads one, the `most` steps of its run, the `budget`
-//! in bytes for the states that are kept, `orders`, and the `sum` of the last state: see `sum.rt`. An order is a text, and behind `: ` it
-//! has what has to come: the place, the pc, and what was hit or how a step ended or what was written. `order.rt` has the orders.
+//! An input is a program, or recorded input: `name`, and its bytes in `base64`. A program whose name ends in `.elf` is
+//! an ELF file, and any other has raw words.
+//!
+//! A walk names a `program`, and a `journal` if it reads one. `most` is the number of steps of its run. `budget` is the
+//! bytes for the kept states. `orders` are described in `order.rt`. `sum` is that of the last state: see `sum.rt`. An
+//! order is a text. After its `: ` it has the expected place and pc. It may also have a hit, how a step ended, or what
+//! was written.
 //!
 //! With the words `--speed HOW FILE COUNT MARKS` it measures instead: see `speed.rt`.
 #![tactic(auto)]
@@ -37,7 +41,7 @@ fn main(rt: HostRuntime) -> ExitCode {
     }
 }
 
-// Does what the arguments say.
+// Does what the arguments ask for.
 fn run(rt: &HostRuntime) -> io::Result<bool> {
     let words = env::args(rt)?.skip(1).collect::<Vec<String>>(rt.alloc())?;
     match words.as_slice() {
@@ -49,7 +53,7 @@ fn run(rt: &HostRuntime) -> io::Result<bool> {
     }
 }
 
-// Whether all walks of these files came as they had to.
+// Whether all walks of these files passed.
 fn run_files(rt: &HostRuntime, name: &str, files: &[String]) -> io::Result<bool> {
     let text = fs::read_to_string(rt, name)?;
     let Ok(inputs) = inputs_of(rt.alloc(), text.as_str()) else {
@@ -63,7 +67,7 @@ fn run_files(rt: &HostRuntime, name: &str, files: &[String]) -> io::Result<bool>
     Ok(all)
 }
 
-// Whether all walks of a file came as they had to. It tells how many did.
+// Whether all walks of a file passed. It prints how many did.
 fn run_file(rt: &HostRuntime, inputs: &Inputs, name: &str) -> io::Result<bool> {
     let text = fs::read_to_string(rt, name)?;
     let mut passed = 0u64;
@@ -80,7 +84,7 @@ fn run_file(rt: &HostRuntime, inputs: &Inputs, name: &str) -> io::Result<bool> {
     Ok(failed == 0)
 }
 
-// Whether the walk of a line came as it had to. What didn't is printed.
+// Whether the walk of a line passed. It prints what didn't.
 fn run_line(
     rt: &HostRuntime,
     inputs: &Inputs,
@@ -104,7 +108,7 @@ fn run_line(
     Ok(wrong.is_none())
 }
 
-// What came first otherwise than it had to, of a walk.
+// The first deviation of a walk.
 fn first_wrong<L: Ledger>(
     alloc: Global,
     mut walk: Walk,

@@ -1,4 +1,4 @@
-// Moves that are made of others.
+// Moves that consist of others.
 ghost use Rattle.std.specs.Prelude.{◌≡◌, ◌+◌, ◌≤◌};
 ghost use Rattle.run_timeline.specs.Moves.{EndsForward, EndsBackward};
 ghost use Rattle.run_timeline.specs.declared.stops.Step.TheVariants.{Went};
@@ -51,7 +51,7 @@ pub fn part_back<L: Ledger>(
     None
 }
 
-/// So many steps, up to the first that isn't taken. It tells how the last one ended.
+/// Takes so many steps, up to the first that isn't taken. It returns how the last one ended.
 pub fn steps_on<L: Ledger>(
     timeline: &mut Timeline,
     stops: &Stops,
@@ -69,8 +69,8 @@ pub fn steps_on<L: Ledger>(
     Step::Went
 }
 
-/// So many steps back, up to the first that isn't taken. It tells how the last one ended. As many as can be undone take no step of the
-/// machine.
+/// Takes so many steps back, up to the first that isn't taken. It returns how the last one ended. Undoing steps takes
+/// no step of the machine.
 pub fn steps_back<L: Ledger>(
     timeline: &mut Timeline,
     stops: &Stops,

@@ -4,7 +4,7 @@ use crate::fault::Fault;
 use run_timeline::{Range, Stops};
 use std::alloc::Global;
 
-/// What is done. A text of an order is a name, and behind it numbers: `go_to 12`.
+/// What is done. The text of an order is a name, and numbers after it: `go_to 12`.
 #[derive(Drop)]
 pub enum Order {
     /// `stops`, with breakpoints and watched ranges for all that follows: addresses, and `START+LENGTH`, all in hexadecimal.
@@ -14,7 +14,7 @@ pub enum Order {
     OutputFrom(u32),
 }
 
-/// A move.
+/// A move over the run.
 #[derive(Clone, Copy)]
 pub enum Move {
     /// `go_to PLACE`.
@@ -23,9 +23,9 @@ pub enum Move {
     StepOn(u32),
     /// `step_back`, in the same way.
     StepBack(u32),
-    /// `run_on`.
+    /// `run_on`: to the next hit, or to the end of the run.
     RunOn,
-    /// `run_back`.
+    /// `run_back`: to the last hit, or to the start of the run.
     RunBack,
     /// `part_on`: `run_on` in parts.
     PartOn,
@@ -33,7 +33,7 @@ pub enum Move {
     PartBack,
 }
 
-/// The order of a text.
+/// The order that a text spells.
 pub fn order_of(alloc: Global, text: &str) -> Result<Order, Fault> {
     let (name, rest) = text.split_once(' ').unwrap_or((text, ""));
     match name {
@@ -60,7 +60,7 @@ fn number_of(text: &str) -> Result<u32, Fault> {
     text.parse::<u32>().map_err(|_| Fault::Form)
 }
 
-// How many steps; one where nothing is said.
+// How many steps; one by default.
 fn count_of(text: &str) -> Result<u32, Fault> {
     if text.is_empty() {
         return Ok(1);
@@ -72,7 +72,7 @@ fn hexadecimal(digits: &str) -> Result<u32, Fault> {
     u32::from_str_radix(digits, 16).map_err(|_| Fault::Form)
 }
 
-/// What a text says that ends moves.
+/// The breakpoints and watched ranges of a text.
 pub fn stops_of(alloc: Global, text: &str) -> Result<Stops, Fault> {
     let mut stops = Stops {
         addresses: Vec::new(alloc),

@@ -20,9 +20,9 @@ const FAR: Range = Range {
     length: 4,
 };
 
-/// Takes so many steps of a program that doesn't end before. With `break` or `watch` for `how` that is a move forward with so many marks,
-/// and then one backward, with a breakpoint or a watched range that is never met. It prints how many microseconds of the processor each
-/// took, and how much memory was in use at most, when the timeline began and in the end.
+/// Takes so many steps of a program that runs at least as long. If `how` is `break` or `watch`, that is a move forward
+/// with so many marks, and then one backward. Their breakpoint or watched range is never hit. It prints how many
+/// microseconds of processor time each took. It also prints the peak memory, after the timeline began and at the end.
 pub fn measure(
     rt: &HostRuntime,
     how: &str,
@@ -105,7 +105,7 @@ fn budget_for(marks: u32, pages: u32) -> u64 {
     each.saturating_mul(marks as u64)
 }
 
-// Goes forward as far as the run goes, and back.
+// Goes forward to the end of the run, and back.
 fn move_over<L: Ledger>(
     rt: &HostRuntime,
     timeline: &mut Timeline,
@@ -132,7 +132,7 @@ fn tell_end(rt: &HostRuntime, hit: Option<Hit>, timeline: &Timeline) -> io::Resu
     println!(rt; "came to {place}, hit {hit:?}")
 }
 
-// Prints the line of the system that says how much memory this process had in use at most.
+// Prints the system's line on the peak memory of this process.
 fn tell_memory(rt: &HostRuntime) -> io::Result<()> {
     let text = fs::read_to_string(rt, "/proc/self/status")?;
     for line in text.as_str().lines() {

@@ -1,9 +1,9 @@
-// A sum by which states are told apart.
+// A checksum of states.
 
 use rv_machine::State;
 
-/// The sum of all bytes of the memory, and of the registers and what was read and written, modulo 2 ^ 32, each with the weight of its
-/// place: a byte's is its address, a register's its number, and those of `item`, `offset` and `written` are 32 to 34.
+/// A weighted sum, modulo 2 ^ 32, of all memory bytes, the registers, `item`, `offset` and `written`. A byte's weight
+/// is its address, and a register's is its number. The weights of `item`, `offset` and `written` are 32 to 34.
 pub fn sum_of(state: &State) -> u32 {
     let mut sum = 0u32;
     for (place, word) in state.x.iter().enumerate() {

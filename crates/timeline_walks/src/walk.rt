@@ -12,7 +12,7 @@ use serde_json::Value;
 use std::alloc::{AllocError, Global};
 use std::sync::ledger::Ledger;
 
-/// A timeline, with what ends moves, and the greatest place that came so far.
+/// A timeline, its breakpoints and watched ranges, and the greatest place so far.
 #[derive(Drop)]
 pub struct Walk {
     timeline: Timeline,
@@ -20,7 +20,7 @@ pub struct Walk {
     furthest: u32,
 }
 
-/// The walk that a value says, before its first order.
+/// The walk of a value, before its first order.
 pub fn walk_of(alloc: Global, inputs: &Inputs, value: &Value) -> Result<Walk, Fault> {
     let start = inputs.program(alloc, text_of(value, "program")?)?;
     let journal = match value.get("journal").and_then(Value::as_str) {
@@ -41,7 +41,7 @@ fn number_of(value: &Value, name: &str) -> Result<u64, Fault> {
 }
 
 impl Walk {
-    /// Takes the walk, and tells what came first otherwise than it had to.
+    /// Takes the walk, and returns the first deviation.
     pub fn first_wrong<L: Ledger>(
         &mut self,
         alloc: Global,
@@ -66,7 +66,7 @@ impl Walk {
         )
     }
 
-    // What came otherwise than it had to, of an order.
+    // The deviation of an order, if any.
     fn wrong_of<L: Ledger>(
         &mut self,
         alloc: Global,
@@ -78,7 +78,7 @@ impl Walk {
         told(alloc, order, wanted, came.as_str())
     }
 
-    // What comes of an order; nothing of `stops`.
+    // The outcome of an order; nothing for `stops`.
     fn came_of<L: Ledger>(
         &mut self,
         alloc: Global,
@@ -97,7 +97,7 @@ impl Walk {
         self.seen(alloc, how.as_str())
     }
 
-    // Makes a move, and tells what was hit or how a step ended.
+    // Makes a move, and returns the hit, or how a step ended.
     fn go<L: Ledger>(
         &mut self,
         alloc: Global,
@@ -117,7 +117,7 @@ impl Walk {
         }
     }
 
-    // What is seen of the place where the walk is. The place that was reached is told if it isn't the greatest so far.
+    // A text on the place of the walk. It includes the place reached, unless that is the greatest so far.
     fn seen(&mut self, alloc: Global, how: &str) -> Result<String, AllocError> {
         let place = self.timeline.place();
         let pc = self.timeline.state().pc;
@@ -130,7 +130,7 @@ impl Walk {
     }
 }
 
-// What differs from what had to come.
+// A text on the difference to what was expected, if any.
 fn told(alloc: Global, what: &str, wanted: &str, came: &str) -> Result<Option<String>, AllocError> {
     if came == wanted {
         return Ok(None);

@@ -1,4 +1,4 @@
--- No public clause cites this file. How states are dealt out to workers, and what a worker hands back.
+-- No public clause cites this file. How states are assigned to workers, and what a worker returns.
 use Rattle.std.specs.Prelude.{◌≡◌, ℕ, ◌+◌, ◌*◌, ◌/◌, ◌^◌, ◌<◌, ◌≤◌, List, length, map, slice_get, Some}
 use Rattle.std.specs.Vec.{vec_capacity}
 use Rattle.std.specs.List.{AllByRecursion}
@@ -14,8 +14,8 @@ use Rattle.unit_digests.specs.declared.sharing.Digester.{Digester}
 use Rattle.unit_digests.specs.declared.digesters.Digesters.TheInside.{Inside}
 use Rattle.unit_digests.specs.Digests.{HasPages}
 
--- The state with the number n is dealt to the worker with this number: of the states from the last one back, beginning with as many
--- behind it as the worker's number, each so many-th is, as there are workers.
+-- State n is assigned to this worker. Its distance from the last state is the worker's number plus a multiple of the
+-- number of workers.
 abbrev pub IsDealt : Deal → ℕ → ℕ → Type 0
 IsDealt deal worker n = (deal.least ≤ n) × ((turn : ℕ) × (n + 1 + worker + turn * deal.workers ≡ deal.end))
 
@@ -23,7 +23,7 @@ IsDealt deal worker n = (deal.least ≤ n) × ((turn : ℕ) × (n + 1 + worker +
 abbrev pub IsTaken : List MachineState → Taken → Type 0
 IsTaken states t = (s : MachineState) → slice_get states t.number ≡ Some s → t.digest ≡ sha256 (image s)
 
--- so it is with all that a worker took last
+-- this holds of all that a worker took last
 abbrev pub HasTaken : List MachineState → Digester → Type 0
 HasTaken states d = AllByRecursion (IsTaken states) d.taken.items
 
@@ -31,7 +31,7 @@ HasTaken states d = AllByRecursion (IsTaken states) d.taken.items
 abbrev pub HasNumber : List Taken → ℕ → Type 0
 HasNumber taken n = (k : ℕ) × (t : Taken) × (slice_get taken k ≡ Some t) × (t.number ≡ n)
 
--- a worker took the digests of the states that are dealt to it, of all of them, and of no others
+-- a worker took the digests of exactly the states that are assigned to it
 pub record HasShare (states : List MachineState) (deal : Deal) (worker : ℕ) (d : Digester) : Type 0 where
   pub right : HasTaken states d
   pub dealt : AllByRecursion (λ t. IsDealt deal worker t.number) d.taken.items
@@ -41,7 +41,7 @@ pub record HasShare (states : List MachineState) (deal : Deal) (worker : ℕ) (d
 abbrev pub mapped : Digester → List ℕ
 mapped d = page_numbers d.state.memory
 
--- the part of each of so many workers, of the digests of any unit, is no greater
+-- the most digests of any unit that one of so many workers takes
 abbrev pub part_of : ℕ → ℕ
 part_of workers = MOST_ENTRIES / workers + 1
 
@@ -49,8 +49,8 @@ part_of workers = MOST_ENTRIES / workers + 1
 abbrev pub HasRoom : ℕ → Digester → Type 0
 HasRoom room d = room ≤ vec_capacity d.taken
 
--- The states of an undo list are dealt out, and among others to so many workers: these map the pages that the state after it does, and
--- have room for their parts.
+-- The states of an undo list are assigned, to at least so many workers. Their states map the pages of the state after
+-- it, and they have room for their parts.
 pub record IsDealtOut (entries : List Entry) (after : MachineState) (deal : Deal) (count : ℕ) (digesters : List Digester) : Type 0 where
   pub within : deal.end ≤ length entries
   pub short : deal.end ≤ MOST_ENTRIES

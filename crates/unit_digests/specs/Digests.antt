@@ -7,11 +7,11 @@ use Rattle.state_image.specs.Image.{image}
 use Rattle.unit_undo.specs.Entry.{Entry}
 use Rattle.unit_undo.specs.Leading.{led_back}
 
--- the states that entries lead back over from the state after them, in the order of the run; so they have their numbers
+-- the states that entries lead back over, from the state after them, in the order of the run
 abbrev pub states_of : List Entry → MachineState → List MachineState
 states_of entries after = reverse (led_back entries after)
 
--- where the digest of a state is known, it is that of its image
+-- a known digest is that of the state's image
 abbrev pub AreDigests : List (Option (List ℕ)) → List MachineState → Type 0
 AreDigests known states =
     (k : ℕ) (s : MachineState) (digest : List ℕ) → slice_get states k ≡ Some s → slice_get known k ≡ Some (Some digest) → digest ≡ sha256 (image s)

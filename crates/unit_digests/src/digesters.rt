@@ -39,8 +39,8 @@ impl Model for Digesters {
 }
 
 impl Digesters {
-    /// So many workers, for units of so many steps of a run from this state, but no more than have their states in `STATE_BYTES`.
-    /// Only this takes memory. For one worker, or units of one step, there is none.
+    /// So many workers, for units of so many steps of a run from this state. Their states must fit `STATE_BYTES` in
+    /// all. Only this takes memory. For one worker, or for units of one step, there is none.
     pub fn begin(
         alloc: Global,
         start: &State,
@@ -62,8 +62,8 @@ impl Digesters {
         Ok(Digesters { all })
     }
 
-    /// Takes the digests of the states that an undo list leads back over from the state after them, as far as there is room for
-    /// them. Where a thread can't be made, the caller takes its part.
+    /// Takes the digests of the states that an undo list leads back over, as far as there is room. It starts from the
+    /// state after them. The caller takes the part of a thread that can't be made.
     pub fn digest<R: Threads + Sync>(
         &mut self,
         rt: &R,
@@ -83,7 +83,7 @@ impl Digesters {
         self.digest_with(rt, &NoGate, after, undo, known);
     }
 
-    /// The same, where each worker passes a gate before each digest, with its number counted from 0.
+    /// Takes digests as `digest` does; each worker passes a gate before each digest, with the digest's number from 0.
     pub fn digest_with<R: Threads + Sync, G: Gate + Sync>(
         &mut self,
         rt: &R,
@@ -119,7 +119,7 @@ impl Digesters {
     }
 }
 
-// How many workers there are.
+// The number of workers, limited by the unit and the memory of their states.
 fn digester_count(start: &State, unit: u32, workers: u32) -> u32
     ensures few { result ≤ workers }
     ensures bytes { result * (164 + 4100 * length (page_numbers start.now.memory)) ≤ STATE_BYTES }

@@ -1,6 +1,6 @@
-//! The digests of the states that an undo list leads back over, taken by workers side by side. Each worker has a state of its own,
-//! with which it goes back, so that the states are nowhere kept. It stands on undo lists and on the digest of a state; the runner
-//! stands on it. `specs/Digests.antt` says which digests are known.
+//! Takes the digests of the states that an undo list leads back over, with workers in parallel. It uses `unit_undo`,
+//! `state_image` and crates below them. `reverse_runner` and `reversal` use it. Each worker goes back with a state of
+//! its own, so no state is stored. `specs/Digests.antt` says which digests are known.
 #![tactic(auto)]
 
 mod digesters;

@@ -1,5 +1,5 @@
-// The digests of a unit's states, taken side by side. The states are dealt out beforehand, and each worker is handed over to its
-// thread and comes back with its digests, so that no worker sees what another one changes.
+// Takes the digests of a unit's states in parallel. The states are assigned beforehand. Each worker moves into its
+// thread and comes back with its digests. So no worker sees what another one changes.
 ghost use Rattle.std.specs.Prelude.{◌≡◌, ℕ, ◌+◌, ◌*◌, min, ◌≤◌, ◌<◌, [], ◌∷◌, ◌++◌, List, Some, IfOk, length, map, slice_get};
 ghost use Rattle.std.specs.Vec.{vec_len, vec_capacity};
 ghost use Rattle.std.specs.List.{AllByRecursion};
@@ -26,8 +26,8 @@ pub(crate) struct Taken {
     pub digest: [u8; 32],
 }
 
-/// Which states are dealt out, those with the numbers from `least` on and below `end`, and to how many workers. From the last of
-/// them back each worker has its turn after the one before it.
+/// The assigned states, from `least` up to below `end`, and the number of workers. From the last state back the workers
+/// take turns.
 #[derive(Clone, Copy)]
 pub(crate) struct Deal {
     pub least: u32,
@@ -56,7 +56,7 @@ impl Digester {
         })
     }
 
-    // Takes the digests of the states that are dealt to the worker with this number, and goes back from one to the next.
+    // Takes the digests of the states assigned to this worker, going back from one to the next.
     fn take_each<G: Gate>(
         mut self,
         gate: &G,
@@ -109,8 +109,8 @@ fn go_back(walk: &mut UndoWalk<'_>, state: &mut State, left: u32)
     }
 }
 
-/// Takes digests by all these workers: each has a thread, but the first, which is the caller. It starts all threads itself, since one
-/// that is to start others may wait for a processor until the caller is done.
+/// Takes digests by all these workers. Each has a thread but the first, which is the caller. The caller starts all
+/// threads, since a starting thread may wait for a processor until the caller is done.
 #[cycle(sharing)]
 pub(crate) fn take_digests<R: Threads + Sync, G: Gate + Sync>(
     rt: &R,
@@ -178,7 +178,7 @@ fn take_beside<R: Threads + Sync, G: Gate + Sync>(
     digesters
 }
 
-/// Makes room for so many digests, of which none is known but those that are there.
+/// Makes room for so many digests. Only those that are there are known.
 pub(crate) fn make_room(count: u32, known: &mut Vec<Option<[u8; 32]>>)
     ensures known { (states : List MachineState) → AreDigests known.old.items states → AreDigests known.new.items states }
     ensures still { (n : ℕ) → IsKnown known.old.items n → IsKnown known.new.items n }
@@ -190,7 +190,7 @@ pub(crate) fn make_room(count: u32, known: &mut Vec<Option<[u8; 32]>>)
     }
 }
 
-/// The number of the first state whose digest may be unknown: of a unit only the first state's may be known beforehand.
+/// The number of the first state whose digest may be unknown. Only the first state of a unit may be known beforehand.
 pub(crate) fn least_unknown(known: &[Option<[u8; 32]>]) -> u32
     ensures below { (n : ℕ) → n < result → IsKnown known.now n }
     ensures first { IsKnown known.now 0 → 1 ≤ result }
@@ -201,7 +201,7 @@ pub(crate) fn least_unknown(known: &[Option<[u8; 32]>]) -> u32
     }
 }
 
-/// Puts the digests that all workers took to those that are known.
+/// Adds the digests that all workers took to those that are known.
 pub(crate) fn put_digests(digesters: &[Digester], known: &mut Vec<Option<[u8; 32]>>)
     ensures known { (states : List MachineState) → AreDigests known.old.items states → AllByRecursion (HasTaken states) digesters.now →
         AreDigests known.new.items states }
@@ -216,7 +216,7 @@ pub(crate) fn put_digests(digesters: &[Digester], known: &mut Vec<Option<[u8; 32
     }
 }
 
-// Puts digests to those that are known.
+// Adds digests to those that are known.
 fn put_each(taken: &[Taken], known: &mut Vec<Option<[u8; 32]>>)
     ensures known { (states : List MachineState) → AreDigests known.old.items states → AllByRecursion (IsTaken states) taken.now →
         AreDigests known.new.items states }

@@ -1,4 +1,4 @@
-// A walk back over an undo list, which stays as it is.
+// A walk back over an undo list, which doesn't change.
 ghost use Rattle.std.specs.Prelude.{◌≡◌, ℕ, ◌∷◌, length};
 ghost use Rattle.rv_pages.specs.Memory.{page_numbers};
 ghost use Rattle.unit_undo.specs.Entry.{Entry, undone};
@@ -8,8 +8,7 @@ use crate::saved::Saved;
 use rv_machine::State;
 use std::marker::Model;
 
-/// The entries of an undo list over which a walk hasn't gone yet. Several threads may walk back over one list, each with a state of
-/// its own.
+/// The entries that a walk has not yet passed. Several threads may walk back over one list, each with its own state.
 #[derive(Drop)]
 pub struct UndoWalk<'a> {
     pub(crate) entries: &'a [Saved],
@@ -40,7 +39,7 @@ impl<'a> UndoWalk<'a> {
         self.entries.len() as u32
     }
 
-    /// Undoes the step of the last entry that is left, and leaves the others.
+    /// Undoes the step of the last entry that is left, and keeps the others.
     #[inline(always)]
     pub fn back(&mut self, state: &mut State)
         requires { CanGoBack self.old state.old }
