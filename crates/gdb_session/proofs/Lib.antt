@@ -1,0 +1,14 @@
+pub mod Telling
+pub mod Ways
+pub mod Written
+pub mod Interrupts
+pub mod Motions
+pub mod Pieces
+pub mod Adding
+pub mod Backward
+pub mod Whole
+pub mod Answering
+pub mod Sending
+pub mod Wheres
+pub mod Feeding
+pub mod Turning

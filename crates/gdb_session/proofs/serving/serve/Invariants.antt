@@ -1,0 +1,13 @@
+use Rattle.std.proofs.Common.{◌≡◌, ◌≤◌, []}
+use Rattle.keepers.specs.Told.{Tells, WhereTold}
+use Rattle.gdb_session.specs.Serving.{talker}
+use Rattle.gdb_session.specs.Turns.{GoesOn, IsFed}
+use Rattle.gdb_session.proofs.serving.serve.Given as goal
+
+abbrev pub invariant-loop : goal.invariant-loop
+invariant-loop g l = record {
+  goes_on : Tells (g.N.Line.told l.fn.line) (g.N.Line.told l.line) (GoesOn l.fn.timeline.run l.server.held.items (talker l.server));
+  empty : l.server.out.items ≡ [];
+  fed : WhereTold (g.N.Line.told l.line) (IsFed l.counter l.server.held.items);
+  later : g.N.Line.fault_count l.fn.line ≤ g.N.Line.fault_count l.line;
+}

@@ -1,0 +1,7 @@
+pub mod Debugger
+pub mod Moves
+pub mod Answers
+pub mod Conversation
+pub mod SessionFields
+pub mod Serving
+pub mod Turns
