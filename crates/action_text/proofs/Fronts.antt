@@ -7,11 +7,13 @@ use Rattle.std.proofs.lemmas.Bool.Decides.{nat_tests}
 use Rattle.std.proofs.lemmas.Option.{some_pair_parts, same_Some}
 use Rattle.std.proofs.lemmas.Bool.{eqb-true, eqb-false, ne_eqb}
 use Rattle.std.proofs.lemmas.List.{append-nil, length-take-le, take-append-drop}
-use Rattle.action_text.specs.Tokens.{is_run_byte, starts_run, starts_with_digit}
+use Rattle.action_text.specs.Tokens.{is_run_byte, starts_run}
+use Rattle.line_texts.specs.Numbers.{starts_with_digit}
 use Rattle.action_text.specs.Rest.{Rest, seen}
 use Rattle.action_text.specs.Bytes.{run_length, run_of, behind_run, IsWord, behind_word, behind_front}
-use Rattle.action_text.specs.Reading.{digits_at, number_at, whole, number_of, alone, text_at, behind, TakesWord}
-use Rattle.action_text.proofs.Steps.{which, both, chosen, passed, passed_then}
+use Rattle.action_text.specs.Reading.{number_of, alone, text_at, behind, TakesWord}
+use Rattle.line_texts.specs.Reading.{digits_at, number_at, whole, number_of as line_number}
+use Rattle.line_texts.proofs.Steps.{which, both, chosen, passed, passed_then}
 use Rattle.action_text.proofs.Seen.{run_more, run_stops, run_within, AtToken, word_there, no_word_there}
 use Rattle.action_text.proofs.LevelWords.{same_bytes, bytes_same}
 
@@ -103,7 +105,7 @@ unfolding number_at
 number_of_digits c cs other digit = rw (other, digit) refl
 
 pub alone-number : (bs : List ℕ) → alone (number_at 1000000 bs) ≡ number_of (run_of bs)
-unfolding number_at number_of
+unfolding number_at line_number
 alone-number [] = rw (run_of-none [] refl) refl
 alone-number (c ∷ cs) = elim (which (eqb c 48)) [
   | inl zero_digit ↦
@@ -234,14 +236,14 @@ no_run : (start : ℕ) (w : List ℕ) (old : Rest) → AtToken start w old → s
 no_run start w old at none = no_word_there start w old at (run_is_none w none)
 
 run_number : (bs : List ℕ) (n : ℕ) → number_of (run_of bs) ≡ Some n → starts_run bs ≡ true
-unfolding number_of number_at run_length
+unfolding line_number number_at run_length
 run_number bs n is = elim (which (starts_run bs)) [
   | inl run ↦ run
   | inr none ↦ absurd (cc (ap number_of (run_of-none bs none), is))
 ]
 
 unrun_number : (text : List ℕ) → starts_run text ≡ false → number_of text ≡ None
-unfolding number_of number_at
+unfolding line_number number_at
 unrun_number [] none = refl
 unrun_number (c ∷ cs) none = elim (which (is_ascii_digit c)) [
   | inl digit ↦ absurd (cc (sym none ∙ digit_is_run c digit))

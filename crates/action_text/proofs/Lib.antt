@@ -1,4 +1,3 @@
-pub mod Steps
 pub mod Decimal
 pub mod Seen
 pub mod Fronts

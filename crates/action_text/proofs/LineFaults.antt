@@ -9,14 +9,16 @@ use Rattle.plan_types.specs.declared.action.Action.{Action}
 use Rattle.action_text.specs.declared.fault.LineFault.{LineFault}
 use Rattle.action_text.specs.declared.words.Kind.{Kind}
 use Rattle.action_text.specs.declared.words.Kind.TheVariants as kind
-use Rattle.action_text.specs.Tokens.{Token, starts_run, tokens}
+use Rattle.action_text.specs.Tokens.{starts_run, tokens}
+use Rattle.line_texts.specs.Tokens.{Token}
 use Rattle.action_text.specs.Shapes.{Want, exactly, opening, shapes, TakesToken, FitFront, Expects}
 use Rattle.action_text.specs.Meaning.{Says, SayNothing, IsPassed}
 use Rattle.action_text.specs.ScheduleText.{texts}
 use Rattle.action_text.specs.Faults.{rule_at, IsTooMany, FaultIn, first_column}
 use Rattle.action_text.specs.Rest.{Rest}
-use Rattle.action_text.specs.Reading.{◌>>=◌, kind_of, text_in, column_in, text_at, column_at, behind, next, end_next, is_nothing, all_of, wants_of, said, arguments_of, profiled, action_of, says_nothing, line_of, number_of_rule, not_action, whole_line}
-use Rattle.action_text.proofs.Steps.{which, chosen, bind_ok, bind_err, done, ok_is, err_is, not_both}
+use Rattle.action_text.specs.Reading.{kind_of, text_in, column_in, text_at, column_at, behind, next, end_next, is_nothing, all_of, wants_of, said, arguments_of, profiled, action_of, says_nothing, line_of, number_of_rule, not_action, whole_line}
+use Rattle.line_texts.specs.Reading.{◌>>=◌}
+use Rattle.line_texts.proofs.Steps.{which, chosen, bind_ok, bind_err, done, ok_is, err_is, not_both}
 use Rattle.action_text.proofs.LevelWords.{same_bytes, bytes_same}
 use Rattle.action_text.proofs.Wants.{IsReal, IsLeft, next_ok, next_err, passes_fits}
 use Rattle.action_text.proofs.LineOf.{line_named, line_unnamed}

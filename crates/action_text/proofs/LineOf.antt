@@ -4,9 +4,10 @@ use Rattle.plan_types.specs.declared.action.Action.{Action}
 use Rattle.action_text.specs.declared.fault.LineFault.{LineFault}
 use Rattle.action_text.specs.declared.words.Kind.{Kind}
 use Rattle.action_text.specs.Tokens.{starts_run}
-use Rattle.action_text.proofs.Steps.{which}
+use Rattle.line_texts.proofs.Steps.{which}
 use Rattle.action_text.specs.Rest.{Rest}
-use Rattle.action_text.specs.Reading.{◌>>=◌, text_at, column_at, behind, says_nothing, not_action, word_next, kind_of, arguments_of, profiled, action_of, line_of}
+use Rattle.action_text.specs.Reading.{text_at, column_at, behind, says_nothing, not_action, word_next, kind_of, arguments_of, profiled, action_of, line_of}
+use Rattle.line_texts.specs.Reading.{◌>>=◌}
 
 pub line_unnamed : (names : List (List ℕ)) (full : Bool) (old seen : Rest) (fault : LineFault) → says_nothing old.tokens ≡ false → seen ≡ old →
     (starts_run (text_at seen) ≡ false) × (fault ≡ not_action (column_at seen)) → line_of names full old ≡ Err fault

@@ -1,17 +1,17 @@
 -- What is read of many lines, one after the other.
-use Rattle.std.proofs.Common.{◌≡◌, ℕ, suc, ◌+◌, ◌≤◌, Bool, true, false, eqb, List, [], ◌∷◌, ◌++◌, length, Option, Result, Ok, Err, refl, sym, ap, ◌∙◌, arith, inl, inr}
+use Rattle.std.proofs.Common.{◌≡◌, ℕ, suc, ◌+◌, Bool, true, false, eqb, List, [], ◌∷◌, ◌++◌, length, Option, Result, Ok, Err, refl, sym, ap, ◌∙◌}
 use Rattle.std.specs.Option.{option_to_list}
 use Rattle.plan_types.specs.declared.action.Action.{Action}
 use Rattle.action_text.specs.declared.fault.LineFault.{LineFault}
-use Rattle.action_text.specs.declared.fault.TextFault.{TextFault}
-use Rattle.action_text.specs.ScheduleText.{lines, longer_line}
+use Rattle.line_texts.specs.declared.fault.Fault.{Fault}
+use Rattle.line_texts.specs.Lines.{lines}
 use Rattle.action_text.specs.Rest.{Rest}
-use Rattle.action_text.specs.Reading.{◌>>=◌, line_of, fault_at, in_line, has_line, next_line, lines_of, here_of, reading}
-use Rattle.action_text.proofs.Steps.{which}
+use Rattle.action_text.specs.Reading.{line_of, fault_at, in_line, has_line, next_line, lines_of, here_of, reading}
+use Rattle.line_texts.specs.Reading.{◌>>=◌}
 use Rattle.action_text.proofs.Seen.{lines_are}
 
 -- how a line goes on that was read, or that has a fault
-abbrev go_on : List (List ℕ) → List Action → ℕ → List (List ℕ) → Result (Option Action) LineFault → Result (List Action) TextFault
+abbrev go_on : List (List ℕ) → List Action → ℕ → List (List ℕ) → Result (Option Action) LineFault → Result (List Action) Fault
 go_on names list n later read = in_line n read >>= λ found. lines_of names (list ++ option_to_list found) (n + 1) later
 
 pub here_err : (names : List (List ℕ)) (list : List Action) (n : ℕ) (rest : Rest) (full : Bool) (fault : LineFault) → full ≡ eqb (length list) 16777216 →
@@ -40,18 +40,6 @@ lines_next names list n (line ∷ later) some = refl
 pub one_line_less : (later : List (List ℕ)) → has_line later ≡ true → length later ≡ suc (length (next_line later).later)
 one_line_less [] some = absurd cc
 one_line_less (line ∷ later) some = refl
-
-length-longer : (b : ℕ) (line : List ℕ) (ls others : List (List ℕ)) → ls ≡ line ∷ others → length (longer_line b ls) ≡ length ls
-length-longer b line [] others is = absurd cc
-length-longer b line (l ∷ ls) others is = refl
-
-pub lines_few : (bs : List ℕ) → length (lines bs) ≤ length bs + 1
-unfolding lines
-lines_few [] = omega arith
-lines_few (b ∷ bs) = elim (which (eqb b 10)) [
-  | inl end ↦ rw end (omega (arith, lines_few bs))
-  | inr more ↦ rw more (omega (arith, lines_few bs, length-longer b _ (lines bs) _ (lines_are bs)))
-]
 
 pub first_line_here : (names : List (List ℕ)) (bs : List ℕ) → here_of names [] 1 (next_line (lines bs)) ≡ reading names bs
 unfolding reading

@@ -3,7 +3,8 @@ use Rattle.std.proofs.Common.{◌≡◌, ℕ, List, [], ◌∷◌, ◌++◌, map
 use Rattle.std.specs.Prelude.{codes}
 use Rattle.level_book.specs.Names.{AreNames}
 use Rattle.plan_types.specs.declared.action.Action.{Action}
-use Rattle.action_text.specs.Tokens.{Token, tokens}
+use Rattle.action_text.specs.Tokens.{tokens}
+use Rattle.line_texts.specs.Tokens.{Token}
 use Rattle.action_text.specs.Shapes.{Want, FitFront, Expects, Begin}
 use Rattle.action_text.specs.Meaning.{Says, SayNothing, IsPassed}
 use Rattle.action_text.specs.ScheduleText.{texts}

@@ -15,7 +15,7 @@ use Rattle.action_text.specs.declared.words.Kind.TheVariants as kind
 use Rattle.action_text.specs.Shapes.{Want, target, place, opening, closing, TakesToken}
 use Rattle.action_text.specs.Meaning.{call, forward_call, NamesDest, Says}
 use Rattle.action_text.specs.Reading.{kind_of, wants_of, forward_said, reverse_said, said}
-use Rattle.action_text.proofs.Steps.{which}
+use Rattle.line_texts.proofs.Steps.{which}
 use Rattle.action_text.proofs.Decimal.{number_is, decimal_is_number}
 use Rattle.action_text.proofs.LevelWords.{level_is, level_found, contains_at}
 use Rattle.action_text.proofs.Wants.{test_of, IsTarget, IsPlace, number_passed, truth_passed, level_passed, target_passed, place_passed, exactly_passed, truth_is, target_is, place_is, target_found, place_found}

@@ -1,14 +1,17 @@
 -- What a cursor sees of bytes: the next token and its place, and what is seen behind it.
-use Rattle.std.proofs.Common.{◌≡◌, ℕ, zero, suc, ◌+◌, ◌-◌, ◌<◌, ◌≤◌, true, false, eqb, ◌&&◌, List, [], ◌∷◌, length, take, drop, Some, None, Ok, Err, refl, sym, ◌∙◌, ap, subst, arith, inl, inr, get_or}
+use Rattle.std.proofs.Common.{◌≡◌, ℕ, zero, suc, ◌+◌, ◌-◌, ◌<◌, ◌≤◌, true, false, eqb, ◌&&◌, List, [], ◌∷◌, length, take, drop, Some, None, Ok, Err, refl, sym, ◌∙◌, ap, subst, arith, inl, inr}
 use Rattle.std.specs.Str.{bytes_eq}
 use Rattle.std.proofs.lemmas.Bool.{eqb-true, eq-eqb}
 use Rattle.std.proofs.lemmas.Bool.Decides.{nat_tests}
-use Rattle.action_text.specs.Tokens.{Token, is_blank, is_run_byte, starts_run, longer, tokens}
-use Rattle.action_text.specs.ScheduleText.{lines, longer_line}
+use Rattle.action_text.specs.Tokens.{is_run_byte, starts_run, tokens}
+use Rattle.line_texts.specs.Tokens.{Token, is_blank, longer, tokens as line_tokens}
+use Rattle.line_texts.specs.Lines.{lines, longer_line}
 use Rattle.action_text.specs.Rest.{Rest, first_line, later_lines, seen_from, seen}
-use Rattle.action_text.specs.Bytes.{without_blanks, behind_line, past, ends_line, begins_nothing, run_length}
+use Rattle.action_text.specs.Bytes.{behind_line, ends_line, begins_nothing, run_length}
+use Rattle.line_texts.specs.Reading.{without_blanks, past}
 use Rattle.action_text.specs.Reading.{text_at, column_at, behind, mark_next, end_next, not_action, has_line, next_line, says_nothing, is_nothing}
-use Rattle.action_text.proofs.Steps.{which}
+use Rattle.line_texts.proofs.Steps.{which}
+use Rattle.line_texts.proofs.Seen.{without_blanks_within, first_is_no_blank}
 
 -- ---- bytes
 
@@ -37,19 +40,19 @@ end_moves : (ts : List Token) (column n : ℕ) (later : List (List ℕ)) (e : �
 end_moves ts column n later e is = ap (λ (x : ℕ). let r : Rest = record { tokens = ts; end = x; later = later } in r) (omega arith)
 
 from_blank : (column b : ℕ) (bs : List ℕ) → is_blank b ≡ true → seen_from column (b ∷ bs) ≡ seen_from (column + 1) bs
-unfolding tokens first_line later_lines
+unfolding line_tokens first_line later_lines
 from_blank column b bs blank =
     rw (blank_is_no_end b blank, blank) (end_moves (tokens (column + 1) (first_line bs)) column (length (first_line bs)) (later_lines bs) _ refl)
 
 from_alone : (column b : ℕ) (bs : List ℕ) → is_blank b ≡ false → eqb b 10 ≡ false → (is_run_byte b && starts_run (first_line bs)) ≡ false →
     seen_from column (b ∷ bs) ≡ push (record { column = column; text = b ∷ [] }) (seen_from (column + 1) bs)
-unfolding tokens first_line later_lines
+unfolding line_tokens first_line later_lines
 from_alone column b bs blank end alone =
     rw (end, blank, alone) (end_moves (record { column = column; text = b ∷ [] } ∷ tokens (column + 1) (first_line bs)) column (length (first_line bs)) (later_lines bs) _ refl)
 
 from_longer : (column b : ℕ) (bs : List ℕ) → is_blank b ≡ false → eqb b 10 ≡ false → (is_run_byte b && starts_run (first_line bs)) ≡ true →
     seen_from column (b ∷ bs) ≡ put_before column b (seen_from (column + 1) bs)
-unfolding tokens first_line later_lines
+unfolding line_tokens first_line later_lines
 from_longer column b bs blank end run =
     rw (end, blank, run) (end_moves (longer column b (tokens (column + 1) (first_line bs))) column (length (first_line bs)) (later_lines bs) _ refl)
 
@@ -143,23 +146,6 @@ seen_without_blanks start (b ∷ bs) within = elim (which (is_blank b)) [
   | inr other ↦ rw other refl
 ]
 
-pub without_blanks_within : (bs : List ℕ) → length (without_blanks bs) ≤ length bs
-unfolding without_blanks
-without_blanks_within [] = omega arith
-without_blanks_within (b ∷ bs) = elim (which (is_blank b)) [
-  | inl blank ↦ rw blank (omega (arith, without_blanks_within bs))
-  | inr other ↦ rw other (omega arith)
-]
-
--- the first byte isn't a blank
-pub first_is_no_blank : (bs : List ℕ) (b : ℕ) (rest : List ℕ) → without_blanks bs ≡ b ∷ rest → is_blank b ≡ false
-unfolding without_blanks
-first_is_no_blank [] b rest is = absurd cc
-first_is_no_blank (c ∷ bs) b rest is = elim (which (is_blank c)) [
-  | inl blank ↦ first_is_no_blank bs b rest (rw blank at is)
-  | inr other ↦ let same : c ≡ b = cc (rw other at is) in rw (← same) other
-]
-
 drop_length : (k : ℕ) (xs : List ℕ) → k ≤ length xs → length (drop k xs) + k ≡ length xs
 drop_length zero xs le = omega arith
 drop_length (suc k) [] le = absurd (omega arith)
@@ -214,11 +200,11 @@ pub record EndsLine (rest : Rest) (column : ℕ) : Type 0 where
   pub column_is : rest.end ≡ column
 
 pub ends_nothing : (start : ℕ) → EndsLine (seen start []) (start - 0 + 1)
-unfolding seen tokens first_line
+unfolding seen line_tokens first_line
 ends_nothing start = record { none = refl; column_is = omega arith }
 
 pub ends_at_line : (start b : ℕ) (bs : List ℕ) → eqb b 10 ≡ true → EndsLine (seen start (b ∷ bs)) (start - length (b ∷ bs) + 1)
-unfolding seen tokens first_line
+unfolding seen line_tokens first_line
 ends_at_line start b bs end = rw end (record { none = refl; column_is = omega arith })
 
 -- ---- lines
@@ -406,22 +392,3 @@ pub goes_nowhere : (start : ℕ) (rest : List ℕ) (old : Rest) → seen start r
 goes_nowhere start rest old sees is =
     let later : old.later ≡ [] = ap (λ (r : Rest). r.later) (sym sees) ∙ later_seen start rest ∙ later_none rest is in
     ap has_line later
-
--- ---- the length of a run
-
-pub run_step : (bs : List ℕ) (i : ℕ) (b : ℕ) → i < length bs → b ≡ get_or bs i 0 → is_run_byte b ≡ true → run_length (drop i bs) ≡ suc (run_length (drop (suc i) bs))
-run_step [] i b within is run = absurd (omega arith)
-run_step (c ∷ bs) zero b within is run = run_more c bs (rw (← is) run)
-run_step (c ∷ bs) (suc i) b within is run = run_step bs i b (omega arith) is run
-
-pub run_ends : (bs : List ℕ) (i : ℕ) (b : ℕ) → i < length bs → b ≡ get_or bs i 0 → is_run_byte b ≡ false → run_length (drop i bs) ≡ 0
-run_ends [] i b within is run = absurd (omega arith)
-run_ends (c ∷ bs) zero b within is run = run_stops c bs (rw (← is) run)
-run_ends (c ∷ bs) (suc i) b within is run = run_ends bs i b (omega arith) is run
-
-pub run_past : (bs : List ℕ) (i : ℕ) → length bs ≤ i → run_length (drop i bs) ≡ 0
-unfolding run_length
-run_past [] zero past = refl
-run_past [] (suc i) past = refl
-run_past (c ∷ bs) zero past = absurd (omega arith)
-run_past (c ∷ bs) (suc i) past = run_past bs i (omega arith)

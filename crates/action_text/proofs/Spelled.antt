@@ -9,12 +9,14 @@ use Rattle.plan_types.specs.declared.action.Dest.{Dest}
 use Rattle.plan_types.specs.declared.action.Dest.TheVariants.{Work, Level}
 use Rattle.plan_types.specs.declared.action.Action.{Action}
 use Rattle.plan_types.specs.declared.action.Action.TheVariants.{Forward, Reverse, Copy, Move, EndForward, EndReverse}
-use Rattle.action_text.specs.Tokens.{Token, is_blank, is_run_byte, starts_run, longer, tokens}
+use Rattle.action_text.specs.Tokens.{is_run_byte, starts_run, tokens}
+use Rattle.line_texts.specs.Tokens.{Token, is_blank, longer, tokens as line_tokens}
 use Rattle.action_text.specs.Meaning.{call, NamesDest, Says, IsPassed}
-use Rattle.action_text.specs.ScheduleText.{lines, longer_line, texts, LinesSay}
+use Rattle.action_text.specs.ScheduleText.{texts, LinesSay}
+use Rattle.line_texts.specs.Lines.{lines, longer_line}
 use Rattle.action_text.specs.Canonical.{two_numbers, one_number, name_of, keep_text, dest_text, copy_text, canonical, IsLevelOf, IsDestOf, HasSpelling, text_of}
 use Rattle.action_text.specs.Laws.{certificate_line, HasOneEnd, CanonicalIsRead, OneSpelling}
-use Rattle.action_text.proofs.Steps.{both}
+use Rattle.line_texts.proofs.Steps.{both}
 use Rattle.action_text.proofs.Decimal.{IsRun, decimal_is_run}
 use Rattle.action_text.proofs.Seen.{run_is_no_blank, run_is_no_end}
 use Rattle.action_text.proofs.LevelWords.{level_is_name, name_is_run}
@@ -28,15 +30,15 @@ abbrev TextsAre : List ℕ → List (List ℕ) → Type 0
 TextsAre bs xs = (column : ℕ) → texts_of (tokens column bs) ≡ xs
 
 no_texts : TextsAre [] []
-unfolding tokens
+unfolding line_tokens
 no_texts column = refl
 
 after_blank : (b : ℕ) (bs : List ℕ) (xs : List (List ℕ)) → is_blank b ≡ true → TextsAre bs xs → TextsAre (b ∷ bs) xs
-unfolding tokens
+unfolding line_tokens
 after_blank b bs xs blank are column = rw blank (are (column + 1))
 
 after_mark : (b : ℕ) (bs : List ℕ) (xs : List (List ℕ)) → is_blank b ≡ false → is_run_byte b ≡ false → TextsAre bs xs → TextsAre (b ∷ bs) ((b ∷ []) ∷ xs)
-unfolding tokens
+unfolding line_tokens
 after_mark b bs xs blank run are column = rw (blank, run) (ap (λ (ys : List (List ℕ)). (b ∷ []) ∷ ys) (are (column + 1)))
 
 texts_longer : (column b : ℕ) (ts : List Token) (x : List ℕ) (xs : List (List ℕ)) → texts_of ts ≡ x ∷ xs → texts_of (longer column b ts) ≡ (b ∷ x) ∷ xs
@@ -50,7 +52,7 @@ abbrev AllRun : List ℕ → Type 0
 AllRun text = AllByRecursion (λ b. is_run_byte b ≡ true) text
 
 run_of : (b : ℕ) (more bs : List ℕ) (xs : List (List ℕ)) → AllRun (b ∷ more) → starts_run bs ≡ false → TextsAre bs xs → TextsAre ((b ∷ more) ++ bs) ((b ∷ more) ∷ xs)
-unfolding tokens
+unfolding line_tokens
 run_of b [] bs xs run ends are column =
     let alone : (is_run_byte b && starts_run bs) ≡ false = rw (ends, run.0) refl in
     rw (run_is_no_blank b run.0, alone) (ap (λ (ys : List (List ℕ)). (b ∷ []) ∷ ys) (are (column + 1)))
@@ -243,7 +245,7 @@ line_first (b ∷ bs) rest all = rw all.0 (ap (longer_line b) (line_first bs res
 
 -- the lines of a certificate say nothing
 comment_passed : (text : List ℕ) → IsPassed (35 ∷ 33 ∷ text)
-unfolding tokens
+unfolding line_tokens
 comment_passed text = refl
 
 one_end : (text : List ℕ) → HasOneEnd text → HasNoEnd text
@@ -251,7 +253,7 @@ one_end [] all = tt
 one_end (b ∷ bs) all = (ne_eqb b 10 all.0, one_end bs all.1)
 
 nothing_left : (names : List (List ℕ)) → LinesSay names (lines []) []
-unfolding lines tokens
+unfolding lines line_tokens
 nothing_left names = (tt, tt)
 
 certificate_passed : (names : List (List ℕ)) (ts : List (List ℕ)) → AllByRecursion HasOneEnd ts → LinesSay names (lines (flat_map certificate_line ts)) []

@@ -10,12 +10,14 @@ use Rattle.action_text.specs.declared.fault.Rule.TheVariants as rule
 use Rattle.action_text.specs.declared.fault.LineFault.{LineFault}
 use Rattle.action_text.specs.declared.words.Place.{Place}
 use Rattle.action_text.specs.declared.words.Place.TheVariants as at
-use Rattle.action_text.specs.Tokens.{Token, starts_run, starts_with_digit}
+use Rattle.action_text.specs.Tokens.{starts_run}
+use Rattle.line_texts.specs.Tokens.{Token}
+use Rattle.line_texts.specs.Numbers.{starts_with_digit}
 use Rattle.action_text.specs.Shapes.{Want, exactly, number, truth, level, target, place, TakesToken}
 use Rattle.action_text.specs.Faults.{rule_at}
 use Rattle.action_text.specs.Rest.{Rest}
 use Rattle.action_text.specs.Reading.{number_of, truth_of, level_of, target_of, place_of, level_or, text_in, column_in, text_at, column_at, behind, take_if, number_rule, level_rule, next, number_next, truth_next, level_next, target_next, place_next, mark_next, number_of_rule}
-use Rattle.action_text.proofs.Steps.{which, both, chosen, ok_is, err_is, not_both}
+use Rattle.line_texts.proofs.Steps.{which, both, chosen, ok_is, err_is, not_both}
 use Rattle.action_text.proofs.Decimal.{number_is, decimal_is_number, decimal_is_run}
 use Rattle.action_text.proofs.LevelWords.{same_bytes, bytes_same, level_is, level_found, level_is_name, name_is_run, no_level, contains_at, at_contained}
 

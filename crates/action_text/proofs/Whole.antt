@@ -7,14 +7,16 @@ use Rattle.std.specs.Global.{Vec}
 use Rattle.level_book.specs.Names.{AreNames}
 use Rattle.plan_types.specs.declared.action.Action.{Action}
 use Rattle.action_text.specs.declared.fault.LineFault.{LineFault}
-use Rattle.action_text.specs.declared.fault.TextFault.{TextFault}
-use Rattle.action_text.specs.declared.fault.TextFault.TheVariants.{At, Memory}
+use Rattle.line_texts.specs.declared.fault.Fault.{Fault}
+use Rattle.line_texts.specs.declared.fault.Fault.TheVariants.{At, Memory}
 use Rattle.action_text.specs.Meaning.{Says, IsPassed}
-use Rattle.action_text.specs.ScheduleText.{lines, texts, LinesSay, IsSchedule}
+use Rattle.action_text.specs.ScheduleText.{texts, LinesSay, IsSchedule}
+use Rattle.line_texts.specs.Lines.{lines}
 use Rattle.action_text.specs.Faults.{FaultIn, FirstFault, HasFirstFault}
 use Rattle.action_text.specs.Laws.{OneSchedule, OneFault, SchedulesHaveNoFault, ScheduleOrFault}
-use Rattle.action_text.specs.Reading.{◌>>=◌, Fails, GivesUnlessMemory, line_of, number_of_rule, fault_at, in_line, whole_line, lines_of, reading}
-use Rattle.action_text.proofs.Steps.{done}
+use Rattle.action_text.specs.Reading.{line_of, number_of_rule, fault_at, in_line, whole_line, lines_of, reading}
+use Rattle.line_texts.specs.Reading.{◌>>=◌, Fails, GivesUnlessMemory}
+use Rattle.line_texts.proofs.Steps.{done}
 use Rattle.action_text.proofs.Sayings.{one_action}
 use Rattle.action_text.proofs.LineFaults.{IsReadLine, IsLineFault, IsAnswer, line_answer}
 use Rattle.action_text.proofs.OneFault.{Places, places, one_fault, said_no_fault, said_not_passed}
@@ -91,7 +93,7 @@ earlier_fault : (names : List (List ℕ)) (before : List (List ℕ)) (here : Lis
 earlier_fault names before here more later done list rule column are is say few says some fault =
     said_faultless names before here more list done rule column are (subst (λ (ls : List (List ℕ)). LinesSay names ls list) is say) few says some fault
 
-same_fault : (names : List (List ℕ)) (bytes : List ℕ) (r l c s m d : ℕ) → AreNames names → FirstFault names bytes r l c → FirstFault names bytes s m d → ◌≡◌ {A = TextFault} (At r l c) (At s m d)
+same_fault : (names : List (List ℕ)) (bytes : List ℕ) (r l c s m d : ℕ) → AreNames names → FirstFault names bytes r l c → FirstFault names bytes s m d → ◌≡◌ {A = Fault} (At r l c) (At s m d)
 same_fault names bytes r l c s m d are f g = elim (places f.before f.here f.after g.before g.here g.after (sym f.parts ∙ g.parts)) [
   | Places.same before here ↦
       let says : LinesSay names g.before f.done = subst (λ (ls : List (List ℕ)). LinesSay names ls f.done) before f.says in
@@ -120,7 +122,7 @@ record IsReadWhole (names : List (List ℕ)) (ls : List (List ℕ)) (list out : 
   few : length list ≤ 16777216 → length out ≤ 16777216
 
 -- lines that weren't, with the fault that was met, where the first has this number
-record IsReadUpTo (names : List (List ℕ)) (ls : List (List ℕ)) (list : List Action) (n : ℕ) (e : TextFault) : Type 0 where
+record IsReadUpTo (names : List (List ℕ)) (ls : List (List ℕ)) (list : List Action) (n : ℕ) (e : Fault) : Type 0 where
   before : List (List ℕ)
   here : List ℕ
   after : List (List ℕ)
@@ -132,7 +134,7 @@ record IsReadUpTo (names : List (List ℕ)) (ls : List (List ℕ)) (list : List 
   is : IsLineFault names (length (list ++ more)) here fault
   answer : e ≡ fault_at (n + length before) fault
 
-abbrev AreRead : List (List ℕ) → List (List ℕ) → List Action → ℕ → Result (List Action) TextFault → Type 0
+abbrev AreRead : List (List ℕ) → List (List ℕ) → List Action → ℕ → Result (List Action) Fault → Type 0
 AreRead names ls list n (Ok out) = IsReadWhole names ls list out
 AreRead names ls list n (Err e) = IsReadUpTo names ls list n e
 
@@ -141,7 +143,7 @@ more_passed : (names : List (List ℕ)) (line : List ℕ) (ls : List (List ℕ))
 more_passed names line ls [] passed say = (passed, say)
 more_passed names line ls (a ∷ list) passed say = inl (passed, say)
 
-one_more : (names : List (List ℕ)) (line : List ℕ) (ls : List (List ℕ)) (list : List Action) (n : ℕ) (found : Option Action) (r : Result (List Action) TextFault) → IsReadLine names (length list) line found →
+one_more : (names : List (List ℕ)) (line : List ℕ) (ls : List (List ℕ)) (list : List Action) (n : ℕ) (found : Option Action) (r : Result (List Action) Fault) → IsReadLine names (length list) line found →
     AreRead names ls (list ++ option_to_list found) (n + 1) r → AreRead names (line ∷ ls) list n r
 one_more names line ls list n None (Ok out) is read = record {
   more = read.more;
@@ -212,7 +214,7 @@ are_read names (line ∷ ls) list n are = by_line (line_of names (eqb (length li
 -- ---- whole texts
 
 -- the answer for a text
-abbrev pub IsWholeAnswer : List (List ℕ) → List ℕ → Result (List Action) TextFault → Type 0
+abbrev pub IsWholeAnswer : List (List ℕ) → List ℕ → Result (List Action) Fault → Type 0
 IsWholeAnswer names bytes (Ok list) = IsSchedule names bytes list
 IsWholeAnswer names bytes (Err e) = HasFirstFault names bytes e
 
@@ -220,7 +222,7 @@ pub whole_answer : (names : List (List ℕ)) (bytes : List ℕ) → AreNames nam
 unfolding reading
 whole_answer names bytes are = by_read (lines_of names [] 1 (lines bytes)) (are_read names (lines bytes) [] 1 are)
   where
-    by_read : (r : Result (List Action) TextFault) → AreRead names (lines bytes) [] 1 r → IsWholeAnswer names bytes r
+    by_read : (r : Result (List Action) Fault) → AreRead names (lines bytes) [] 1 r → IsWholeAnswer names bytes r
     by_read (Ok out) read = record { few = read.few (omega arith); says = subst (λ (xs : List Action). LinesSay names (lines bytes) xs) (sym read.parts) read.says }
     by_read (Err e) read =
         let number : 1 + length read.before ≡ length read.before + 1 = omega arith in
@@ -236,45 +238,45 @@ whole_answer names bytes are = by_read (lines_of names [] 1 (lines bytes)) (are_
           fault = read.is.1;
           line_is = number;
         } in
-        subst (λ (x : TextFault). HasFirstFault names bytes x) (sym read.answer) fault
+        subst (λ (x : Fault). HasFirstFault names bytes x) (sym read.answer) fault
 
 pub schedule_or_fault : ScheduleOrFault
 schedule_or_fault names are bytes = by_answer (reading names bytes) (whole_answer names bytes are)
   where
-    by_answer : (r : Result (List Action) TextFault) → IsWholeAnswer names bytes r → ((list : List Action) × IsSchedule names bytes list) ⊎ ((fault : TextFault) × HasFirstFault names bytes fault)
+    by_answer : (r : Result (List Action) Fault) → IsWholeAnswer names bytes r → ((list : List Action) × IsSchedule names bytes list) ⊎ ((fault : Fault) × HasFirstFault names bytes fault)
     by_answer (Ok list) is = inl (list, is)
     by_answer (Err e) is = inr (e, is)
 
 -- ---- what a call returned, where it is what is read unless memory ran out
 
-pub found : (names : List (List ℕ)) (bytes : List ℕ) (r : Result (Vec Action) TextFault) → AreNames names → GivesUnlessMemory (λ (v : Vec Action). v.items) r (reading names bytes) → IfOk r (λ v. IsSchedule names bytes v.items)
-found names bytes (Ok v) are given = subst (λ (x : Result (List Action) TextFault). IsWholeAnswer names bytes x) given (whole_answer names bytes are)
+pub found : (names : List (List ℕ)) (bytes : List ℕ) (r : Result (Vec Action) Fault) → AreNames names → GivesUnlessMemory (λ (v : Vec Action). v.items) r (reading names bytes) → IfOk r (λ v. IsSchedule names bytes v.items)
+found names bytes (Ok v) are given = subst (λ (x : Result (List Action) Fault). IsWholeAnswer names bytes x) given (whole_answer names bytes are)
 found names bytes (Err e) are given = tt
 
-refused_by : (names : List (List ℕ)) (bytes : List ℕ) (e : TextFault) → AreNames names → Fails e (reading names bytes) → e ≢ Memory → HasFirstFault names bytes e
+refused_by : (names : List (List ℕ)) (bytes : List ℕ) (e : Fault) → AreNames names → Fails e (reading names bytes) → e ≢ Memory → HasFirstFault names bytes e
 refused_by names bytes Memory are given other = absurd (other refl)
-refused_by names bytes (At r l c) are given other = subst (λ (x : Result (List Action) TextFault). IsWholeAnswer names bytes x) given (whole_answer names bytes are)
+refused_by names bytes (At r l c) are given other = subst (λ (x : Result (List Action) Fault). IsWholeAnswer names bytes x) given (whole_answer names bytes are)
 
-pub refused : (names : List (List ℕ)) (bytes : List ℕ) (r : Result (Vec Action) TextFault) → AreNames names → GivesUnlessMemory (λ (v : Vec Action). v.items) r (reading names bytes) → IfErr r (λ e. e ≢ Memory → HasFirstFault names bytes e)
+pub refused : (names : List (List ℕ)) (bytes : List ℕ) (r : Result (Vec Action) Fault) → AreNames names → GivesUnlessMemory (λ (v : Vec Action). v.items) r (reading names bytes) → IfErr r (λ e. e ≢ Memory → HasFirstFault names bytes e)
 refused names bytes (Ok v) are given = tt
 refused names bytes (Err e) are given = λ other. refused_by names bytes e are given other
 
-only_memory : (names : List (List ℕ)) (bytes : List ℕ) (list : List Action) (e : TextFault) → AreNames names → Fails e (reading names bytes) → IsSchedule names bytes list → e ≡ Memory
+only_memory : (names : List (List ℕ)) (bytes : List ℕ) (list : List Action) (e : Fault) → AreNames names → Fails e (reading names bytes) → IsSchedule names bytes list → e ≡ Memory
 only_memory names bytes list Memory are given is = refl
 only_memory names bytes list (At r l c) are given is =
     absurd (schedule_faultless names are bytes list (At r l c) is (refused_by names bytes (At r l c) are given (λ same. cc same)))
 
-pub only : (names : List (List ℕ)) (bytes : List ℕ) (r : Result (Vec Action) TextFault) → AreNames names → GivesUnlessMemory (λ (v : Vec Action). v.items) r (reading names bytes) →
+pub only : (names : List (List ℕ)) (bytes : List ℕ) (r : Result (Vec Action) Fault) → AreNames names → GivesUnlessMemory (λ (v : Vec Action). v.items) r (reading names bytes) →
     (list : List Action) → IsSchedule names bytes list → MatchResult r (λ v. v.items ≡ list) (λ e. e ≡ Memory)
 only names bytes (Ok v) are given list is = one_schedule names are bytes v.items list (found names bytes (Ok v) are given) is
 only names bytes (Err e) are given list is = only_memory names bytes list e are given is
 
-that_fault : (names : List (List ℕ)) (bytes : List ℕ) (e f : TextFault) → AreNames names → Fails e (reading names bytes) → HasFirstFault names bytes f → (e ≡ f) ⊎ (e ≡ Memory)
+that_fault : (names : List (List ℕ)) (bytes : List ℕ) (e f : Fault) → AreNames names → Fails e (reading names bytes) → HasFirstFault names bytes f → (e ≡ f) ⊎ (e ≡ Memory)
 that_fault names bytes Memory f are given is = inr refl
 that_fault names bytes (At r l c) f are given is =
     inl (one_first_fault names are bytes (At r l c) f (refused_by names bytes (At r l c) are given (λ same. cc same)) is)
 
-pub first : (names : List (List ℕ)) (bytes : List ℕ) (r : Result (Vec Action) TextFault) → AreNames names → GivesUnlessMemory (λ (v : Vec Action). v.items) r (reading names bytes) →
-    (f : TextFault) → HasFirstFault names bytes f → MatchResult r (λ _. ⊥) (λ answer. (answer ≡ f) ⊎ (answer ≡ Memory))
+pub first : (names : List (List ℕ)) (bytes : List ℕ) (r : Result (Vec Action) Fault) → AreNames names → GivesUnlessMemory (λ (v : Vec Action). v.items) r (reading names bytes) →
+    (f : Fault) → HasFirstFault names bytes f → MatchResult r (λ _. ⊥) (λ answer. (answer ≡ f) ⊎ (answer ≡ Memory))
 first names bytes (Ok v) are given f is = schedule_faultless names are bytes v.items f (found names bytes (Ok v) are given) is
 first names bytes (Err e) are given f is = that_fault names bytes e f are given is

@@ -20,9 +20,10 @@ use Rattle.action_text.specs.Meaning.{Says}
 use Rattle.action_text.specs.ScheduleText.{texts}
 use Rattle.action_text.specs.Bytes.{behind_front, ends_line}
 use Rattle.action_text.specs.Canonical.{name_of, keep_text, dest_text, copy_text, canonical}
-use Rattle.action_text.specs.Reading.{number_at, whole_line, next_line, line_of, number_of_rule}
+use Rattle.action_text.specs.Reading.{whole_line, next_line, line_of, number_of_rule}
+use Rattle.line_texts.specs.Reading.{number_at}
 use Rattle.action_text.specs.Written.{IsLevelAt, IsDestAt, IsKeepAt, IsImageAt, IsActionAt}
-use Rattle.action_text.proofs.Decimal.{number_taken}
+use Rattle.line_texts.proofs.Decimal.{number_taken}
 use Rattle.action_text.proofs.Fronts.{begun_with}
 use Rattle.action_text.proofs.LevelWords.{name_of_level}
 use Rattle.action_text.proofs.LineFaults.{IsAnswer, line_answer}
@@ -30,7 +31,7 @@ use Rattle.action_text.proofs.OneFault.{said_no_fault, said_not_passed}
 use Rattle.action_text.proofs.Sayings.{one_action}
 use Rattle.action_text.proofs.Seen.{lines_are, seen_whole, later_seen}
 use Rattle.action_text.proofs.Spelled.{HasNoEnd, canonical_says, endless}
-use Rattle.action_text.proofs.Steps.{done}
+use Rattle.line_texts.proofs.Steps.{done}
 
 -- ---- bytes that were compared
 

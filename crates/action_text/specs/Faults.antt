@@ -2,12 +2,15 @@
 use Rattle.std.specs.Prelude.{◌≡◌, ◌≤◌, ◌+◌, ℕ, List, [], ◌∷◌, ◌++◌, length, Option, Some, None, if◌then◌else◌}
 use Rattle.plan_types.specs.declared.limits.TheConstants.{MOST_ACTIONS}
 use Rattle.plan_types.specs.declared.action.Action.{Action}
-use Rattle.action_text.specs.declared.fault.TextFault.{TextFault}
-use Rattle.action_text.specs.declared.fault.TextFault.TheVariants.{At, Memory}
-use Rattle.action_text.specs.Tokens.{Token, starts_run, starts_with_digit, tokens}
+use Rattle.line_texts.specs.declared.fault.Fault.{Fault}
+use Rattle.line_texts.specs.declared.fault.Fault.TheVariants.{At, Memory}
+use Rattle.action_text.specs.Tokens.{starts_run, tokens}
+use Rattle.line_texts.specs.Tokens.{Token}
+use Rattle.line_texts.specs.Numbers.{starts_with_digit}
 use Rattle.action_text.specs.Shapes.{Want, exactly, number, truth, level, target, place, Expects, Begin}
 use Rattle.action_text.specs.Meaning.{Says, IsPassed}
-use Rattle.action_text.specs.ScheduleText.{lines, texts, LinesSay}
+use Rattle.action_text.specs.ScheduleText.{texts, LinesSay}
+use Rattle.line_texts.specs.Lines.{lines}
 
 -- The rule of a text that doesn't fit. 2: a number is expected, and it begins with a digit. 3: a level, target or place
 -- is expected, and it is a run of letters, digits and `_`. 1: any other case.
@@ -81,6 +84,6 @@ pub record FirstFault (names : List (List ℕ)) (bytes : List ℕ) (rule line co
   pub line_is : line ≡ length before + 1
 
 -- a lack of memory is no fault of the bytes
-abbrev pub HasFirstFault : List (List ℕ) → List ℕ → TextFault → Type 0
+abbrev pub HasFirstFault : List (List ℕ) → List ℕ → Fault → Type 0
 HasFirstFault names bytes (At rule line column) = FirstFault names bytes rule line column
 HasFirstFault names bytes Memory = ⊥

@@ -4,7 +4,7 @@ use Rattle.std.specs.List.{AllByRecursion, flat_map}
 use Rattle.plan_types.specs.declared.limits.TheConstants.{MOST_ACTIONS}
 use Rattle.plan_types.specs.declared.action.Action.{Action}
 use Rattle.level_book.specs.Names.{AreNames}
-use Rattle.action_text.specs.declared.fault.TextFault.{TextFault}
+use Rattle.line_texts.specs.declared.fault.Fault.{Fault}
 use Rattle.action_text.specs.ScheduleText.{IsSchedule}
 use Rattle.action_text.specs.Faults.{HasFirstFault}
 use Rattle.action_text.specs.Canonical.{canonical, HasSpelling, text_of}
@@ -15,16 +15,16 @@ OneSchedule = (names : List (List ℕ)) → AreNames names → (bytes : List ℕ
 
 -- they have one first fault at most, and a schedule has none
 abbrev pub OneFault : Type 0
-OneFault = (names : List (List ℕ)) → AreNames names → (bytes : List ℕ) (a b : TextFault) → HasFirstFault names bytes a → HasFirstFault names bytes b → a ≡ b
+OneFault = (names : List (List ℕ)) → AreNames names → (bytes : List ℕ) (a b : Fault) → HasFirstFault names bytes a → HasFirstFault names bytes b → a ≡ b
 
 abbrev pub SchedulesHaveNoFault : Type 0
-SchedulesHaveNoFault = (names : List (List ℕ)) → AreNames names → (bytes : List ℕ) (list : List Action) (fault : TextFault) →
+SchedulesHaveNoFault = (names : List (List ℕ)) → AreNames names → (bytes : List ℕ) (list : List Action) (fault : Fault) →
     IsSchedule names bytes list → HasFirstFault names bytes fault → ⊥
 
 -- all bytes are a schedule or have a first fault
 abbrev pub ScheduleOrFault : Type 0
 ScheduleOrFault = (names : List (List ℕ)) → AreNames names → (bytes : List ℕ) →
-    ((list : List Action) × IsSchedule names bytes list) ⊎ ((fault : TextFault) × HasFirstFault names bytes fault)
+    ((list : List Action) × IsSchedule names bytes list) ⊎ ((fault : Fault) × HasFirstFault names bytes fault)
 
 -- A line after a list, as in a certificate. It begins with `#!`, and ends at its only byte 10.
 abbrev pub certificate_line : List ℕ → List ℕ

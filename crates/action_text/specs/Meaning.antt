@@ -6,7 +6,8 @@ use Rattle.plan_types.specs.declared.action.Dest.{Dest}
 use Rattle.plan_types.specs.declared.action.Dest.TheVariants.{Work, Level}
 use Rattle.plan_types.specs.declared.action.Action.{Action}
 use Rattle.plan_types.specs.declared.action.Action.TheVariants.{Forward, Reverse, Copy, Move, EndForward, EndReverse}
-use Rattle.action_text.specs.Tokens.{Token, tokens}
+use Rattle.action_text.specs.Tokens.{tokens}
+use Rattle.line_texts.specs.Tokens.{Token}
 
 -- arguments with a comma between two, and the closing bracket
 abbrev pub arguments : List (List ℕ) → List (List ℕ)

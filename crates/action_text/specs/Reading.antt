@@ -1,8 +1,7 @@
 -- No public clause cites this file. What the reader computes, as functions on lists. Each takes something from the
 -- front of a line's tokens, and gives it and the rest, or a fault. The laws tie it to the definitions that clauses
 -- cite.
-use Rattle.std.specs.Prelude.{◌≡◌, ◌+◌, ◌-◌, ◌*◌, ◌==◌, ◌++◌, ◌&&◌, ℕ, Bool, true, false, List, [], ◌∷◌, length, Option, Some, None, Result, Ok, Err, nat_lt, is_some, unwrap_or, slice_index_or, position, codes, if◌then◌else◌}
-use Rattle.std.specs.Char.{is_ascii_digit}
+use Rattle.std.specs.Prelude.{◌≡◌, ◌+◌, ◌==◌, ◌++◌, ◌&&◌, ℕ, Bool, true, false, List, [], ◌∷◌, length, Option, Some, None, Result, Ok, Err, is_some, unwrap_or, slice_index_or, position, codes, if◌then◌else◌}
 use Rattle.std.specs.Option.{option_to_list}
 use Rattle.std.specs.Str.{bytes_eq}
 use Rattle.plan_types.specs.declared.limits.TheConstants.{MOST_ACTIONS, MOST_STEPS}
@@ -14,66 +13,26 @@ use Rattle.plan_types.specs.declared.action.Action.TheVariants.{Forward, Reverse
 use Rattle.action_text.specs.declared.fault.Rule.{Rule}
 use Rattle.action_text.specs.declared.fault.Rule.TheVariants as rule
 use Rattle.action_text.specs.declared.fault.LineFault.{LineFault}
-use Rattle.action_text.specs.declared.fault.TextFault.{TextFault}
-use Rattle.action_text.specs.declared.fault.TextFault.TheVariants.{At, Memory}
+use Rattle.line_texts.specs.declared.fault.Fault.{Fault}
+use Rattle.line_texts.specs.declared.fault.Fault.TheVariants.{At}
 use Rattle.action_text.specs.declared.words.Place.{Place}
 use Rattle.action_text.specs.declared.words.Place.TheVariants as at
 use Rattle.action_text.specs.declared.words.Kind.{Kind}
 use Rattle.action_text.specs.declared.words.Kind.TheVariants as kind
-use Rattle.action_text.specs.Tokens.{Token, starts_run, starts_with_digit, tokens}
+use Rattle.action_text.specs.Tokens.{starts_run, tokens}
+use Rattle.line_texts.specs.Tokens.{Token}
+use Rattle.line_texts.specs.Numbers.{starts_with_digit}
 use Rattle.action_text.specs.Shapes.{Want, exactly, number, truth, level, target, place, opening, comma, closing}
-use Rattle.action_text.specs.ScheduleText.{lines}
+use Rattle.line_texts.specs.Lines.{lines}
+use Rattle.line_texts.specs.Reading.{◌>>=◌}
+use Rattle.line_texts.specs.Reading as texts
 use Rattle.action_text.specs.Rest.{Rest}
-
-infixl 10 ◌>>=◌
-abbrev pub ◌>>=◌ : {A B F : Type 0} → Result A F → (A → Result B F) → Result B F
-(Ok x) >>= f = f x
-(Err e) >>= f = Err e
-
--- a function's result, seen through `view`, is what is read
-abbrev pub Gives : {X Y F : Type 0} → (X → Y) → Result X F → Result Y F → Type 0
-Gives view (Ok x) read = read ≡ Ok (view x)
-Gives view (Err e) read = read ≡ Err e
-
--- the fault, unless memory ran out
-abbrev pub Fails : {Y : Type 0} → TextFault → Result Y TextFault → Type 0
-Fails Memory read = Unit {0}
-Fails (At rule line column) read = read ≡ Err (At rule line column)
-
-abbrev pub GivesUnlessMemory : {X Y : Type 0} → (X → Y) → Result X TextFault → Result Y TextFault → Type 0
-GivesUnlessMemory view (Ok x) read = read ≡ Ok (view x)
-GivesUnlessMemory view (Err e) read = Fails e read
-
-abbrev pub GivesSome : {X Y : Type 0} → (X → Y) → Option X → Option Y → Type 0
-GivesSome view (Some x) read = read ≡ Some (view x)
-GivesSome view None read = read ≡ None
 
 -- ---- numbers
 
--- The number made of n and the digits at the front, and the bytes after them. None above the limit. A digit's byte is
--- 48 or more.
-unfoldable pub digits_at : ℕ → ℕ → List ℕ → Option (ℕ × List ℕ)
-digits_at limit n [] = Some (n, [])
-digits_at limit n (c ∷ cs) =
-    if is_ascii_digit c
-    then (if nat_lt limit (n * 10 + (c - 48)) then None else digits_at limit (n * 10 + (c - 48)) cs)
-    else Some (n, c ∷ cs)
-
--- a number without a leading zero
-unfoldable pub number_at : ℕ → List ℕ → Option (ℕ × List ℕ)
-number_at limit [] = None
-number_at limit (c ∷ cs) =
-    if c == 48
-    then (if starts_with_digit cs then None else Some (0, cs))
-    else (if is_ascii_digit c then digits_at limit 0 (c ∷ cs) else None)
-
 -- the number that a whole text is
-abbrev pub whole : Option (ℕ × List ℕ) → Option ℕ
-whole None = None
-whole (Some x) = if length x.1 == 0 then Some x.0 else None
-
-unfoldable pub number_of : List ℕ → Option ℕ
-number_of text = whole (number_at MOST_STEPS text)
+abbrev pub number_of : List ℕ → Option ℕ
+number_of text = texts.number_of MOST_STEPS text
 
 -- what was read at the front of bytes, unless a run continues right after it
 abbrev pub alone : {A : Type 0} → Option (A × List ℕ) → Option A
@@ -281,10 +240,10 @@ number_of_rule rule.Profile = 4
 number_of_rule rule.TooMany = 5
 
 -- a fault of a line with this number
-abbrev pub fault_at : ℕ → LineFault → TextFault
+abbrev pub fault_at : ℕ → LineFault → Fault
 fault_at line fault = At (number_of_rule fault.rule) line fault.column
 
-abbrev pub in_line : {A : Type 0} → ℕ → Result A LineFault → Result A TextFault
+abbrev pub in_line : {A : Type 0} → ℕ → Result A LineFault → Result A Fault
 in_line line (Ok x) = Ok x
 in_line line (Err fault) = Err (fault_at line fault)
 
@@ -301,17 +260,17 @@ next_line [] = whole_line [] []
 next_line (line ∷ later) = whole_line line later
 
 -- the actions of these lines after a list; the first line has this number
-unfoldable pub lines_of : List (List ℕ) → List Action → ℕ → List (List ℕ) → Result (List Action) TextFault
+unfoldable pub lines_of : List (List ℕ) → List Action → ℕ → List (List ℕ) → Result (List Action) Fault
 lines_of names list n [] = Ok list
 lines_of names list n (line ∷ later) =
     in_line n (line_of names (length list == MOST_ACTIONS) (whole_line line later))
     >>= λ found. lines_of names (list ++ option_to_list found) (n + 1) later
 
 -- the actions of what is left of a line, and of the lines after it
-unfoldable pub here_of : List (List ℕ) → List Action → ℕ → Rest → Result (List Action) TextFault
+unfoldable pub here_of : List (List ℕ) → List Action → ℕ → Rest → Result (List Action) Fault
 here_of names list n rest =
     in_line n (line_of names (length list == MOST_ACTIONS) rest)
     >>= λ found. lines_of names (list ++ option_to_list found) (n + 1) rest.later
 
-unfoldable pub reading : List (List ℕ) → List ℕ → Result (List Action) TextFault
+unfoldable pub reading : List (List ℕ) → List ℕ → Result (List Action) Fault
 reading names bytes = lines_of names [] 1 (lines bytes)

@@ -1,8 +1,9 @@
 -- No public clause cites this file. The model of a cursor: the tokens that are left of its line, and the lines after
 -- it.
 use Rattle.std.specs.Prelude.{ℕ, ◌+◌, ◌-◌, ◌==◌, List, [], ◌∷◌, length, if◌then◌else◌}
-use Rattle.action_text.specs.Tokens.{Token, tokens}
-use Rattle.action_text.specs.ScheduleText.{lines}
+use Rattle.action_text.specs.Tokens.{tokens}
+use Rattle.line_texts.specs.Tokens.{Token}
+use Rattle.line_texts.specs.Lines.{lines}
 
 pub record Rest : Type 0 where
   pub tokens : List Token

@@ -1,19 +1,10 @@
 -- Which bytes are the text of a list of actions.
-use Rattle.std.specs.Prelude.{◌≤◌, ◌⊎◌, ◌==◌, ℕ, List, [], ◌∷◌, map, length, if◌then◌else◌}
+use Rattle.std.specs.Prelude.{◌≤◌, ◌⊎◌, ℕ, List, [], ◌∷◌, map, length}
 use Rattle.plan_types.specs.declared.limits.TheConstants.{MOST_ACTIONS}
 use Rattle.plan_types.specs.declared.action.Action.{Action}
 use Rattle.action_text.specs.Tokens.{tokens}
+use Rattle.line_texts.specs.Lines.{lines}
 use Rattle.action_text.specs.Meaning.{Says, IsPassed}
-
--- a byte is added to the front of the first line
-abbrev pub longer_line : ℕ → List (List ℕ) → List (List ℕ)
-longer_line b [] = (b ∷ []) ∷ []
-longer_line b (line ∷ rest) = (b ∷ line) ∷ rest
-
--- the lines of bytes: each is ended by byte 10, the last by the end
-unfoldable pub lines : List ℕ → List (List ℕ)
-lines [] = [] ∷ []
-lines (b ∷ bs) = if b == 10 then [] ∷ lines bs else longer_line b (lines bs)
 
 -- the texts of a line's tokens
 abbrev pub texts : List ℕ → List (List ℕ)

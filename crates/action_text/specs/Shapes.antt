@@ -2,7 +2,7 @@
 -- are those of the checkpoint_schedules manual.
 use Rattle.std.specs.Prelude.{◌≡◌, ℕ, ◌≤◌, ◌⊎◌, List, [], ◌∷◌, Option, Some, None, Contains, codes, decimal}
 use Rattle.plan_types.specs.declared.limits.TheConstants.{MOST_STEPS}
-use Rattle.action_text.specs.Tokens.{Token}
+use Rattle.line_texts.specs.Tokens.{Token}
 
 -- What is allowed at one place. In this order it is a fixed text, a number, a truth value, and a level. Then a level or
 -- the work state, and last a level, the work state or none.

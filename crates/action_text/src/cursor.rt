@@ -2,15 +2,18 @@
 ghost use Rattle.std.specs.Prelude.{◌≡◌, ◌≢◌, ◌<◌, ◌≤◌, ◌+◌, ◌-◌, ◌^◌, ◌∷◌, [], false, true, length, IsTrue, MatchResult, IfOk, IfErr, OnOk, Ok, Err, Some, IfSome, MatchOption};
 ghost use Rattle.plan_types.specs.declared.limits.TheConstants.{MOST_STEPS};
 ghost use Rattle.level_book.specs.BookCosts.{names_of};
-ghost use Rattle.action_text.specs.Tokens.{is_blank, is_run_byte, starts_run};
-ghost use Rattle.action_text.specs.ScheduleText.{lines};
-ghost use Rattle.action_text.specs.Bytes.{without_blanks, behind_line, past, ends_line, begins_nothing, run_length, IsWord, behind_word, behind_front};
-ghost use Rattle.action_text.specs.Reading.{GivesSome, text_at, column_at, says_nothing, not_action, number_of, mark_next, end_next, has_line, next_line, Takes, TakesWord, line_of};
+ghost use Rattle.action_text.specs.Tokens.{is_run_byte, starts_run};
+ghost use Rattle.line_texts.specs.Tokens.{is_blank};
+ghost use Rattle.line_texts.specs.Lines.{lines};
+ghost use Rattle.action_text.specs.Bytes.{behind_line, ends_line, begins_nothing, run_length, IsWord, behind_word, behind_front};
+ghost use Rattle.line_texts.specs.Reading.{GivesSome};
+ghost use Rattle.action_text.specs.Reading.{text_at, column_at, says_nothing, not_action, number_of, mark_next, end_next, has_line, next_line, Takes, TakesWord, line_of};
 
 use crate::canonical::action_at;
 use crate::fault::{LineFault, Rule};
 use crate::number::number_at;
 use level_book::Book;
+use line_texts::{RunBytes, after_blanks, past};
 use plan_types::Action;
 use std::marker::Model;
 
@@ -195,29 +198,6 @@ impl<'a> Cursor<'a> {
     }
 }
 
-// The bytes from the first that isn't a blank.
-#[inline(always)]
-#[tactic(auto, unfolding(crate::specs::Bytes::without_blanks))]
-fn after_blanks(bytes: &[u8]) -> &[u8]
-    ensures { result.now ≡ without_blanks bytes.now }
-{
-    let mut rest = bytes;
-    while let [byte, after @ ..] = rest {
-        if !is_blank(*byte) {
-            return rest;
-        }
-        rest = after;
-    }
-    rest
-}
-
-// Most bytes are above all blanks, so one comparison rules them out.
-fn is_blank(b: u8) -> bool
-    ensures { result ≡ is_blank b }
-{
-    b <= b' ' && (b == b' ' || b == b'\t' || b == b'\r')
-}
-
 // The bytes after the first line end.
 #[tactic(auto, unfolding(crate::specs::Bytes::behind_line))]
 fn after_line(bytes: &[u8]) -> Option<&[u8]>
@@ -231,16 +211,6 @@ fn after_line(bytes: &[u8]) -> Option<&[u8]>
         rest = after;
     }
     None
-}
-
-// The bytes after this one, where it comes first.
-fn past(bytes: &[u8], byte: u8) -> Option<&[u8]>
-    ensures { GivesSome (λ rest. rest.now) result (past byte bytes.now) }
-{
-    match bytes {
-        [first, rest @ ..] if *first == byte => Some(rest),
-        _ => None,
-    }
 }
 
 // The bytes after a word, where the run at the front is that word.
@@ -277,7 +247,7 @@ pub(crate) fn starts_run(bytes: &[u8]) -> bool
 {
     match bytes {
         [] => false,
-        [byte, ..] => is_run_byte(*byte),
+        [byte, ..] => Names::in_run(*byte),
     }
 }
 
@@ -303,23 +273,30 @@ fn begins_nothing(bytes: &[u8]) -> bool
 
 // How many bytes at the front are of one run.
 #[inline(never)]
+#[tactic(auto, unfolding(crate::specs::Bytes::run_length))]
 fn length_of_run(bytes: &[u8]) -> usize
     ensures value { result ≡ run_length bytes.now }
     ensures within { result ≤ length bytes.now }
 {
-    for (i, byte) in bytes.iter().enumerate() {
-        if !is_run_byte(*byte) {
-            return i;
-        }
-    }
-    bytes.len()
+    line_texts::run_length::<Names>(bytes)
 }
 
-// Most bytes after a run are below all bytes of runs, so one comparison rules them out.
-fn is_run_byte(b: u8) -> bool
-    ensures { result ≡ is_run_byte b }
-{
-    b >= b'0' && (b.is_ascii_alphanumeric() || b == b'_')
+// Letters, digits and `_` make runs. Most bytes after a run are below all of these, so one comparison rules them out.
+#[derive(Drop)]
+struct Names;
+
+impl RunBytes for Names {
+    ghost use Rattle.action_text.specs.Tokens.{is_run_byte};
+    ghost use Rattle.std.proofs.Common.{arith};
+    ghost use Rattle.std.proofs.lemmas.Bool.Decides.{nat_tests};
+
+    ghost in_run = { is_run_byte };
+
+    fn in_run(byte: u8) -> bool {
+        byte >= b'0' && (byte.is_ascii_alphanumeric() || byte == b'_')
+    }
+
+    ghost no_blank = { λ b run. Prim.grind (arith, nat_tests) };
 }
 
 // The column of the first of these bytes. So many were left at the beginning of the line.

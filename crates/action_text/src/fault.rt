@@ -1,43 +1,8 @@
-// Why a text is no schedule.
+// A fault within a line of a schedule.
 ghost use Rattle.std.specs.Prelude.{◌≡◌};
-ghost use Rattle.action_text.specs.Reading.{number_of_rule, fault_at};
+ghost use Rattle.action_text.specs.Reading.{fault_at};
 
-use std::alloc::{AllocError, AllocFailed};
-use thiserror::Error;
-
-/// The first fault of a text that is no schedule.
-#[derive(Clone, Copy, Debug, PartialEq, Eq, Error)]
-pub enum TextFault {
-    /// The broken rule (1 NotAction, 2 Number, 3 Level, 4 Profile, 5 TooMany), and where. Lines and columns count from
-    /// 1, columns by bytes.
-    #[error("line {line}, column {column}: rule {rule}")]
-    At { rule: u8, line: u32, column: u32 },
-    /// There was no memory.
-    #[error("out of memory")]
-    Memory,
-}
-
-impl From<AllocError> for TextFault {
-    ghost use Rattle.std.specs.Prelude.{◌≡◌};
-    ghost use Rattle.action_text.specs.declared.fault.TextFault.TheVariants.{Memory};
-
-    ghost from_gives = { λ _ e. e ≡ Memory };
-
-    fn from(_e: AllocError) -> TextFault {
-        TextFault::Memory
-    }
-}
-
-impl<T: Drop> From<AllocFailed<T>> for TextFault {
-    ghost use Rattle.std.specs.Prelude.{◌≡◌};
-    ghost use Rattle.action_text.specs.declared.fault.TextFault.TheVariants.{Memory};
-
-    ghost from_gives = { λ _ e. e ≡ Memory };
-
-    fn from(_e: AllocFailed<T>) -> TextFault {
-        TextFault::Memory
-    }
-}
+use line_texts::Fault;
 
 // The rules of a line, by their names.
 #[derive(Clone, Copy)]
@@ -58,7 +23,7 @@ pub(crate) struct LineFault {
 
 impl LineFault {
     // A fault of a line, as one of the text whose line has this number.
-    pub(crate) fn at(self, line: u32) -> TextFault
+    pub(crate) fn at(self, line: u32) -> Fault
         ensures { result ≡ fault_at line self }
     {
         let rule = match self.rule {
@@ -68,7 +33,7 @@ impl LineFault {
             Rule::Profile => 4,
             Rule::TooMany => 5,
         };
-        TextFault::At {
+        Fault::At {
             rule,
             line,
             column: self.column,

@@ -1,5 +1,5 @@
 //! Reads and prints schedules as text. A text has its actions, or a first fault. An action has a canonical spelling. It
-//! uses `plan_types` and `level_book`. `cert_text`, `reverse_console`, `requests` and `reversal` use it.
+//! uses `plan_types`, `line_texts` and `level_book`. `cert_text` and `reversal` use it.
 //!
 //! In `specs/`:
 //!
@@ -22,6 +22,5 @@ mod printing;
 mod reading;
 mod words;
 
-pub use crate::fault::TextFault;
 pub use crate::printing::print_action;
 pub use crate::reading::read_actions;

@@ -3,7 +3,8 @@ ghost use Rattle.std.specs.Prelude.{◌≡◌, ◌≤◌, [], OnOk};
 ghost use Rattle.plan_types.specs.declared.limits.TheConstants.{MOST_STEPS};
 ghost use Rattle.level_book.specs.BookCosts.{names_of};
 ghost use Rattle.action_text.specs.declared.words.Kind.TheVariants as kinds;
-ghost use Rattle.action_text.specs.Reading.{Gives, arguments_of, forward_said, reverse_said, line_of};
+ghost use Rattle.action_text.specs.Reading.{arguments_of, forward_said, reverse_said, line_of};
+ghost use Rattle.line_texts.specs.Reading.{Gives};
 
 use crate::cursor::Cursor;
 use crate::fault::{LineFault, Rule};

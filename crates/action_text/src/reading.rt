@@ -3,40 +3,42 @@ ghost use Rattle.std.specs.Prelude.{◌≡◌, ◌≢◌, ◌⊎◌, ◌<◌, �
 ghost use Rattle.std.specs.Option.{option_to_list};
 ghost use Rattle.plan_types.specs.declared.action.Action.{Action};
 ghost use Rattle.level_book.specs.BookCosts.{names_of};
-ghost use Rattle.action_text.specs.declared.fault.TextFault.{TextFault};
+ghost use Rattle.line_texts.specs.declared.fault.Fault.{Fault};
 ghost use Rattle.action_text.specs.ScheduleText.{IsSchedule};
 ghost use Rattle.action_text.specs.Faults.{HasFirstFault};
-ghost use Rattle.action_text.specs.Reading.{GivesUnlessMemory, reading};
+ghost use Rattle.action_text.specs.Reading.{reading};
+ghost use Rattle.line_texts.specs.Reading.{GivesUnlessMemory};
 
 use crate::cursor::Cursor;
-use crate::fault::TextFault;
 use crate::line::line;
 use level_book::Book;
+use line_texts::Fault;
 use plan_types::{Action, MOST_ACTIONS};
 use std::alloc::Global;
 
 // The estimated bytes of a line, for reserving room. It may be too little.
 const LINE_LENGTH: usize = 24;
 
-/// Reads the actions that a text means, in one pass. It takes memory for the list.
-pub fn read_actions(alloc: Global, bytes: &[u8], book: &Book) -> Result<Vec<Action>, TextFault>
+/// Reads the actions that a text means, in one pass. It takes memory for the list. The rules of a fault are 1 NotAction,
+/// 2 Number, 3 Level, 4 Profile and 5 TooMany.
+pub fn read_actions(alloc: Global, bytes: &[u8], book: &Book) -> Result<Vec<Action>, Fault>
     requires { length bytes.now < 2 ^ 31 }
     // The text means the list that is read. A text that means a list is read, unless memory runs out.
     ensures found { IfOk result (λ list. IsSchedule (names_of book.now) bytes.now list.items) }
     ensures only { (list : List Action) → IsSchedule (names_of book.now) bytes.now list →
-        MatchResult result (λ v. v.items ≡ list) (λ e. e ≡ TextFault.Memory) }
+        MatchResult result (λ v. v.items ≡ list) (λ e. e ≡ Fault.Memory) }
 
     // A refusal has the first fault. Bytes with a fault are refused for it, unless memory runs out.
-    ensures refused { IfErr result (λ e. e ≢ TextFault.Memory → HasFirstFault (names_of book.now) bytes.now e) }
-    ensures first { (e : TextFault) → HasFirstFault (names_of book.now) bytes.now e →
-        MatchResult result (λ _. ⊥) (λ answer. (answer ≡ e) ⊎ (answer ≡ TextFault.Memory)) }
+    ensures refused { IfErr result (λ e. e ≢ Fault.Memory → HasFirstFault (names_of book.now) bytes.now e) }
+    ensures first { (e : Fault) → HasFirstFault (names_of book.now) bytes.now e →
+        MatchResult result (λ _. ⊥) (λ answer. (answer ≡ e) ⊎ (answer ≡ Fault.Memory)) }
 {
     book.has_names();
     read_lines(alloc, bytes, book)
 }
 
 #[tactic(auto, unfolding(crate::specs::Reading::reading))]
-fn read_lines(alloc: Global, bytes: &[u8], book: &Book) -> Result<Vec<Action>, TextFault>
+fn read_lines(alloc: Global, bytes: &[u8], book: &Book) -> Result<Vec<Action>, Fault>
     requires { length bytes.now < 2 ^ 31 }
     ensures { GivesUnlessMemory (λ list. list.items) result (reading (names_of book.now) bytes.now) }
 {
@@ -59,9 +61,9 @@ fn read_lines(alloc: Global, bytes: &[u8], book: &Book) -> Result<Vec<Action>, T
 }
 
 // Adds an action to a list, if there is one.
-fn add(list: &mut Vec<Action>, found: Option<Action>) -> Result<(), TextFault>
+fn add(list: &mut Vec<Action>, found: Option<Action>) -> Result<(), Fault>
     ensures added { OnOk result (list.new.items ≡ list.old.items ++ option_to_list found) }
-    ensures memory { IfErr result (λ e. e ≡ TextFault.Memory) }
+    ensures memory { IfErr result (λ e. e ≡ Fault.Memory) }
 {
     if let Some(action) = found {
         list.push(action)?;

@@ -16,5 +16,5 @@ mod verdict;
 pub use crate::certifying::{certify_disk, certify_nested, certify_places, certify_revolve};
 pub use crate::checking::check_certificate;
 pub use crate::verdict::{CertVerdict, Class, Reason};
-pub use cert_text::{CertFault, Certificate, print_certificate, read_certificate};
+pub use cert_text::{Certificate, print_certificate, read_certificate};
 pub use table_clauses::Entry;

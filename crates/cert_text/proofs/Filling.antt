@@ -7,8 +7,8 @@ use Rattle.level_book.specs.UnderTable.{Entry}
 use Rattle.cost_tables.specs.declared.cost.Cost.{Cost}
 use Rattle.cost_tables.specs.declared.cost.Cost.TheVariants.{Never}
 use Rattle.cost_tables.specs.TableRows.{TableRows, entry_at, tables_in, value_of}
-use Rattle.cert_text.specs.declared.fault.CertFault.{CertFault}
-use Rattle.cert_text.specs.declared.fault.CertFault.TheVariants.{At, Memory}
+use Rattle.line_texts.specs.declared.fault.Fault.{Fault}
+use Rattle.line_texts.specs.declared.fault.Fault.TheVariants.{At, Memory}
 use Rattle.cert_text.specs.WordLines.{entry_word, row_line, row_lines, level_lines}
 use Rattle.cert_text.specs.Meaning.{HasWord, HaveWords}
 use Rattle.cert_text.specs.Wanted.{Want, row_wants, rows_wants}
@@ -80,7 +80,7 @@ row_more letter k steps m e d row a b c so long next has same put = record {
 }
 
 -- a fault in the next lines is one in all that are wanted
-pub among : (x y z whole : List (List Want)) (s : List (List (List ℕ))) (a b : Unread) (fault : CertFault) → Reads x s a b → (x ++ y) ++ z ≡ whole → IsAmong y b fault → IsAmong whole a fault
+pub among : (x y z whole : List (List Want)) (s : List (List (List ℕ))) (a b : Unread) (fault : Fault) → Reads x s a b → (x ++ y) ++ z ≡ whole → IsAmong y b fault → IsAmong whole a fault
 among x y z whole s a b (At r l c) reads all wrong = λ more.
     let there = reads.passes.fault (y ++ (z ++ more)) r l c (wrong (z ++ more)) in
     let e : x ++ (y ++ (z ++ more)) ≡ whole ++ more = sym (append_assoc x y (z ++ more)) ∙ sym (append_assoc (x ++ y) z more) ∙ ap (λ (w : List (List Want)). w ++ more) all in
@@ -95,7 +95,7 @@ split_at {A = A} f a (suc m) (suc n) low =
     let e : a + suc m ≡ (a + 1) + m = omega arith in
     (rest.0, ap (λ (i : ℕ). f a ∷ ((map f (range_with_len (a + 1) m) ++ f i ∷ []) ++ rest.0)) e ∙ ap (λ (l : List A). f a ∷ l) rest.1)
 
-pub row_wrong : (letter : List ℕ) (k steps m n : ℕ) (e : ℕ → ℕ → Entry) (a b : Unread) (fault : CertFault) → m < n → RowsSoFar letter k steps m e a b → IsAmong (row_wants (letter ∷ decimal k ∷ decimal m ∷ []) steps ∷ []) b fault →
+pub row_wrong : (letter : List ℕ) (k steps m n : ℕ) (e : ℕ → ℕ → Entry) (a b : Unread) (fault : Fault) → m < n → RowsSoFar letter k steps m e a b → IsAmong (row_wants (letter ∷ decimal k ∷ decimal m ∷ []) steps ∷ []) b fault →
     IsAmong (rows_wants letter k steps n) a fault
 unfolding rows_wants
 row_wrong letter k steps m n e a b fault low so wrong =
@@ -167,7 +167,7 @@ level_done k s t u a b c first fs keeps second hs holds =
       },
     )
 
-pub level_end : {T : Type 0} (answer : Result T CertFault) (k : ℕ) (s t u : TableRows) (a b c : Unread) →
+pub level_end : {T : Type 0} (answer : Result T Fault) (k : ℕ) (s t u : TableRows) (a b c : Unread) →
     Reads (rows_wants (codes "F") k s.steps (slice_index_or s.rooms k 0 + 1)) (row_lines (codes "F") k s.steps (slice_index_or s.rooms k 0 + 1) (λ m l. (tables_in t).fresh k l m)) a b →
     ((m l : ℕ) → m ≤ slice_index_or s.rooms k 0 → 1 ≤ l → l ≤ s.steps → HasWord ((tables_in t).fresh k l m)) → KeepsFresh (λ i n. i ≡ k) s t →
     MatchResult answer
@@ -185,7 +185,7 @@ level_end (Err fault) k s t u a b c first fs keeps wrong =
     (row_lines (codes "F") k s.steps (slice_index_or s.rooms k 0 + 1) (λ m l. (tables_in t).fresh k l m)) a b fault first
     (append-nil (f_wants ++ rows_wants (codes "H") k t.steps (slice_index_or t.rooms k 0)) ∙ ap (λ (w : List (List Want)). f_wants ++ w) h_wants) wrong
 
-pub level_wrong : (k : ℕ) (s : TableRows) (a : Unread) (fault : CertFault) → IsAmong (rows_wants (codes "F") k s.steps (slice_index_or s.rooms k 0 + 1)) a fault → IsAmong (wants_for s k) a fault
+pub level_wrong : (k : ℕ) (s : TableRows) (a : Unread) (fault : Fault) → IsAmong (rows_wants (codes "F") k s.steps (slice_index_or s.rooms k 0 + 1)) a fault → IsAmong (wants_for s k) a fault
 unfolding wants_for
 level_wrong k s a fault wrong =
     among [] (rows_wants (codes "F") k s.steps (slice_index_or s.rooms k 0 + 1)) (rows_wants (codes "H") k s.steps (slice_index_or s.rooms k 0))
@@ -256,7 +256,7 @@ flat_split {A = A} f a (suc m) (suc n) low =
           ∙ ap (λ (l : List A). f a ++ l) rest.1,
     )
 
-pub levels_wrong : (k n : ℕ) (s t : TableRows) (a b : Unread) (fault : CertFault) → k < n → LevelsSoFar k s t a b → IsAmong (wants_for t k) b fault → IsAmong (flat_map (wants_for s) (range_with_len 0 n)) a fault
+pub levels_wrong : (k n : ℕ) (s t : TableRows) (a b : Unread) (fault : Fault) → k < n → LevelsSoFar k s t a b → IsAmong (wants_for t k) b fault → IsAmong (flat_map (wants_for s) (range_with_len 0 n)) a fault
 levels_wrong k n s t a b fault low so wrong =
     let parts = flat_split (wants_for s) 0 k n low in
     let e : 0 + k ≡ k = omega arith in

@@ -4,14 +4,14 @@ use Rattle.std.specs.Prelude.{codes}
 use Rattle.std.specs.List.{AllByRecursion}
 use Rattle.std.specs.Str.{bytes_eq}
 use Rattle.std.proofs.lemmas.Slice.Eq.{bytes_eq-Decides}
-use Rattle.action_text.specs.Tokens.{Token}
-use Rattle.action_text.specs.Reading.{number_at, whole}
+use Rattle.line_texts.specs.Tokens.{Token}
+use Rattle.line_texts.specs.Reading.{number_of}
 use Rattle.cert_text.specs.MarkedLines.{CertificateLine}
 use Rattle.cert_text.specs.Words.{words_of, end_of}
 use Rattle.cert_text.specs.Wanted.{Want, this_word, number_to, an_entry, TakesWord}
 use Rattle.cert_text.specs.Faults.{wrong_rule, FitAll, IsWordFault, first_column, IsLineFault}
-use Rattle.cert_text.proofs.WordLemmas.{which}
-use Rattle.cert_text.proofs.Numerals.{number_is, no_number}
+use Rattle.line_texts.proofs.Steps.{which}
+use Rattle.line_texts.proofs.Decimal.{number_is, no_number}
 
 -- what is wanted is no number of more than 64 bits
 abbrev pub IsNarrow : Want → Type 0
@@ -31,21 +31,21 @@ same_or_other text word = elim (which (bytes_eq text word)) [
 
 decided : (want : Want) (text : List ℕ) → IsNarrow want → TakesWord want text ⊎ (TakesWord want text → ⊥)
 decided (this_word word) text narrow = same_or_other text word
-decided (number_to most) text narrow = found (whole (number_at most text)) refl
+decided (number_to most) text narrow = found (number_of most text) refl
   where
-    found : (answer : Option ℕ) → whole (number_at most text) ≡ answer → TakesWord (number_to most) text ⊎ (TakesWord (number_to most) text → ⊥)
+    found : (answer : Option ℕ) → number_of most text ≡ answer → TakesWord (number_to most) text ⊎ (TakesWord (number_to most) text → ⊥)
     found (Some n) e = let is = number_is most text n narrow e in inl (n, is.0, is.1)
     found None e = inr (λ f. no_number most text narrow e f.0 f.1 f.2)
 decided an_entry text narrow = elim (same_or_other text (codes "-")) [
   | inl none ↦ inl (inl none)
-  | inr other ↦ found other (whole (number_at (2 ^ 64 - 1) text)) refl
+  | inr other ↦ found other (number_of (2 ^ 64 - 1) text) refl
 ]
   where
-    neither : (text ≡ codes "-" → ⊥) → whole (number_at (2 ^ 64 - 1) text) ≡ None → TakesWord an_entry text → ⊥
+    neither : (text ≡ codes "-" → ⊥) → number_of (2 ^ 64 - 1) text ≡ None → TakesWord an_entry text → ⊥
     neither other e (inl none) = other none
     neither other e (inr some) = no_number (2 ^ 64 - 1) text (omega arith) e some.0 (omega (arith, some.1)) some.2
 
-    found : (text ≡ codes "-" → ⊥) → (answer : Option ℕ) → whole (number_at (2 ^ 64 - 1) text) ≡ answer → TakesWord an_entry text ⊎ (TakesWord an_entry text → ⊥)
+    found : (text ≡ codes "-" → ⊥) → (answer : Option ℕ) → number_of (2 ^ 64 - 1) text ≡ answer → TakesWord an_entry text ⊎ (TakesWord an_entry text → ⊥)
     found other (Some n) e = let is = number_is (2 ^ 64 - 1) text n (omega arith) e in inl (inr (n, omega (arith, is.0), is.1))
     found other None e = inr (λ f. neither other e f)
 

@@ -3,15 +3,15 @@ use Rattle.std.proofs.Common.{Result, Ok, Err, ◌≡◌, ℕ, zero, suc, ◌+�
 use Rattle.std.specs.Prelude.{replicate, MatchResult}
 use Rattle.std.proofs.lemmas.Bool.{cases_lt}
 use Rattle.std.proofs.lemmas.List.{replicate_more, map-append}
-use Rattle.action_text.specs.Tokens.{Token}
+use Rattle.line_texts.specs.Tokens.{Token, words}
 use Rattle.cost_tables.specs.declared.cost.Cost.{Cost}
 use Rattle.cost_tables.specs.declared.cost.Cost.TheVariants.{Never}
 use Rattle.cost_tables.specs.TableRows.{value_of}
 use Rattle.cert_text.specs.MarkedLines.{CertificateLine}
-use Rattle.cert_text.specs.Words.{texts_of, words}
+use Rattle.cert_text.specs.Words.{texts_of}
 use Rattle.cert_text.specs.declared.fault.LineFault.{LineFault}
-use Rattle.cert_text.specs.declared.fault.CertFault.{CertFault}
-use Rattle.cert_text.specs.declared.fault.CertFault.TheVariants.{At, Memory}
+use Rattle.line_texts.specs.declared.fault.Fault.{Fault}
+use Rattle.line_texts.specs.declared.fault.Fault.TheVariants.{At, Memory}
 use Rattle.cert_text.specs.Meaning.{HasWord}
 use Rattle.cert_text.specs.Wanted.{Want, an_entry, TakesWord}
 use Rattle.cert_text.specs.Faults.{FitAll, IsWordFault, IsLineFault}
@@ -150,15 +150,15 @@ line_done wants said number text all old new is counted words_is says fits = rec
 }
 
 -- its words have a fault
-pub line_wrong : (wants : List Want) (more : List (List Want)) (number rule column : ℕ) (text : List ℕ) (all : Left) (others : List CertificateLine) (old : Unread) (fault : CertFault) → old.lines ≡ record { number = number; text = text } ∷ others →
+pub line_wrong : (wants : List Want) (more : List (List Want)) (number rule column : ℕ) (text : List ℕ) (all : Left) (others : List CertificateLine) (old : Unread) (fault : Fault) → old.lines ≡ record { number = number; text = text } ∷ others →
     all ≡ left 3 text → IsWordFault wants all.words all.end rule column → fault ≡ At rule number column → IsAt (IsLineFault (wants ∷ more) old.lines old.count) fault
 line_wrong wants more number rule column text all others old fault is words_is wrong fault_is =
     let P : List CertificateLine → Type 0 = λ ls. IsLineFault (wants ∷ more) ls old.count rule number column in
-    let F : CertFault → Type 0 = λ f. IsAt (IsLineFault (wants ∷ more) old.lines old.count) f in
+    let F : Fault → Type 0 = λ f. IsAt (IsLineFault (wants ∷ more) old.lines old.count) f in
     subst F (sym fault_is) (subst P (sym is) (inl (words_at number text all (λ ws end. IsWordFault wants ws end rule column) words_is wrong, refl)))
 
 -- the lines behind one that was gone past
-pub behind_line : {T : Type 0} (answer : Result T CertFault) (wants : List Want) (said : List (List ℕ)) (old new : Unread) → Reads (wants ∷ []) (said ∷ []) old new →
+pub behind_line : {T : Type 0} (answer : Result T Fault) (wants : List Want) (said : List (List ℕ)) (old new : Unread) → Reads (wants ∷ []) (said ∷ []) old new →
     MatchResult answer (λ _. new.lines ≡ []) (λ fault. IsAt (IsLineFault [] new.lines new.count) fault) →
     MatchResult answer (λ _. map texts_of old.lines ≡ said ∷ []) (λ fault. IsAt (IsLineFault (wants ∷ []) old.lines old.count) fault)
 behind_line (Ok x) wants said old new reads none = reads.says ∙ ap (λ (ls : List CertificateLine). said ∷ map texts_of ls) none

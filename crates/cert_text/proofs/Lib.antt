@@ -4,7 +4,6 @@ pub mod OfKind
 pub mod Filling
 pub mod LineLemmas
 pub mod Nesting
-pub mod Numerals
 pub mod Putting
 pub mod PuttingRows
 pub mod Ranges

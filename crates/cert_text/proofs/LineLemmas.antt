@@ -1,10 +1,10 @@
 -- The lines of bytes, one after the other.
 use Rattle.std.proofs.Common.{◌≡◌, ℕ, suc, ◌+◌, ◌-◌, ◌<◌, ◌≤◌, true, false, eqb, List, [], ◌∷◌, length, take, drop, refl, sym, ap, ◌∙◌, inl, inr, arith, length-drop, length-take}
 use Rattle.std.specs.List.{position_or_len}
-use Rattle.action_text.specs.ScheduleText.{lines, longer_line}
+use Rattle.line_texts.specs.Lines.{lines, longer_line}
 use Rattle.cert_text.specs.MarkedLines.{is_marked, marked, line_count}
 use Rattle.std.proofs.Math.Seq.{take-length}
-use Rattle.cert_text.proofs.WordLemmas.{which}
+use Rattle.line_texts.proofs.Steps.{which}
 
 -- how many bytes stand before the first that ends a line
 abbrev pub of_line : List ℕ → ℕ

@@ -6,7 +6,7 @@ use Rattle.std.specs.List.{AllByRecursion, range_with_len, flat_map}
 use Rattle.level_book.specs.BookCosts.{BookCosts, room}
 use Rattle.level_book.specs.UnderTable.{Entry}
 use Rattle.cost_tables.specs.TableRows.{TableRows, TablesFit, FastestTablesFit, fastest, tables_in}
-use Rattle.action_text.specs.Tokens.{Token}
+use Rattle.line_texts.specs.Tokens.{Token}
 use Rattle.cert_text.specs.declared.certificate.Certificate.{Certificate}
 use Rattle.cert_text.specs.declared.certificate.Certificate.TheVariants.{Revolve, Places, Nested, Disk}
 use Rattle.cert_text.specs.declared.kind.Kind.{Kind}

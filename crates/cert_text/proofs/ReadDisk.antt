@@ -10,7 +10,7 @@ use Rattle.cost_tables.specs.declared.cost.Cost.TheVariants.{Never}
 use Rattle.cost_tables.specs.TableRows.{TableRows, AreFor, FastestTablesFit, fastest, value_of}
 use Rattle.cost_tables.specs.Shapes.{AreShaped}
 use Rattle.disk_gen.specs.DiskRows.{DiskRows}
-use Rattle.cert_text.specs.declared.fault.CertFault.{CertFault}
+use Rattle.line_texts.specs.declared.fault.Fault.{Fault}
 use Rattle.cert_text.specs.declared.kind.Kind.TheVariants as kind
 use Rattle.cert_text.specs.Words.{texts_of}
 use Rattle.cert_text.specs.WordLines.{row_line, level_lines, column_lines}
@@ -33,13 +33,13 @@ end_wants = (this_word (codes "end") ∷ []) ∷ []
 
 -- ---- faults behind the lines of level 0
 
-pub fresh_fault : (steps n : ℕ) (book : BookCosts) (s : TableRows) (said : List (List (List ℕ))) (a b : Unread) (fault : CertFault) → n ≡ steps → AreFor steps (fastest book) s →
+pub fresh_fault : (steps n : ℕ) (book : BookCosts) (s : TableRows) (said : List (List (List ℕ))) (a b : Unread) (fault : Fault) → n ≡ steps → AreFor steps (fastest book) s →
     Reads (flat_map (wants_for s) (range_with_len 0 (length s.rooms))) said a b → IsAmong (row_wants (codes "Fd" ∷ []) n ∷ []) b fault → IsAt (IsLineFault (later_wants kind.Disk steps book) a.lines a.count) fault
 fresh_fault steps n book s said a b fault long sized reads wrong =
     let W : ℕ → Type 0 = λ n. IsAmong (row_wants fresh_head n ∷ []) b fault in
     fault_at_end steps (fastest book) s (column_wants steps) said a b fault sized reads (subst W long wrong (row_wants held_head steps ∷ end_wants))
 
-pub held_fault : (steps n m : ℕ) (book : BookCosts) (s : TableRows) (said x : List (List (List ℕ))) (a b c : Unread) (fault : CertFault) → n ≡ steps → m ≡ steps → AreFor steps (fastest book) s →
+pub held_fault : (steps n m : ℕ) (book : BookCosts) (s : TableRows) (said x : List (List (List ℕ))) (a b c : Unread) (fault : Fault) → n ≡ steps → m ≡ steps → AreFor steps (fastest book) s →
     Reads (flat_map (wants_for s) (range_with_len 0 (length s.rooms))) said a b → Reads (row_wants (codes "Fd" ∷ []) n ∷ []) x b c → IsAmong (row_wants (codes "Hd" ∷ []) m ∷ []) c fault →
     IsAt (IsLineFault (later_wants kind.Disk steps book) a.lines a.count) fault
 held_fault steps n m book s said x a b c fault long wide sized reads first wrong =
@@ -48,7 +48,7 @@ held_fault steps n m book s said x a b c fault long wide sized reads first wrong
     fault_at_end steps (fastest book) s (column_wants steps) said a b fault sized reads
     (fault_behind (row_wants fresh_head steps ∷ []) (row_wants held_head steps ∷ end_wants) x b c fault (subst R long first) (subst W wide wrong end_wants))
 
-pub last_fault : (steps n m : ℕ) (book : BookCosts) (s : TableRows) (said x y : List (List (List ℕ))) (a b c d : Unread) (fault : CertFault) → n ≡ steps → m ≡ steps → AreFor steps (fastest book) s →
+pub last_fault : (steps n m : ℕ) (book : BookCosts) (s : TableRows) (said x y : List (List (List ℕ))) (a b c d : Unread) (fault : Fault) → n ≡ steps → m ≡ steps → AreFor steps (fastest book) s →
     Reads (flat_map (wants_for s) (range_with_len 0 (length s.rooms))) said a b → Reads (row_wants (codes "Fd" ∷ []) n ∷ []) x b c → Reads (row_wants (codes "Hd" ∷ []) m ∷ []) y c d →
     IsAt (IsLineFault ((this_word (codes "end") ∷ []) ∷ []) d.lines d.count) fault → IsAt (IsLineFault (later_wants kind.Disk steps book) a.lines a.count) fault
 last_fault steps n m book s said x y a b c d fault long wide sized reads first second wrong =

@@ -4,8 +4,8 @@ use Rattle.std.specs.Prelude.{codes}
 use Rattle.std.specs.List.{range_with_len, flat_map}
 use Rattle.level_book.specs.BookCosts.{BookCosts}
 use Rattle.cost_tables.specs.TableRows.{TableRows, AreFor}
-use Rattle.cert_text.specs.declared.fault.CertFault.{CertFault}
-use Rattle.cert_text.specs.declared.fault.CertFault.TheVariants.{At, Memory}
+use Rattle.line_texts.specs.declared.fault.Fault.{Fault}
+use Rattle.line_texts.specs.declared.fault.Fault.TheVariants.{At, Memory}
 use Rattle.cert_text.specs.Wanted.{Want, rows_wants, level_wants}
 use Rattle.cert_text.specs.Faults.{IsLineFault}
 use Rattle.cert_text.specs.Left.{Unread, IsAt, IsAmong}
@@ -25,7 +25,7 @@ levels_wanted steps book t sized =
     ∙ flat_same (wants_for t) (level_wants steps book) 0 (length book.levels) (λ k low high. level_wanted steps book t k sized (omega arith))
 
 -- a fault in the lines of the levels, whatever is wanted behind them
-pub fault_in_levels : (steps : ℕ) (book : BookCosts) (t : TableRows) (last : List (List Want)) (a : Unread) (fault : CertFault) → AreFor steps book t →
+pub fault_in_levels : (steps : ℕ) (book : BookCosts) (t : TableRows) (last : List (List Want)) (a : Unread) (fault : Fault) → AreFor steps book t →
     IsAmong (flat_map (wants_for t) (range_with_len 0 (length t.rooms))) a fault →
     IsAt (IsLineFault (flat_map (level_wants steps book) (range_with_len 0 (length book.levels)) ++ last) a.lines a.count) fault
 fault_in_levels steps book t last a fault sized wrong =
@@ -33,12 +33,12 @@ fault_in_levels steps book t last a fault sized wrong =
     subst P (levels_wanted steps book t sized) (wrong last)
 
 -- a fault behind lines
-pub fault_behind : (wants last : List (List Want)) (said : List (List (List ℕ))) (a b : Unread) (fault : CertFault) → Reads wants said a b → IsAt (IsLineFault last b.lines b.count) fault → IsAt (IsLineFault (wants ++ last) a.lines a.count) fault
+pub fault_behind : (wants last : List (List Want)) (said : List (List (List ℕ))) (a b : Unread) (fault : Fault) → Reads wants said a b → IsAt (IsLineFault last b.lines b.count) fault → IsAt (IsLineFault (wants ++ last) a.lines a.count) fault
 fault_behind wants last said a b (At r l c) reads wrong = reads.passes.fault last r l c wrong
 fault_behind wants last said a b Memory reads wrong = absurd wrong
 
 -- a fault behind those of the levels
-pub fault_at_end : (steps : ℕ) (book : BookCosts) (t : TableRows) (last : List (List Want)) (said : List (List (List ℕ))) (a b : Unread) (fault : CertFault) → AreFor steps book t →
+pub fault_at_end : (steps : ℕ) (book : BookCosts) (t : TableRows) (last : List (List Want)) (said : List (List (List ℕ))) (a b : Unread) (fault : Fault) → AreFor steps book t →
     Reads (flat_map (wants_for t) (range_with_len 0 (length t.rooms))) said a b → IsAt (IsLineFault last b.lines b.count) fault →
     IsAt (IsLineFault (flat_map (level_wants steps book) (range_with_len 0 (length book.levels)) ++ last) a.lines a.count) fault
 fault_at_end steps book t last said a b fault sized reads wrong =

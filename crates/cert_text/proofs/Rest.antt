@@ -2,14 +2,14 @@
 use Rattle.std.proofs.Common.{◌≡◌, ◌⊎◌, ℕ, ◌+◌, Result, Ok, Err, List, [], ◌∷◌, refl, sym, ap, subst, ◌∙◌, inl, inr, arith}
 use Rattle.std.specs.Prelude.{length, map, MatchResult}
 use Rattle.level_book.specs.BookCosts.{BookCosts}
-use Rattle.action_text.specs.Tokens.{Token}
-use Rattle.action_text.specs.ScheduleText.{lines}
+use Rattle.line_texts.specs.Tokens.{Token, words}
+use Rattle.line_texts.specs.Lines.{lines}
 use Rattle.cert_text.specs.declared.certificate.Certificate.{Certificate}
-use Rattle.cert_text.specs.declared.fault.CertFault.{CertFault}
-use Rattle.cert_text.specs.declared.fault.CertFault.TheVariants.{At, Memory}
+use Rattle.line_texts.specs.declared.fault.Fault.{Fault}
+use Rattle.line_texts.specs.declared.fault.Fault.TheVariants.{At, Memory}
 use Rattle.cert_text.specs.declared.kind.Kind.{Kind}
 use Rattle.cert_text.specs.MarkedLines.{CertificateLine, certificate_lines, line_count}
-use Rattle.cert_text.specs.Words.{words, texts_of, words_of, end_of}
+use Rattle.cert_text.specs.Words.{texts_of, words_of, end_of}
 use Rattle.cert_text.specs.Wanted.{Want, this_word, TakesWord, kind_word, first_wants, later_wants, wants_of, IsTooLarge}
 use Rattle.cert_text.specs.Faults.{FitAll, IsWordFault, first_column, IsLineFault, Names, IsFault, IsKindFault}
 use Rattle.cert_text.specs.Left.{Left, left, Takes, texts, Unread, unread, IsAt, IsRestFault, SaysRest, IsSizedFault}
@@ -100,7 +100,7 @@ kind_fault kind steps book number count r l c text later all behind is taken cou
     inr (fault.0, rest_fault kind steps book number count r l c text later all behind is taken counted fault.1)
 
 -- what is answered behind the word of the kind is what the whole text says
-pub answered : (steps : ℕ) (book : BookCosts) (bytes text : List ℕ) (kind : Kind) (number : ℕ) (start later : Unread) (all behind : Left) (answer : Result Certificate CertFault) →
+pub answered : (steps : ℕ) (book : BookCosts) (bytes text : List ℕ) (kind : Kind) (number : ℕ) (start later : Unread) (all behind : Left) (answer : Result Certificate Fault) →
     start ≡ unread 0 bytes → start.lines ≡ record { number = number; text = text } ∷ later.lines → later.count ≡ start.count → all ≡ left 3 text → Takes (kind_word kind) all behind →
     MatchResult answer (λ certificate. SaysRest kind steps book behind later certificate)
     (λ fault. (fault ≡ Memory) ⊎ IsAt (IsSizedFault kind steps book number (first_column (words_of (line_at number text)) (end_of (line_at number text))) behind later) fault) →
@@ -122,7 +122,7 @@ answered steps book bytes text kind number start later all behind (Err (At r l c
     inr (fault_of steps book bytes start r l c is (subst P (sym first) here))
 
 -- of a kind that is never too large
-pub sized : (kind : Kind) (steps : ℕ) (book : BookCosts) (number named : ℕ) (behind : Left) (later : Unread) (answer : Result Certificate CertFault) → (IsTooLarge kind steps book → ⊥) →
+pub sized : (kind : Kind) (steps : ℕ) (book : BookCosts) (number named : ℕ) (behind : Left) (later : Unread) (answer : Result Certificate Fault) → (IsTooLarge kind steps book → ⊥) →
     MatchResult answer (λ certificate. SaysRest kind steps book behind later certificate) (λ fault. (fault ≡ Memory) ⊎ IsAt (IsRestFault kind steps book number behind later) fault) →
     MatchResult answer (λ certificate. SaysRest kind steps book behind later certificate) (λ fault. (fault ≡ Memory) ⊎ IsAt (IsSizedFault kind steps book number named behind later) fault)
 sized kind steps book number named behind later (Ok certificate) small rest = rest

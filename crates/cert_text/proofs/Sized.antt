@@ -1,6 +1,5 @@
 -- Tables of the right sizes have a text.
-use Rattle.std.proofs.Common.{◌≡◌, ℕ, ◌<◌, ◌≤◌, length, subst, ◌∙◌, arith}
-use Rattle.level_book.specs.BookCosts.{BookCosts}
+use Rattle.std.proofs.Common.{ℕ, ◌<◌, length, ◌∙◌, arith}
 use Rattle.cost_tables.specs.TableRows.{TableRows}
 use Rattle.cost_tables.specs.Shapes.{AreShaped, AreShort}
 use Rattle.disk_gen.specs.DiskRows.{DiskRows}

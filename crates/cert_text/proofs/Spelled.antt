@@ -10,18 +10,19 @@ use Rattle.level_book.specs.BookCosts.{BookCosts}
 use Rattle.level_book.specs.UnderTable.{Entry, number, never}
 use Rattle.cost_tables.specs.TableRows.{TableRows, tables_in}
 use Rattle.disk_gen.specs.DiskRows.{disk_tables_in}
-use Rattle.action_text.specs.Tokens.{is_blank}
-use Rattle.action_text.specs.ScheduleText.{lines}
+use Rattle.line_texts.specs.Tokens.{is_blank, words, tokens}
+use Rattle.line_texts.specs.Lines.{lines}
 use Rattle.cert_text.specs.declared.certificate.Certificate.{Certificate}
 use Rattle.cert_text.specs.declared.certificate.Certificate.TheVariants.{Revolve, Places, Nested, Disk}
 use Rattle.cert_text.specs.MarkedLines.{marked, certificate_lines}
-use Rattle.cert_text.specs.Words.{starts_word, words, texts_of}
+use Rattle.cert_text.specs.Words.{texts_of}
+use Rattle.cert_text.proofs.WordLemmas.{starts_word, of_word, word_at}
 use Rattle.cert_text.specs.WordLines.{entry_word, row_line, row_lines, level_lines, column_lines, word_lines}
 use Rattle.cert_text.specs.Meaning.{HasText}
 use Rattle.cert_text.specs.Canonical.{line_of, pieces_from}
 use Rattle.cert_text.specs.Laws.{IsOtherLine, PiecesJoin, CanonicalIsRead}
 use Rattle.cert_text.specs.Left.{texts}
-use Rattle.cert_text.proofs.WordLemmas.{which, of_word, word_at}
+use Rattle.line_texts.proofs.Steps.{which}
 use Rattle.cert_text.proofs.Ranges.{all_mapped, all_appended, all_flat}
 use Rattle.cert_text.proofs.LineLemmas.{marked_here, marked_later, none_in_empty}
 
@@ -126,11 +127,11 @@ word_first column (b ∷ w) rest is ends =
     ∙ rw (long, front (b ∷ w) rest, behind (b ∷ w) rest) refl
 
 blank_first : (column : ℕ) (rest : List ℕ) → words column (32 ∷ rest) ≡ words (column + 1) rest
-unfolding words
+unfolding tokens
 blank_first column rest = refl
 
 no_words : (column : ℕ) → words column [] ≡ []
-unfolding words
+unfolding tokens
 no_words column = refl
 
 -- ---- a line

@@ -7,7 +7,7 @@ use Rattle.std.proofs.lemmas.List.{append_cancel_left}
 use Rattle.std.proofs.lemmas.List.FromFn.{length-map-range_with_len}
 use Rattle.std.proofs.lemmas.Fmt.{decimal_by_steps, decimal_injective}
 use Rattle.level_book.specs.UnderTable.{Entry, number, never}
-use Rattle.action_text.specs.Tokens.{Token}
+use Rattle.line_texts.specs.Tokens.{Token}
 use Rattle.cert_text.specs.MarkedLines.{CertificateLine}
 use Rattle.cert_text.specs.Words.{words_of, texts_of}
 use Rattle.cert_text.specs.WordLines.{entry_word, row_line, row_lines}

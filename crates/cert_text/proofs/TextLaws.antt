@@ -2,11 +2,11 @@
 use Rattle.std.proofs.Common.{◌≡◌, ◌⊎◌, ℕ, Result, Ok, Err, List, [], ◌∷◌, refl, sym, ap, subst, ◌∙◌, inl, inr}
 use Rattle.std.specs.Prelude.{map, MatchResult}
 use Rattle.level_book.specs.BookCosts.{BookCosts}
-use Rattle.action_text.specs.Tokens.{Token}
-use Rattle.action_text.specs.ScheduleText.{lines}
+use Rattle.line_texts.specs.Tokens.{Token}
+use Rattle.line_texts.specs.Lines.{lines}
 use Rattle.cert_text.specs.declared.certificate.Certificate.{Certificate}
-use Rattle.cert_text.specs.declared.fault.CertFault.{CertFault}
-use Rattle.cert_text.specs.declared.fault.CertFault.TheVariants.{At, Memory}
+use Rattle.line_texts.specs.declared.fault.Fault.{Fault}
+use Rattle.line_texts.specs.declared.fault.Fault.TheVariants.{At, Memory}
 use Rattle.cert_text.specs.declared.kind.Kind.{Kind}
 use Rattle.cert_text.specs.declared.kind.Kind.TheVariants as kind
 use Rattle.cert_text.specs.MarkedLines.{CertificateLine, certificate_lines, line_count}
@@ -66,17 +66,17 @@ one_fault steps book bytes (At r l c) Memory x y = absurd y
 
 -- ---- an answer that fits what the bytes say is the only one
 
-abbrev pub Answers : ℕ → BookCosts → List ℕ → Result Certificate CertFault → Type 0
+abbrev pub Answers : ℕ → BookCosts → List ℕ → Result Certificate Fault → Type 0
 Answers steps book bytes answer = MatchResult answer (λ c. IsCertificateText steps book bytes c) (λ f. (f ≡ Memory) ⊎ HasFirstFault steps book bytes f)
 
-pub only_said : (steps : ℕ) (book : BookCosts) (bytes : List ℕ) (answer : Result Certificate CertFault) → Answers steps book bytes answer →
+pub only_said : (steps : ℕ) (book : BookCosts) (bytes : List ℕ) (answer : Result Certificate Fault) → Answers steps book bytes answer →
     (certificate : Certificate) → IsCertificateText steps book bytes certificate → (answer ≡ Ok certificate) ⊎ (answer ≡ Err Memory)
 only_said steps book bytes (Ok other) is certificate says = inl (ap Ok (one_certificate steps book bytes other certificate is says))
 only_said steps book bytes (Err fault) (inl none) certificate says = inr (ap Err none)
 only_said steps book bytes (Err fault) (inr has) certificate says = absurd (no_fault steps book bytes certificate fault says has)
 
-pub only_fault : (steps : ℕ) (book : BookCosts) (bytes : List ℕ) (answer : Result Certificate CertFault) → Answers steps book bytes answer →
-    (fault : CertFault) → HasFirstFault steps book bytes fault → (answer ≡ Err fault) ⊎ (answer ≡ Err Memory)
+pub only_fault : (steps : ℕ) (book : BookCosts) (bytes : List ℕ) (answer : Result Certificate Fault) → Answers steps book bytes answer →
+    (fault : Fault) → HasFirstFault steps book bytes fault → (answer ≡ Err fault) ⊎ (answer ≡ Err Memory)
 only_fault steps book bytes (Ok certificate) is fault has = absurd (no_fault steps book bytes certificate fault is has)
 only_fault steps book bytes (Err other) (inl none) fault has = inr (ap Err none)
 only_fault steps book bytes (Err other) (inr is) fault has = inl (ap Err (one_fault steps book bytes other fault is has))

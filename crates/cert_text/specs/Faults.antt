@@ -1,11 +1,11 @@
 -- The first fault of a text that is no certificate. The rules are 1 Missing, 2 Kind, 3 Number, 4 Shape, 5 TooLarge.
 use Rattle.std.specs.Prelude.{◌≡◌, ◌⊎◌, ℕ, ◌+◌, List, [], ◌∷◌}
 use Rattle.level_book.specs.BookCosts.{BookCosts}
-use Rattle.action_text.specs.Tokens.{Token}
-use Rattle.action_text.specs.ScheduleText.{lines}
+use Rattle.line_texts.specs.Tokens.{Token}
+use Rattle.line_texts.specs.Lines.{lines}
 use Rattle.cert_text.specs.declared.kind.Kind.{Kind}
-use Rattle.cert_text.specs.declared.fault.CertFault.{CertFault}
-use Rattle.cert_text.specs.declared.fault.CertFault.TheVariants.{At, Memory}
+use Rattle.line_texts.specs.declared.fault.Fault.{Fault}
+use Rattle.line_texts.specs.declared.fault.Fault.TheVariants.{At, Memory}
 use Rattle.cert_text.specs.MarkedLines.{CertificateLine, certificate_lines, line_count}
 use Rattle.cert_text.specs.Words.{words_of, end_of}
 use Rattle.cert_text.specs.Wanted.{Want, this_word, number_to, an_entry, TakesWord, kind_word, IsTooLarge, wants_of}
@@ -74,6 +74,6 @@ IsFault steps book (first ∷ others) count rule line column =
     ⊎ ((kind : Kind) × Names kind (words_of first) × IsKindFault kind steps book first others count rule line column)
 
 -- the first fault of a text; a lack of memory is none
-abbrev pub HasFirstFault : ℕ → BookCosts → List ℕ → CertFault → Type 0
+abbrev pub HasFirstFault : ℕ → BookCosts → List ℕ → Fault → Type 0
 HasFirstFault steps book bytes (At rule line column) = IsFault steps book (certificate_lines bytes) (line_count (lines bytes)) rule line column
 HasFirstFault steps book bytes Memory = ⊥

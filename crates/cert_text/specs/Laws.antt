@@ -6,7 +6,7 @@ use Rattle.cost_tables.specs.TableRows.{TableRows, AreFor, TablesFit, FastestTab
 use Rattle.disk_gen.specs.DiskRows.{DiskRows, AreDiskSized}
 use Rattle.cert_text.specs.declared.certificate.Certificate.{Certificate}
 use Rattle.cert_text.specs.declared.certificate.Certificate.TheVariants.{Nested, Disk}
-use Rattle.cert_text.specs.declared.fault.CertFault.{CertFault}
+use Rattle.line_texts.specs.declared.fault.Fault.{Fault}
 use Rattle.cert_text.specs.MarkedLines.{is_marked}
 use Rattle.cert_text.specs.Meaning.{IsCertificateText, HasText}
 use Rattle.cert_text.specs.Faults.{HasFirstFault}
@@ -19,18 +19,18 @@ OneCertificate =
 
 -- they have at most one first fault, and those of a certificate have none
 abbrev pub OneFault : Type 0
-OneFault = (steps : ℕ) (book : BookCosts) (bytes : List ℕ) (a b : CertFault) → HasFirstFault steps book bytes a → HasFirstFault steps book bytes b → a ≡ b
+OneFault = (steps : ℕ) (book : BookCosts) (bytes : List ℕ) (a b : Fault) → HasFirstFault steps book bytes a → HasFirstFault steps book bytes b → a ≡ b
 
 abbrev pub CertificatesHaveNoFault : Type 0
 CertificatesHaveNoFault =
-    (steps : ℕ) (book : BookCosts) (bytes : List ℕ) (certificate : Certificate) (fault : CertFault) →
+    (steps : ℕ) (book : BookCosts) (bytes : List ℕ) (certificate : Certificate) (fault : Fault) →
     IsCertificateText steps book bytes certificate → HasFirstFault steps book bytes fault → ⊥
 
 -- all bytes mean a certificate or have a first fault
 abbrev pub CertificateOrFault : Type 0
 CertificateOrFault =
     (steps : ℕ) (book : BookCosts) (bytes : List ℕ) →
-    ((certificate : Certificate) × IsCertificateText steps book bytes certificate) ⊎ ((fault : CertFault) × HasFirstFault steps book bytes fault)
+    ((certificate : Certificate) × IsCertificateText steps book bytes certificate) ⊎ ((fault : Fault) × HasFirstFault steps book bytes fault)
 
 -- the writes of a certificate join to its text
 abbrev pub PiecesJoin : Type 0

@@ -2,16 +2,16 @@
 -- read.
 use Rattle.std.specs.Prelude.{◌≡◌, ◌⊎◌, ℕ, ◌+◌, List, ◌∷◌, ◌++◌, length, map}
 use Rattle.level_book.specs.BookCosts.{BookCosts}
-use Rattle.action_text.specs.Tokens.{Token}
-use Rattle.action_text.specs.ScheduleText.{lines}
+use Rattle.line_texts.specs.Tokens.{Token, words}
+use Rattle.line_texts.specs.Lines.{lines}
 use Rattle.cert_text.specs.declared.certificate.Certificate.{Certificate}
-use Rattle.cert_text.specs.declared.fault.CertFault.{CertFault}
-use Rattle.cert_text.specs.declared.fault.CertFault.TheVariants.{At, Memory}
+use Rattle.line_texts.specs.declared.fault.Fault.{Fault}
+use Rattle.line_texts.specs.declared.fault.Fault.TheVariants.{At, Memory}
 use Rattle.cert_text.specs.declared.fault.Rule.{Rule}
 use Rattle.cert_text.specs.declared.fault.Rule.TheVariants as rule
 use Rattle.cert_text.specs.declared.kind.Kind.{Kind}
 use Rattle.cert_text.specs.MarkedLines.{CertificateLine, marked, line_count}
-use Rattle.cert_text.specs.Words.{words, texts_of}
+use Rattle.cert_text.specs.Words.{texts_of}
 use Rattle.cert_text.specs.WordLines.{word_lines}
 use Rattle.cert_text.specs.Meaning.{HasText}
 use Rattle.cert_text.specs.Wanted.{Want, kind_word, first_wants, IsTooLarge, later_wants}
@@ -21,6 +21,9 @@ use Rattle.cert_text.specs.Faults.{FitAll, IsWordFault, IsLineFault}
 pub record Left : Type 0 where
   pub words : List Token
   pub end : ℕ
+
+abbrev pub left_with : List Token → ℕ → Left
+left_with ws end = record { words = ws; end = end }
 
 -- what is left where the bytes that are left begin in this column
 unfoldable pub left : ℕ → List ℕ → Left
@@ -50,7 +53,7 @@ unfoldable pub unread : ℕ → List ℕ → Unread
 unread before bytes = record { lines = marked (before + 1) (lines bytes); count = before + line_count (lines bytes) }
 
 -- the fault has a place, and this holds of it
-abbrev pub IsAt : (ℕ → ℕ → ℕ → Type 0) → CertFault → Type 0
+abbrev pub IsAt : (ℕ → ℕ → ℕ → Type 0) → Fault → Type 0
 IsAt P (At rule line column) = P rule line column
 IsAt P Memory = ⊥
 
@@ -73,7 +76,7 @@ pub record Passes (wants : List (List Want)) (old new : Unread) : Type 0 where
       IsLineFault (wants ++ more) old.lines old.count rule line column
 
 -- a fault in lines where these are wanted, whatever more is wanted after them
-abbrev pub IsAmong : List (List Want) → Unread → CertFault → Type 0
+abbrev pub IsAmong : List (List Want) → Unread → Fault → Type 0
 IsAmong wants old fault = (more : List (List Want)) → IsAt (IsLineFault (wants ++ more) old.lines old.count) fault
 
 -- the first fault of the rest, or that of too large tables, in this column, at the kind's word

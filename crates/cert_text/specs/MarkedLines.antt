@@ -1,6 +1,6 @@
 -- Which lines of a text are lines of a certificate: those that begin with `#!`. All others are ignored.
 use Rattle.std.specs.Prelude.{ℕ, ◌+◌, ◌==◌, ◌&&◌, Bool, false, List, [], ◌∷◌, drop, if◌then◌else◌}
-use Rattle.action_text.specs.ScheduleText.{lines}
+use Rattle.line_texts.specs.Lines.{lines}
 
 -- A certificate line: its number among all lines of the text, from 1, and its bytes after `#!`.
 pub record CertificateLine : Type 0 where

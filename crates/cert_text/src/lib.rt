@@ -1,7 +1,7 @@
-//! Reads and prints the text of certificates, which show that a list is least. It uses `level_book`, `action_text`,
-//! `cost_tables`, `disk_gen` and `keepers`. `bound_cert`, `requests` and `reversal` use it. What a certificate shows is
-//! defined in `bound_cert`. It shows this to a reader who trusts neither a plan nor its planner. Lines that begin with
-//! `#!` are the certificate. All others are ignored, so one text can hold a schedule and its certificate.
+//! Reads and prints the text of certificates, which show that a list is least. It uses `line_texts`, `level_book`,
+//! `action_text`, `cost_tables`, `disk_gen` and `keepers`. `bound_cert` and `reversal` use it. What a certificate shows
+//! is defined in `bound_cert`. It shows this to a reader who trusts neither a plan nor its planner. Lines that begin
+//! with `#!` are the certificate. All others are ignored, so one text can hold a schedule and its certificate.
 //!
 //! In `specs/`:
 //!
@@ -20,7 +20,6 @@ mod kind;
 pub mod laws;
 mod lines;
 mod nested;
-mod number;
 mod piece;
 mod printing;
 mod printing_disk;
@@ -31,6 +30,5 @@ mod rows;
 mod words;
 
 pub use crate::certificate::Certificate;
-pub use crate::fault::CertFault;
 pub use crate::printing::print_certificate;
 pub use crate::reading::read_certificate;

@@ -1,8 +1,9 @@
 // The certificate lines of a text.
 ghost use Rattle.std.specs.Prelude.{◌≡◌, ◌<◌, ◌≤◌, ◌+◌, ◌-◌, ◌^◌, ◌==◌, ℕ, [], ◌∷◌, length, MatchResult};
-ghost use Rattle.std.specs.List.{position_or_len};
-ghost use Rattle.action_text.specs.ScheduleText.{lines};
+ghost use Rattle.line_texts.specs.Lines.{lines};
 ghost use Rattle.cert_text.specs.MarkedLines.{is_marked, marked, line_count};
+
+use line_texts::length_before;
 
 // A certificate line: its number, its bytes after `#!`, and the bytes of the lines after it.
 #[derive(Clone, Copy)]
@@ -60,22 +61,9 @@ fn split_line(bytes: &[u8]) -> (&[u8], &[u8])
     ensures shorter { length result.1.now < length bytes.now }
     ensures within { length result.0.now ≤ length bytes.now }
 {
-    let (line, rest) = bytes.split_at(line_length(bytes));
+    let (line, rest) = bytes.split_at(length_before(bytes, b'\n'));
     match rest {
         [_, later @ ..] => (line, later),
         [] => (line, rest),
     }
-}
-
-// How many bytes come before the first line end.
-fn line_length(bytes: &[u8]) -> usize
-    ensures value { result ≡ position_or_len (λ b. b == 10) bytes.now }
-    ensures within { result ≤ length bytes.now }
-{
-    for (i, byte) in bytes.iter().enumerate() {
-        if *byte == b'\n' {
-            return i;
-        }
-    }
-    bytes.len()
 }

@@ -2,7 +2,7 @@
 ghost use Rattle.std.specs.Prelude.{◌≡◌, ◌⊎◌, ◌<◌, ◌≤◌, ◌+◌, ℕ, [], ◌∷◌, ◌++◌, All, length, map, codes, slice_index_or, MatchResult, IfOk};
 ghost use Rattle.std.specs.List.{range_with_len, flat_map};
 ghost use Rattle.cost_tables.specs.TableRows.{TablesFit, tables_in};
-ghost use Rattle.cert_text.specs.declared.fault.CertFault.{CertFault};
+ghost use Rattle.line_texts.specs.declared.fault.Fault.{Fault};
 ghost use Rattle.cert_text.specs.declared.kind.Kind.TheVariants as kind;
 ghost use Rattle.cert_text.specs.Words.{texts_of};
 ghost use Rattle.cert_text.specs.WordLines.{row_lines, level_lines};
@@ -12,12 +12,13 @@ ghost use Rattle.cert_text.specs.Faults.{IsWordFault, IsLineFault};
 ghost use Rattle.cert_text.specs.Left.{IsAt, IsAmong, number_of_rule, texts};
 ghost use Rattle.cert_text.specs.Rows.{Reads, KeepsFresh, KeepsHeld, KeepsLevels, wants_for};
 
-use crate::fault::{CertFault, LineFault};
+use crate::fault::LineFault;
 use crate::reader::Reader;
 use crate::rows::{put_fresh, put_held, read_row};
 use crate::words::Words;
 use cost_tables::{Cost, Tables};
 use level_book::Book;
+use line_texts::Fault;
 use std::alloc::{AllocError, Global};
 
 // Reads the lines of tables after the line that names them.
@@ -26,18 +27,18 @@ pub(crate) fn read_nested(
     reader: &mut Reader<'_>,
     steps: u32,
     book: &Book,
-) -> Result<Tables, CertFault>
+) -> Result<Tables, Fault>
     requires { TablesFit steps book.now }
     ensures { MatchResult result
         (λ t. HaveText steps book.now t
         × (map texts_of reader.old.lines ≡ flat_map (level_lines t) (range_with_len 0 (length t.rooms)) ++ (codes "end" ∷ []) ∷ []))
-        (λ fault. (fault ≡ CertFault.Memory) ⊎ IsAt (IsLineFault (later_wants kind.Nested steps book.now) reader.old.lines reader.old.count) fault) }
+        (λ fault. (fault ≡ Fault.Memory) ⊎ IsAt (IsLineFault (later_wants kind.Nested steps book.now) reader.old.lines reader.old.count) fault) }
 {
     let Ok(mut tables) = Tables::never(alloc, steps, book) else {
-        return Err(CertFault::Memory);
+        return Err(Fault::Memory);
     };
     let Ok(mut row) = empty_row(alloc, steps) else {
-        return Err(CertFault::Memory);
+        return Err(Fault::Memory);
     };
     read_levels(reader, &mut row, &mut tables)?;
     read_end(reader)?;
@@ -57,7 +58,7 @@ pub(crate) fn empty_row(alloc: Global, steps: u32) -> Result<Vec<Cost>, AllocErr
 }
 
 // The line that ends tables, and no line after it.
-pub(crate) fn read_end(reader: &mut Reader<'_>) -> Result<(), CertFault>
+pub(crate) fn read_end(reader: &mut Reader<'_>) -> Result<(), Fault>
     ensures { MatchResult result
         (λ _. map texts_of reader.old.lines ≡ (codes "end" ∷ []) ∷ [])
         (λ fault. IsAt (IsLineFault ((this_word (codes "end") ∷ []) ∷ []) reader.old.lines reader.old.count) fault) }
@@ -85,7 +86,7 @@ pub(crate) fn read_levels(
     reader: &mut Reader<'_>,
     row: &mut [Cost],
     tables: &mut Tables,
-) -> Result<(), CertFault>
+) -> Result<(), Fault>
     requires row { length row.old ≡ tables.old.steps }
     requires narrow { (k : ℕ) → k < length tables.old.rooms → slice_index_or tables.old.rooms k 0 ≤ 64 }
     ensures { MatchResult result
@@ -107,7 +108,7 @@ fn read_level(
     reader: &mut Reader<'_>,
     row: &mut [Cost],
     tables: &mut Tables,
-) -> Result<(), CertFault>
+) -> Result<(), Fault>
     requires k { k < length tables.old.rooms }
     requires row { length row.old ≡ tables.old.steps }
     requires narrow { slice_index_or tables.old.rooms k 0 ≤ 64 }
@@ -125,7 +126,7 @@ fn read_fresh(
     reader: &mut Reader<'_>,
     row: &mut [Cost],
     tables: &mut Tables,
-) -> Result<(), CertFault>
+) -> Result<(), Fault>
     requires k { k < length tables.old.rooms }
     requires row { length row.old ≡ tables.old.steps }
     requires narrow { slice_index_or tables.old.rooms k 0 ≤ 64 }
@@ -150,7 +151,7 @@ fn read_held(
     reader: &mut Reader<'_>,
     row: &mut [Cost],
     tables: &mut Tables,
-) -> Result<(), CertFault>
+) -> Result<(), Fault>
     requires k { k < length tables.old.rooms }
     requires row { length row.old ≡ tables.old.steps }
     ensures { MatchResult result

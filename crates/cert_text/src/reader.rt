@@ -3,9 +3,9 @@ ghost use Rattle.std.specs.Prelude.{◌≡◌, ◌<◌, ◌+◌, ◌^◌, [], �
 ghost use Rattle.cert_text.specs.Faults.{IsLineFault};
 ghost use Rattle.cert_text.specs.Left.{IsAt, unread};
 
-use crate::fault::CertFault;
 use crate::lines::{MarkedLine, next_marked};
 use crate::words::Words;
+use line_texts::Fault;
 use std::marker::Model;
 
 // The bytes that are left of a text, and how many lines came before them.
@@ -39,11 +39,11 @@ impl<'a> Reader<'a> {
     }
 
     // Reads the next certificate line. If there is none, the missing line is past all lines.
-    pub(crate) fn line(&mut self) -> Result<MarkedLine<'a>, CertFault>
+    pub(crate) fn line(&mut self) -> Result<MarkedLine<'a>, Fault>
         ensures { MatchResult result
             (λ line. (self.old.lines ≡ record { number = line.number; text = line.text.now } ∷ self.new.lines) × (self.new.count ≡ self.old.count)
             × (length line.text.now < 2 ^ 31))
-            (λ fault. (self.old.lines ≡ []) × (fault ≡ CertFault.At 4 (self.old.count + 1) 1)) }
+            (λ fault. (self.old.lines ≡ []) × (fault ≡ Fault.At 4 (self.old.count + 1) 1)) }
     {
         match next_marked(self.rest, self.before) {
             Ok(line) => {
@@ -51,7 +51,7 @@ impl<'a> Reader<'a> {
                 self.before = line.number;
                 Ok(line)
             }
-            Err(all) => Err(CertFault::At {
+            Err(all) => Err(Fault::At {
                 rule: 4,
                 line: all + 1,
                 column: 1,
@@ -60,14 +60,14 @@ impl<'a> Reader<'a> {
     }
 
     // Checks that no certificate line is left. The fault of an extra line is at its first word, or one past its bytes.
-    pub(crate) fn finish(&mut self) -> Result<(), CertFault>
+    pub(crate) fn finish(&mut self) -> Result<(), Fault>
         ensures { MatchResult result (λ _. self.old.lines ≡ []) (λ fault. IsAt (IsLineFault [] self.old.lines self.old.count) fault) }
     {
         match self.line() {
             Err(_) => Ok(()),
             Ok(line) => {
                 let column = Words::new(line.text, 3).first_column();
-                Err(CertFault::At {
+                Err(Fault::At {
                     rule: 4,
                     line: line.number,
                     column,

@@ -4,7 +4,7 @@ ghost use Rattle.plan_types.specs.declared.limits.TheConstants.{MOST_STEPS};
 ghost use Rattle.cert_text.specs.declared.reading.TheConstants.{MOST_REPEATS};
 ghost use Rattle.level_book.specs.BookCosts.{BookCosts};
 ghost use Rattle.cert_text.specs.declared.certificate.Certificate.{Certificate};
-ghost use Rattle.cert_text.specs.declared.fault.CertFault.{CertFault};
+ghost use Rattle.line_texts.specs.declared.fault.Fault.{Fault};
 ghost use Rattle.cert_text.specs.Wanted.{first_wants};
 ghost use Rattle.cert_text.specs.Meaning.{IsCertificateText};
 ghost use Rattle.cert_text.specs.Words.{words_of, end_of};
@@ -13,7 +13,7 @@ ghost use Rattle.cert_text.specs.Left.{IsAt, IsSizedFault, IsRestFault, SaysRest
 
 use crate::certificate::Certificate;
 use crate::disk::read_disk;
-use crate::fault::{CertFault, LineFault};
+use crate::fault::LineFault;
 use crate::kind::Kind;
 use crate::lines::MarkedLine;
 use crate::nested::read_nested;
@@ -22,42 +22,44 @@ use crate::words::Words;
 use cost_tables::Tables;
 use disk_gen::DiskTables;
 use level_book::Book;
+use line_texts::Fault;
 use std::alloc::Global;
 
 /// The greatest number of repeats that a text may name.
 const MOST_REPEATS: u64 = 1_000_000;
 
 /// Reads the certificate of a text for so many steps and a book, in one pass. It ignores lines that don't begin with
-/// `#!`. It takes memory only for tables, if they fit.
+/// `#!`. It takes memory only for tables, if they fit. The rules of a fault are 1 Missing, 2 Kind, 3 Number, 4 Shape and
+/// 5 TooLarge. Rule 1 has line 0 and column 0.
 pub fn read_certificate(
     alloc: Global,
     bytes: &[u8],
     steps: u32,
     book: &Book,
-) -> Result<Certificate, CertFault>
+) -> Result<Certificate, Fault>
     requires small { length bytes.now < 2 ^ 31 }
     requires few { steps ≤ MOST_STEPS }
     // The text means the certificate that is read. A text that means one is read.
     ensures found { IfOk result (IsCertificateText steps book.now bytes.now) }
     ensures only { (certificate : Certificate) → IsCertificateText steps book.now bytes.now certificate →
-        (result ≡ Ok certificate) ⊎ (result ≡ Err CertFault.Memory) }
+        (result ≡ Ok certificate) ⊎ (result ≡ Err Fault.Memory) }
 
     // A refused text has that fault first, or there was no memory. A text with a fault is refused for it.
-    ensures refused { IfErr result (λ fault. (fault ≡ CertFault.Memory) ⊎ HasFirstFault steps book.now bytes.now fault) }
-    ensures first { (fault : CertFault) → HasFirstFault steps book.now bytes.now fault → (result ≡ Err fault) ⊎ (result ≡ Err CertFault.Memory) }
+    ensures refused { IfErr result (λ fault. (fault ≡ Fault.Memory) ⊎ HasFirstFault steps book.now bytes.now fault) }
+    ensures first { (fault : Fault) → HasFirstFault steps book.now bytes.now fault → (result ≡ Err fault) ⊎ (result ≡ Err Fault.Memory) }
 {
     read(alloc, bytes, steps, book)
 }
 
 // Reads a certificate, with one clause for each outcome.
-fn read(alloc: Global, bytes: &[u8], steps: u32, book: &Book) -> Result<Certificate, CertFault>
+fn read(alloc: Global, bytes: &[u8], steps: u32, book: &Book) -> Result<Certificate, Fault>
     requires { length bytes.now < 2 ^ 31 }
-    ensures { MatchResult result (λ certificate. IsCertificateText steps book.now bytes.now certificate) (λ fault. (fault ≡ CertFault.Memory)
+    ensures { MatchResult result (λ certificate. IsCertificateText steps book.now bytes.now certificate) (λ fault. (fault ≡ Fault.Memory)
         ⊎ HasFirstFault steps book.now bytes.now fault) }
 {
     let mut reader = Reader::new(bytes);
     match reader.line() {
-        Err(_) => Err(CertFault::At {
+        Err(_) => Err(Fault::At {
             rule: 1,
             line: 0,
             column: 0,
@@ -69,7 +71,7 @@ fn read(alloc: Global, bytes: &[u8], steps: u32, book: &Book) -> Result<Certific
                 Ok(Kind::Places) => places(first.number, &mut words, &mut reader),
                 Ok(Kind::Nested) => nested(alloc, &first, &mut words, &mut reader, steps, book),
                 Ok(Kind::Disk) => disk(alloc, &first, &mut words, &mut reader, steps, book),
-                Err(column) => Err(CertFault::At {
+                Err(column) => Err(Fault::At {
                     rule: 2,
                     line: first.number,
                     column,
@@ -84,10 +86,10 @@ fn revolve(
     number: u32,
     words: &mut Words<'_>,
     reader: &mut Reader<'_>,
-) -> Result<Certificate, CertFault>
+) -> Result<Certificate, Fault>
     ensures { (steps : ℕ) (book : BookCosts) → MatchResult result
         (λ certificate. SaysRest Kind.Revolve steps book words.old reader.old certificate)
-        (λ fault. (fault ≡ CertFault.Memory) ⊎ IsAt (IsRestFault Kind.Revolve steps book number words.old reader.old) fault) }
+        (λ fault. (fault ≡ Fault.Memory) ⊎ IsAt (IsRestFault Kind.Revolve steps book number words.old reader.old) fault) }
 {
     match repeats(words) {
         Ok((k, value)) => {
@@ -111,14 +113,10 @@ fn repeats(words: &mut Words<'_>) -> Result<(u64, u64), LineFault>
 }
 
 // Reads what comes after the word of a certificate of places. That word is in the line with this number.
-fn places(
-    number: u32,
-    words: &mut Words<'_>,
-    reader: &mut Reader<'_>,
-) -> Result<Certificate, CertFault>
+fn places(number: u32, words: &mut Words<'_>, reader: &mut Reader<'_>) -> Result<Certificate, Fault>
     ensures { (steps : ℕ) (book : BookCosts) → MatchResult result
         (λ certificate. SaysRest Kind.Places steps book words.old reader.old certificate)
-        (λ fault. (fault ≡ CertFault.Memory) ⊎ IsAt (IsRestFault Kind.Places steps book number words.old reader.old) fault) }
+        (λ fault. (fault ≡ Fault.Memory) ⊎ IsAt (IsRestFault Kind.Places steps book number words.old reader.old) fault) }
 {
     match threshold(words) {
         Ok(threshold) => {
@@ -141,15 +139,15 @@ fn threshold(words: &mut Words<'_>) -> Result<u64, LineFault>
 }
 
 // The fault of tables that are too large, at the word that names them.
-fn too_large(first: &MarkedLine<'_>) -> CertFault
+fn too_large(first: &MarkedLine<'_>) -> Fault
     requires { length first.now.text.now < 2 ^ 31 }
-    ensures { result ≡ CertFault.At 5 first.now.number
+    ensures { result ≡ Fault.At 5 first.now.number
         (first_column (words_of record { number = first.now.number; text = first.now.text.now }) (end_of record {
           number = first.now.number;
           text = first.now.text.now;
         })) }
 {
-    CertFault::At {
+    Fault::At {
         rule: 5,
         line: first.number,
         column: Words::new(first.text, 3).first_column(),
@@ -164,11 +162,11 @@ fn nested(
     reader: &mut Reader<'_>,
     steps: u32,
     book: &Book,
-) -> Result<Certificate, CertFault>
+) -> Result<Certificate, Fault>
     requires { length first.now.text.now < 2 ^ 31 }
     ensures { MatchResult result
         (λ certificate. SaysRest Kind.Nested steps book.now words.old reader.old certificate)
-        (λ fault. (fault ≡ CertFault.Memory)
+        (λ fault. (fault ≡ Fault.Memory)
         ⊎ IsAt (IsSizedFault Kind.Nested steps book.now first.now.number
         (first_column (words_of record { number = first.now.number; text = first.now.text.now }) (end_of record {
           number = first.now.number;
@@ -194,11 +192,11 @@ fn disk(
     reader: &mut Reader<'_>,
     steps: u32,
     book: &Book,
-) -> Result<Certificate, CertFault>
+) -> Result<Certificate, Fault>
     requires { length first.now.text.now < 2 ^ 31 }
     ensures { MatchResult result
         (λ certificate. SaysRest Kind.Disk steps book.now words.old reader.old certificate)
-        (λ fault. (fault ≡ CertFault.Memory)
+        (λ fault. (fault ≡ Fault.Memory)
         ⊎ IsAt (IsSizedFault Kind.Disk steps book.now first.now.number
         (first_column (words_of record { number = first.now.number; text = first.now.text.now }) (end_of record {
           number = first.now.number;

@@ -9,10 +9,11 @@ ghost use Rattle.cert_text.specs.Faults.{FitAll, IsWordFault};
 ghost use Rattle.cert_text.specs.Left.{IsAmong, number_of_rule, texts};
 ghost use Rattle.cert_text.specs.Rows.{Reads, KeepsFresh, KeepsHeld, cost_word};
 
-use crate::fault::{CertFault, LineFault};
+use crate::fault::LineFault;
 use crate::reader::Reader;
 use crate::words::Words;
 use cost_tables::{Cost, Tables};
+use line_texts::Fault;
 
 // Reads a line of level k and m free slots into a row.
 pub(crate) fn read_row(
@@ -21,7 +22,7 @@ pub(crate) fn read_row(
     m: u32,
     reader: &mut Reader<'_>,
     row: &mut [Cost],
-) -> Result<(), CertFault>
+) -> Result<(), Fault>
     ensures { MatchResult result
         (λ _. Reads (row_wants (letter.now ∷ decimal k ∷ decimal m ∷ []) (length row.old) ∷ []) (((letter.now ∷ decimal k ∷ decimal m ∷ [])
         ++ map cost_word row.new) ∷ []) reader.old reader.new
@@ -75,7 +76,7 @@ pub(crate) fn read_column(
     letters: &[u8],
     reader: &mut Reader<'_>,
     row: &mut [Cost],
-) -> Result<(), CertFault>
+) -> Result<(), Fault>
     ensures { MatchResult result
         (λ _. Reads (row_wants (letters.now ∷ []) (length row.old) ∷ []) (((letters.now ∷ []) ++ map cost_word row.new) ∷ []) reader.old reader.new
         × ((i : ℕ) → i < length row.old → HasWord (value_of (slice_index_or row.new i Cost.Never))))

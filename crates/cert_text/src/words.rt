@@ -1,7 +1,5 @@
 // The words of a line, one after the other.
 ghost use Rattle.std.specs.Prelude.{◌≡◌, ◌<◌, ◌≤◌, ◌+◌, ◌^◌, List, [], ◌∷◌, not, length, decimal, MatchOption, MatchResult};
-ghost use Rattle.std.specs.List.{prefix_len};
-ghost use Rattle.action_text.specs.Tokens.{is_blank};
 ghost use Rattle.cert_text.specs.declared.kind.Kind.{Kind};
 ghost use Rattle.cert_text.specs.Wanted.{Want, this_word, number_to, an_entry, TakesWord, kind_word};
 ghost use Rattle.cost_tables.specs.TableRows.{value_of};
@@ -12,68 +10,56 @@ ghost use Rattle.cert_text.specs.Left.{left, Takes, number_of_rule};
 
 use crate::fault::{LineFault, Rule};
 use crate::kind::Kind;
-use crate::number::number;
 use cost_tables::Cost;
+use line_texts::{NoBlanks, Token, Tokens, number_of};
 use plan_types::Line;
 use std::marker::Model;
 
-// The bytes that are left of a line, and the column of the first.
+// The words that are left of a line, and the column one past its bytes.
 #[derive(Drop)]
 pub(crate) struct Words<'a> {
-    rest: &'a [u8],
-    column: u32,
+    words: Tokens<'a, NoBlanks>,
+    end: u32,
 }
 
 impl<'a> Model for Words<'a> {
-    ghost use Rattle.std.specs.Prelude.{◌+◌, ◌<◌, ◌^◌, length};
-    ghost use Rattle.cert_text.specs.Left.{Left, left};
+    ghost use Rattle.cert_text.specs.Left.{Left, left_with};
 
     ghost Value = { Left };
 
-    ghost view = { λ w. left w.column w.rest.now };
-
-    ghost invariant = { λ w. w.column + length w.rest.now < 2 ^ 32 };
-}
-
-// A word and its column.
-#[derive(Clone, Copy)]
-pub(crate) struct Word<'a> {
-    pub text: &'a [u8],
-    pub column: u32,
+    ghost view = { λ w. left_with w.words w.end };
 }
 
 impl<'a> Words<'a> {
     // The words of bytes that begin in this column.
+    #[tactic(auto, unfolding(crate::specs::Left::left))]
     pub(crate) fn new(rest: &'a [u8], column: u32) -> Words<'a>
         requires { column + length rest.now < 2 ^ 32 }
         ensures { result ≡ left column rest.now }
     {
-        Words { rest, column }
+        let end = column + rest.len() as u32;
+        Words {
+            words: Tokens::new(rest, column),
+            end,
+        }
     }
 
     // Reads the next word, if there is one.
-    pub(crate) fn next(&mut self) -> Option<Word<'a>>
+    pub(crate) fn next(&mut self) -> Option<Token<'a>>
         ensures { MatchOption result ((self.old.words ≡ []) × (self.new ≡ self.old))
             (λ w. (self.old.words ≡ record { column = w.column; text = w.text.now } ∷ self.new.words) × (self.new.end ≡ self.old.end)) }
     {
-        let blanks = blanks_before(self.rest);
-        let (_, from) = self.rest.split_at(blanks);
-        let length = word_length(from);
-        if length == 0 {
-            return None;
+        match self.words.next() {
+            Some(word) => Some(word),
+            None => None,
         }
-        let column = self.column + blanks as u32;
-        let (text, rest) = from.split_at(length);
-        self.rest = rest;
-        self.column = column + length as u32;
-        Some(Word { text, column })
     }
 
     // The column one past the line's bytes.
     pub(crate) fn end(&self) -> u32
         ensures { result ≡ self.now.end }
     {
-        self.column + self.rest.len() as u32
+        self.end
     }
 
     // The column of the next word, or the one past the line's bytes.
@@ -122,7 +108,7 @@ impl<'a> Words<'a> {
                 column: self.end(),
             });
         };
-        match number(word.text, most) {
+        match number_of(word.text, most) {
             Some(n) => Ok(n),
             None => Err(LineFault {
                 rule: Rule::Number,
@@ -207,40 +193,8 @@ fn entry(text: &[u8]) -> Option<Cost>
     if text == b"-".as_slice() {
         return Some(Cost::Never);
     }
-    match number(text, u64::MAX) {
+    match number_of(text, u64::MAX) {
         Some(n) => Some(Cost::Number(n)),
         None => None,
     }
-}
-
-// The number of blanks at the front.
-fn blanks_before(bytes: &[u8]) -> usize
-    ensures value { result ≡ prefix_len is_blank bytes.now }
-    ensures within { result ≤ length bytes.now }
-{
-    for (i, byte) in bytes.iter().enumerate() {
-        if !is_blank(*byte) {
-            return i;
-        }
-    }
-    bytes.len()
-}
-
-// The number of bytes at the front that aren't blanks.
-fn word_length(bytes: &[u8]) -> usize
-    ensures value { result ≡ prefix_len (λ b. not (is_blank b)) bytes.now }
-    ensures within { result ≤ length bytes.now }
-{
-    for (i, byte) in bytes.iter().enumerate() {
-        if is_blank(*byte) {
-            return i;
-        }
-    }
-    bytes.len()
-}
-
-fn is_blank(b: u8) -> bool
-    ensures { result ≡ is_blank b }
-{
-    b == b' ' || b == b'\t' || b == b'\r'
 }

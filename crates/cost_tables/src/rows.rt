@@ -131,8 +131,7 @@ fn push_row(
     requires write { costs.write < 2 ^ 32 }
     requires read { costs.read < 2 ^ 32 }
     requires room { room ≤ 64 }
-    requires few { length base.now ≤ 8192 }
-    requires base { All (λ n. n ≤ 2 ^ 61) base.now }
+    requires base { (length base.now ≤ 8192) × All (λ n. n ≤ 2 ^ 61) base.now }
     requires next { length rows.old.items < length base.now }
     requires filled { filled ≤ length rows.old.items }
     requires share { IsMostlyStarted filled (length rows.old.items) }
@@ -161,8 +160,7 @@ fn push_rows(
     requires write { costs.write < 2 ^ 32 }
     requires read { costs.read < 2 ^ 32 }
     requires room { room ≤ 64 }
-    requires few { length base.now ≤ 8192 }
-    requires base { All (λ n. n ≤ 2 ^ 61) base.now }
+    requires base { (length base.now ≤ 8192) × All (λ n. n ≤ 2 ^ 61) base.now }
     requires next { length rows.old.items + count ≤ length base.now }
     requires share { AreFew (length rows.old.items) count }
     requires rows { AreRows room costs.forward costs.write costs.read base.now rows.old.items }

@@ -1,12 +1,10 @@
 // A case: what comes over a line, and the replies to it.
 ghost use Rattle.std.specs.Prelude.{◌≡◌, ◌<◌, IfOk};
 
-use crate::fault::Fault;
-use crate::inputs::{Inputs, text_of};
 use crate::reply::joined;
+use case_files::{CaseFault, Inputs, number_of, timeline_of};
 use gdb_line::MemoryLine;
 use gdb_session::{ServeFault, serve};
-use input_journal::Journal;
 use run_timeline::Timeline;
 use rv_machine::Steps;
 use serde_json::Value;
@@ -26,7 +24,7 @@ pub struct Case {
 }
 
 /// The case of a JSON value.
-pub fn case_of(alloc: Global, inputs: &Inputs, value: &Value) -> Result<Case, Fault>
+pub fn case_of(alloc: Global, inputs: &Inputs, value: &Value) -> Result<Case, CaseFault>
     ensures { IfOk result (λ case. case.timeline.place ≡ 0) }
 {
     let (came, wanted) = turns_of(alloc, value)?;
@@ -49,45 +47,27 @@ fn list_of(alloc: Global, number: Option<u64>) -> Result<Vec<u64>, AllocError> {
 }
 
 // How many bytes come at once.
-fn at_once_of(value: &Value) -> Result<usize, Fault>
+fn at_once_of(value: &Value) -> Result<usize, CaseFault>
     ensures { IfOk result (λ n. 0 < n) }
 {
     let count = number_of(value, "at_once")?;
     match usize::try_from(count) {
         Ok(count) if count > 0 => Ok(count),
-        _ => Err(Fault::Form),
+        _ => Err(CaseFault::Form),
     }
 }
 
-// The timeline over the run, at its first state.
-fn timeline_of(alloc: Global, inputs: &Inputs, value: &Value) -> Result<Timeline, Fault>
-    ensures { IfOk result (λ t. t.place ≡ 0) }
-{
-    let start = inputs.program(alloc, text_of(value, "program")?)?;
-    let journal = match value.get("journal").and_then(Value::as_str) {
-        Some(name) => inputs.journal(alloc, name)?,
-        None => Journal::none(alloc),
-    };
-    let budget = number_of(value, "budget")?;
-    let most = u32::try_from(number_of(value, "most")?).map_err(|_| Fault::Form)?;
-    Ok(Timeline::begin(alloc, start, journal, budget, most)?)
-}
-
-fn number_of(value: &Value, name: &str) -> Result<u64, Fault> {
-    value.get(name).and_then(Value::as_u64).ok_or(Fault::Form)
-}
-
 // What comes, and the replies.
-fn turns_of(alloc: Global, value: &Value) -> Result<(Vec<u8>, Vec<u8>), Fault> {
+fn turns_of(alloc: Global, value: &Value) -> Result<(Vec<u8>, Vec<u8>), CaseFault> {
     let mut came = Vec::new(alloc);
     let mut went = Vec::new(alloc);
     for turn in value
         .get("turns")
         .and_then(Value::as_array)
-        .ok_or(Fault::Form)?
+        .ok_or(CaseFault::Form)?
     {
-        let [asked, answered] = turn.as_array().ok_or(Fault::Form)?.as_slice() else {
-            return Err(Fault::Form);
+        let [asked, answered] = turn.as_array().ok_or(CaseFault::Form)?.as_slice() else {
+            return Err(CaseFault::Form);
         };
         push_bytes(&mut came, asked)?;
         push_bytes(&mut went, answered)?;
@@ -96,11 +76,11 @@ fn turns_of(alloc: Global, value: &Value) -> Result<(Vec<u8>, Vec<u8>), Fault> {
 }
 
 // Adds a byte for each character of a text.
-fn push_bytes(bytes: &mut Vec<u8>, text: &Value) -> Result<(), Fault> {
-    for character in text.as_str().ok_or(Fault::Form)?.chars() {
-        let byte = u8::try_from(u32::from(character)).map_err(|_| Fault::Form)?;
+fn push_bytes(bytes: &mut Vec<u8>, text: &Value) -> Result<(), CaseFault> {
+    for character in text.as_str().ok_or(CaseFault::Form)?.chars() {
+        let byte = u8::try_from(u32::from(character)).map_err(|_| CaseFault::Form)?;
         if bytes.push(byte).is_err() {
-            return Err(Fault::Memory);
+            return Err(CaseFault::Memory);
         }
     }
     Ok(())

@@ -1,4 +1,5 @@
 pub mod Levels
 pub mod Places
+pub mod Remaining
 pub mod Sharing
 pub mod Stands

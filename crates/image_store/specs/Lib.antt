@@ -3,3 +3,4 @@ pub mod Pairs
 pub mod Sharing
 pub mod Shelves
 pub mod Standing
+pub mod StoreCalls

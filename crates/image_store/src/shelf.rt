@@ -1,14 +1,8 @@
 // The pairs of one level.
-ghost use Rattle.std.specs.Prelude.{◌≡◌, ◌≢◌, ℕ, ◌<◌, ◌≤◌, ◌^◌, List, length, None, Some, IsSome, Err, IfOk, OnOk, OnErr};
-ghost use Rattle.std.specs.Vec.{vec_len, vec_capacity};
-ghost use Rattle.sha2.specs.Sha256.{sha256};
-ghost use Rattle.std.specs.FinMap as finmap;
-ghost use Rattle.keepers.specs.Counts.{Rose, raised};
-ghost use Rattle.keepers.specs.Told.{Images};
-ghost use Rattle.image_store.specs.Pairs.{pair_at, held};
-ghost use Rattle.image_store.specs.Calls.{IsKept, IsNotKept, IsGot, IsFreed, IsNotFreed, without_pair};
+ghost use Rattle.std.specs.Prelude.{◌≡◌, ◌<◌, Some, IsSome, IfOk};
+ghost use Rattle.image_store.specs.Pairs.{pair_at};
 ghost use Rattle.image_store.specs.Shelves.{no_pairs};
-ghost use Rattle.image_store.specs.Standing.{LevelStands, LevelAlone};
+ghost use Rattle.image_store.specs.StoreCalls.{CanKeep, HasPair, KeepsPair, FetchesPair, ReleasesPair};
 
 use keepers::{KeepFault, Keeper};
 use sha2::{Digest, Sha256};
@@ -115,30 +109,8 @@ impl Shelf {
         image: &[u8],
         digest: &[u8; 32],
     ) -> Result<(), StoreFault>
-        requires number { n < length self.old.pairs }
-        requires new { pair_at self.old.pairs n ≡ None }
-        requires room { held self.old.pairs < self.old.room }
-        requires size { length image.now < 2 ^ 32 }
-        requires digest { digest.now ≡ sha256 image.now }
-        requires slots { self.old.room ≤ K.slot_count keeper.old }
-        ensures ok { OnOk result (IsKept self.old self.new n image.now (K.told keeper.old) (K.told keeper.new)) }
-        ensures stands { (bytes : Images) → LevelStands self.old (K.told keeper.old) bytes →
-            OnOk result (LevelStands self.new (K.told keeper.new) (finmap.insert bytes n image.now)) }
-        ensures alone { LevelAlone self.old (K.told keeper.old) → OnOk result (LevelAlone self.new (K.told keeper.new)) }
-        ensures refused { OnErr result (self.new ≡ self.old) }
-        ensures still { (bytes : Images) → LevelStands self.old (K.told keeper.old) bytes → OnErr result (LevelStands self.new (K.told keeper.new) bytes) }
-        ensures left { OnErr result (IsNotKept self.old (K.told keeper.old) (K.told keeper.new)) }
-        ensures slots { K.slot_count keeper.new ≡ K.slot_count keeper.old }
-        ensures room { K.room_bytes keeper.new ≡ K.room_bytes keeper.old }
-        ensures place { K.place keeper.new ≡ K.place keeper.old }
-        ensures puts { K.put_count keeper.new ≡ raised (K.put_count keeper.old) 1 }
-        ensures gets { K.get_count keeper.new ≡ K.get_count keeper.old }
-        ensures frees { K.free_count keeper.new ≡ K.free_count keeper.old }
-        ensures quiet { result ≢ Err StoreFault.Keeper → K.fault_count keeper.new ≡ K.fault_count keeper.old }
-        ensures later { K.fault_count keeper.old ≤ K.fault_count keeper.new }
-        ensures cause { result ≡ Err StoreFault.Keeper → Rose (K.fault_count keeper.old) (K.fault_count keeper.new) }
-        ensures whole { (put got : List ℕ) → result ≢ Err (StoreFault.Damaged put got) }
-        ensures roomy { (room : ℕ) → K.room_bytes keeper.old ≡ Some room → length image.now ≤ room → result ≢ Err StoreFault.Memory }
+        requires { CanKeep self.old (K.slot_count keeper.old) n image.now digest.now }
+        ensures { KeepsPair K.Storage n image.now result self.old self.new keeper.old keeper.new }
     {
         let slot = self.free[self.count - 1];
         match keeper.put(slot, image) {
@@ -163,29 +135,8 @@ impl Shelf {
         n: u32,
         into: &mut Vec<u8>,
     ) -> Result<[u8; 32], StoreFault>
-        requires held { IsSome (pair_at self.now.pairs n) }
-        requires slots { self.now.room ≤ K.slot_count keeper.old }
-        ensures ok { OnOk result ((kept : Kept) → pair_at self.now.pairs n ≡ Some kept →
-            IsGot kept (K.told keeper.old) into.new.items × (vec_len into.new ≤ kept.length) × (sha256 into.new.items ≡ kept.digest)) }
-        ensures digest { IfOk result (λ digest. digest ≡ sha256 into.new.items) }
-        ensures short { OnOk result (vec_len into.new < 2 ^ 32) }
-        ensures damaged { (put got : List ℕ) → result ≡ Err (StoreFault.Damaged put got) → (kept : Kept) → pair_at self.now.pairs n ≡ Some kept →
-            IsGot kept (K.told keeper.old) into.new.items × (put ≡ kept.digest) × (got ≡ sha256 into.new.items) × (got ≢ put) }
-        ensures stands { (bytes : Images) → LevelStands self.now (K.told keeper.old) bytes → OnOk result (finmap.get bytes n ≡ Some into.new.items) }
-        ensures sound { (bytes : Images) → LevelStands self.now (K.told keeper.old) bytes → (put got : List ℕ) → result ≢ Err (StoreFault.Damaged put got) }
-        ensures same { K.told keeper.new ≡ K.told keeper.old }
-        ensures reserved { vec_capacity into.old ≤ vec_capacity into.new }
-        ensures slots { K.slot_count keeper.new ≡ K.slot_count keeper.old }
-        ensures room { K.room_bytes keeper.new ≡ K.room_bytes keeper.old }
-        ensures place { K.place keeper.new ≡ K.place keeper.old }
-        ensures gets { K.get_count keeper.new ≡ raised (K.get_count keeper.old) 1 }
-        ensures puts { K.put_count keeper.new ≡ K.put_count keeper.old }
-        ensures frees { K.free_count keeper.new ≡ K.free_count keeper.old }
-        ensures quiet { result ≢ Err StoreFault.Keeper → K.fault_count keeper.new ≡ K.fault_count keeper.old }
-        ensures later { K.fault_count keeper.old ≤ K.fault_count keeper.new }
-        ensures cause { result ≡ Err StoreFault.Keeper → Rose (K.fault_count keeper.old) (K.fault_count keeper.new) }
-        ensures roomy { (room : ℕ) (kept : Kept) → K.room_bytes keeper.old ≡ Some room → pair_at self.now.pairs n ≡ Some kept →
-            kept.length ≤ vec_capacity into.old → result ≢ Err StoreFault.Memory }
+        requires { HasPair self.now (K.slot_count keeper.old) n }
+        ensures { FetchesPair K.Storage n into.old into.new result self.now keeper.old keeper.new }
     {
         let kept = self.kept(n);
         match keeper.get(kept.slot, kept.length, into) {
@@ -205,26 +156,8 @@ impl Shelf {
 
     /// Frees the slot of a held pair, and drops the pair. After a refusal the pairs are unchanged.
     pub fn release<K: Keeper>(&mut self, keeper: &mut K, n: u32) -> Result<(), StoreFault>
-        requires held { IsSome (pair_at self.old.pairs n) }
-        requires slots { self.old.room ≤ K.slot_count keeper.old }
-        ensures ok { OnOk result (self.new ≡ without_pair self.old n) }
-        ensures freed { OnOk result ((kept : Kept) → pair_at self.old.pairs n ≡ Some kept → IsFreed kept (K.told keeper.old) (K.told keeper.new)) }
-        ensures stands { (bytes : Images) → LevelStands self.old (K.told keeper.old) bytes →
-            OnOk result (LevelStands self.new (K.told keeper.new) (finmap.remove bytes n)) }
-        ensures alone { LevelAlone self.old (K.told keeper.old) → OnOk result (LevelAlone self.new (K.told keeper.new)) }
-        ensures refused { OnErr result (self.new ≡ self.old) }
-        ensures left { OnErr result ((kept : Kept) → pair_at self.old.pairs n ≡ Some kept → IsNotFreed kept (K.told keeper.old) (K.told keeper.new)) }
-        ensures slots { K.slot_count keeper.new ≡ K.slot_count keeper.old }
-        ensures room { K.room_bytes keeper.new ≡ K.room_bytes keeper.old }
-        ensures place { K.place keeper.new ≡ K.place keeper.old }
-        ensures frees { K.free_count keeper.new ≡ raised (K.free_count keeper.old) 1 }
-        ensures puts { K.put_count keeper.new ≡ K.put_count keeper.old }
-        ensures gets { K.get_count keeper.new ≡ K.get_count keeper.old }
-        ensures quiet { result ≢ Err StoreFault.Keeper → K.fault_count keeper.new ≡ K.fault_count keeper.old }
-        ensures later { K.fault_count keeper.old ≤ K.fault_count keeper.new }
-        ensures cause { result ≡ Err StoreFault.Keeper → Rose (K.fault_count keeper.old) (K.fault_count keeper.new) }
-        ensures whole { (put got : List ℕ) → result ≢ Err (StoreFault.Damaged put got) }
-        ensures roomy { (room : ℕ) → K.room_bytes keeper.old ≡ Some room → result ≢ Err StoreFault.Memory }
+        requires { HasPair self.old (K.slot_count keeper.old) n }
+        ensures { ReleasesPair K.Storage n result self.old self.new keeper.old keeper.new }
     {
         let kept = self.kept(n);
         match keeper.free(kept.slot) {

@@ -1,16 +1,11 @@
 // The pairs of all levels.
-ghost use Rattle.std.specs.Prelude.{◌≡◌, ◌≢◌, ℕ, ◌<◌, ◌≤◌, ◌^◌, List, length, slice_set, None, Some, IsSome, Err, IfOk, OnOk, OnErr};
+ghost use Rattle.std.specs.Prelude.{◌≡◌, ℕ, ◌<◌, length, slice_set, Some, IfOk, OnErr};
 ghost use Rattle.std.specs.FinMap as finmap;
-ghost use Rattle.std.specs.Vec.{vec_len, vec_capacity};
-ghost use Rattle.sha2.specs.Sha256.{sha256};
 ghost use Rattle.level_book.specs.BookCosts.{slots_of};
-ghost use Rattle.keepers.specs.Counts.{Rose, raised};
 ghost use Rattle.keepers.specs.Told.{Images};
-ghost use Rattle.image_store.specs.declared.shelf.Kept.{Kept};
-ghost use Rattle.image_store.specs.Pairs.{held};
-ghost use Rattle.image_store.specs.Shelves.{level_of, kept_at, no_pairs_on};
-ghost use Rattle.image_store.specs.Calls.{IsKept, IsNotKept, IsGot, IsFreed, IsNotFreed, without_pair};
+ghost use Rattle.image_store.specs.Shelves.{level_of, no_pairs_on};
 ghost use Rattle.image_store.specs.Standing.{LevelStands, LevelAlone};
+ghost use Rattle.image_store.specs.StoreCalls.{CanKeep, HasPair, KeepsPair, FetchesPair, ReleasesPair};
 
 use crate::shelf::{Shelf, StoreFault};
 use keepers::Keeper;
@@ -58,32 +53,10 @@ impl Store {
         digest: &[u8; 32],
     ) -> Result<(), StoreFault>
         requires level { level < length self.old }
-        requires number { n < length (level_of self.old level).pairs }
-        requires new { kept_at self.old level n ≡ None }
-        requires room { held (level_of self.old level).pairs < (level_of self.old level).room }
-        requires size { length image.now < 2 ^ 32 }
-        requires digest { digest.now ≡ sha256 image.now }
-        requires slots { (level_of self.old level).room ≤ K.slot_count keeper.old }
-        ensures ok { OnOk result (IsKept (level_of self.old level) (level_of self.new level) n image.now (K.told keeper.old) (K.told keeper.new)) }
+        requires can { CanKeep (level_of self.old level) (K.slot_count keeper.old) n image.now digest.now }
+        ensures keeps { KeepsPair K.Storage n image.now result (level_of self.old level) (level_of self.new level) keeper.old keeper.new }
         ensures others { self.new ≡ slice_set self.old level (level_of self.new level) }
-        ensures stands { (bytes : Images) → LevelStands (level_of self.old level) (K.told keeper.old) bytes →
-            OnOk result (LevelStands (level_of self.new level) (K.told keeper.new) (finmap.insert bytes n image.now)) }
-        ensures alone { LevelAlone (level_of self.old level) (K.told keeper.old) → OnOk result (LevelAlone (level_of self.new level) (K.told keeper.new)) }
         ensures refused { OnErr result (self.new ≡ self.old) }
-        ensures still { (bytes : Images) → LevelStands (level_of self.old level) (K.told keeper.old) bytes →
-            OnErr result (LevelStands (level_of self.new level) (K.told keeper.new) bytes) }
-        ensures left { OnErr result (IsNotKept (level_of self.old level) (K.told keeper.old) (K.told keeper.new)) }
-        ensures slots { K.slot_count keeper.new ≡ K.slot_count keeper.old }
-        ensures room { K.room_bytes keeper.new ≡ K.room_bytes keeper.old }
-        ensures place { K.place keeper.new ≡ K.place keeper.old }
-        ensures puts { K.put_count keeper.new ≡ raised (K.put_count keeper.old) 1 }
-        ensures gets { K.get_count keeper.new ≡ K.get_count keeper.old }
-        ensures frees { K.free_count keeper.new ≡ K.free_count keeper.old }
-        ensures quiet { result ≢ Err StoreFault.Keeper → K.fault_count keeper.new ≡ K.fault_count keeper.old }
-        ensures later { K.fault_count keeper.old ≤ K.fault_count keeper.new }
-        ensures cause { result ≡ Err StoreFault.Keeper → Rose (K.fault_count keeper.old) (K.fault_count keeper.new) }
-        ensures whole { (put got : List ℕ) → result ≢ Err (StoreFault.Damaged put got) }
-        ensures roomy { (room : ℕ) → K.room_bytes keeper.old ≡ Some room → length image.now ≤ room → result ≢ Err StoreFault.Memory }
     {
         self.shelves[level as usize].keep(keeper, n, image, digest)
     }
@@ -98,31 +71,8 @@ impl Store {
         into: &mut Vec<u8>,
     ) -> Result<[u8; 32], StoreFault>
         requires level { level < length self.now }
-        requires held { IsSome (kept_at self.now level n) }
-        requires slots { (level_of self.now level).room ≤ K.slot_count keeper.old }
-        ensures ok { OnOk result ((kept : Kept) → kept_at self.now level n ≡ Some kept →
-            IsGot kept (K.told keeper.old) into.new.items × (vec_len into.new ≤ kept.length) × (sha256 into.new.items ≡ kept.digest)) }
-        ensures digest { IfOk result (λ digest. digest ≡ sha256 into.new.items) }
-        ensures short { OnOk result (vec_len into.new < 2 ^ 32) }
-        ensures damaged { (put got : List ℕ) → result ≡ Err (StoreFault.Damaged put got) → (kept : Kept) → kept_at self.now level n ≡ Some kept →
-            IsGot kept (K.told keeper.old) into.new.items × (put ≡ kept.digest) × (got ≡ sha256 into.new.items) × (got ≢ put) }
-        ensures stands { (bytes : Images) → LevelStands (level_of self.now level) (K.told keeper.old) bytes →
-            OnOk result (finmap.get bytes n ≡ Some into.new.items) }
-        ensures sound { (bytes : Images) → LevelStands (level_of self.now level) (K.told keeper.old) bytes → (put got : List ℕ) →
-            result ≢ Err (StoreFault.Damaged put got) }
-        ensures same { K.told keeper.new ≡ K.told keeper.old }
-        ensures reserved { vec_capacity into.old ≤ vec_capacity into.new }
-        ensures slots { K.slot_count keeper.new ≡ K.slot_count keeper.old }
-        ensures room { K.room_bytes keeper.new ≡ K.room_bytes keeper.old }
-        ensures place { K.place keeper.new ≡ K.place keeper.old }
-        ensures gets { K.get_count keeper.new ≡ raised (K.get_count keeper.old) 1 }
-        ensures puts { K.put_count keeper.new ≡ K.put_count keeper.old }
-        ensures frees { K.free_count keeper.new ≡ K.free_count keeper.old }
-        ensures quiet { result ≢ Err StoreFault.Keeper → K.fault_count keeper.new ≡ K.fault_count keeper.old }
-        ensures later { K.fault_count keeper.old ≤ K.fault_count keeper.new }
-        ensures cause { result ≡ Err StoreFault.Keeper → Rose (K.fault_count keeper.old) (K.fault_count keeper.new) }
-        ensures roomy { (room : ℕ) (kept : Kept) → K.room_bytes keeper.old ≡ Some room → kept_at self.now level n ≡ Some kept →
-            kept.length ≤ vec_capacity into.old → result ≢ Err StoreFault.Memory }
+        requires has { HasPair (level_of self.now level) (K.slot_count keeper.old) n }
+        ensures { FetchesPair K.Storage n into.old into.new result (level_of self.now level) keeper.old keeper.new }
     {
         self.shelves[level as usize].fetch(keeper, n, into)
     }
@@ -135,27 +85,10 @@ impl Store {
         n: u32,
     ) -> Result<(), StoreFault>
         requires level { level < length self.old }
-        requires held { IsSome (kept_at self.old level n) }
-        requires slots { (level_of self.old level).room ≤ K.slot_count keeper.old }
-        ensures ok { OnOk result (level_of self.new level ≡ without_pair (level_of self.old level) n) }
-        ensures freed { OnOk result ((kept : Kept) → kept_at self.old level n ≡ Some kept → IsFreed kept (K.told keeper.old) (K.told keeper.new)) }
+        requires has { HasPair (level_of self.old level) (K.slot_count keeper.old) n }
+        ensures releases { ReleasesPair K.Storage n result (level_of self.old level) (level_of self.new level) keeper.old keeper.new }
         ensures others { self.new ≡ slice_set self.old level (level_of self.new level) }
-        ensures stands { (bytes : Images) → LevelStands (level_of self.old level) (K.told keeper.old) bytes →
-            OnOk result (LevelStands (level_of self.new level) (K.told keeper.new) (finmap.remove bytes n)) }
-        ensures alone { LevelAlone (level_of self.old level) (K.told keeper.old) → OnOk result (LevelAlone (level_of self.new level) (K.told keeper.new)) }
         ensures refused { OnErr result (self.new ≡ self.old) }
-        ensures left { OnErr result ((kept : Kept) → kept_at self.old level n ≡ Some kept → IsNotFreed kept (K.told keeper.old) (K.told keeper.new)) }
-        ensures slots { K.slot_count keeper.new ≡ K.slot_count keeper.old }
-        ensures room { K.room_bytes keeper.new ≡ K.room_bytes keeper.old }
-        ensures place { K.place keeper.new ≡ K.place keeper.old }
-        ensures frees { K.free_count keeper.new ≡ raised (K.free_count keeper.old) 1 }
-        ensures puts { K.put_count keeper.new ≡ K.put_count keeper.old }
-        ensures gets { K.get_count keeper.new ≡ K.get_count keeper.old }
-        ensures quiet { result ≢ Err StoreFault.Keeper → K.fault_count keeper.new ≡ K.fault_count keeper.old }
-        ensures later { K.fault_count keeper.old ≤ K.fault_count keeper.new }
-        ensures cause { result ≡ Err StoreFault.Keeper → Rose (K.fault_count keeper.old) (K.fault_count keeper.new) }
-        ensures whole { (put got : List ℕ) → result ≢ Err (StoreFault.Damaged put got) }
-        ensures roomy { (room : ℕ) → K.room_bytes keeper.old ≡ Some room → result ≢ Err StoreFault.Memory }
     {
         self.shelves[level as usize].release(keeper, n)
     }

@@ -1,4 +1,5 @@
 pub mod AnyKeeper
+pub mod Calls
 pub mod Counts
 pub mod DiskFaults
 pub mod Failing

@@ -5,6 +5,7 @@ use crate::disk::Disk;
 use crate::file_keeper::FileKeeper;
 use crate::keeper::{KeepFault, Keeper};
 use crate::memory_keeper::MemoryKeeper;
+use crate::storage::Storage;
 
 /// A keeper in memory or over files, so that a book's levels can have both kinds. Its calls are its part's.
 #[derive(Drop)]
@@ -16,7 +17,7 @@ pub enum AnyKeeper<D> {
 impl<D: Disk> AnyKeeper<D> {
     /// How many faults its part counts.
     pub fn faults(&self) -> u64
-        ensures { result ≡ ⟦<AnyKeeper<D> as Keeper>⟧.fault_count self.now }
+        ensures { result ≡ ⟦<AnyKeeper<D> as Storage>⟧.fault_count self.now }
     {
         match self {
             AnyKeeper::Memory(keeper) => keeper.faults(),
@@ -25,8 +26,8 @@ impl<D: Disk> AnyKeeper<D> {
     }
 }
 
-impl<D: Disk> Keeper for AnyKeeper<D> {
-    ghost use Rattle.keepers.specs.AnyKeeper.{told_of, slots_of, puts_of, gets_of, frees_of, faults_of, room_of, place_of, put_of, get_of, free_of};
+impl<D: Disk> Storage for AnyKeeper<D> {
+    ghost use Rattle.keepers.specs.AnyKeeper.{told_of, slots_of, puts_of, gets_of, frees_of, faults_of, room_of, place_of};
 
     ghost told = { told_of D.told };
 
@@ -43,6 +44,10 @@ impl<D: Disk> Keeper for AnyKeeper<D> {
     ghost room_bytes = { room_of };
 
     ghost place = { place_of };
+}
+
+impl<D: Disk> Keeper for AnyKeeper<D> {
+    ghost use Rattle.keepers.specs.AnyKeeper.{put_of, get_of, free_of};
 
     ghost put_does = { put_of D.told D.may_fail };
 

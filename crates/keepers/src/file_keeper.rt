@@ -11,6 +11,7 @@ ghost use Rattle.keepers.specs.Told.{Tells, WhereTold, SameButAt, SameButNamed, 
 use crate::disk::Disk;
 use crate::faults::keep_fault;
 use crate::keeper::{KeepFault, Keeper};
+use crate::storage::Storage;
 use std::alloc::Global;
 use std::io;
 use std::io::ErrorKind;
@@ -39,12 +40,12 @@ impl<D: Disk> FileKeeper<D> {
         ensures disk { disk_of result ≡ disk }
         ensures folder { folder_of result ≡ folder.items }
         ensures level { level_of result ≡ level }
-        ensures told { ⟦<FileKeeper<D> as Keeper>⟧.told result ≡ option_map (level_images folder.items level slots) (D.told disk) }
-        ensures slots { ⟦<FileKeeper<D> as Keeper>⟧.slot_count result ≡ slots }
-        ensures puts { ⟦<FileKeeper<D> as Keeper>⟧.put_count result ≡ 0 }
-        ensures gets { ⟦<FileKeeper<D> as Keeper>⟧.get_count result ≡ 0 }
-        ensures frees { ⟦<FileKeeper<D> as Keeper>⟧.free_count result ≡ 0 }
-        ensures faults { ⟦<FileKeeper<D> as Keeper>⟧.fault_count result ≡ 0 }
+        ensures told { ⟦<FileKeeper<D> as Storage>⟧.told result ≡ option_map (level_images folder.items level slots) (D.told disk) }
+        ensures slots { ⟦<FileKeeper<D> as Storage>⟧.slot_count result ≡ slots }
+        ensures puts { ⟦<FileKeeper<D> as Storage>⟧.put_count result ≡ 0 }
+        ensures gets { ⟦<FileKeeper<D> as Storage>⟧.get_count result ≡ 0 }
+        ensures frees { ⟦<FileKeeper<D> as Storage>⟧.free_count result ≡ 0 }
+        ensures faults { ⟦<FileKeeper<D> as Storage>⟧.fault_count result ≡ 0 }
     {
         Self {
             disk,
@@ -68,28 +69,28 @@ impl<D: Disk> FileKeeper<D> {
 
     /// How often `put` was called, up to `u64::MAX`.
     pub fn puts(&self) -> u64
-        ensures { result ≡ ⟦<FileKeeper<D> as Keeper>⟧.put_count self.now }
+        ensures { result ≡ ⟦<FileKeeper<D> as Storage>⟧.put_count self.now }
     {
         self.puts
     }
 
     /// How often `get` was called, up to `u64::MAX`.
     pub fn gets(&self) -> u64
-        ensures { result ≡ ⟦<FileKeeper<D> as Keeper>⟧.get_count self.now }
+        ensures { result ≡ ⟦<FileKeeper<D> as Storage>⟧.get_count self.now }
     {
         self.gets
     }
 
     /// How often `free` was called, up to `u64::MAX`.
     pub fn frees(&self) -> u64
-        ensures { result ≡ ⟦<FileKeeper<D> as Keeper>⟧.free_count self.now }
+        ensures { result ≡ ⟦<FileKeeper<D> as Storage>⟧.free_count self.now }
     {
         self.frees
     }
 
     /// How often a call failed, up to `u64::MAX`.
     pub fn faults(&self) -> u64
-        ensures { result ≡ ⟦<FileKeeper<D> as Keeper>⟧.fault_count self.now }
+        ensures { result ≡ ⟦<FileKeeper<D> as Storage>⟧.fault_count self.now }
     {
         self.faults
     }
@@ -153,11 +154,10 @@ impl<D: Disk> FileKeeper<D> {
     }
 }
 
-// It claims the images in the files of its slots, if the disk claims its files. Further clauses say what a call does to
-// its files.
-impl<D: Disk> Keeper for FileKeeper<D> {
+// It claims the images in the files of its slots, if the disk claims its files.
+impl<D: Disk> Storage for FileKeeper<D> {
     ghost use Rattle.std.specs.Prelude.{None, Some};
-    ghost use Rattle.keepers.specs.SlotFiles.{folder_of, level_of, images_told, MayFail, IsFilePut, IsFileGet, IsFileFree};
+    ghost use Rattle.keepers.specs.SlotFiles.{folder_of, level_of, images_told};
 
     ghost told = { images_told D.told };
 
@@ -174,6 +174,11 @@ impl<D: Disk> Keeper for FileKeeper<D> {
     ghost room_bytes = { λ _. None };
 
     ghost place = { λ k. Some (folder_of k, level_of k) };
+}
+
+// Further clauses say what a call does to its files.
+impl<D: Disk> Keeper for FileKeeper<D> {
+    ghost use Rattle.keepers.specs.SlotFiles.{MayFail, IsFilePut, IsFileGet, IsFileFree};
 
     ghost put_does = { λ old slot image answer new. IsFilePut D.told D.may_fail slot image answer old new };
 

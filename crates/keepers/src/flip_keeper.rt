@@ -8,6 +8,7 @@ ghost use Rattle.keepers.specs.Told.{image_in, SameButAt};
 
 use crate::keeper::{KeepFault, Keeper};
 use crate::memory_keeper::MemoryKeeper;
+use crate::storage::Storage;
 use std::alloc::Global;
 use std::marker::Model;
 
@@ -80,9 +81,7 @@ impl FlipKeeper {
     }
 }
 
-impl Keeper for FlipKeeper {
-    ghost use Rattle.keepers.specs.Parts.{IsFlipPut, IsFlipGet, IsFlipFree};
-
+impl Storage for FlipKeeper {
     ghost told = { λ _. None };
 
     ghost slot_count = { λ k. k.keeper.slots };
@@ -98,6 +97,10 @@ impl Keeper for FlipKeeper {
     ghost room_bytes = { λ _. None };
 
     ghost place = { λ _. None };
+}
+
+impl Keeper for FlipKeeper {
+    ghost use Rattle.keepers.specs.Parts.{IsFlipPut, IsFlipGet, IsFlipFree};
 
     ghost put_does = { λ old slot image answer new. IsFlipPut slot image answer old new };
 

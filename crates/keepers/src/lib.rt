@@ -1,7 +1,7 @@
 //! Storage, output and input as traits, with objects in memory for tests, and objects over files and standard output.
-//! It uses no other crate. `image_store`, `reverse_runner`, `cert_text` and many more use it. Each trait says what a
-//! call does to the content, for objects that claim to know it. It counts the calls and the faults, so a fault is
-//! returned only where the outside failed. `specs/Told.antt` and `specs/Counts.antt` define this.
+//! It uses no other crate. The runner, the console, certificates and the programs use it. Each trait says what a call
+//! does to the content, for objects that claim to know it. It counts the calls and the faults, so a fault is returned
+//! only where the outside failed. `Told`, `Counts` and `Calls` in `specs/` define this.
 #![tactic(auto)]
 
 mod any_keeper;
@@ -21,6 +21,7 @@ mod output;
 mod place;
 mod sink;
 mod stdout_sink;
+mod storage;
 mod transfer;
 
 pub use crate::any_keeper::AnyKeeper;
@@ -37,3 +38,4 @@ pub use crate::memory_sink::MemorySink;
 pub use crate::output::Output;
 pub use crate::sink::{Sink, SinkFault};
 pub use crate::stdout_sink::StdoutSink;
+pub use crate::storage::Storage;

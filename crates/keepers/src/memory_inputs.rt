@@ -1,8 +1,8 @@
 // Inputs in memory.
-ghost use Rattle.std.specs.Prelude.{◌≡◌, ◌≢◌, ◌⊎◌, ℕ, ◌<◌, ◌≤◌, [], ◌∷◌, ◌++◌, length, map, Contains, None, Some, Ok, Err, IsErr, IsSomeAnd, MatchOption};
+ghost use Rattle.std.specs.Prelude.{◌≡◌, ◌≢◌, ℕ, ◌<◌, ◌≤◌, [], length, map, None, Some, Ok, IsSomeAnd, MatchOption};
 ghost use Rattle.std.specs.Vec.{vec_len, vec_capacity};
 ghost use Rattle.std.specs.FinMap as finmap;
-ghost use Rattle.keepers.specs.Counts.{raised};
+ghost use Rattle.keepers.specs.InputsState.{Notes, FailsIfListed};
 ghost use Rattle.keepers.specs.Told.{Begins, bytes_in};
 
 use crate::inputs::{InputFault, Inputs, Whole};
@@ -102,20 +102,8 @@ impl Inputs for MemoryInputs {
         ensures begun { Begins into.new.items (bytes_in self.old.files name.now) }
         ensures longer { result ≡ Ok Whole.Longer → IsSomeAnd (finmap.get self.old.files name.now) (λ bytes. limit < length bytes) }
         ensures reserved { vec_capacity into.old ≤ vec_capacity into.new }
-
-        // It fails exactly if the call is listed or the name is missing, or memory runs out.
-        ensures listed { Contains self.old.failing (raised self.old.calls 1) → IsErr result }
-        ensures missing { finmap.get self.old.files name.now ≡ None → IsErr result }
-        ensures fails { result ≡ Err InputFault.Failed → Contains self.old.failing (raised self.old.calls 1) ⊎ (finmap.get self.old.files name.now ≡ None) }
-
-        ensures same { self.new.files ≡ self.old.files }
-        ensures same_list { self.new.failing ≡ self.old.failing }
-        ensures calls { self.new.calls ≡ raised self.old.calls 1 }
-        ensures asks { result ≢ Err InputFault.Memory → self.new.asked ≡ self.old.asked ++ name.now ∷ [] }
-        ensures may_ask { result ≡ Err InputFault.Memory → (self.new.asked ≡ self.old.asked) ⊎ (self.new.asked ≡ self.old.asked ++ name.now ∷ []) }
-        ensures later { self.old.faults ≤ self.new.faults }
-        ensures cause { result ≡ Err InputFault.Failed → self.new.faults ≡ raised self.old.faults 1 }
-        ensures no_cause { result ≢ Err InputFault.Failed → self.new.faults ≡ self.old.faults }
+        ensures notes { Notes result name.now self.old self.new }
+        ensures fails { FailsIfListed result name.now self.old self.new }
     {
         into.clear();
         self.calls = self.calls.saturating_add(1);

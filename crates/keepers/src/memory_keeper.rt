@@ -8,6 +8,7 @@ ghost use Rattle.keepers.specs.Told.{image_in, SameButAt};
 
 use crate::keeper::{KeepFault, Keeper};
 use crate::place::{Place, image_at, with_place, with_rooms};
+use crate::storage::Storage;
 use std::alloc::{AllocError, Global};
 use std::marker::Model;
 
@@ -154,9 +155,7 @@ impl MemoryKeeper {
     }
 }
 
-impl Keeper for MemoryKeeper {
-    ghost use Rattle.keepers.specs.Parts.{IsPut, IsGet, IsFree};
-
+impl Storage for MemoryKeeper {
     ghost told = { λ k. Some k.images };
 
     ghost slot_count = { λ k. k.slots };
@@ -172,6 +171,10 @@ impl Keeper for MemoryKeeper {
     ghost room_bytes = { λ k. k.room };
 
     ghost place = { λ _. None };
+}
+
+impl Keeper for MemoryKeeper {
+    ghost use Rattle.keepers.specs.Parts.{IsPut, IsGet, IsFree};
 
     ghost put_does = { λ old slot image answer new. IsPut slot image answer old new };
 

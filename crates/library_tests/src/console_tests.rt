@@ -7,7 +7,8 @@ use crate::states::first_state;
 use input_journal::{Journal, read_journal};
 use keepers::{Keeper, MemoryKeeper, MemorySink};
 use level_book::{Book, read_book};
-use reverse_console::{Console, ScriptFault, answer_all, read_orders};
+use line_texts::Fault;
+use reverse_console::{Console, answer_all, read_orders};
 use rv_machine::{State, Steps};
 use std::alloc::{AllocError, Global};
 use std::marker::Brand;
@@ -217,7 +218,7 @@ const FAULTS: [(&[u8], u8, u32, u32); 8] = [
 ];
 
 // The fault of a text, in a run of 1,000 steps.
-fn fault_of(rt: &impl Abort, alloc: Global, text: &[u8]) -> Option<ScriptFault> {
+fn fault_of(rt: &impl Abort, alloc: Global, text: &[u8]) -> Option<Fault> {
     assert!(rt; text.len() < 100);
     read_orders(alloc, text, 1000).err()
 }
@@ -225,7 +226,7 @@ fn fault_of(rt: &impl Abort, alloc: Global, text: &[u8]) -> Option<ScriptFault> 
 #[test]
 fn the_first_fault_of_a_script_is_answered(rt: HostRuntime) {
     for (text, rule, line, column) in &FAULTS {
-        let fault = ScriptFault::At {
+        let fault = Fault::At {
             rule: *rule,
             line: *line,
             column: *column,

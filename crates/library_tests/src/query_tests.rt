@@ -2,9 +2,9 @@
 ghost use Rattle.std.specs.Prelude.{◌≡◌, ◌<◌, ◌≤◌, false, map, IfOk};
 ghost use Rattle.std.specs.Bool.{OnTrue};
 ghost use Rattle.level_book.specs.BookCosts.{slots_of};
-ghost use Rattle.level_book.specs.Configuration.{start};
 ghost use Rattle.level_book.specs.Valid.{Valid};
 ghost use Rattle.reverse_runner.specs.KeepersSeen.{HaveRoom};
+ghost use Rattle.reverse_queries.specs.Performing.{AwaitsList};
 
 use crate::sessions::{LIST, STACK, have_room};
 use crate::states::first_state;
@@ -61,9 +61,7 @@ fn ask_session<K: Keeper, L: Ledger>(
     steps: &mut Steps<L>,
 ) -> Result<Option<u32>, RunFault>
     requires four { session.old.situation.steps ≡ 4 }
-    requires start { session.old.situation.at ≡ start session.old.situation.steps session.old.situation.slots }
-    requires lasts { session.old.ended ≡ false }
-    requires valid { Valid session.old.situation.steps session.old.situation.slots list.now }
+    requires awaits { AwaitsList session.old list.now }
     requires room { HaveRoom session.old.situation.steps session.old.situation.slots (map K.slot_count keepers.old.items) }
 {
     match ask {

@@ -3,11 +3,12 @@ ghost use Rattle.std.specs.Prelude.{◌≡◌, ◌<◌, ◌≤◌, ◌^◌, leng
 ghost use Rattle.std.specs.List.{All};
 ghost use Rattle.std.specs.List.Sorted.{IsStrictlyIncreasing};
 
+use case_files::CaseFault;
 use input_journal::{Journal, read_journal};
 use rv_machine::{State, Status};
 use rv_pages::Pages;
 use serde_json::Value;
-use std::alloc::{AllocError, Global};
+use std::alloc::Global;
 
 /// A state whose pc is 10000, its recorded input, and how many steps it takes.
 #[derive(Drop)]
@@ -15,21 +16,6 @@ pub struct Case {
     pub state: State,
     pub journal: Journal,
     pub steps: u32,
-}
-
-/// Why a line is no case.
-#[derive(Clone, Copy, Debug, PartialEq, Eq)]
-pub enum CaseFault {
-    /// A member is not of its form.
-    Form,
-    /// There was no memory.
-    Memory,
-}
-
-impl From<AllocError> for CaseFault {
-    fn from(_e: AllocError) -> CaseFault {
-        CaseFault::Memory
-    }
 }
 
 /// The case of a value, by its members. `pages`: the numbers of the pages in ascending order. `words`: words of the

@@ -2,7 +2,8 @@
 use Rattle.std.proofs.Common.{◌≡◌, ℕ, ◌∙◌, refl, sym, ap, subst, List, [], ◌∷◌, Option, Some, None}
 use Rattle.std.specs.Option.{option_or}
 use Rattle.requests.specs.declared.request.Command as in_memory
-use Rattle.requests.specs.Reading.{Gives, ◌>>=◌}
+use Rattle.requests.specs.Reading.{◌>>=◌}
+use Rattle.line_texts.specs.Reading.{GivesSome}
 use Rattle.requests.specs.Request.{Command}
 use Rattle.requests.specs.Forms.{Place, Value, Values, all_taken, Takes, TakesAll, finished, Form, form_taken}
 use Rattle.requests.specs.RequestReading.{as_command}
@@ -35,11 +36,11 @@ takes_more p ps (Some words) (Some behind) last v vs first rest =
 
 -- a command that was made of the values is what the form takes
 pub form_gives : (f : Form) (words : List (List ℕ)) (start last : Option (List (List ℕ))) (vs : Values f.places) (command : in_memory.Command) (result : Option in_memory.Command) →
-    start ≡ Some words → TakesAll f.places start vs last → result ≡ finished last command → f.make vs ≡ as_command command → Gives as_command result (form_taken f words)
+    start ≡ Some words → TakesAll f.places start vs last → result ≡ finished last command → f.make vs ≡ as_command command → GivesSome as_command result (form_taken f words)
 form_gives f words start last vs command result begins takes is same =
     by_last last (ap (λ o. o >>= all_taken f.places) (sym begins) ∙ takes) result is
   where
-    by_last : (last : Option (List (List ℕ))) → all_taken f.places words ≡ finished last vs → (result : Option in_memory.Command) → result ≡ finished last command → Gives as_command result (form_taken f words)
+    by_last : (last : Option (List (List ℕ))) → all_taken f.places words ≡ finished last vs → (result : Option in_memory.Command) → result ≡ finished last command → GivesSome as_command result (form_taken f words)
     by_last None e None i = ap (λ x. x >>= λ ws. Some (f.make ws)) e
     by_last None e (Some x) i = absurd cc
     by_last (Some []) e None i = absurd cc
@@ -50,9 +51,9 @@ form_gives f words start last vs command result begins takes is same =
     by_last (Some (word ∷ rest)) e (Some x) i = absurd cc
 
 -- two commands, of which the first is tried before the other
-pub gives_or : (x y : Option in_memory.Command) (a b : Option Command) → Gives as_command x a → Gives as_command y b → Gives as_command (option_or x y) (option_or a b)
-gives_or None y a b h g = subst (λ (o : Option Command). Gives as_command y (option_or o b)) (sym h) g
+pub gives_or : (x y : Option in_memory.Command) (a b : Option Command) → GivesSome as_command x a → GivesSome as_command y b → GivesSome as_command (option_or x y) (option_or a b)
+gives_or None y a b h g = subst (λ (o : Option Command). GivesSome as_command y (option_or o b)) (sym h) g
 gives_or (Some x) y a b h g = ap (λ o. option_or o b) h
 
-pub gives_then : (x y r : Option in_memory.Command) (a b : Option Command) → r ≡ option_or x y → Gives as_command x a → Gives as_command y b → Gives as_command r (option_or a b)
-gives_then x y r a b e h g = subst (λ (o : Option in_memory.Command). Gives as_command o (option_or a b)) (sym e) (gives_or x y a b h g)
+pub gives_then : (x y r : Option in_memory.Command) (a b : Option Command) → r ≡ option_or x y → GivesSome as_command x a → GivesSome as_command y b → GivesSome as_command r (option_or a b)
+gives_then x y r a b e h g = subst (λ (o : Option in_memory.Command). GivesSome as_command o (option_or a b)) (sym e) (gives_or x y a b h g)

@@ -1,5 +1,4 @@
 pub mod Steps
-pub mod Decimal
 pub mod Texts
 pub mod Addresses
 pub mod Forming

@@ -1,35 +1,27 @@
 -- What a place of a form takes is spelled so, and what may be spelled is taken.
-use Rattle.std.proofs.Common.{◌≡◌, ℕ, ◌^◌, ◌<◌, ◌++◌, Bool, true, false, cond, not, List, [], length, Option, Some, None, refl, sym, ap, subst, ◌∙◌, arith, append-nil}
+use Rattle.std.proofs.Common.{◌≡◌, ℕ, ◌^◌, ◌<◌, Bool, true, false, cond, not, List, length, Option, Some, None, refl, sym, ap, subst, ◌∙◌, arith}
 use Rattle.std.specs.Prelude.{decimal, codes, ◌==◌}
 use Rattle.std.specs.Str.{bytes_eq}
 use Rattle.std.proofs.lemmas.Bool.{false≢true}
 use Rattle.std.proofs.lemmas.Option.{same_Some}
 use Rattle.std.proofs.lemmas.Slice.Eq.{bytes_eq-Decides}
-use Rattle.requests.specs.Reading.{◌>>=◌, number_at}
 use Rattle.requests.specs.ChoiceReading.{number_of}
 use Rattle.requests.specs.Operands.{Schedule, by_name, made, IsName, IsScheduleName, CanBeGiven, MayBeNamed, word_or_dash, schedule_word}
 use Rattle.requests.specs.Forms.{Place, fixed, named, named_or_none, schedule_named, scheduled, numbered, addressed, digested, Value, word_at, Allows, is_name, is_schedule_name, name_or_none, schedule_of, taken}
 use Rattle.requests.proofs.Addresses.{address_again, address_read, digest_again, digest_read}
-use Rattle.requests.proofs.Decimal.{number_again, number_taken}
-use Rattle.requests.proofs.Steps.{passed_then, bind_some, is_not, and_parts, and_both, empty, other_text, same_text}
+use Rattle.line_texts.proofs.Decimal.{decimal_is, number_is}
+use Rattle.requests.proofs.Steps.{is_not, and_parts, and_both, empty, other_text, same_text}
+use Rattle.line_texts.proofs.Steps.{passed_then}
 
 -- ---- numbers
 
 pub number_of_again : (n : ℕ) → n < 2 ^ 64 → number_of (decimal n) ≡ Some n
-unfolding number_of
-number_of_again n small =
-    let again = ap (number_at 18446744073709551615) (sym (append-nil (decimal n))) ∙ number_again 18446744073709551615 n [] (omega arith) (omega arith) refl in
-    ap (λ o. o >>= λ read. cond (length read.1 == 0) (Some read.0) None) again
+number_of_again n small = decimal_is 18446744073709551615 n (omega arith) (omega arith)
 
 pub number_of_read : (word : List ℕ) (n : ℕ) → number_of word ≡ Some n → (word ≡ decimal n) × (n < 2 ^ 64)
-unfolding number_of
 number_of_read word n e =
-    let step = bind_some (number_at 18446744073709551615 word) (λ read. cond (length read.1 == 0) (Some read.0) None) n e in
-    let ends = passed_then (length (step.0).1 == 0) (Some (step.0).0) n step.2 in
-    let same = same_Some (step.0).0 n ends.1 in
-    let none = empty (step.0).1 ends.0 in
-    let is = number_taken 18446744073709551615 word (step.0).0 (step.0).1 (omega arith) step.1 in
-    (is.text ∙ ap (λ r. decimal (step.0).0 ++ r) none ∙ append-nil (decimal (step.0).0) ∙ ap decimal same, omega (arith, is.small, same))
+    let is = number_is 18446744073709551615 word n (omega arith) e in
+    (is.1, omega (arith, is.0))
 
 -- ---- names
 

@@ -8,14 +8,16 @@ use Rattle.std.proofs.lemmas.Option.{same_Some, none-some, some_pair_parts}
 use Rattle.std.proofs.lemmas.List.Sums.{sum_by-append}
 use Rattle.std.proofs.lemmas.Slice.Eq.{bytes_eq-Decides}
 use Rattle.requests.specs.declared.request.Request as in_memory
-use Rattle.requests.specs.Reading.{Gives, ◌>>=◌, with_or, after_of, number_at}
+use Rattle.requests.specs.Reading.{◌>>=◌, with_or, after_of}
+use Rattle.line_texts.specs.Reading.{GivesSome, number_at}
 use Rattle.requests.specs.Request.{Choice, raw, stack, workers, units, files, files_front, option_word, is_raw, is_stack, is_workers, is_units, is_files, FitsWord, AreOptions, Command, run, plan, plan_periodic, check, certify, price, ask, find, assemble, disassemble, move_about, demo, command_words, Request, Says}
 use Rattle.requests.specs.ChoiceReading.{number_of, stack_of, workers_of, unit_of, files_of, choice_of, first_choice, options_at, behind_options, is_like, are_single}
 use Rattle.requests.specs.Forms.{command_of}
 use Rattle.requests.specs.RequestReading.{request_read, request_of}
 use Rattle.requests.proofs.Commands.{command_again, command_read}
-use Rattle.requests.proofs.Decimal.{number_again, number_taken}
-use Rattle.requests.proofs.Steps.{passed, passed_then, bind_some, chosen, is_not, and_parts, and_both, none_so, empty}
+use Rattle.line_texts.proofs.Decimal.{number_again, number_taken}
+use Rattle.requests.proofs.Steps.{bind_some, is_not, and_parts, and_both, none_so, empty}
+use Rattle.line_texts.proofs.Steps.{passed, passed_then, chosen}
 use Rattle.requests.proofs.Placed.{number_of_again, number_of_read}
 use Rattle.requests.proofs.Texts.{after_again, after_taken}
 
@@ -354,10 +356,10 @@ read_is_said words r e =
 pub one_request : (words : List (List ℕ)) (r s : Request) → Says words r → Says words s → r ≡ s
 one_request words r s h g = same_Some r s (sym (said_is_read words r h) ∙ said_is_read words s g)
 
-pub found_said : (words : List (List ℕ)) (o : Option in_memory.Request) → Gives request_of o (request_read words) → IfSome o (λ r. Says words (request_of r))
+pub found_said : (words : List (List ℕ)) (o : Option in_memory.Request) → GivesSome request_of o (request_read words) → IfSome o (λ r. Says words (request_of r))
 found_said words None e = tt
 found_said words (Some r) e = read_is_said words (request_of r) e
 
-pub none_said : (words : List (List ℕ)) (o : Option in_memory.Request) → Gives request_of o (request_read words) → IfNone o ((r : Request) → Says words r → ⊥)
+pub none_said : (words : List (List ℕ)) (o : Option in_memory.Request) → GivesSome request_of o (request_read words) → IfNone o ((r : Request) → Says words r → ⊥)
 none_said words None e = λ r h. none-some r (sym e ∙ said_is_read words r h)
 none_said words (Some r) e = tt

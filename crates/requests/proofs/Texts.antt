@@ -3,8 +3,9 @@ use Rattle.std.proofs.Common.{◌≡◌, ◌≢◌, ℕ, eqb, List, [], ◌∷�
 use Rattle.std.specs.Prelude.{MatchOption}
 use Rattle.std.proofs.lemmas.Bool.{eqb-true, eq-eqb}
 use Rattle.std.proofs.lemmas.Option.{same_Some}
-use Rattle.requests.specs.Reading.{Gives, after_of}
-use Rattle.requests.proofs.Steps.{passed_then}
+use Rattle.requests.specs.Reading.{after_of}
+use Rattle.line_texts.specs.Reading.{GivesSome}
+use Rattle.line_texts.proofs.Steps.{passed_then}
 
 pub after_again : (text rest : List ℕ) → after_of text (text ++ rest) ≡ Some rest
 unfolding after_of
@@ -24,6 +25,6 @@ after_none : (text bytes : List ℕ) (read : Option (List ℕ)) → after_of tex
 after_none text bytes None e h = refl
 after_none text bytes (Some rest) e h = absurd (h rest (after_taken text bytes rest e))
 
-pub after_gives : (text bytes : List ℕ) (r : Option (Bor (List ℕ))) → MatchOption r ((rest : List ℕ) → bytes ≢ text ++ rest) (λ x. bytes ≡ text ++ x.now) → Gives (λ (x : Bor (List ℕ)). x.now) r (after_of text bytes)
+pub after_gives : (text bytes : List ℕ) (r : Option (Bor (List ℕ))) → MatchOption r ((rest : List ℕ) → bytes ≢ text ++ rest) (λ x. bytes ≡ text ++ x.now) → GivesSome (λ (x : Bor (List ℕ)). x.now) r (after_of text bytes)
 after_gives text bytes None h = after_none text bytes (after_of text bytes) refl h
 after_gives text bytes (Some x) h = ap (after_of text) h ∙ after_again text x.now

@@ -5,12 +5,14 @@ use Rattle.std.specs.List.{list_any}
 use Rattle.std.specs.Str.{bytes_eq}
 use Rattle.requests.specs.declared.options.Choice as in_memory
 use Rattle.requests.specs.declared.options.Choice.TheVariants.{Raw, Stack, Workers, Unit, Files}
-use Rattle.requests.specs.Reading.{◌>>=◌, with_or, after_of, number_at}
+use Rattle.requests.specs.Reading.{◌>>=◌, with_or, after_of}
+use Rattle.line_texts.specs.Reading.{number_at}
+use Rattle.line_texts.specs.Reading as texts
 use Rattle.requests.specs.Request.{Choice, raw, stack, workers, units, files, is_raw, is_stack, is_workers, is_units, is_files}
 
 -- the number that a whole word is
-unfoldable pub number_of : List ℕ → Option ℕ
-number_of word = number_at 18446744073709551615 word >>= λ read. if length read.1 == 0 then Some read.0 else None
+abbrev pub number_of : List ℕ → Option ℕ
+number_of word = texts.number_of 18446744073709551615 word
 
 -- the option of the stack, after its prefix
 abbrev pub stack_of : List ℕ → Option Choice

@@ -3,18 +3,12 @@ use Rattle.std.specs.Prelude.{ℕ, ◌==◌, ◌&&◌, ◌++◌, if◌then◌els
 use Rattle.hex.specs.Hex.{encode_lower}
 use Rattle.level_book.specs.declared.fault.BookFault.{BookFault}
 use Rattle.level_book.specs.declared.fault.BookFault.TheVariants as book
-use Rattle.action_text.specs.declared.fault.TextFault.{TextFault}
-use Rattle.action_text.specs.declared.fault.TextFault.TheVariants as text
+use Rattle.line_texts.specs.declared.fault.Fault.{Fault}
+use Rattle.line_texts.specs.declared.fault.Fault.TheVariants as text
 use Rattle.input_journal.specs.declared.fault.JournalFault.{JournalFault}
 use Rattle.input_journal.specs.declared.fault.JournalFault.TheVariants as journal
 use Rattle.elf_load.specs.declared.fault.ElfFault.{ElfFault}
 use Rattle.elf_load.specs.declared.fault.ElfFault.TheVariants as program
-use Rattle.cert_text.specs.declared.fault.CertFault.{CertFault}
-use Rattle.cert_text.specs.declared.fault.CertFault.TheVariants as certificate
-use Rattle.rv_asm.specs.declared.fault.AsmFault.{AsmFault}
-use Rattle.rv_asm.specs.declared.fault.AsmFault.TheVariants as source
-use Rattle.reverse_console.specs.declared.fault.ScriptFault.{ScriptFault}
-use Rattle.reverse_console.specs.declared.fault.ScriptFault.TheVariants as script
 use Rattle.bound_cert.specs.declared.verdict.Reason.{Reason}
 use Rattle.bound_cert.specs.declared.verdict.Reason.TheVariants as reason
 use Rattle.table_clauses.specs.declared.entry.Entry.{Entry}
@@ -90,29 +84,30 @@ bad_book (book.SlotRange level) = ended_by 6 level 0 6
 bad_book (book.CostOrder level) = ended_by 6 level 0 7
 bad_book book.Memory = no_memory
 
--- the bytes are no schedule; it has the line and the column
-abbrev pub bad_text : TextFault → Ended
-bad_text (text.At rule line column) = ended_by 7 line column rule
-bad_text text.Memory = no_memory
+-- a text breaks a rule; it has the line and the column
+abbrev pub broken_text : ℕ → Fault → Ended
+broken_text status (text.At rule line column) = ended_by status line column rule
+broken_text status text.Memory = no_memory
+
+-- the bytes are no schedule
+abbrev pub bad_text : Fault → Ended
+bad_text fault = broken_text 7 fault
 
 -- the list is first broken at this place, by this rule; the level is that of rule 4
 abbrev pub invalid : ℕ → ℕ → ℕ → Ended
 invalid place level rule = ended_by 8 place level rule
 
--- the bytes are no certificate; it has the line and the column
-abbrev pub bad_certificate : CertFault → Ended
-bad_certificate (certificate.At rule line column) = ended_by 9 line column rule
-bad_certificate certificate.Memory = no_memory
+-- the bytes are no certificate
+abbrev pub bad_certificate : Fault → Ended
+bad_certificate fault = broken_text 9 fault
 
--- the bytes are no source; it has the line and the column
-abbrev pub bad_source : AsmFault → Ended
-bad_source (source.At rule line column) = ended_by 19 line column rule
-bad_source source.Memory = no_memory
+-- the bytes are no source
+abbrev pub bad_source : Fault → Ended
+bad_source fault = broken_text 19 fault
 
--- the bytes are no script; it has the line and the column
-abbrev pub bad_script : ScriptFault → Ended
-bad_script (script.At rule line column) = ended_by 20 line column rule
-bad_script script.Memory = no_memory
+-- the bytes are no script
+abbrev pub bad_script : Fault → Ended
+bad_script fault = broken_text 20 fault
 
 -- a number is out of range; it has the bound that was passed, and the bound's rule
 abbrev pub out_of_range : ℕ → ℕ → ℕ → Ended

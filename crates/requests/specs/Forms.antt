@@ -1,19 +1,19 @@
 -- No public clause cites this file. What the reader of a command's words computes. A form says what is allowed at each
 -- place. The first form that takes all words is the command's.
 use Rattle.std.specs.Prelude.{◌≡◌, ℕ, ◌==◌, Bool, not, ◌&&◌, if◌then◌else◌, List, [], ◌∷◌, length, codes, decimal, Option, None, Some}
-use Rattle.std.specs.Int.{from_be_bytes, w32}
 use Rattle.std.specs.Option.{option_or}
 use Rattle.std.specs.Result.{result_ok}
 use Rattle.std.specs.Str.{bytes_eq}
 use Rattle.hex.specs.Hex.{encode_lower, decode_sized}
-use Rattle.state_image.specs.Line.{hex_word}
 use Rattle.requests.specs.declared.kind.PlanKind.{PlanKind}
 use Rattle.requests.specs.declared.kind.PlanKind.TheVariants.{Revolve, Multistage, Disk, Hrevolve}
 use Rattle.requests.specs.declared.question.Question.{Question}
 use Rattle.requests.specs.declared.question.Question.TheVariants.{State, LastWrite, LastChange}
-use Rattle.requests.specs.Reading.{◌>>=◌, after_of}
+use Rattle.requests.specs.Reading.{◌>>=◌}
+use Rattle.line_texts.specs.Reading as texts
 use Rattle.requests.specs.ChoiceReading.{number_of}
-use Rattle.requests.specs.Operands.{Schedule, by_name, made, IsName, IsScheduleName, CanBeGiven, MayBeNamed, IsNumber, IsAddress, IsDigest, word_or_dash, schedule_word, address_word}
+use Rattle.requests.specs.Operands.{Schedule, by_name, made, IsName, IsScheduleName, CanBeGiven, MayBeNamed, IsNumber, IsAddress, IsDigest, word_or_dash, schedule_word}
+use Rattle.line_texts.specs.Numbers.{address_word}
 use Rattle.requests.specs.Request.{Command, run, plan, plan_periodic, check, certify, price, ask, find, assemble, disassemble, move_about, demo, kind_word}
 
 -- ---- places
@@ -76,11 +76,9 @@ name_or_none word = if bytes_eq word (codes "-") then None else Some word
 abbrev pub schedule_of : List ℕ → Schedule
 schedule_of word = if bytes_eq word (codes "@revolve") then made else by_name word
 
--- the address of a word whose digits are the spelling of four bytes
-unfoldable pub address_of : List ℕ → Option ℕ
-address_of word =
-    after_of (codes "0x") word >>= λ digits. result_ok (decode_sized digits 4) >>= λ bytes.
-    if bytes_eq (hex_word (from_be_bytes w32 bytes)) digits then Some (from_be_bytes w32 bytes) else None
+-- the address that a word is
+abbrev pub address_of : List ℕ → Option ℕ
+address_of word = texts.address_of word
 
 -- the digest that a word is, which is spelled so
 unfoldable pub digest_of : List ℕ → Option (List ℕ)

@@ -1,10 +1,10 @@
 -- The kinds of operand of a command, a row each in the definitions below. They say how a value is spelled, when it is
 -- allowed, its number's bounds, and which input it names. All that words, bounds and inputs say of a command follows
 -- from its operands.
-use Rattle.std.specs.Prelude.{◌≡◌, ◌≢◌, ℕ, ◌*◌, ◌<◌, ◌^◌, ◌++◌, List, [], ◌∷◌, length, codes, decimal, Option, None, Some}
+use Rattle.std.specs.Prelude.{◌≡◌, ◌≢◌, ℕ, ◌*◌, ◌<◌, ◌^◌, List, [], ◌∷◌, length, codes, decimal, Option, None, Some}
 use Rattle.plan_types.specs.declared.limits.TheConstants.{MOST_STEPS}
 use Rattle.hex.specs.Hex.{IsBytes, encode_lower}
-use Rattle.state_image.specs.Line.{hex_word}
+use Rattle.line_texts.specs.Numbers.{address_word}
 use Rattle.requests.specs.declared.bounds.Bounded.{Bounded}
 use Rattle.requests.specs.declared.question.Question.{Question}
 use Rattle.requests.specs.declared.question.Question.TheVariants.{State, LastWrite, LastChange}
@@ -61,11 +61,7 @@ abbrev pub schedule_word : Schedule → List ℕ
 schedule_word (by_name name) = name
 schedule_word made = codes "@revolve"
 
--- an address is `0x` and eight lower-case hexadecimal digits
-abbrev pub address_word : ℕ → List ℕ
-address_word address = codes "0x" ++ hex_word address
-
--- the number of a state is decimal
+-- the number of a state is decimal; an address is `0x` and eight lower-case hexadecimal digits
 abbrev pub question_number : Question → List ℕ
 question_number (State place) = decimal place
 question_number (LastWrite address) = address_word address

@@ -1,17 +1,14 @@
 // How a call ended.
 ghost use Rattle.std.specs.Prelude.{◌≡◌, ◌+◌, ◌≤◌, ◌++◌, length, codes, decimal};
 ghost use Rattle.hex.specs.Hex.{encode_lower};
-ghost use Rattle.requests.specs.Ending.{ended_with, ended_by, ended_at, done, no_request, unreadable, invalid, out_of_range, too_long, no_plan, keeper_failed, damaged, stopped, not_least, few_keepers, small_keeper, no_memory, text_of_ended, entry_text, digests_text, status_name, table_name};
+ghost use Rattle.requests.specs.Ending.{broken_text, bad_text, bad_certificate, bad_source, bad_script, ended_with, ended_by, ended_at, done, no_request, unreadable, invalid, out_of_range, too_long, no_plan, keeper_failed, damaged, stopped, not_least, few_keepers, small_keeper, no_memory, text_of_ended, entry_text, digests_text, status_name, table_name};
 
-use action_text::TextFault;
 use bound_cert::Reason;
-use cert_text::CertFault;
 use elf_load::ElfFault;
 use input_journal::JournalFault;
 use level_book::BookFault;
+use line_texts::Fault;
 use plan_types::Line;
-use reverse_console::ScriptFault;
-use rv_asm::AsmFault;
 use std::alloc::{AllocError, AllocFailed};
 use table_clauses::Entry;
 
@@ -266,62 +263,44 @@ impl From<BookFault> for Ended {
     }
 }
 
-impl From<TextFault> for Ended {
-    ghost use Rattle.requests.specs.Ending.{bad_text};
-
-    ghost from_gives = { λ fault e. e ≡ bad_text fault };
-
-    fn from(fault: TextFault) -> Ended {
-        match fault {
-            TextFault::At { rule, line, column } => {
-                Ended::by(7, line as u64, column as u64, rule as u16)
-            }
-            TextFault::Memory => Ended::no_memory(),
-        }
+impl Ended {
+    /// The ending of a text that is no schedule.
+    pub fn bad_text(fault: Fault) -> Ended
+        ensures { result ≡ bad_text fault }
+    {
+        Ended::broken_text(7, fault)
     }
-}
 
-impl From<CertFault> for Ended {
-    ghost use Rattle.requests.specs.Ending.{bad_certificate};
-
-    ghost from_gives = { λ fault e. e ≡ bad_certificate fault };
-
-    fn from(fault: CertFault) -> Ended {
-        match fault {
-            CertFault::At { rule, line, column } => {
-                Ended::by(9, line as u64, column as u64, rule as u16)
-            }
-            CertFault::Memory => Ended::no_memory(),
-        }
+    /// The ending of a text that is no certificate.
+    pub fn bad_certificate(fault: Fault) -> Ended
+        ensures { result ≡ bad_certificate fault }
+    {
+        Ended::broken_text(9, fault)
     }
-}
 
-impl From<AsmFault> for Ended {
-    ghost use Rattle.requests.specs.Ending.{bad_source};
-
-    ghost from_gives = { λ fault e. e ≡ bad_source fault };
-
-    fn from(fault: AsmFault) -> Ended {
-        match fault {
-            AsmFault::At { rule, line, column } => {
-                Ended::by(19, line as u64, column as u64, rule as u16)
-            }
-            AsmFault::Memory => Ended::no_memory(),
-        }
+    /// The ending of a text that is no source.
+    pub fn bad_source(fault: Fault) -> Ended
+        ensures { result ≡ bad_source fault }
+    {
+        Ended::broken_text(19, fault)
     }
-}
 
-impl From<ScriptFault> for Ended {
-    ghost use Rattle.requests.specs.Ending.{bad_script};
+    /// The ending of a text that is no script.
+    pub fn bad_script(fault: Fault) -> Ended
+        ensures { result ≡ bad_script fault }
+    {
+        Ended::broken_text(20, fault)
+    }
 
-    ghost from_gives = { λ fault e. e ≡ bad_script fault };
-
-    fn from(fault: ScriptFault) -> Ended {
+    // The ending by this status of a text that breaks a rule.
+    fn broken_text(status: u8, fault: Fault) -> Ended
+        ensures { result ≡ broken_text status fault }
+    {
         match fault {
-            ScriptFault::At { rule, line, column } => {
-                Ended::by(20, line as u64, column as u64, rule as u16)
+            Fault::At { rule, line, column } => {
+                Ended::by(status, line as u64, column as u64, rule as u16)
             }
-            ScriptFault::Memory => Ended::no_memory(),
+            Fault::Memory => Ended::no_memory(),
         }
     }
 }

@@ -16,7 +16,6 @@ mod bounds;
 mod ended;
 mod inputs;
 mod kind;
-mod number;
 mod operands;
 mod options;
 mod places;

@@ -1,13 +1,12 @@
 // The words of a command, read one after the other.
 ghost use Rattle.std.specs.Prelude.{◌≡◌, ◌⊎◌, ℕ, List, ◌∷◌, [], map, None, Some, MatchOption, option_map};
-ghost use Rattle.requests.specs.Reading.{Gives};
+ghost use Rattle.line_texts.specs.Reading.{GivesSome};
 ghost use Rattle.requests.specs.RequestReading.{as_schedule};
 ghost use Rattle.requests.specs.Forms.{fixed, named, named_or_none, schedule_named, scheduled, numbered, addressed, digested, address_of, digest_of, finished, Takes};
 
 use crate::options::number_in;
 use crate::request::Command;
 use crate::schedule::Schedule;
-use crate::text::after;
 use std::marker::Model;
 
 /// The words of a command still to be read, up to the first that doesn't fit. After that nothing is read.
@@ -174,7 +173,7 @@ impl<'a> Operands<'a> {
 // The digest of a word of 64 digits.
 #[tactic(auto, unfolding(crate::specs::Forms::digest_of))]
 fn read_digest(word: &[u8]) -> Option<[u8; 32]>
-    ensures { Gives (λ d. d) result (digest_of word.now) }
+    ensures { GivesSome (λ d. d) result (digest_of word.now) }
 {
     let mut digest = [0; 32];
     hex::decode_to_slice(word, &mut digest).ok()?;
@@ -187,20 +186,12 @@ fn read_digest(word: &[u8]) -> Option<[u8; 32]>
     }
 }
 
-// The address of a word: `0x` and eight digits.
-#[tactic(auto, unfolding(crate::specs::Forms::address_of))]
+// The address that a word is.
 fn read_address(word: &[u8]) -> Option<u32>
-    ensures { Gives (λ a. a) result (address_of word.now) }
+    ensures { GivesSome (λ a. a) result (address_of word.now) }
 {
-    let digits = after(word, b"0x")?;
-    let mut bytes = [0; 4];
-    hex::decode_to_slice(digits, &mut bytes).ok()?;
-    let address = u32::from_be_bytes(bytes);
-    let mut canonical = [0; 8];
-    hex::encode_to_slice(&address.to_be_bytes(), &mut canonical).unwrap();
-    if canonical.as_slice() == digits {
-        Some(address)
-    } else {
-        None
+    match line_texts::address_of(word) {
+        Some(address) => Some(address),
+        None => None,
     }
 }

@@ -2,11 +2,11 @@
 ghost use Rattle.std.specs.Prelude.{◌≡◌, map};
 ghost use Rattle.std.specs.List.{list_any};
 ghost use Rattle.requests.specs.Request.{is_files, says_raw, stack_pages, worker_count, unit_count};
-ghost use Rattle.requests.specs.Reading.{Gives};
+ghost use Rattle.line_texts.specs.Reading.{GivesSome};
 ghost use Rattle.requests.specs.ChoiceReading.{number_of, stack_of, workers_of, unit_of, files_of, choice_of, first_choice, options_at, behind_options, is_like, are_single, as_choice};
 
-use crate::number::decimal_at;
 use crate::text::after;
+use line_texts::number_at;
 use std::marker::Model;
 
 /// An option.
@@ -161,17 +161,18 @@ fn has_like(words: &[Vec<u8>], choice: &Choice<'_>) -> bool
 }
 
 /// The number that a whole word spells.
-#[tactic(auto, unfolding(crate::specs::ChoiceReading::number_of))]
 pub fn number_in(word: &[u8]) -> Option<u64>
-    ensures { Gives (λ n. n) result (number_of word.now) }
+    ensures { GivesSome (λ n. n) result (number_of word.now) }
 {
-    let (n, rest) = decimal_at(word, u64::MAX)?;
-    if rest.is_empty() { Some(n) } else { None }
+    match line_texts::number_of(word, u64::MAX) {
+        Some(n) => Some(n),
+        None => None,
+    }
 }
 
 // The option of the stack, after its prefix.
 fn stack_in(text: &[u8]) -> Option<Choice<'_>>
-    ensures { Gives as_choice result (stack_of text.now) }
+    ensures { GivesSome as_choice result (stack_of text.now) }
 {
     let pages = number_in(text)?;
     Some(Choice::Stack(pages))
@@ -179,7 +180,7 @@ fn stack_in(text: &[u8]) -> Option<Choice<'_>>
 
 // The option of the workers, after its prefix.
 fn workers_in(text: &[u8]) -> Option<Choice<'_>>
-    ensures { Gives as_choice result (workers_of text.now) }
+    ensures { GivesSome as_choice result (workers_of text.now) }
 {
     let count = number_in(text)?;
     Some(Choice::Workers(count))
@@ -187,7 +188,7 @@ fn workers_in(text: &[u8]) -> Option<Choice<'_>>
 
 // The option of units, after its prefix.
 fn unit_in(text: &[u8]) -> Option<Choice<'_>>
-    ensures { Gives as_choice result (unit_of text.now) }
+    ensures { GivesSome as_choice result (unit_of text.now) }
 {
     let count = number_in(text)?;
     Some(Choice::Unit(count))
@@ -195,9 +196,9 @@ fn unit_in(text: &[u8]) -> Option<Choice<'_>>
 
 // The option of a level's files, after its prefix.
 fn files_in(text: &[u8]) -> Option<Choice<'_>>
-    ensures { Gives as_choice result (files_of text.now) }
+    ensures { GivesSome as_choice result (files_of text.now) }
 {
-    let (level, rest) = decimal_at(text, u64::MAX)?;
+    let (level, rest) = number_at(text, u64::MAX)?;
     let folder = after(rest, b":")?;
     if folder.is_empty() {
         None
@@ -209,7 +210,7 @@ fn files_in(text: &[u8]) -> Option<Choice<'_>>
 // The option that a word is.
 #[tactic(auto, unfolding(crate::specs::ChoiceReading::choice_of))]
 fn choice_in(word: &[u8]) -> Option<Choice<'_>>
-    ensures { Gives as_choice result (choice_of word.now) }
+    ensures { GivesSome as_choice result (choice_of word.now) }
 {
     if word == b"--raw".as_slice() {
         return Some(Choice::Raw);
@@ -229,7 +230,7 @@ fn choice_in(word: &[u8]) -> Option<Choice<'_>>
 
 /// The option that the first word is, and the words after it.
 pub fn next_option(words: &[Vec<u8>]) -> Option<(Choice<'_>, &[Vec<u8>])>
-    ensures { Gives (λ x. (as_choice x.0, map (λ w. w.items) x.1.now)) result (first_choice (map (λ w. w.items) words.now)) }
+    ensures { GivesSome (λ x. (as_choice x.0, map (λ w. w.items) x.1.now)) result (first_choice (map (λ w. w.items) words.now)) }
 {
     let [word, behind @ ..] = words else {
         return None;

@@ -1,6 +1,6 @@
 // A command is read by its form: a line for each of its words and operands, in their order.
 ghost use Rattle.std.specs.Prelude.{◌≡◌, ℕ, List, Option, map, codes, option_map};
-ghost use Rattle.requests.specs.Reading.{Gives};
+ghost use Rattle.line_texts.specs.Reading.{GivesSome};
 ghost use Rattle.requests.specs.Request.{kind_word};
 ghost use Rattle.requests.specs.declared.question.Question.TheVariants as about;
 ghost use Rattle.requests.specs.Forms.{Place, Value, Takes, TakesAll, ask_places, numbered, addressed, run_form, plan_form, periodic_form, check_form, certify_form, price_form, ask_form, find_form, assemble_form, disassemble_form, move_about_form, demo_form, form_taken, command_of};
@@ -16,7 +16,7 @@ use crate::request::{
 
 /// The command that the words after the options are.
 pub fn read_command(words: &[Vec<u8>]) -> Option<Command<'_>>
-    ensures { Gives as_command result (command_of (map (λ w. w.items) words.now)) }
+    ensures { GivesSome as_command result (command_of (map (λ w. w.items) words.now)) }
 {
     read_run(words)
         .or(read_plan(words, PlanKind::Revolve))
@@ -38,7 +38,7 @@ pub fn read_command(words: &[Vec<u8>]) -> Option<Command<'_>>
 }
 
 fn read_run(words: &[Vec<u8>]) -> Option<Command<'_>>
-    ensures { Gives as_command result (form_taken run_form (map (λ w. w.items) words.now)) }
+    ensures { GivesSome as_command result (form_taken run_form (map (λ w. w.items) words.now)) }
 {
     let mut words = Operands::of(words);
     words.word(b"run");
@@ -68,7 +68,7 @@ fn kind_word(kind: PlanKind) -> &'static [u8]
 }
 
 fn read_plan(words: &[Vec<u8>], kind: PlanKind) -> Option<Command<'_>>
-    ensures { Gives as_command result (form_taken (plan_form kind) (map (λ w. w.items) words.now)) }
+    ensures { GivesSome as_command result (form_taken (plan_form kind) (map (λ w. w.items) words.now)) }
 {
     let mut words = Operands::of(words);
     words.word(b"plan");
@@ -79,7 +79,7 @@ fn read_plan(words: &[Vec<u8>], kind: PlanKind) -> Option<Command<'_>>
 }
 
 fn read_plan_periodic(words: &[Vec<u8>]) -> Option<Command<'_>>
-    ensures { Gives as_command result (form_taken periodic_form (map (λ w. w.items) words.now)) }
+    ensures { GivesSome as_command result (form_taken periodic_form (map (λ w. w.items) words.now)) }
 {
     let mut words = Operands::of(words);
     words.word(b"plan");
@@ -95,7 +95,7 @@ fn read_plan_periodic(words: &[Vec<u8>]) -> Option<Command<'_>>
 }
 
 fn read_check(words: &[Vec<u8>]) -> Option<Command<'_>>
-    ensures { Gives as_command result (form_taken check_form (map (λ w. w.items) words.now)) }
+    ensures { GivesSome as_command result (form_taken check_form (map (λ w. w.items) words.now)) }
 {
     let mut words = Operands::of(words);
     words.word(b"check");
@@ -110,7 +110,7 @@ fn read_check(words: &[Vec<u8>]) -> Option<Command<'_>>
 }
 
 fn read_certify(words: &[Vec<u8>]) -> Option<Command<'_>>
-    ensures { Gives as_command result (form_taken certify_form (map (λ w. w.items) words.now)) }
+    ensures { GivesSome as_command result (form_taken certify_form (map (λ w. w.items) words.now)) }
 {
     let mut words = Operands::of(words);
     words.word(b"certify");
@@ -127,7 +127,7 @@ fn read_certify(words: &[Vec<u8>]) -> Option<Command<'_>>
 }
 
 fn read_price(words: &[Vec<u8>]) -> Option<Command<'_>>
-    ensures { Gives as_command result (form_taken price_form (map (λ w. w.items) words.now)) }
+    ensures { GivesSome as_command result (form_taken price_form (map (λ w. w.items) words.now)) }
 {
     let mut words = Operands::of(words);
     words.word(b"cost");
@@ -163,7 +163,7 @@ fn read_asked<'a>(words: &mut Operands<'a>, word: &[u8]) -> (Run<'a>, &'a [u8])
 }
 
 fn read_ask_state(words: &[Vec<u8>]) -> Option<Command<'_>>
-    ensures { Gives as_command result (form_taken (ask_form (codes "state") numbered about.State) (map (λ w. w.items) words.now)) }
+    ensures { GivesSome as_command result (form_taken (ask_form (codes "state") numbered about.State) (map (λ w. w.items) words.now)) }
 {
     let mut words = Operands::of(words);
     let (run, schedule) = read_asked(&mut words, b"state");
@@ -176,7 +176,7 @@ fn read_ask_state(words: &[Vec<u8>]) -> Option<Command<'_>>
 }
 
 fn read_ask_last_write(words: &[Vec<u8>]) -> Option<Command<'_>>
-    ensures { Gives as_command result (form_taken (ask_form (codes "last-write") addressed about.LastWrite) (map (λ w. w.items) words.now)) }
+    ensures { GivesSome as_command result (form_taken (ask_form (codes "last-write") addressed about.LastWrite) (map (λ w. w.items) words.now)) }
 {
     let mut words = Operands::of(words);
     let (run, schedule) = read_asked(&mut words, b"last-write");
@@ -189,7 +189,7 @@ fn read_ask_last_write(words: &[Vec<u8>]) -> Option<Command<'_>>
 }
 
 fn read_ask_last_change(words: &[Vec<u8>]) -> Option<Command<'_>>
-    ensures { Gives as_command result (form_taken (ask_form (codes "last-change") addressed about.LastChange) (map (λ w. w.items) words.now)) }
+    ensures { GivesSome as_command result (form_taken (ask_form (codes "last-change") addressed about.LastChange) (map (λ w. w.items) words.now)) }
 {
     let mut words = Operands::of(words);
     let (run, schedule) = read_asked(&mut words, b"last-change");
@@ -202,7 +202,7 @@ fn read_ask_last_change(words: &[Vec<u8>]) -> Option<Command<'_>>
 }
 
 fn read_find(words: &[Vec<u8>]) -> Option<Command<'_>>
-    ensures { Gives as_command result (form_taken find_form (map (λ w. w.items) words.now)) }
+    ensures { GivesSome as_command result (form_taken find_form (map (λ w. w.items) words.now)) }
 {
     let mut words = Operands::of(words);
     words.word(b"ask");
@@ -220,7 +220,7 @@ fn read_find(words: &[Vec<u8>]) -> Option<Command<'_>>
 }
 
 fn read_assemble(words: &[Vec<u8>]) -> Option<Command<'_>>
-    ensures { Gives as_command result (form_taken assemble_form (map (λ w. w.items) words.now)) }
+    ensures { GivesSome as_command result (form_taken assemble_form (map (λ w. w.items) words.now)) }
 {
     let mut words = Operands::of(words);
     words.word(b"asm");
@@ -229,7 +229,7 @@ fn read_assemble(words: &[Vec<u8>]) -> Option<Command<'_>>
 }
 
 fn read_disassemble(words: &[Vec<u8>]) -> Option<Command<'_>>
-    ensures { Gives as_command result (form_taken disassemble_form (map (λ w. w.items) words.now)) }
+    ensures { GivesSome as_command result (form_taken disassemble_form (map (λ w. w.items) words.now)) }
 {
     let mut words = Operands::of(words);
     words.word(b"disasm");
@@ -238,7 +238,7 @@ fn read_disassemble(words: &[Vec<u8>]) -> Option<Command<'_>>
 }
 
 fn read_move_about(words: &[Vec<u8>]) -> Option<Command<'_>>
-    ensures { Gives as_command result (form_taken move_about_form (map (λ w. w.items) words.now)) }
+    ensures { GivesSome as_command result (form_taken move_about_form (map (λ w. w.items) words.now)) }
 {
     let mut words = Operands::of(words);
     words.word(b"console");
@@ -257,7 +257,7 @@ fn read_move_about(words: &[Vec<u8>]) -> Option<Command<'_>>
 }
 
 fn read_demo(words: &[Vec<u8>]) -> Option<Command<'_>>
-    ensures { Gives as_command result (form_taken demo_form (map (λ w. w.items) words.now)) }
+    ensures { GivesSome as_command result (form_taken demo_form (map (λ w. w.items) words.now)) }
 {
     let mut words = Operands::of(words);
     words.word(b"demo");

@@ -4,7 +4,7 @@ ghost use Rattle.std.specs.List.{AllByRecursion, flat_map};
 ghost use Rattle.requests.specs.Operands.{steps_limit, instructions_limit, within, question_bound};
 ghost use Rattle.requests.specs.Request.{Request as ARequest, Says, plan_limit, period_limit, slots_limit, seed_limit};
 ghost use Rattle.requests.specs.Bounds.{stack_limit, workers_limit, unit_limit, level_limit, numbers, option_numbers, command_numbers, IsWithin, RefusesFirst};
-ghost use Rattle.requests.specs.Reading.{Gives};
+ghost use Rattle.line_texts.specs.Reading.{GivesSome};
 ghost use Rattle.requests.specs.ChoiceReading.{options_at, as_choice};
 ghost use Rattle.requests.specs.RequestReading.{run_numbers, asked_numbers, request_read, as_command, request_of};
 
@@ -415,7 +415,7 @@ pub fn read_request(list: &[Vec<u8>]) -> Option<Request<'_>>
 
 #[tactic(auto, unfolding(crate::specs::RequestReading::request_read))]
 fn request_in(list: &[Vec<u8>]) -> Option<Request<'_>>
-    ensures { Gives request_of result (request_read (map (λ w. w.items) list.now)) }
+    ensures { GivesSome request_of result (request_read (map (λ w. w.items) list.now)) }
 {
     let (options, words) = read_options(list);
     if !options.are_single() {

@@ -1,9 +1,10 @@
 // A text at the front of the bytes.
-ghost use Rattle.requests.specs.Reading.{Gives, after_of};
+ghost use Rattle.requests.specs.Reading.{after_of};
+ghost use Rattle.line_texts.specs.Reading.{GivesSome};
 
 /// The bytes after this text, where it comes first.
 pub fn after<'a>(bytes: &'a [u8], text: &[u8]) -> Option<&'a [u8]>
-    ensures { Gives (λ rest. rest.now) result (after_of text.now bytes.now) }
+    ensures { GivesSome (λ rest. rest.now) result (after_of text.now bytes.now) }
 {
     bytes.strip_prefix(text)
 }

@@ -27,7 +27,7 @@ use Rattle.rv_machine.specs.States.{state_number}
 use Rattle.state_image.specs.Line.{line}
 use Rattle.reverse_runner.specs.Handed.{handed, handed_by, countdown}
 use Rattle.reverse_runner.specs.Units.{unit_states}
-use Rattle.reverse_runner.specs.KeepersSeen.{HaveRoom, told_by}
+use Rattle.reverse_runner.specs.KeepersSeen.{HaveRoom, by_number}
 use Rattle.reverse_runner.specs.Performed.{states_out, GetsAll}
 use Rattle.reverse_runner.specs.SessionState.{SessionState}
 use Rattle.reverse_runner.specs.Standing.{begun, Performs, StandsAt}
@@ -48,7 +48,7 @@ room_for_one steps slots k is zero within = (omega arith, omega (arith, is))
 room_for_one steps slots k is (suc n) within = absurd (omega (arith, within))
 
 -- the first keeper tells
-one_tells : (steps slots : ℕ) (keeper : KeeperState) (k : ℕ) → k < length (slots_of (plain slots)) → IsSome (told_by (λ (k : KeeperState). Some k.images) (keeper ∷ []) k)
+one_tells : (steps slots : ℕ) (keeper : KeeperState) (k : ℕ) → k < length (slots_of (plain slots)) → IsSome (by_number None (λ (k : KeeperState). Some k.images) (keeper ∷ []) k)
 one_tells steps slots keeper zero within = refl
 one_tells steps slots keeper (suc n) within = absurd (omega (arith, within))
 
@@ -62,9 +62,9 @@ at_start d first steps slots before keeper good plan session actions none added 
       state = (let P : SessionState → Type 0 = λ s. IsMachineState s.work in subst P (sym session) good);
       begun_so = session ∙ sym (ap (λ (s : SessionState). begun s.work s.journal 1 s.situation.steps s.situation.slots) session);
       stands =
-          (let P : SessionState → Type 0 = λ s. StandsAt s.work d.session (told_by (λ (k : KeeperState). Some k.images) d.keepers.items) in
-          let Q : List KeeperState → Type 0 = λ ks. StandsAt first d.session (told_by (λ (k : KeeperState). Some k.images) ks) in
-          subst P (sym session) (subst Q (sym keepers) (stands (told_by (λ (k : KeeperState). Some k.images) (keeper ∷ [])) (one_tells steps slots keeper))));
+          (let P : SessionState → Type 0 = λ s. StandsAt s.work d.session (by_number None (λ (k : KeeperState). Some k.images) d.keepers.items) in
+          let Q : List KeeperState → Type 0 = λ ks. StandsAt first d.session (by_number None (λ (k : KeeperState). Some k.images) ks) in
+          subst P (sym session) (subst Q (sym keepers) (stands (by_number None (λ (k : KeeperState). Some k.images) (keeper ∷ [])) (one_tells steps slots keeper))));
       room =
           (let P : SessionState → Type 0 = λ s. HaveRoom s.situation.steps s.situation.slots (map (λ (k : KeeperState). k.slots) d.keepers.items) in
           let Q : List KeeperState → Type 0 = λ ks. HaveRoom steps (slots_of (plain slots)) (map (λ (k : KeeperState). k.slots) ks) in
@@ -89,7 +89,7 @@ pub record HasDone (d now : Demonstrated) (hasher : LineHasher) (before after : 
   pub unit : now.session.unit ≡ 1
   pub leads : Leads d.session.situation.steps d.session.situation.slots (start d.session.situation.steps d.session.situation.slots) done now.session.situation.at
   pub room : map (λ (k : KeeperState). k.slots) now.keepers.items ≡ map (λ (k : KeeperState). k.slots) d.keepers.items
-  pub stands : StandsAt d.session.work now.session (told_by (λ (k : KeeperState). Some k.images) now.keepers.items)
+  pub stands : StandsAt d.session.work now.session (by_number None (λ (k : KeeperState). Some k.images) now.keepers.items)
   pub hashed : Holds256 hasher.hasher (flat_map (line_of (state_number d.session.work d.session.journal)) (handed 1 d.session.situation.steps done))
   pub counted : after ≡ before + forward done
 
@@ -159,7 +159,7 @@ hashed_more shown journal (n ∷ numbers) (s ∷ states) x y lines shows got hol
 -- one action more was done
 pub one_more_done : (d now then : Demonstrated) (hasher hasher' : LineHasher) (before after after' : ℕ) (a : Action) → HasDone d now hasher before after → now.actions ≡ a ∷ then.actions →
     Performs now.session a then.session → map (λ (k : KeeperState). k.slots) then.keepers.items ≡ map (λ (k : KeeperState). k.slots) now.keepers.items →
-    StandsAt d.session.work then.session (told_by (λ (k : KeeperState). Some k.images) then.keepers.items) →
+    StandsAt d.session.work then.session (by_number None (λ (k : KeeperState). Some k.images) then.keepers.items) →
     GetsAll Hashed now.session.journal (handed_by now.session.unit now.session.situation.steps a) (states_out a now.session.work now.session.tape.states) hasher hasher' →
     after' ≡ after + now.session.unit * steps_of a → HasDone d then hasher' before after'
 one_more_done d now then hasher hasher' before after after' a h next performs room stands got counted =

@@ -24,7 +24,7 @@ use Rattle.reverse_console.proofs.Putting.{some_place}
 use Rattle.reverse_console.proofs.Scripts.{text_in_run}
 use Rattle.requests.specs.Ending.{no_memory, done, stopped, keeper_failed, damaged}
 use Rattle.reversal.specs.Output.{Adds}
-use Rattle.reversal.specs.Moment.{Moment, AllTell, KeepersAreQuiet, NothingFails, SinkFails, KeeperFails}
+use Rattle.reversal.specs.Moment.{Moment, AllTell, NothingFails, SinkFails, KeeperFails}
 use Rattle.reversal.specs.Deeds.{Deed, CallsLevel, writing, bytes_of, bytes_written, writes_made, steps_made, calls_made, Did}
 use Rattle.reversal.specs.Course.{Shown, Course, AddsAndPart, DidUntil, BreaksOff}
 use Rattle.reversal.specs.CommandConsole.{setting_marks, moving, Words, AreOfOrders, by_marks, of_run, IsOfMarks, WentAbout, AnyMark, IsBrokenOff as HasBrokenOff, IsAnswered, moving_about}

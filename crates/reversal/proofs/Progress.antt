@@ -41,7 +41,7 @@ use Rattle.reverse_runner.specs.declared.fault.RunFault.{RunFault}
 use Rattle.requests.specs.Ending.{done, stopped}
 use Rattle.reversal.specs.Job.{Run, perform}
 use Rattle.reversal.specs.Output.{line_of, Adds}
-use Rattle.reversal.specs.Moment.{Moment, KeepersAreQuiet, NothingFails, SinkFails, KeeperFails, AllTell, AllEmpty}
+use Rattle.reversal.specs.Moment.{Moment, NothingFails, SinkFails, KeeperFails, AllTell, AllEmpty}
 use Rattle.reversal.specs.Deeds.{Deed, States, deed_of, bytes_of, Did}
 use Rattle.reversal.specs.Going.{AreOfRun, held_at_start, GoesOver, ComesToDamage, LeadTo, SameLevels, AllLevels, SparesNext, UnreachedNext, Went}
 use Rattle.reversal.specs.Course.{AddsAndPart, DidUntil, BreaksOff}

@@ -7,8 +7,8 @@ use Rattle.level_book.specs.BookCosts.{BookCosts, names_of}
 use Rattle.level_book.specs.BookFaults.{IsBookText}
 use Rattle.level_book.proofs.OneBook.{one_text, not_refused, one_fault as one_book_fault, text_names}
 use Rattle.input_journal.proofs.Unique.{one_spelling, one_fault, no_fault}
-use Rattle.action_text.specs.declared.fault.TextFault.{TextFault}
-use Rattle.action_text.specs.declared.fault.TextFault.TheVariants as text
+use Rattle.line_texts.specs.declared.fault.Fault.{Fault}
+use Rattle.line_texts.specs.declared.fault.Fault.TheVariants as text
 use Rattle.action_text.specs.ScheduleText.{IsSchedule}
 use Rattle.action_text.specs.Faults.{HasFirstFault}
 use Rattle.action_text.proofs.Whole.{one_schedule, one_first_fault, schedule_faultless}
@@ -18,17 +18,11 @@ use Rattle.elf_load.specs.declared.fault.ElfFault.{ElfFault}
 use Rattle.elf_load.specs.declared.fault.ElfFault.TheVariants as program
 use Rattle.elf_load.specs.Faults.{number_of}
 use Rattle.elf_load.proofs.Once.{one_start, one_fault as one_file_fault, programs_have_no_fault, one_raw_start, one_raw_fault, raw_programs_have_no_fault}
-use Rattle.cert_text.specs.declared.fault.CertFault.{CertFault}
-use Rattle.cert_text.specs.declared.fault.CertFault.TheVariants as certificate
 use Rattle.cert_text.specs.Meaning.{IsCertificateText}
 use Rattle.cert_text.specs.Faults.{HasFirstFault as CertificateFirst}
 use Rattle.cert_text.proofs.TextLaws.{one_certificate, one_fault as one_certificate_fault, no_fault as certificates_have_no_fault}
-use Rattle.rv_asm.specs.declared.fault.AsmFault.{AsmFault}
-use Rattle.rv_asm.specs.declared.fault.AsmFault.TheVariants as source
 use Rattle.rv_asm.specs.Source.{Means, HasFault}
 use Rattle.rv_asm.proofs.Assembled.{one_meaning, one_fault as one_source_fault, no_fault as meanings_have_no_fault}
-use Rattle.reverse_console.specs.declared.fault.ScriptFault.{ScriptFault}
-use Rattle.reverse_console.specs.declared.fault.ScriptFault.TheVariants as script
 use Rattle.reverse_console.specs.Script.{IsScript}
 use Rattle.reverse_console.specs.ScriptFaults.{HasFirstFault as ScriptFirst}
 use Rattle.reverse_console.proofs.ScriptWhole.{one_script, one_fault as one_script_fault, no_fault as scripts_have_no_fault}
@@ -111,21 +105,21 @@ book_refuses (book.CostRange n) h = refusing_at _ 6 refl (omega arith) (omega ar
 book_refuses (book.SlotRange n) h = refusing_at _ 6 refl (omega arith) (omega arith)
 book_refuses (book.CostOrder n) h = refusing_at _ 6 refl (omega arith) (omega arith)
 
-pub text_refuses : (f : TextFault) → (f ≡ text.Memory → ⊥) → IsRefusing (bad_text f)
+pub text_refuses : (f : Fault) → (f ≡ text.Memory → ⊥) → IsRefusing (bad_text f)
 text_refuses text.Memory h = absurd (h refl)
 text_refuses (text.At rule line column) h = refusing_at _ 7 refl (omega arith) (omega arith)
 
-pub certificate_refuses : (f : CertFault) → (f ≡ certificate.Memory → ⊥) → IsRefusing (bad_certificate f)
-certificate_refuses certificate.Memory h = absurd (h refl)
-certificate_refuses (certificate.At rule line column) h = refusing_at _ 9 refl (omega arith) (omega arith)
+pub certificate_refuses : (f : Fault) → (f ≡ text.Memory → ⊥) → IsRefusing (bad_certificate f)
+certificate_refuses text.Memory h = absurd (h refl)
+certificate_refuses (text.At rule line column) h = refusing_at _ 9 refl (omega arith) (omega arith)
 
-pub source_refuses : (f : AsmFault) → (f ≡ source.Memory → ⊥) → IsRefusing (bad_source f)
-source_refuses source.Memory h = absurd (h refl)
-source_refuses (source.At rule line column) h = refusing_above _ 19 refl (omega arith)
+pub source_refuses : (f : Fault) → (f ≡ text.Memory → ⊥) → IsRefusing (bad_source f)
+source_refuses text.Memory h = absurd (h refl)
+source_refuses (text.At rule line column) h = refusing_above _ 19 refl (omega arith)
 
-pub script_refuses : (f : ScriptFault) → (f ≡ script.Memory → ⊥) → IsRefusing (bad_script f)
-script_refuses script.Memory h = absurd (h refl)
-script_refuses (script.At rule line column) h = refusing_above _ 20 refl (omega arith)
+pub script_refuses : (f : Fault) → (f ≡ text.Memory → ⊥) → IsRefusing (bad_script f)
+script_refuses text.Memory h = absurd (h refl)
+script_refuses (text.At rule line column) h = refusing_above _ 20 refl (omega arith)
 
 -- ---- want of memory is no fault of the bytes
 
@@ -137,28 +131,33 @@ pub journal_fault_is_other : (bytes : Option (List ℕ)) (f : JournalFault) → 
 journal_fault_is_other None f h e = absurd h
 journal_fault_is_other (Some bytes) f h e = let P : JournalFault → Type 0 = λ x. HasJournalFault (Some bytes) x in subst P e h
 
-pub text_fault_is_other : (names : List (List ℕ)) (bytes : List ℕ) (f : TextFault) → HasFirstFault names bytes f → f ≡ text.Memory → ⊥
-text_fault_is_other names bytes f h e = let P : TextFault → Type 0 = λ x. HasFirstFault names bytes x in subst P e h
+pub text_fault_is_other : (names : List (List ℕ)) (bytes : List ℕ) (f : Fault) → HasFirstFault names bytes f → f ≡ text.Memory → ⊥
+text_fault_is_other names bytes f h e = let P : Fault → Type 0 = λ x. HasFirstFault names bytes x in subst P e h
 
-pub certificate_fault_is_other : (steps : ℕ) (b : BookCosts) (bytes : List ℕ) (f : CertFault) → CertificateFirst steps b bytes f → f ≡ certificate.Memory → ⊥
-certificate_fault_is_other steps b bytes f h e = let P : CertFault → Type 0 = λ x. CertificateFirst steps b bytes x in subst P e h
+-- a text that isn't read has a fault, or memory ran out
+pub text_refused : (names : List (List ℕ)) (bytes : List ℕ) (f : Fault) (e : Ended) → (f ≢ text.Memory → HasFirstFault names bytes f) → e ≡ bad_text f → IsRefusal (HasFirstFault names bytes) bad_text e
+text_refused names bytes text.Memory e h is = inl is
+text_refused names bytes (text.At rule line column) e h is = inr (text.At rule line column, h (λ same. absurd cc), is)
 
-pub source_fault_is_other : (text : List ℕ) (f : AsmFault) → HasFault text f → f ≡ source.Memory → ⊥
-source_fault_is_other text f (inl first) e = absurd (cc (first.is, e))
-source_fault_is_other text f (inr empty) e = absurd (cc (empty.1, e))
+pub certificate_fault_is_other : (steps : ℕ) (b : BookCosts) (bytes : List ℕ) (f : Fault) → CertificateFirst steps b bytes f → f ≡ text.Memory → ⊥
+certificate_fault_is_other steps b bytes f h e = let P : Fault → Type 0 = λ x. CertificateFirst steps b bytes x in subst P e h
+
+pub source_fault_is_other : (source : List ℕ) (f : Fault) → HasFault source f → f ≡ text.Memory → ⊥
+source_fault_is_other source f (inl first) e = absurd (cc (first.is, e))
+source_fault_is_other source f (inr empty) e = absurd (cc (empty.1, e))
 
 -- a source that isn't assembled has a fault, or memory ran out
-pub source_refused : (text : List ℕ) (f : AsmFault) (e : Ended) → (f ≢ source.Memory → HasFault text f) → e ≡ bad_source f → IsRefusal (HasFault text) bad_source e
-source_refused text source.Memory e h is = inl is
-source_refused text (source.At rule line column) e h is = inr (source.At rule line column, h (λ same. absurd cc), is)
+pub source_refused : (source : List ℕ) (f : Fault) (e : Ended) → (f ≢ text.Memory → HasFault source f) → e ≡ bad_source f → IsRefusal (HasFault source) bad_source e
+source_refused source text.Memory e h is = inl is
+source_refused source (text.At rule line column) e h is = inr (text.At rule line column, h (λ same. absurd cc), is)
 
-pub script_fault_is_other : (steps : ℕ) (text : List ℕ) (f : ScriptFault) → ScriptFirst steps text f → f ≡ script.Memory → ⊥
-script_fault_is_other steps text f h e = let P : ScriptFault → Type 0 = λ x. ScriptFirst steps text x in subst P e h
+pub script_fault_is_other : (steps : ℕ) (source : List ℕ) (f : Fault) → ScriptFirst steps source f → f ≡ text.Memory → ⊥
+script_fault_is_other steps source f h e = let P : Fault → Type 0 = λ x. ScriptFirst steps source x in subst P e h
 
 -- a script that isn't read has a fault, or memory ran out
-pub script_refused : (steps : ℕ) (text : List ℕ) (f : ScriptFault) (e : Ended) → (f ≢ script.Memory → ScriptFirst steps text f) → e ≡ bad_script f → IsRefusal (ScriptFirst steps text) bad_script e
-script_refused steps text script.Memory e h is = inl is
-script_refused steps text (script.At rule line column) e h is = inr (script.At rule line column, h (λ same. absurd cc), is)
+pub script_refused : (steps : ℕ) (source : List ℕ) (f : Fault) (e : Ended) → (f ≢ text.Memory → ScriptFirst steps source f) → e ≡ bad_script f → IsRefusal (ScriptFirst steps source) bad_script e
+script_refused steps source text.Memory e h is = inl is
+script_refused steps source (text.At rule line column) e h is = inr (text.At rule line column, h (λ same. absurd cc), is)
 
 -- a file that isn't loaded has a fault, or memory ran out
 memory_by_number : (f : ElfFault) → number_of f ≡ 10 → f ≡ program.Memory

@@ -10,7 +10,8 @@ use Rattle.std.proofs.lemmas.Nat.{le_bytes_4, from_le_bytes-to_le_bytes_4}
 use Rattle.rv_asm.specs.Table.{wants}
 use Rattle.rv_asm.specs.Packing.{takes}
 use Rattle.rv_asm.specs.Coding.{entries}
-use Rattle.rv_asm.specs.Canonical.{unpacked, operands_text, hex_word, IsCanonical}
+use Rattle.rv_asm.specs.Canonical.{unpacked, operands_text, IsCanonical}
+use Rattle.line_texts.specs.Numbers.{hex_word}
 use Rattle.rv_asm.specs.Laws.{AreCanonical}
 use Rattle.rv_asm.proofs.CanonicalLines.{canonical_row, canonical_word, one_line}
 use Rattle.reversal.specs.CommandAssemble.{word_bytes, listing}

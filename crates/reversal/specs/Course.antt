@@ -38,7 +38,7 @@ pub record Course : Type 1 where
   pub holds : SameLevels → Shown → (performed : ℕ) → Moment → Moment → Type 0
   -- what is damaged of the bytes from a level after so many deeds, by the digests put and got
   pub damage : Shown → (performed level : ℕ) → (put got : List ℕ) → Moment → Moment → Type 0
-  -- what was done of the deed after so many, if a level's keeper failed in it
+  -- what was done of the deed after so many, if the keeper of a level failed in it
   pub stops : Shown → (performed level : ℕ) → Moment → Moment → Type 0
   -- the deeds in which memory may run out
   pub may_want : Deed → Type 0

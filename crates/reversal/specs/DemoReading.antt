@@ -1,11 +1,11 @@
 -- No public clause cites this file. A demonstration at its start, and one that stops.
-use Rattle.std.specs.Prelude.{◌≡◌, ℕ, ◌+◌, List, map, take, slice_get, Some}
+use Rattle.std.specs.Prelude.{◌≡◌, ℕ, ◌+◌, List, map, take, slice_get, Some, None}
 use Rattle.plan_types.specs.declared.action.Action.{Action}
 use Rattle.level_book.specs.CostFold.{forward}
 use Rattle.level_book.specs.Valid.{Valid}
 use Rattle.keepers.specs.KeeperState.{KeeperState}
 use Rattle.rv_machine.specs.MachineState.{IsMachineState}
-use Rattle.reverse_runner.specs.KeepersSeen.{HaveRoom, told_by}
+use Rattle.reverse_runner.specs.KeepersSeen.{HaveRoom, by_number}
 use Rattle.reverse_runner.specs.Standing.{begun, StandsAt}
 use Rattle.reversal.specs.declared.demo.Demonstrated.{Demonstrated}
 
@@ -13,7 +13,7 @@ use Rattle.reversal.specs.declared.demo.Demonstrated.{Demonstrated}
 pub record IsAtStart (d : Demonstrated) : Type 0 where
   pub state : IsMachineState d.session.work
   pub begun_so : d.session ≡ begun d.session.work d.session.journal 1 d.session.situation.steps d.session.situation.slots
-  pub stands : StandsAt d.session.work d.session (told_by (λ (k : KeeperState). Some k.images) d.keepers.items)
+  pub stands : StandsAt d.session.work d.session (by_number None (λ (k : KeeperState). Some k.images) d.keepers.items)
   pub room : HaveRoom d.session.situation.steps d.session.situation.slots (map (λ (k : KeeperState). k.slots) d.keepers.items)
   pub valid : Valid d.session.situation.steps d.session.situation.slots d.actions
 

@@ -41,7 +41,7 @@ IsFound Holds run answer old new =
     (last : Holdings) × (new.images ≡ last.levels.told)
     × IsFoundOn Holds run.unit run.steps run.journal (up_to run.unit run.steps answer run.list) (held_at_start run old) last
 
--- so many actions of the list were performed; this holds of the next one and its holdings before
+-- so many actions of the list were performed; this holds of the next one, and what was held before it
 pub record ComesTo (Holds : Action → Holdings → Type 0) (run : Run) (performed : ℕ) (old : Moment) : Type 0 where
   pub held : Holdings
   pub states : States
@@ -71,7 +71,7 @@ AllLevels run performed k = Unit {0}
 abbrev pub SparesNext : SameLevels
 SparesNext run performed k = (a : Action) → slice_get run.list performed ≡ Some a → Spares a k
 
--- those, and the levels that the next action didn't reach, if the keeper of this level failed in it
+-- those, and the ones that the next action didn't reach, if the keeper of this level failed in it
 abbrev pub UnreachedNext : (level : ℕ) → SameLevels
 UnreachedNext level run performed k = (a : Action) → slice_get run.list performed ≡ Some a → Spares a k ⊎ NotReached a level k
 

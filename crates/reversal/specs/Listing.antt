@@ -3,7 +3,8 @@ use Rattle.std.specs.Prelude.{ℕ, ◌<◌, ◌^◌, ◌++◌, List, [], ◌∷�
 use Rattle.rv_asm.specs.Table.{wants}
 use Rattle.rv_asm.specs.Packing.{takes}
 use Rattle.rv_asm.specs.Coding.{entries}
-use Rattle.rv_asm.specs.Canonical.{unpacked, operands_text, hex_word}
+use Rattle.rv_asm.specs.Canonical.{unpacked, operands_text}
+use Rattle.line_texts.specs.Numbers.{hex_word}
 use Rattle.reversal.specs.Plans.{in_pieces}
 
 -- a function of an option's value, or a default

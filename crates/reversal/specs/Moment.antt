@@ -1,9 +1,9 @@
 -- One moment of a sink, of keepers and of the count of steps: what they claim and count.
-use Rattle.std.specs.Prelude.{◌≡◌, ◌≢◌, ℕ, ◌<◌, List, Option, Some, IsSome}
+use Rattle.std.specs.Prelude.{◌≡◌, ◌≢◌, ℕ, ◌<◌, List, Option, Some, IsSome, None}
 use Rattle.std.specs.FinMap as finmap
 use Rattle.keepers.specs.Counts.{Rose}
 use Rattle.keepers.specs.Told.{Images}
-use Rattle.reverse_runner.specs.KeepersSeen.{Calls, by_number, calls_to, told_by}
+use Rattle.reverse_runner.specs.KeepersSeen.{Calls, by_number}
 
 pub record Moment : Type 0 where
   -- the bytes that the sink claims, how often it was called, and how often it failed
@@ -25,8 +25,8 @@ moment told writes faults images puts gets frees keeper_faults sink keepers step
   writes = writes sink;
   faults = faults sink;
   steps = steps;
-  calls = calls_to puts gets frees keepers;
-  images = told_by images keepers;
+  calls = record { puts = by_number 0 puts keepers; gets = by_number 0 gets keepers; frees = by_number 0 frees keepers };
+  images = by_number None images keepers;
   keeper_faults = by_number 0 keeper_faults keepers;
 }
 

@@ -67,7 +67,7 @@ impl Asking {
             (moment O.told O.call_count O.fault_count K.told K.put_count K.get_count K.free_count K.fault_count out.old keepers.old.items counter.old)
             (moment O.told O.call_count O.fault_count K.told K.put_count K.get_count K.free_count K.fault_count out.new keepers.new.items counter.new) }
         ensures others { KeepsOthers K.slot_count K.place (accept (ask self.question (run_over self.over))) keepers.old.items keepers.new.items }
-        ensures roomy { AreRoomy (image_room self.over.start) (length (slots_of self.over.book)) (rooms_by K.room_bytes keepers.old.items) →
+        ensures roomy { AreRoomy (image_room self.over.start) (length (slots_of self.over.book)) (rooms_by K.Storage keepers.old.items) →
             result.status ≡ 17 → IsUntouched result out.old out.new keepers.old keepers.new counter.old counter.new }
     {
         let question = self.question;
@@ -117,7 +117,7 @@ fn show_state<K: Keeper, O: Sink, L: Ledger>(
         (moment O.told O.call_count O.fault_count K.told K.put_count K.get_count K.free_count K.fault_count out.old keepers.old.items counter.old)
         (moment O.told O.call_count O.fault_count K.told K.put_count K.get_count K.free_count K.fault_count out.new keepers.new.items counter.new) }
     ensures others { KeepsOthers K.slot_count K.place (accept (ask (about.State place) (run_from session.old list.now))) keepers.old.items keepers.new.items }
-    ensures roomy { AreRoomy (image_room session.old.work) (length session.old.situation.slots) (rooms_by K.room_bytes keepers.old.items) →
+    ensures roomy { AreRoomy (image_room session.old.work) (length session.old.situation.slots) (rooms_by K.Storage keepers.old.items) →
         result.status ≢ 17 }
 {
     let mut writer = LineWriter::new(out);
@@ -147,7 +147,7 @@ fn tell_last_write<K: Keeper, O: Sink, L: Ledger>(
         (moment O.told O.call_count O.fault_count K.told K.put_count K.get_count K.free_count K.fault_count out.old keepers.old.items counter.old)
         (moment O.told O.call_count O.fault_count K.told K.put_count K.get_count K.free_count K.fault_count out.new keepers.new.items counter.new) }
     ensures others { KeepsOthers K.slot_count K.place (accept (ask (about.LastWrite address) (run_from session.old list.now))) keepers.old.items keepers.new.items }
-    ensures roomy { AreRoomy (image_room session.old.work) (length session.old.situation.slots) (rooms_by K.room_bytes keepers.old.items) →
+    ensures roomy { AreRoomy (image_room session.old.work) (length session.old.situation.slots) (rooms_by K.Storage keepers.old.items) →
         result.status ≢ 17 }
 {
     match last_write(session, list, keepers, address, counter) {
@@ -176,7 +176,7 @@ fn tell_last_change<K: Keeper, O: Sink, L: Ledger>(
         (moment O.told O.call_count O.fault_count K.told K.put_count K.get_count K.free_count K.fault_count out.old keepers.old.items counter.old)
         (moment O.told O.call_count O.fault_count K.told K.put_count K.get_count K.free_count K.fault_count out.new keepers.new.items counter.new) }
     ensures others { KeepsOthers K.slot_count K.place (accept (ask (about.LastChange address) (run_from session.old list.now))) keepers.old.items keepers.new.items }
-    ensures roomy { AreRoomy (image_room session.old.work) (length session.old.situation.slots) (rooms_by K.room_bytes keepers.old.items) →
+    ensures roomy { AreRoomy (image_room session.old.work) (length session.old.situation.slots) (rooms_by K.Storage keepers.old.items) →
         result.status ≢ 17 }
 {
     match last_change(session, list, keepers, address, counter) {

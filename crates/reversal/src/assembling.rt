@@ -41,7 +41,10 @@ fn assemble_text(alloc: Global, source: &[u8]) -> Result<Job, Ended>
     ensures room { IfOk result (λ job. (counts : List ℕ) → KeepersHaveRoom job counts) }
     ensures refused { IfErr result (λ e. (e ≡ no_memory) ⊎ DecidesAssemble source.now (refuse e)) }
 {
-    let words = assemble(alloc, source)?;
+    let words = match assemble(alloc, source) {
+        Ok(words) => words,
+        Err(fault) => return Err(Ended::bad_source(fault)),
+    };
     let bytes = bytes_of(alloc, &words)?;
     Ok(Job::Bytes(bytes))
 }

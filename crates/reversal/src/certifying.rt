@@ -92,7 +92,10 @@ fn certificate_in(
     ensures found { IfOk result (IsCertificateText steps book.now bytes.now) }
     ensures refused { IfErr result (IsRefusal (HasFirstFault steps book.now bytes.now) bad_certificate) }
 {
-    Ok(read_certificate(alloc, bytes, steps, book)?)
+    match read_certificate(alloc, bytes, steps, book) {
+        Ok(certificate) => Ok(certificate),
+        Err(fault) => Err(Ended::bad_certificate(fault)),
+    }
 }
 
 // The class in which a valid list is the least by its certificate.

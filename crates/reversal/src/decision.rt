@@ -380,7 +380,10 @@ pub(crate) fn list_in(alloc: Global, bytes: &[u8], book: &Book) -> Result<Vec<Ac
     ensures found { IfOk result (λ list. IsSchedule (names_of book.now) bytes.now list.items) }
     ensures refused { IfErr result (IsRefusal (HasFirstFault (names_of book.now) bytes.now) bad_text) }
 {
-    Ok(read_actions(alloc, bytes, book)?)
+    match read_actions(alloc, bytes, book) {
+        Ok(list) => Ok(list),
+        Err(fault) => Err(Ended::bad_text(fault)),
+    }
 }
 
 // Judges a list.

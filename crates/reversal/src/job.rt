@@ -124,7 +124,7 @@ impl Job {
             (moment O.told O.call_count O.fault_count K.told K.put_count K.get_count K.free_count K.fault_count out.old keepers.old.items counter.old)
             (moment O.told O.call_count O.fault_count K.told K.put_count K.get_count K.free_count K.fault_count out.new keepers.new.items counter.new) }
         ensures others { KeepsOthers K.slot_count K.place (accept (job_of self)) keepers.old.items keepers.new.items }
-        ensures roomy { HaveRoomsFor (job_of self) (rooms_by K.room_bytes keepers.old.items) → result.status ≡ 17 →
+        ensures roomy { HaveRoomsFor (job_of self) (rooms_by K.Storage keepers.old.items) → result.status ≡ 17 →
             IsUntouched result out.old out.new keepers.old keepers.new counter.old counter.new }
     {
         match self {
@@ -158,7 +158,7 @@ impl Performance {
             (moment O.told O.call_count O.fault_count K.told K.put_count K.get_count K.free_count K.fault_count out.old keepers.old.items counter.old)
             (moment O.told O.call_count O.fault_count K.told K.put_count K.get_count K.free_count K.fault_count out.new keepers.new.items counter.new) }
         ensures others { KeepsOthers K.slot_count K.place (accept (perform (performed_run self))) keepers.old.items keepers.new.items }
-        ensures roomy { AreRoomy (image_room self.start) (length (slots_of self.book)) (rooms_by K.room_bytes keepers.old.items) → result.status ≡ 17 →
+        ensures roomy { AreRoomy (image_room self.start) (length (slots_of self.book)) (rooms_by K.Storage keepers.old.items) → result.status ≡ 17 →
             IsUntouched result out.old out.new keepers.old keepers.new counter.old counter.new }
     {
         let Performance {
@@ -225,7 +225,7 @@ fn perform_all<R: Threads + Sync, K: Keeper, O: Sink, L: Ledger>(
         (moment O.told O.call_count O.fault_count K.told K.put_count K.get_count K.free_count K.fault_count out.old keepers.old.items counter.old)
         (moment O.told O.call_count O.fault_count K.told K.put_count K.get_count K.free_count K.fault_count out.new keepers.new.items counter.new) }
     ensures others { KeepsOthers K.slot_count K.place (accept (perform (run_from session.old (left_of actions.old)))) keepers.old.items keepers.new.items }
-    ensures roomy { AreRoomy (image_room session.old.work) (length session.old.situation.slots) (rooms_by K.room_bytes keepers.old.items) →
+    ensures roomy { AreRoomy (image_room session.old.work) (length session.old.situation.slots) (rooms_by K.Storage keepers.old.items) →
         result.status ≢ 17 }
 {
     let mut writer = LineWriter::new(out);

@@ -59,7 +59,7 @@ impl Moving {
             (moment O.told O.call_count O.fault_count K.told K.put_count K.get_count K.free_count K.fault_count out.old keepers.old.items counter.old)
             (moment O.told O.call_count O.fault_count K.told K.put_count K.get_count K.free_count K.fault_count out.new keepers.new.items counter.new) }
         ensures others { KeepsOthers K.slot_count K.place (accept (moves self)) keepers.old.items keepers.new.items }
-        ensures roomy { AreRoomy (image_room self.start) (length (slots_of self.book)) (rooms_by K.room_bytes keepers.old.items) → result.status ≡ 17 →
+        ensures roomy { AreRoomy (image_room self.start) (length (slots_of self.book)) (rooms_by K.Storage keepers.old.items) → result.status ≡ 17 →
             IsUntouched result out.old out.new keepers.old keepers.new counter.old counter.new }
     {
         let Moving {
@@ -187,5 +187,8 @@ fn orders_in(alloc: Global, bytes: &[u8], steps: u32) -> Result<Vec<Order>, Ende
     ensures few { IfOk result (λ orders. vec_len orders < 2 ^ 32) }
     ensures refused { IfErr result (IsRefusal (HasFirstFault steps bytes.now) bad_script) }
 {
-    Ok(read_orders(alloc, bytes, steps)?)
+    match read_orders(alloc, bytes, steps) {
+        Ok(orders) => Ok(orders),
+        Err(fault) => Err(Ended::bad_script(fault)),
+    }
 }

@@ -70,7 +70,7 @@ pub fn reversal<R: Threads + Sync, I: Inputs, K: Keeper, O: Sink, L: Ledger>(
         × HaltsShowing (course_of job)
         (moment O.told O.call_count O.fault_count K.told K.put_count K.get_count K.free_count K.fault_count out.old keepers.old.items steps.old)
         (moment O.told O.call_count O.fault_count K.told K.put_count K.get_count K.free_count K.fault_count out.new keepers.new.items steps.new)
-        × (HaveRoomsFor job (rooms_by K.room_bytes keepers.old.items) → (out.new ≡ out.old) × (keepers.new ≡ keepers.old) × (steps.new ≡ steps.old)))) }
+        × (HaveRoomsFor job (rooms_by K.Storage keepers.old.items) → (out.new ≡ out.old) × (keepers.new ≡ keepers.old) × (steps.new ≡ steps.old)))) }
 
     // Each keeper has the same slots, in the same place.
     ensures stay { StayInPlace K.slot_count K.place keepers.old.items keepers.new.items }

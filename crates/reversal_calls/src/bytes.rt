@@ -1,23 +1,9 @@
 // Bytes as a member of a case gives them: a text, base64 in an object, or a repeated text.
 
 use base64::engine::general_purpose::STANDARD;
+use case_files::CaseFault;
 use serde_json::{Value, json};
 use std::alloc::{AllocError, Global};
-
-/// Why a line is no case.
-#[derive(Clone, Copy, Debug, PartialEq, Eq)]
-pub enum CaseFault {
-    /// A member is not of its form.
-    Form,
-    /// There was no memory.
-    Memory,
-}
-
-impl From<AllocError> for CaseFault {
-    fn from(_e: AllocError) -> CaseFault {
-        CaseFault::Memory
-    }
-}
 
 /// The bytes of a member.
 pub fn bytes_of(alloc: Global, value: &Value) -> Result<Vec<u8>, CaseFault> {

@@ -1,6 +1,6 @@
 // The keeper of a level in a case.
 
-use keepers::{FlipKeeper, KeepFault, Keeper, MemoryKeeper};
+use keepers::{FlipKeeper, KeepFault, Keeper, MemoryKeeper, Storage};
 
 /// A keeper in memory with listed failing calls, or one that gives a wrong bit.
 #[derive(Drop)]
@@ -35,7 +35,7 @@ impl CaseKeeper {
     }
 }
 
-impl Keeper for CaseKeeper {
+impl Storage for CaseKeeper {
     ghost use Rattle.std.specs.Prelude.{None};
     ghost use Rattle.reversal_calls.specs.CaseKeeper.{told_of, slots_of, puts_of, gets_of, frees_of, faults_of, room_of};
 
@@ -54,7 +54,9 @@ impl Keeper for CaseKeeper {
     ghost room_bytes = { room_of };
 
     ghost place = { λ _. None };
+}
 
+impl Keeper for CaseKeeper {
     fn slots(&self) -> u32 {
         match self {
             CaseKeeper::Memory(keeper) => keeper.slots(),

@@ -1,5 +1,5 @@
 // Repeats the call of a case by the program over disks in memory. Each level has its images in the files of a folder.
-ghost use Rattle.std.specs.Prelude.{◌≡◌, ◌<◌, ℕ, List, [], Some, IfOk, Vec};
+ghost use Rattle.std.specs.Prelude.{◌≡◌, ◌<◌, ℕ, List, [], Some, IfOk, Vec, None};
 ghost use Rattle.std.specs.declared.alloc.Global.{Global as AGlobal};
 ghost use Rattle.std.specs.FinMap as finmap;
 ghost use Rattle.keepers.specs.AnyKeeper.{told_of};
@@ -8,13 +8,14 @@ ghost use Rattle.keepers.specs.declared.any_keeper.AnyKeeper.{AnyKeeper as AnAny
 ghost use Rattle.memory_disk.specs.declared.MemoryDisk.{MemoryDisk as AMemoryDisk};
 ghost use Rattle.requests.specs.Bounds.{Asks};
 ghost use Rattle.requests.specs.Request.{Request, words_of};
-ghost use Rattle.reverse_runner.specs.KeepersSeen.{told_by};
+ghost use Rattle.reverse_runner.specs.KeepersSeen.{by_number};
 ghost use Rattle.reversal_program.specs.Run.{IsRun};
 
-use crate::bytes::{CaseFault, bytes_of};
+use crate::bytes::bytes_of;
 use crate::came::{Seen, SeenKeeper};
 use crate::case::{parts, push, words_of};
 use crate::case_keeper::CaseKeeper;
+use case_files::CaseFault;
 use keepers::{AnyKeeper, Disk, Keeper};
 use memory_disk::{DiskOp, MemoryDisk};
 use reversal::Words;
@@ -145,7 +146,7 @@ pub fn run_over_files<T: Threads + Sync, L: Ledger>(
     requires some { 0 < blank.parts }
     ensures { (r : Request) → Asks (words_of case.words) r → IfOk result (λ ran. (before : List (AnAnyKeeper AMemoryDisk)) × (out : Vec ℕ AGlobal)
         × (steps : ℕ) × (steps' : ℕ) × (out.items ≡ [])
-        × ((k : ℕ) → k < 4 → told_by (told_of ⟦<MemoryDisk as Disk>⟧.told) before k ≡ Some finmap.empty)
+        × ((k : ℕ) → k < 4 → by_number None (told_of ⟦<MemoryDisk as Disk>⟧.told) before k ≡ Some finmap.empty)
         × IsRun ⟦<MemoryDisk as Disk>⟧.told ⟦<Vec<u8> as Write>⟧.contents (words_of case.words) (⟦<MemoryDisk as Disk>⟧.told case.inputs) []
         (asked_of ran.inputs) 0 (input_faults_of ran.inputs) before ran.keepers.items (fresh out) ran.out steps steps' ran.ended) }
 {

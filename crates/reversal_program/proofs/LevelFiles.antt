@@ -20,7 +20,7 @@ use Rattle.level_book.specs.Valid.{Leads, Valid}
 use Rattle.rv_machine.specs.MachineState.{MachineState}
 use Rattle.image_store.specs.Standing.{IsToldAnd}
 use Rattle.reverse_runner.specs.HoldsJust.{HoldsJust}
-use Rattle.reverse_runner.specs.KeepersSeen.{told_by}
+use Rattle.reverse_runner.specs.KeepersSeen.{by_number}
 use Rattle.reverse_runner.specs.LevelsStand.{Numbers}
 use Rattle.reversal.specs.CommandRun.{performing}
 use Rattle.reversal.specs.Course.{Shown, Done}
@@ -120,7 +120,7 @@ module _ {D : Type 0} (told : D → Option Files) (states : ℕ → MachineState
 -- a run that was done
 pub leaves_images : {D : Type 0} (told : D → Option Files) (folders : List (Option (List ℕ))) (disks : List D) (before after : List (AnyKeeper D)) (run : Run) (shown : Shown) (old new : Moment) →
     AllBegin told 0 folders disks before → HaveNoFiles told 0 folders disks → StayInPlace slots_of place_of before after →
-    old.images ≡ told_by (told_of told) before → new.images ≡ told_by (told_of told) after → Done (performing run) shown old new →
+    old.images ≡ by_number None (told_of told) before → new.images ≡ by_number None (told_of told) after → Done (performing run) shown old new →
     (valid : Valid run.steps run.slots run.list) → length run.slots ≤ length folders →
     (level : ℕ) (folder : List ℕ) → level < length run.slots → slice_get folders level ≡ Some (Some folder) →
     LevelHoldsJust told (unit_state run) (held_on valid.0 level) folder level after

@@ -7,7 +7,7 @@ use Rattle.keepers.specs.AnyKeeper.{told_of}
 use Rattle.keepers.specs.SlotFiles.{level_images}
 use Rattle.keepers.specs.declared.any_keeper.AnyKeeper.{AnyKeeper}
 use Rattle.keepers.proofs.SlotImages.{level_empty}
-use Rattle.reverse_runner.specs.KeepersSeen.{told_by}
+use Rattle.reverse_runner.specs.KeepersSeen.{by_number}
 use Rattle.reversal_program.specs.Beginning.{AllBegin, HaveNoFiles, HasNoFiles, held_at_first}
 
 holds_none : {D : Type 0} (told : D → Option Files) (level : ℕ) (folder : Option (List ℕ)) (disk : D) → HasNoFiles told level folder disk → held_at_first told level folder disk ≡ Some finmap.empty
@@ -15,7 +15,7 @@ holds_none told level None disk none = refl
 holds_none told level (Some folder) disk none = ap (option_map (level_images folder level 1000000)) none.1 ∙ ap Some (level_empty folder level 1000000 none.0 none.2)
 
 pub begin_empty : {D : Type 0} (told : D → Option Files) (level : ℕ) (folders : List (Option (List ℕ))) (disks : List D) (before : List (AnyKeeper D)) →
-    AllBegin told level folders disks before → HaveNoFiles told level folders disks → (k : ℕ) → k < length before → told_by (told_of told) before k ≡ Some finmap.empty
+    AllBegin told level folders disks before → HaveNoFiles told level folders disks → (k : ℕ) → k < length before → by_number None (told_of told) before k ≡ Some finmap.empty
 begin_empty told level folders disks [] begin none k h = absurd (omega (arith, h))
 begin_empty told level [] [] (x ∷ ks) begin none k h = absurd begin
 begin_empty told level [] (d ∷ disks) (x ∷ ks) begin none k h = absurd begin

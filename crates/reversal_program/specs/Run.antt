@@ -1,12 +1,12 @@
 -- What a call of the program does to its objects: what the top call of reversal does.
-use Rattle.std.specs.Prelude.{◌≡◌, ◌≢◌, ◌⊎◌, ◌↔◌, ℕ, List, ◌++◌, map, take, Option}
+use Rattle.std.specs.Prelude.{◌≡◌, ◌≢◌, ◌⊎◌, ◌↔◌, ℕ, List, ◌++◌, map, take, Option, None}
 use Rattle.keepers.specs.Counts.{Rose}
 use Rattle.keepers.specs.Told.{Files}
 use Rattle.keepers.specs.AnyKeeper.{told_of, slots_of, puts_of, gets_of, frees_of, faults_of, room_of, place_of}
 use Rattle.keepers.specs.Outside.{writer_of, writes_of, sink_faults_of}
 use Rattle.keepers.specs.declared.any_keeper.AnyKeeper.{AnyKeeper}
 use Rattle.keepers.specs.declared.stdout_sink.StdoutSink.{StdoutSink}
-use Rattle.reverse_runner.specs.Rooms.{rooms_by}
+use Rattle.reverse_runner.specs.KeepersSeen.{by_number}
 use Rattle.requests.specs.declared.ended.Ended.{Ended}
 use Rattle.requests.specs.Request.{Request, Says}
 use Rattle.requests.specs.Bounds.{RefusesWords, Asks}
@@ -45,6 +45,6 @@ pub record IsRun {D W : Type 0} (told : D → Option Files) (contents : W → Op
       × Begins job
       × KeepsOthers slots_of place_of (accept job) keepers keepers'
       × HaltsShowing (course_of job) (seen told contents out keepers steps) (seen told contents out' keepers' steps')
-      × (HaveRoomsFor job (rooms_by room_of keepers) → (out' ≡ out) × (keepers' ≡ keepers) × (steps' ≡ steps))))
+      × (HaveRoomsFor job (by_number None room_of keepers) → (out' ≡ out) × (keepers' ≡ keepers) × (steps' ≡ steps))))
   pub stay : StayInPlace slots_of place_of keepers keepers'
   pub untouched : (IsOfJob ended.status → ⊥) → (out' ≡ out) × (keepers' ≡ keepers) × (steps' ≡ steps)

@@ -1,5 +1,5 @@
 // Consequences of what levels hold when a call begins, and when it ends.
-ghost use Rattle.std.specs.Prelude.{◌≡◌, ◌⊎◌, ℕ, ◌<◌, ◌≤◌, List, Option, Some, length, map, slice_get};
+ghost use Rattle.std.specs.Prelude.{◌≡◌, ◌⊎◌, ℕ, ◌<◌, ◌≤◌, List, Option, Some, length, map, slice_get, None};
 ghost use Rattle.std.specs.FinMap as finmap;
 ghost use Rattle.keepers.specs.Counts.{Rose};
 ghost use Rattle.keepers.specs.Told.{Files};
@@ -7,7 +7,7 @@ ghost use Rattle.keepers.specs.AnyKeeper.{told_of, slots_of, place_of};
 ghost use Rattle.keepers.specs.declared.any_keeper.AnyKeeper.{AnyKeeper as AnAnyKeeper};
 ghost use Rattle.level_book.specs.Configuration.{held_on};
 ghost use Rattle.level_book.specs.Valid.{Valid};
-ghost use Rattle.reverse_runner.specs.KeepersSeen.{told_by};
+ghost use Rattle.reverse_runner.specs.KeepersSeen.{by_number};
 ghost use Rattle.reversal.specs.CommandRun.{performing};
 ghost use Rattle.reversal.specs.Course.{Shown, Done};
 ghost use Rattle.keepers.specs.declared.stdout_sink.StdoutSink.{StdoutSink as AStdoutSink};
@@ -31,7 +31,7 @@ use reversal::laws::{accepted_jobs_are_done, decisions_are_unique};
 pub fn levels_without_files_begin_empty<D: Disk>()
     ensures { (level : ℕ) (folders : List (Option (List ℕ))) (disks : List D) (before : List (AnAnyKeeper D)) →
         AllBegin D.told level folders disks before → HaveNoFiles D.told level folders disks →
-        (k : ℕ) → k < length before → told_by (told_of D.told) before k ≡ Some finmap.empty }
+        (k : ℕ) → k < length before → by_number None (told_of D.told) before k ≡ Some finmap.empty }
 {}
 
 /// Let the folders have no image of their levels. A completed run leaves in each folder just the images that its
@@ -39,7 +39,7 @@ pub fn levels_without_files_begin_empty<D: Disk>()
 pub fn runs_leave_the_images_of_their_schedule<D: Disk>()
     ensures { (folders : List (Option (List ℕ))) (disks : List D) (before after : List (AnAnyKeeper D)) (run : Run) (shown : Shown) (old new : Moment) →
         AllBegin D.told 0 folders disks before → HaveNoFiles D.told 0 folders disks → StayInPlace slots_of place_of before after →
-        old.images ≡ told_by (told_of D.told) before → new.images ≡ told_by (told_of D.told) after → Done (performing run) shown old new →
+        old.images ≡ by_number None (told_of D.told) before → new.images ≡ by_number None (told_of D.told) after → Done (performing run) shown old new →
         (valid : Valid run.steps run.slots run.list) → length run.slots ≤ length folders →
         (level : ℕ) (folder : List ℕ) → level < length run.slots → slice_get folders level ≡ Some (Some folder) →
         LevelHoldsJust D.told (unit_state run) (held_on valid.0 level) folder level after }
@@ -52,7 +52,7 @@ pub fn accepted_requests_are_done<D: Disk, W: Output>()
         (before after : List (AnAnyKeeper D)) (out out2 : AStdoutSink W) (steps steps2 : ℕ) (ended : AnEnded) →
         IsRun D.told W.contents words (Some files) asked asked2 input_faults input_faults2 before after out out2 steps steps2 ended →
         (r : ARequest) → Asks words r → (job : AJob) → Decides r (contents files (inputs_of r.command)) (map slots_of before) (accept job) →
-        AllTell (course_of job).levels (told_by (told_of D.told) before) → (Rose input_faults input_faults2 → ⊥) →
+        AllTell (course_of job).levels (by_number None (told_of D.told) before) → (Rose input_faults input_faults2 → ⊥) →
         NothingRises (seen D.told W.contents out before steps) (seen D.told W.contents out2 after steps2) → (ended ≡ done) ⊎ (ended ≡ no_memory) }
 {
     decisions_are_unique();

@@ -18,7 +18,7 @@ use Rattle.reverse_console.specs.Marks.{MarkPlan, marked, mark_level, mark_of, m
 use Rattle.reverse_console.proofs.Numbers.{marks_more}
 use Rattle.input_journal.specs.Form.{IsRecorded}
 use Rattle.reverse_runner.specs.SessionState.{SamePages}
-use Rattle.reverse_console.specs.declared.desk.Desk.{Desk}
+use Rattle.reverse_runner.specs.declared.desk.Desk.{Desk}
 use Rattle.reverse_console.specs.Handling.{StandAt, source}
 use Rattle.reverse_console.specs.Seen.{Source, ComesFrom}
 use Rattle.reverse_console.proofs.Coming.{SourceStands, comes_from_run}

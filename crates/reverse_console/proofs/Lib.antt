@@ -3,14 +3,12 @@ pub mod Calling
 pub mod Collision
 pub mod Coming
 pub mod Getting
+pub mod Leaving
 pub mod Levels
 pub mod Numbers
 pub mod Putting
-pub mod ScriptAddresses
 pub mod ScriptCommands
 pub mod ScriptLines
-pub mod ScriptSeen
-pub mod ScriptSteps
 pub mod ScriptWhole
 pub mod Scripts
 pub mod Seeing

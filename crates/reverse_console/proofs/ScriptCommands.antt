@@ -1,5 +1,5 @@
 -- A command is its word, and its operand is what it is spelled as.
-use Rattle.std.proofs.Common.{◌≡◌, ◌≢◌, ℕ, true, false, List, Some, None, refl, sym, ◌∙◌, ap, inl, inr, true≢false}
+use Rattle.std.proofs.Common.{◌≡◌, ◌≢◌, ℕ, true, false, List, Some, None, refl, sym, ◌∙◌, ap, inl, inr, true≢false, arith}
 use Rattle.std.specs.Prelude.{codes}
 use Rattle.std.specs.Str.{bytes_eq}
 use Rattle.std.proofs.lemmas.Bool.{leb-true, le-leb}
@@ -11,12 +11,11 @@ use Rattle.reverse_console.specs.declared.order.Order.TheVariants.{Back, Step, G
 use Rattle.reverse_console.specs.Answer.{IsOrder}
 use Rattle.reverse_console.specs.ScriptWords.{begins_comment}
 use Rattle.reverse_console.specs.Script.{command_word, IsOperand}
-use Rattle.reverse_console.specs.ScriptReading.{command_of, address_of, operand_of, is_given}
-use Rattle.action_text.specs.Reading.{number_of}
-use Rattle.action_text.proofs.Steps.{which}
-use Rattle.action_text.proofs.Decimal.{number_is, decimal_is_number}
-use Rattle.reverse_console.proofs.ScriptSteps.{same_bytes}
-use Rattle.reverse_console.proofs.ScriptAddresses.{address_read, address_is}
+use Rattle.reverse_console.specs.ScriptReading.{command_of, operand_of, is_given}
+use Rattle.line_texts.specs.Reading.{address_of, number_of}
+use Rattle.line_texts.proofs.Steps.{which, same_bytes}
+use Rattle.line_texts.proofs.Decimal.{number_is, decimal_is}
+use Rattle.line_texts.proofs.Addresses.{address_read, address_is}
 
 -- ---- commands
 
@@ -74,18 +73,18 @@ other_word text none c is = none-some c (sym none ∙ ap command_of is ∙ known
 -- ---- operands
 
 pub operand_read : (c : Command) (text : List ℕ) (n : ℕ) → IsOperand c text n → operand_of c text ≡ Some n
-operand_read command.Back text n is = ap number_of is.1 ∙ decimal_is_number n is.0
-operand_read command.Step text n is = ap number_of is.1 ∙ decimal_is_number n is.0
-operand_read command.Goto text n is = ap number_of is.1 ∙ decimal_is_number n is.0
+operand_read command.Back text n is = ap (number_of 1000000) is.1 ∙ decimal_is 1000000 n (omega arith) is.0
+operand_read command.Step text n is = ap (number_of 1000000) is.1 ∙ decimal_is 1000000 n (omega arith) is.0
+operand_read command.Goto text n is = ap (number_of 1000000) is.1 ∙ decimal_is 1000000 n (omega arith) is.0
 operand_read command.BackTo text n is = ap address_of is.1 ∙ address_read n is.0
 operand_read command.RunTo text n is = ap address_of is.1 ∙ address_read n is.0
 operand_read command.BackChange text n is = ap address_of is.1 ∙ address_read n is.0
 operand_read command.BackWrite text n is = ap address_of is.1 ∙ address_read n is.0
 
 pub operand_is : (c : Command) (text : List ℕ) (n : ℕ) → operand_of c text ≡ Some n → IsOperand c text n
-operand_is command.Back text n e = number_is text n e
-operand_is command.Step text n e = number_is text n e
-operand_is command.Goto text n e = number_is text n e
+operand_is command.Back text n e = number_is 1000000 text n (omega arith) e
+operand_is command.Step text n e = number_is 1000000 text n (omega arith) e
+operand_is command.Goto text n e = number_is 1000000 text n (omega arith) e
 operand_is command.BackTo text n e = address_is text n e
 operand_is command.RunTo text n e = address_is text n e
 operand_is command.BackChange text n e = address_is text n e

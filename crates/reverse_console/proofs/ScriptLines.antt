@@ -10,8 +10,8 @@ use Rattle.reverse_console.specs.Script.{command_word, order_with, IsOperand, Sa
 use Rattle.reverse_console.specs.ScriptFaults.{IsFault, broken, rule_of}
 use Rattle.reverse_console.specs.ScriptReading.{command_of, operand_of, is_given, in_range, given_by, given, alone, behind_command, with_command, line_of}
 use Rattle.reverse_console.proofs.ScriptCommands.{known, no_comment, command_is, other_word, operand_read, operand_is, other_operand, given_is, is_given_again, not_given, given_or_not}
-use Rattle.action_text.specs.Tokens.{Token}
-use Rattle.action_text.proofs.Steps.{which}
+use Rattle.line_texts.specs.Tokens.{Token}
+use Rattle.line_texts.proofs.Steps.{which}
 
 -- ---- what is read is said, or it is the fault
 

@@ -7,16 +7,18 @@ use Rattle.std.proofs.lemmas.List.{append-nil}
 use Rattle.std.proofs.lemmas.Option.{none-some, same_Some}
 use Rattle.reverse_console.specs.declared.order.Order.{Order}
 use Rattle.reverse_console.specs.declared.fault.LineFault.{LineFault}
-use Rattle.reverse_console.specs.declared.fault.ScriptFault.{ScriptFault}
-use Rattle.reverse_console.specs.declared.fault.ScriptFault.TheVariants.{At, Memory}
+use Rattle.line_texts.specs.declared.fault.Fault.{Fault}
+use Rattle.line_texts.specs.declared.fault.Fault.TheVariants.{At, Memory}
 use Rattle.reverse_console.specs.Answer.{IsOrder}
-use Rattle.reverse_console.specs.ScriptWords.{words, texts}
+use Rattle.reverse_console.specs.ScriptWords.{texts}
+use Rattle.line_texts.specs.Tokens.{words}
 use Rattle.reverse_console.specs.Script.{Says, IsPassed, LinesSay, IsScript}
 use Rattle.reverse_console.specs.ScriptFaults.{FaultIn, fault_at, HasFirstFault}
 use Rattle.reverse_console.specs.ScriptLaws.{OneScript, OneFault, ScriptsHaveNoFault, ScriptOrFault}
-use Rattle.reverse_console.specs.ScriptReading.{line_of, orders_from, script_of, GivesUnlessMemory}
-use Rattle.action_text.specs.ScheduleText.{lines}
-use Rattle.action_text.proofs.Steps.{done, failed, ok_is, err_is, not_both}
+use Rattle.reverse_console.specs.ScriptReading.{line_of, orders_from, script_of}
+use Rattle.line_texts.specs.Reading.{GivesUnlessMemory}
+use Rattle.line_texts.specs.Lines.{lines}
+use Rattle.line_texts.proofs.Steps.{done, failed, ok_is, err_is, not_both}
 use Rattle.reverse_console.proofs.ScriptLines.{IsAnswerOf, line_answer, passed_read, says_read, fault_read}
 
 -- ---- lines
@@ -58,7 +60,7 @@ said : (count : ℕ) (l : List ℕ) (o : Order) → Says count (texts l) o → r
 said count l o say = says_read count (length l + 1) (words 1 l) o say
 
 said_read : (count : ℕ) (orders : List Order) (line : ℕ) (ls : List (List ℕ)) (more : List Order) → LinesSay count ls more → orders_from count orders line ls ≡ Ok (orders ++ more)
-said_read count orders line [] [] say = no_line count orders line ∙ ap (done ScriptFault) (sym (append-nil orders))
+said_read count orders line [] [] say = no_line count orders line ∙ ap (done Fault) (sym (append-nil orders))
 said_read count orders line [] (o ∷ more) say = absurd say
 said_read count orders line (l ∷ ls) [] say = behind_none count orders line l ls (passed count l say.0) ∙ said_read count orders (line + 1) ls [] say.1
 said_read count orders line (l ∷ ls) (o ∷ more) (inl say) =
@@ -66,7 +68,7 @@ said_read count orders line (l ∷ ls) (o ∷ more) (inl say) =
 said_read count orders line (l ∷ ls) (o ∷ more) (inr say) =
     next_ok count orders line l ls (Some o) (said count l o say.0)
     ∙ said_read count (orders ++ o ∷ []) (line + 1) ls more say.1
-    ∙ ap (done ScriptFault) (regroup orders o more)
+    ∙ ap (done Fault) (regroup orders o more)
 
 -- and a fault behind it is met
 fault_met : (count : ℕ) (orders : List Order) (line : ℕ) (before : List (List ℕ)) (here : List ℕ) (after : List (List ℕ)) (more : List Order) (f : LineFault) →
@@ -100,7 +102,7 @@ record IsReadWhole (count : ℕ) (ls : List (List ℕ)) (orders out : List Order
   says : LinesSay count ls more
 
 -- lines that weren't, with the fault that was met
-record IsReadUpTo (count line : ℕ) (ls : List (List ℕ)) (e : ScriptFault) : Type 0 where
+record IsReadUpTo (count line : ℕ) (ls : List (List ℕ)) (e : Fault) : Type 0 where
   before : List (List ℕ)
   here : List ℕ
   after : List (List ℕ)
@@ -111,7 +113,7 @@ record IsReadUpTo (count line : ℕ) (ls : List (List ℕ)) (e : ScriptFault) : 
   met : FaultIn count here fault
   answer : e ≡ fault_at (length before + line) fault
 
-abbrev AreRead : ℕ → ℕ → List (List ℕ) → List Order → Result (List Order) ScriptFault → Type 0
+abbrev AreRead : ℕ → ℕ → List (List ℕ) → List Order → Result (List Order) Fault → Type 0
 AreRead count line ls orders (Ok out) = IsReadWhole count ls orders out
 AreRead count line ls orders (Err e) = IsReadUpTo count line ls e
 
@@ -119,7 +121,7 @@ more_none : (count : ℕ) (l : List ℕ) (ls : List (List ℕ)) (more : List Ord
 more_none count l ls [] e say = (e, say)
 more_none count l ls (o ∷ more) e say = inl (e, say)
 
-one_more_none : (count line : ℕ) (l : List ℕ) (ls : List (List ℕ)) (orders : List Order) (r : Result (List Order) ScriptFault) → IsPassed l → AreRead count (line + 1) ls orders r → AreRead count line (l ∷ ls) orders r
+one_more_none : (count line : ℕ) (l : List ℕ) (ls : List (List ℕ)) (orders : List Order) (r : Result (List Order) Fault) → IsPassed l → AreRead count (line + 1) ls orders r → AreRead count line (l ∷ ls) orders r
 one_more_none count line l ls orders (Ok out) e read = record { more = read.more; parts = read.parts; says = more_none count l ls read.more e read.says }
 one_more_none count line l ls orders (Err f) e read =
     let numbers : length read.before + (line + 1) ≡ suc (length read.before) + line = omega arith in
@@ -135,7 +137,7 @@ one_more_none count line l ls orders (Err f) e read =
       answer = read.answer ∙ ap (λ (n : ℕ). fault_at n read.fault) numbers;
     }
 
-one_more_some : (count line : ℕ) (l : List ℕ) (ls : List (List ℕ)) (orders : List Order) (o : Order) (r : Result (List Order) ScriptFault) → Says count (texts l) o →
+one_more_some : (count line : ℕ) (l : List ℕ) (ls : List (List ℕ)) (orders : List Order) (o : Order) (r : Result (List Order) Fault) → Says count (texts l) o →
     AreRead count (line + 1) ls (orders ++ o ∷ []) r → AreRead count line (l ∷ ls) orders r
 one_more_some count line l ls orders o (Ok out) e read =
     record { more = o ∷ read.more; parts = read.parts ∙ regroup orders o read.more; says = inr (e, read.says) }
@@ -160,7 +162,7 @@ fault_here count line l ls f met =
 
 are_read : (count : ℕ) (orders : List Order) (line : ℕ) (ls : List (List ℕ)) → AreRead count line ls orders (orders_from count orders line ls)
 are_read count orders line [] =
-    let P : Result (List Order) ScriptFault → Type 0 = AreRead count line [] orders in
+    let P : Result (List Order) Fault → Type 0 = AreRead count line [] orders in
     subst P (sym (no_line count orders line)) (record { more = []; parts = sym (append-nil orders); says = tt })
 are_read count orders line (l ∷ ls) =
     by_line (reading count l) refl (line_answer count (length l + 1) (words 1 l)) (are_read count orders (line + 1) ls) (λ o. are_read count (orders ++ o ∷ []) (line + 1) ls)
@@ -170,18 +172,18 @@ are_read count orders line (l ∷ ls) =
         ((o : Order) → AreRead count (line + 1) ls (orders ++ o ∷ []) (orders_from count (orders ++ o ∷ []) (line + 1) ls)) →
         AreRead count line (l ∷ ls) orders (orders_from count orders line (l ∷ ls))
     by_line (Ok None) e is without with_one =
-        let P : Result (List Order) ScriptFault → Type 0 = AreRead count line (l ∷ ls) orders in
+        let P : Result (List Order) Fault → Type 0 = AreRead count line (l ∷ ls) orders in
         subst P (sym (behind_none count orders line l ls e)) (one_more_none count line l ls orders (orders_from count orders (line + 1) ls) is without)
     by_line (Ok (Some o)) e is without with_one =
-        let P : Result (List Order) ScriptFault → Type 0 = AreRead count line (l ∷ ls) orders in
+        let P : Result (List Order) Fault → Type 0 = AreRead count line (l ∷ ls) orders in
         subst P (sym (next_ok count orders line l ls (Some o) e)) (one_more_some count line l ls orders o (orders_from count (orders ++ o ∷ []) (line + 1) ls) is (with_one o))
     by_line (Err f) e is without with_one =
-        let P : Result (List Order) ScriptFault → Type 0 = AreRead count line (l ∷ ls) orders in
+        let P : Result (List Order) Fault → Type 0 = AreRead count line (l ∷ ls) orders in
         subst P (sym (next_err count orders line l ls f e)) (fault_here count line l ls f is)
 
 -- ---- a whole script
 
-abbrev pub IsWholeAnswer : ℕ → List ℕ → Result (List Order) ScriptFault → Type 0
+abbrev pub IsWholeAnswer : ℕ → List ℕ → Result (List Order) Fault → Type 0
 IsWholeAnswer count bytes (Ok orders) = IsScript count bytes orders
 IsWholeAnswer count bytes (Err e) = HasFirstFault count bytes e
 
@@ -189,7 +191,7 @@ pub whole_answer : (count : ℕ) (bytes : List ℕ) → IsWholeAnswer count byte
 unfolding script_of
 whole_answer count bytes = by_read (orders_from count [] 1 (lines bytes)) (are_read count [] 1 (lines bytes))
   where
-    by_read : (r : Result (List Order) ScriptFault) → AreRead count 1 (lines bytes) [] r → IsWholeAnswer count bytes r
+    by_read : (r : Result (List Order) Fault) → AreRead count 1 (lines bytes) [] r → IsWholeAnswer count bytes r
     by_read (Ok orders) read = subst (λ (xs : List Order). LinesSay count (lines bytes) xs) (sym read.parts) read.says
     by_read (Err e) read =
         subst (HasFirstFault count bytes) (sym read.answer)
@@ -199,7 +201,7 @@ pub script_read : (count : ℕ) (bytes : List ℕ) (orders : List Order) → IsS
 unfolding script_of
 script_read count bytes orders say = said_read count [] 1 (lines bytes) orders say
 
-pub first_fault_read : (count : ℕ) (bytes : List ℕ) (e : ScriptFault) → HasFirstFault count bytes e → script_of count bytes ≡ Err e
+pub first_fault_read : (count : ℕ) (bytes : List ℕ) (e : Fault) → HasFirstFault count bytes e → script_of count bytes ≡ Err e
 unfolding script_of
 first_fault_read count bytes Memory f = absurd f
 first_fault_read count bytes (At r l c) f =
@@ -221,29 +223,29 @@ no_fault count bytes orders fault is also = not_both orders fault (sym (script_r
 pub script_or_fault : ScriptOrFault
 script_or_fault count bytes = by_answer (script_of count bytes) (whole_answer count bytes)
   where
-    by_answer : (r : Result (List Order) ScriptFault) → IsWholeAnswer count bytes r → ((orders : List Order) × IsScript count bytes orders) ⊎ ((fault : ScriptFault) × HasFirstFault count bytes fault)
+    by_answer : (r : Result (List Order) Fault) → IsWholeAnswer count bytes r → ((orders : List Order) × IsScript count bytes orders) ⊎ ((fault : Fault) × HasFirstFault count bytes fault)
     by_answer (Ok orders) is = inl (orders, is)
     by_answer (Err e) is = inr (e, is)
 
 -- ---- what a function returned
 
-pub found : (count : ℕ) (bytes : List ℕ) (r : Result (Vec Order) ScriptFault) → GivesUnlessMemory (λ (v : Vec Order). v.items) r (script_of count bytes) → IfOk r (λ v. IsScript count bytes v.items)
+pub found : (count : ℕ) (bytes : List ℕ) (r : Result (Vec Order) Fault) → GivesUnlessMemory (λ (v : Vec Order). v.items) r (script_of count bytes) → IfOk r (λ v. IsScript count bytes v.items)
 found count bytes (Ok v) read = subst (IsWholeAnswer count bytes) read (whole_answer count bytes)
 found count bytes (Err e) read = tt
 
-pub only : (count : ℕ) (bytes : List ℕ) (r : Result (Vec Order) ScriptFault) → GivesUnlessMemory (λ (v : Vec Order). v.items) r (script_of count bytes) →
+pub only : (count : ℕ) (bytes : List ℕ) (r : Result (Vec Order) Fault) → GivesUnlessMemory (λ (v : Vec Order). v.items) r (script_of count bytes) →
     (orders : List Order) → IsScript count bytes orders → MatchResult r (λ v. v.items ≡ orders) (λ e. e ≡ Memory)
 only count bytes (Ok v) read orders is = sym (ok_is orders v.items (sym (script_read count bytes orders is) ∙ read))
 only count bytes (Err Memory) read orders is = refl
 only count bytes (Err (At r l c)) read orders is = absurd (not_both orders (At r l c) (sym (script_read count bytes orders is) ∙ read))
 
-pub refused : (count : ℕ) (bytes : List ℕ) (r : Result (Vec Order) ScriptFault) → GivesUnlessMemory (λ (v : Vec Order). v.items) r (script_of count bytes) → IfErr r (λ e. e ≢ Memory → HasFirstFault count bytes e)
+pub refused : (count : ℕ) (bytes : List ℕ) (r : Result (Vec Order) Fault) → GivesUnlessMemory (λ (v : Vec Order). v.items) r (script_of count bytes) → IfErr r (λ e. e ≢ Memory → HasFirstFault count bytes e)
 refused count bytes (Ok v) read = tt
 refused count bytes (Err Memory) read = λ other. absurd (other refl)
 refused count bytes (Err (At r l c)) read = λ other. subst (IsWholeAnswer count bytes) read (whole_answer count bytes)
 
-pub first : (count : ℕ) (bytes : List ℕ) (r : Result (Vec Order) ScriptFault) → GivesUnlessMemory (λ (v : Vec Order). v.items) r (script_of count bytes) →
-    (e : ScriptFault) → HasFirstFault count bytes e → MatchResult r (λ _. ⊥) (λ answer. (answer ≡ e) ⊎ (answer ≡ Memory))
+pub first : (count : ℕ) (bytes : List ℕ) (r : Result (Vec Order) Fault) → GivesUnlessMemory (λ (v : Vec Order). v.items) r (script_of count bytes) →
+    (e : Fault) → HasFirstFault count bytes e → MatchResult r (λ _. ⊥) (λ answer. (answer ≡ e) ⊎ (answer ≡ Memory))
 first count bytes (Ok v) read e fault = not_both v.items e (sym read ∙ first_fault_read count bytes e fault)
 first count bytes (Err Memory) read e fault = inr refl
 first count bytes (Err (At r l c)) read e fault = inl (err_is (List Order) (At r l c) e (sym read ∙ first_fault_read count bytes e fault))
@@ -257,7 +259,7 @@ each_given count (l ∷ ls) (x ∷ orders) (inl say) i o at = each_given count l
 each_given count (l ∷ ls) (x ∷ orders) (inr say) zero o at = subst (IsOrder count) (same_Some x o at) say.0.allowed
 each_given count (l ∷ ls) (x ∷ orders) (inr say) (suc i) o at = each_given count ls orders say.1 i o at
 
-pub orders_given : (count : ℕ) (bytes : List ℕ) (r : Result (Vec Order) ScriptFault) → GivesUnlessMemory (λ (v : Vec Order). v.items) r (script_of count bytes) →
+pub orders_given : (count : ℕ) (bytes : List ℕ) (r : Result (Vec Order) Fault) → GivesUnlessMemory (λ (v : Vec Order). v.items) r (script_of count bytes) →
     IfOk r (λ v. (i : ℕ) (o : Order) → slice_get v.items i ≡ Some o → IsOrder count o)
 orders_given count bytes (Ok v) read = each_given count (lines bytes) v.items (found count bytes (Ok v) read)
 orders_given count bytes (Err e) read = tt

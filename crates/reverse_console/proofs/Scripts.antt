@@ -1,18 +1,21 @@
 -- Orders that are answered one after the other.
-use Rattle.std.proofs.Common.{◌≡◌, ◌≢◌, inl, inr, ℕ, ◌<◌, Bool, true, false, true≢false, List, [], ◌∷◌, ◌++◌, length, take, Option, Some, None, Result, Ok, Err, IfOk, IfErr, OnOk, OnErr, IsErrOf, refl, sym, ◌∙◌, ap, subst, append_assoc, append-nil}
-use Rattle.keepers.specs.Counts.{Rose, raised}
+use Rattle.std.proofs.Common.{◌≡◌, ◌≢◌, inl, inr, ℕ, Bool, true, false, true≢false, List, [], ◌∷◌, ◌++◌, take, Option, Some, None, Result, Ok, Err, IfOk, OnErr, IsErrOf, refl, sym, ◌∙◌, ap, subst, append_assoc, append-nil}
+use Rattle.keepers.specs.Counts.{raised}
 use Rattle.keepers.specs.Told.{Images, Tells, AddsPrefix}
+use Rattle.keepers.specs.declared.storage.Storage.{Ghosts}
 use Rattle.rv_machine.specs.MachineState.{MachineState}
 use Rattle.rv_machine.specs.States.{state_number}
 use Rattle.state_image.specs.Line.{line}
 use Rattle.image_store.specs.Shelves.{ShelfState}
+use Rattle.reverse_runner.specs.Desks.{KeepersAre}
 use Rattle.reverse_runner.specs.KeepersSeen.{by_number}
 use Rattle.reverse_runner.specs.declared.line_writer.LineWriter.{LineWriter}
 use Rattle.reverse_runner.specs.declared.fault.RunFault.{RunFault}
 use Rattle.reverse_runner.specs.declared.fault.RunFault.TheVariants.{Keeper, Damaged, Visitor, Memory, Ended}
 use Rattle.reverse_console.specs.declared.order.Order.{Order}
+use Rattle.reverse_console.specs.declared.script.Stop.{Stop}
+use Rattle.reverse_console.specs.Causes.{fault_of}
 use Rattle.reverse_console.specs.Answer.{IsAnswer, IsGiven, found_at}
-use Rattle.reverse_console.specs.Causes.{Quiet, HasCause}
 use Rattle.reverse_console.specs.ConsoleState.{ConsoleState, GoesOn, source_of}
 use Rattle.reverse_runner.specs.KeepersSeen.{Calls}
 use Rattle.reverse_console.specs.Costs.{Effort, effort_of, Takes, BreaksAt, IsSeenAt, StopsAt, TookUntil}
@@ -99,31 +102,20 @@ same_names told calls from place order place' (Err Visitor) w v seen missed unse
 same_names {X} told calls from place order place' (Err Memory) w v seen missed unseen = ap (λ (x : LineWriter X). x.out.ghost_name) (unseen (λ e. cc))
 same_names {X} told calls from place order place' (Err Ended) w v seen missed unseen = ap (λ (x : LineWriter X). x.out.ghost_name) (unseen (λ e. cc))
 
--- what a call says at Ok and at a refusal
-pub quiet_if_ok : {K T : Type 0} (faults : K → ℕ) (old new : List K) (r : Result T RunFault) → ((j : ℕ) → r ≢ Err (Keeper j) → by_number 0 faults new j ≡ by_number 0 faults old j) → OnOk r (Quiet faults old new)
-quiet_if_ok faults old new (Ok x) h = λ j. h j (λ e. cc)
-quiet_if_ok faults old new (Err e) h = tt
+-- a console that had not ended doesn't say so
+pub not_over : {T : Type 0} (r : Result T RunFault) {ended : Bool} → (IsErrOf r Ended → ended ≡ true) → ended ≡ false → r ≡ Err Ended → ⊥
+not_over (Err Ended) over lasts e = true≢false (sym (over refl) ∙ lasts)
+not_over r over lasts e = absurd cc
 
-pub cause_if_err : {K T : Type 0} (faults : K → ℕ) (p : MarkPlan) (old new : List K) (r : Result T RunFault) {ended : Bool} →
-    ((k : ℕ) → r ≡ Err (Keeper k) → (k < length p.slots) × Rose (by_number 0 faults old k) (by_number 0 faults new k)) → ((j : ℕ) → r ≢ Err (Keeper j) → by_number 0 faults new j ≡ by_number 0 faults old j) →
-    (IsErrOf r Ended → ended ≡ true) → ended ≡ false → IfErr r (HasCause faults p old new)
-cause_if_err faults p old new (Ok x) rose quiet over lasts = tt
-cause_if_err faults p old new (Err (Keeper k)) rose quiet over lasts =
-    let own = rose k refl in
-    (own.0, record { rose = own.1; others = λ j ne. quiet j (λ e. ne cc) })
-cause_if_err faults p old new (Err (Damaged k put got)) rose quiet over lasts = λ j. quiet j (λ e. cc)
-cause_if_err faults p old new (Err Visitor) rose quiet over lasts = λ j. quiet j (λ e. cc)
-cause_if_err faults p old new (Err Memory) rose quiet over lasts = λ j. quiet j (λ e. cc)
-cause_if_err faults p old new (Err Ended) rose quiet over lasts = true≢false (sym (over refl) ∙ lasts)
+-- a script that was answered leaves all counts of faults
+stop_not : (r : Result Unit Stop) (x : Unit) (k : ℕ) → r ≡ Ok x → fault_of r ≡ Err (Keeper k) → ⊥
+stop_not (Ok y) x k is e = absurd cc
+stop_not (Err stop) x k is e = absurd cc
 
-pub goes_always : {T E : Type 0} (P Q R S : Type 0) (r : Result T E) → OnOk r (P × Q) → OnErr r (P × R × S) → P
-goes_always P Q R S (Ok x) h g = h.0
-goes_always P Q R S (Err e) h g = g.0
+pub still_by : {K : Type 0} (seen : Ghosts K) (T : ℕ → Type 0) (r : Result Unit Stop) (x : Unit) (ks ls : List K) → r ≡ Ok x → KeepersAre seen T (fault_of r) ks ls → (k : ℕ) → by_number 0 seen.fault_count ls k ≡ by_number 0 seen.fault_count ks k
+still_by seen T r x ks ls is are k = are.quiet k (λ e. stop_not r x k is e)
 
-pub ok_second : {T E : Type 0} (P Q : Type 0) (r : Result T E) → OnOk r (P × Q) → OnOk r Q
-ok_second P Q (Ok x) h = h.1
-ok_second P Q (Err e) h = tt
-
+-- what a call says at Ok
 pub if_ok_at : {T E : Type 0} (P : T → Type 0) (r : Result T E) (x : T) → r ≡ Ok x → IfOk r P → P x
 if_ok_at {T} {E} P r x is h = let Q : Result T E → Type 0 = λ s. IfOk s P in subst Q is h
 

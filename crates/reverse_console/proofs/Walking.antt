@@ -1,16 +1,16 @@
 -- Marks that are got one after the other, from the last below a place down, while a state is sought.
 use Rattle.std.proofs.Common.{◌≡◌, ℕ, ◌+◌, ◌-◌, ◌*◌, ◌<◌, ◌≤◌, min, List, [], ◌∷◌, ◌++◌, map, Some, None, Option, Result, Ok, Err, IfOk, IfErr, refl, sym, ◌∙◌, ap, subst, arith}
-use Rattle.keepers.specs.Told.{Location, Images}
+use Rattle.keepers.specs.declared.storage.Storage.{Ghosts}
 use Rattle.reverse_runner.specs.KeepersSeen.{HaveRoom, told_by}
 use Rattle.reverse_runner.specs.Rooms.{image_room, AreShort}
 use Rattle.reverse_runner.specs.SessionState.{SamePages}
 use Rattle.reverse_runner.specs.declared.fault.RunFault.{RunFault}
 use Rattle.reverse_runner.proofs.Rooms.{same_room, short_same}
 use Rattle.reverse_queries.specs.Queries.{IsLast}
-use Rattle.reverse_console.specs.declared.desk.Desk.{Desk}
+use Rattle.reverse_runner.specs.declared.desk.Desk.{Desk}
 use Rattle.reverse_console.specs.declared.order.Sought.{Sought}
 use Rattle.reverse_console.specs.Costs.{Effort, looking_back, marks_down, BreaksBack}
-use Rattle.reverse_console.specs.Desks.{Fits}
+use Rattle.reverse_runner.specs.DeskFields.{Fits}
 use Rattle.reverse_console.specs.Marks.{MarkPlan, span, stride, marked, mark_of, mark_count, marks_below}
 use Rattle.reverse_console.specs.Handling.{AreSet, IsReady, source, Looks}
 use Rattle.reverse_console.specs.Refusals.{IsNotGot}
@@ -24,13 +24,13 @@ use Rattle.reverse_console.proofs.Seeing.{NoneSeen, none_on, last_on, none_below
 abbrev pub well : Result Unit RunFault
 well = Ok tt
 
-module _ {K : Type 0} (told : K → Option Images) (puts gets frees slots : K → ℕ) (places : K → Location) (faults : K → ℕ) (rooms : K → Option ℕ) (p : MarkPlan) (journal : List (List ℕ)) where
+module _ {K : Type 0} (seen : Ghosts K) (p : MarkPlan) (journal : List (List ℕ)) where
   -- where states came from at the start
   abbrev from : Desk → List K → Source
-  from w old = source p journal w (told_by told old)
+  from w old = source p journal w (told_by seen old)
 
   abbrev Did : {A : Type 0} → List ℕ → Result A RunFault → Desk → Desk → List K → List K → Type 0
-  Did marks r w v old new = Got told puts gets frees slots places faults rooms p journal marks r w v old new
+  Did marks r w v old new = Got seen p journal marks r w v old new
 
   -- the stretches so far were gone through, from the place down to the end of the next one, and none of their states does it
   pub record LastWay (sought : Sought) (place : ℕ) (w v : Desk) (old new : List K) (steps steps' end left : ℕ) : Type 0 where
@@ -49,8 +49,8 @@ module _ {K : Type 0} (told : K → Option Images) (puts gets frees slots : K �
       let before = ap (λ (i : ℕ). (i - 1) * stride p) is in
       let M : ℕ → Type 0 = λ i. Did (marks_down (marks_below p place) i) well w w old old in
       record {
-        got = subst M (sym is) (gets_as told puts gets frees slots places faults rooms p journal [] (marks_down (marks_below p place) (marks_below p place)) well w w old old (sym (marks_none (marks_below p place)))
-            (gets_still told puts gets frees slots places faults rooms p journal tt w old fits));
+        got = subst M (sym is) (gets_as seen p journal [] (marks_down (marks_below p place) (marks_below p place)) well w w old old (sym (marks_none (marks_below p place)))
+            (gets_still seen p journal tt w old fits));
         none = λ n at below. absurd (omega (arith, at, below));
         at = omega (arith, reach, there);
         low = omega (arith, low, before);
@@ -59,12 +59,12 @@ module _ {K : Type 0} (told : K → Option Images) (puts gets frees slots : K �
       }
 
   -- marks can still be got
-  pub ready_still : {A : Type 0} (marks : List ℕ) (r : Result A RunFault) (w v : Desk) (old new : List K) → Did marks r w v old new → IsReady p w (map slots old) → IsReady p v (map slots new)
+  pub ready_still : {A : Type 0} (marks : List ℕ) (r : Result A RunFault) (w v : Desk) (old new : List K) → Did marks r w v old new → IsReady p w (map seen.slot_count old) → IsReady p v (map seen.slot_count new)
   ready_still marks r w v old new g ready =
       let S : ℕ → Type 0 = λ most. AreShort most v.store in
       record {
         set = subst (AreSet p (mark_count p)) (sym g.reads.store) ready.set;
-        room = subst (HaveRoom (span p) p.slots) (sym g.reads.keepers.slots_same) ready.room;
+        room = subst (HaveRoom (span p) p.slots) (sym g.are.slots) ready.room;
         fits = g.reads.fits;
         short = subst S (sym (same_room v.work w.work g.reads.machine)) (short_same (image_room w.work) w.store v.store g.reads.store ready.short);
       }
@@ -78,8 +78,8 @@ module _ {K : Type 0} (told : K → Option Images) (puts gets frees slots : K �
         let more = marks_more (marks_below p place) left some known in
         let M : ℕ → Type 0 = λ i. marks_down (marks_below p place) i ≡ marks_down (marks_below p place) left ++ i ∷ [] in
         let list = subst M (sym is) more in
-        gets_as told puts gets frees slots places faults rooms p journal (marks_down (marks_below p place) left ++ m ∷ []) (marks_down (marks_below p place) m) r w v1 old new (sym list)
-        (gets_then told puts gets frees slots places faults rooms p journal (marks_down (marks_below p place) left) (m ∷ []) well tt r w v v1 old mid new refl way.got one)
+        gets_as seen p journal (marks_down (marks_below p place) left ++ m ∷ []) (marks_down (marks_below p place) m) r w v1 old new (sym list)
+        (gets_then seen p journal (marks_down (marks_below p place) left) (m ∷ []) well tt r w v v1 old mid new refl way.got one)
 
     stretch_below : at ≤ end
     stretch_below =
@@ -89,7 +89,7 @@ module _ {K : Type 0} (told : K → Option Images) (puts gets frees slots : K �
 
     -- it isn't got
     pub way_broken : (s : Result (Option ℕ) RunFault) (x y : RunFault) → r ≡ Err x → s ≡ Err y → y ≡ x → IfErr r (IsNotGot (from v mid) m) →
-        Looks told puts gets frees slots places faults rooms p journal (looking_back p place) (BreaksBack p place) s w v1 old new steps steps'
+        Looks seen p journal (looking_back p place) (BreaksBack p place) s w v1 old new steps steps'
     way_broken s x y first second same missed =
         let known = way.known in
         let counted = way.counted in
@@ -101,14 +101,14 @@ module _ {K : Type 0} (told : K → Option Images) (puts gets frees slots : K �
         let low : end ≤ place = omega (arith, end_is) in
         record {
           effort = e;
-          got = gets_err told puts gets frees slots places faults rooms p journal (marks_down (marks_below p place) m) r s x y w v1 old new first second same both_got;
+          got = gets_err seen p journal (marks_down (marks_below p place) m) r s x y w v1 old new first second same both_got;
           counted = omega (arith, counted, low);
           done = err_done (λ answer. e ≡ looking_back p place answer) s y second;
           broken = err_at (λ fault. (mark : ℕ) × (BreaksBack p place mark e × IsNotGot (from w old) mark fault)) s y second (
             m,
             (
               record { below = omega (arith, known, some, is); marks = refl; steps = omega (arith, counted, low, there, end_is) },
-              not_got_then told puts gets frees slots places faults rooms p journal (marks_down (marks_below p place) left) w v old mid way.got.reads m y
+              not_got_then seen p journal (marks_down (marks_below p place) left) w v old mid way.got.reads m y
                   (subst (IsNotGot (from v mid) m) (sym same) (if_err_is r x first (IsNotGot (from v mid) m) missed)),
             ),
           );
@@ -126,12 +126,12 @@ module _ {K : Type 0} (told : K → Option Images) (puts gets frees slots : K �
     module _ (v2 : Desk) (steps'' : ℕ) (x : Unit) (done : r ≡ Ok x) (comes : ComesFrom (from v mid) m (marked p m) v1.work) (pages : SamePages v2.work v1.work) (store : v2.store ≡ v1.store) (fits : Fits v2)
         (counted : steps'' ≡ steps' + (end - at)) where
       comes_first : ComesFrom (from w old) m (marked p m) v1.work
-      comes_first = comes_then told puts gets frees slots places faults rooms p journal (marks_down (marks_below p place) left) w v old mid way.got.reads m (marked p m) v1.work comes
+      comes_first = comes_then seen p journal (marks_down (marks_below p place) left) w v old mid way.got.reads m (marked p m) v1.work comes
 
       gets_one_more : {A : Type 0} (y : A) → Did (marks_down (marks_below p place) m) (Ok y) w v2 old new
       gets_one_more y =
-          gets_ok told puts gets frees slots places faults rooms p journal (marks_down (marks_below p place) m) r x y w v2 old new done
-          (gets_moved told puts gets frees slots places faults rooms p journal (marks_down (marks_below p place) m) r w v1 v2 old new pages store fits both_got)
+          gets_ok seen p journal (marks_down (marks_below p place) m) r x y w v2 old new done
+          (gets_moved seen p journal (marks_down (marks_below p place) m) r w v1 v2 old new pages store fits both_got)
 
       pub way_on : IsLast (MeetsFrom sought journal v1.work at) end None → LastWay sought place w v2 old new steps steps'' at m
       way_on none =
@@ -160,7 +160,7 @@ module _ {K : Type 0} (told : K → Option Images) (puts gets frees slots : K �
           last_on (from w old) sought m end place n v1.work comes_first (omega (arith, end_is)) (subst P here h) way.none
 
       pub way_looked : (found : Option ℕ) → IsLast (MeetsFrom sought journal v1.work at) end found → (found ≡ None → ⊥) →
-          Looks told puts gets frees slots places faults rooms p journal (looking_back p place) (BreaksBack p place) (Ok found) w v2 old new steps steps''
+          Looks seen p journal (looking_back p place) (BreaksBack p place) (Ok found) w v2 old new steps steps''
       way_looked None h none = absurd (none refl)
       way_looked (Some n) h none =
           let end_is = way.at in
@@ -190,7 +190,7 @@ module _ {K : Type 0} (told : K → Option Images) (puts gets frees slots : K �
       none_below (from w old) (Meets sought journal) place (subst (λ (n : ℕ). NoneSeen (from w old) (Meets sought journal) n place) e way.none)
 
   pub way_ended : (sought : Sought) (place : ℕ) (w v : Desk) (old new : List K) (steps steps' end left : ℕ) → LastWay sought place w v old new steps steps' end left → left ≡ 0 →
-      Looks told puts gets frees slots places faults rooms p journal (looking_back p place) (BreaksBack p place) (Ok None) w v old new steps steps'
+      Looks seen p journal (looking_back p place) (BreaksBack p place) (Ok None) w v old new steps steps'
   way_ended sought place w v old new steps steps' end left way none =
       let at = way.at in
       let c = way.counted in
@@ -198,7 +198,7 @@ module _ {K : Type 0} (told : K → Option Images) (puts gets frees slots : K �
       let M : ℕ → Type 0 = λ i. Did (marks_down (marks_below p place) i) well w v old new in
       record {
         effort = looking_back p place None;
-        got = gets_ok told puts gets frees slots places faults rooms p journal (marks_down (marks_below p place) 0) well tt None w v old new refl (subst M none way.got);
+        got = gets_ok seen p journal (marks_down (marks_below p place) 0) well tt None w v old new refl (subst M none way.got);
         counted = omega (arith, at, c, same);
         done = refl;
         broken = tt;

@@ -1,14 +1,14 @@
 -- What an order takes: marks that are fetched, one after the other, and steps of the machine.
-use Rattle.std.specs.Prelude.{◌≡◌, ◌⊎◌, ℕ, ◌+◌, ◌-◌, ◌==◌, ◌<◌, min, if◌then◌else◌, List, [], ◌∷◌, ◌++◌, reverse, count_by, unwrap_or, Option, None, Some}
+use Rattle.std.specs.Prelude.{◌≡◌, ◌⊎◌, ℕ, ◌+◌, ◌-◌, ◌==◌, ◌<◌, ◌≤◌, min, if◌then◌else◌, List, [], ◌∷◌, ◌++◌, reverse, count_by, unwrap_or, Option, None, Some, Result, Err, OnOk, IfErr}
 use Rattle.std.specs.List.{range_with_len}
-use Rattle.reverse_runner.specs.KeepersSeen.{Calls, Called}
+use Rattle.reverse_runner.specs.KeepersSeen.{Calls, Called, CalledAtMost}
 use Rattle.reverse_runner.specs.declared.fault.RunFault.{RunFault}
-use Rattle.reverse_runner.specs.declared.fault.RunFault.TheVariants.{Visitor, Ended}
+use Rattle.reverse_runner.specs.declared.fault.RunFault.TheVariants.{Keeper, Visitor, Ended}
 use Rattle.revolve_gen.specs.Places.{places_on}
 use Rattle.reverse_console.specs.declared.order.Order.{Order}
 use Rattle.reverse_console.specs.declared.order.Order.TheVariants.{BackTo, RunTo, BackChange, BackWrite}
 use Rattle.reverse_console.specs.Marks.{MarkPlan, marked, mark_level, mark_of, mark_count, mark, marks_below}
-use Rattle.reverse_console.specs.Refusals.{IsNotGot}
+use Rattle.reverse_console.specs.Refusals.{IsOfPutting, IsNotGot}
 use Rattle.reverse_console.specs.Seen.{Source, IsAnswerSeen}
 
 -- each of the first i marks is put on its level
@@ -22,6 +22,16 @@ pub record StopsPutting (p : MarkPlan) (k steps steps' : ℕ) (calls calls' : Ca
   pub level_is : mark_level p mark ≡ k
   pub counted : steps' ≡ steps + marked p mark
   pub called : Called (puts_of p (mark + 1)) calls calls'
+
+-- What setting all marks takes: each is put on its level, and the steps to the last one are taken. A refusal stops it
+-- on the way.
+pub record PutsMarks {T : Type 0} (p : MarkPlan) (result : Result T RunFault) (steps steps' : ℕ) (calls calls' : Calls) : Type 0 where
+  pub counted : OnOk result (steps' ≡ steps + marked p (mark_count p - 1))
+  pub called : OnOk result (Called (puts_of p (mark_count p)) calls calls')
+  pub counted_at_most : (steps ≤ steps') × (steps' ≤ steps + marked p (mark_count p - 1))
+  pub called_at_most : CalledAtMost (puts_of p (mark_count p)) calls calls'
+  pub putting : IfErr result (IsOfPutting p)
+  pub put_until : (k : ℕ) → result ≡ Err (Keeper k) → StopsPutting p k steps steps' calls calls'
 
 -- each of some marks is got from its level
 abbrev pub gets_of : MarkPlan → List ℕ → Calls

@@ -3,16 +3,15 @@ pub mod ConsoleState
 pub mod Causes
 pub mod Collision
 pub mod Costs
-pub mod Desks
 pub mod ConsoleFields
 pub mod Handling
 pub mod MarkFields
 pub mod MarkLaws
 pub mod Marks
+pub mod OrderResults
 pub mod Refusals
 pub mod Script
 pub mod ScriptAnswers
-pub mod ScriptBytes
 pub mod ScriptFaults
 pub mod ScriptLaws
 pub mod ScriptReading

@@ -1,16 +1,16 @@
 -- Which bytes are a script, and which orders it has. Each line is blank, a comment, or an order. An order is a command,
 -- and a number or an address after it.
-use Rattle.std.specs.Prelude.{◌≡◌, ◌≤◌, ◌⊎◌, ℕ, true, List, [], ◌∷◌, ◌++◌, codes, decimal}
+use Rattle.std.specs.Prelude.{◌≡◌, ◌≤◌, ◌⊎◌, ℕ, true, List, [], ◌∷◌, codes, decimal}
 use Rattle.plan_types.specs.declared.limits.TheConstants.{MOST_STEPS}
-use Rattle.action_text.specs.Tokens.{Token}
-use Rattle.action_text.specs.ScheduleText.{lines}
-use Rattle.state_image.specs.Line.{hex_word}
+use Rattle.line_texts.specs.Tokens.{Token, words}
+use Rattle.line_texts.specs.Lines.{lines}
+use Rattle.line_texts.specs.Numbers.{address_word}
 use Rattle.reverse_console.specs.declared.command.Command.{Command}
 use Rattle.reverse_console.specs.declared.command.Command.TheVariants as command
 use Rattle.reverse_console.specs.declared.order.Order.{Order}
 use Rattle.reverse_console.specs.declared.order.Order.TheVariants.{Back, Step, Goto, BackTo, RunTo, BackChange, BackWrite}
 use Rattle.reverse_console.specs.Answer.{IsOrder}
-use Rattle.reverse_console.specs.ScriptWords.{words, texts, begins_comment}
+use Rattle.reverse_console.specs.ScriptWords.{texts, begins_comment}
 
 -- the seven commands
 abbrev pub command_word : Command → List ℕ
@@ -32,11 +32,8 @@ order_with command.RunTo n = RunTo n
 order_with command.BackChange n = BackChange n
 order_with command.BackWrite n = BackWrite n
 
--- an address is `0x` and eight lower-case hexadecimal digits
-abbrev pub address_word : ℕ → List ℕ
-address_word n = codes "0x" ++ hex_word n
-
--- an operand: a number in decimal digits without a leading zero, or an address
+-- An operand is a number in decimal digits without a leading zero, or an address. An address is `0x` and eight
+-- lower-case hexadecimal digits.
 abbrev pub operand_word : Command → ℕ → List ℕ
 operand_word command.Back n = decimal n
 operand_word command.Step n = decimal n

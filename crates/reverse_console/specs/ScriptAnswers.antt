@@ -1,6 +1,6 @@
 -- What the orders of a script answer, and what is written. Both are stated by the fetched bytes, and in the run that a
 -- console represents.
-use Rattle.std.specs.Prelude.{◌≡◌, ℕ, ◌-◌, ◌<◌, Bool, true, false, List, [], ◌∷◌, ◌++◌, take, slice_get, Option, Some, None, codes}
+use Rattle.std.specs.Prelude.{◌≡◌, ℕ, ◌-◌, ◌<◌, Bool, true, false, List, [], ◌∷◌, ◌++◌, take, slice_get, Option, Some, None, Result, OnOk, IfErr, codes}
 use Rattle.std.specs.List.{flat_map}
 use Rattle.keepers.specs.Counts.{raised}
 use Rattle.keepers.specs.Told.{Tells, AddsPrefix}
@@ -11,7 +11,8 @@ use Rattle.reverse_runner.specs.KeepersSeen.{Calls}
 use Rattle.reverse_runner.specs.declared.fault.RunFault.{RunFault}
 use Rattle.reverse_runner.specs.declared.fault.RunFault.TheVariants.{Visitor}
 use Rattle.reverse_console.specs.declared.order.Order.{Order}
-use Rattle.reverse_console.specs.Answer.{IsAnswer}
+use Rattle.reverse_console.specs.declared.script.Stop.{Stop}
+use Rattle.reverse_console.specs.Answer.{IsAnswer, found_at}
 use Rattle.reverse_console.specs.ConsoleState.{ConsoleState}
 use Rattle.reverse_console.specs.Costs.{effort_of, Takes, StopsAt}
 use Rattle.reverse_console.specs.Marks.{mark_of}
@@ -44,6 +45,14 @@ abbrev pub IsShown : Source → Option ℕ → Bool → ℕ → ℕ → Option (
 IsShown from (Some n) found writes writes' before after =
     (found ≡ true) × (writes' ≡ raised writes 1) × ((text : List ℕ) × (IsTextOf from (Some n) text × Tells before after (λ x y. y ≡ x ++ text)))
 IsShown from None found writes writes' before after = (found ≡ false) × (writes' ≡ writes) × (after ≡ before)
+
+-- an order has a line, which was written, or has no new place
+pub record IsOrderShown (from : Source) (order : Order) (found : Bool) (old new : Moment) (before after : Option (List ℕ)) : Type 0 where
+  pub answer : Option ℕ
+  pub seen : IsAnswerSeen from old.place order answer
+  pub place : new.place ≡ place_after old.place answer
+  pub shown : IsShown from answer found old.writes new.writes before after
+  pub takes : Takes from.plan (effort_of from.plan old.place order (found_at found new.place)) old.steps new.steps old.calls new.calls
 
 -- an order was answered, and its text was written in one call
 pub record IsAnswered (from : Source) (order : Order) (answer : Option ℕ) (text : List ℕ) (old new : Moment) : Type 0 where
@@ -110,6 +119,12 @@ pub record IsBrokenOff (from : Source) (orders : List Order) (at : ℕ) (fault :
   pub stays : new.place ≡ mid.place
   pub breaks : BreaksOff from order fault text mid new before after
 
+-- so a script ended: all orders were answered, or those before the refused one
+pub record AreAnsweredBy (from : Source) (orders : List Order) (result : Result (Unit {0}) Stop) (old new : Moment)
+    (before after : Option (List ℕ)) : Type 0 where
+  pub written : OnOk result (AreWritten from orders old new before after)
+  pub broken_off : IfErr result (λ stop. IsBrokenOff from orders stop.order stop.fault old new before after)
+
 -- ---- in a run
 
 -- The answers to orders, each from the place where the one before it led, and the last place. The answers are those of
@@ -152,3 +167,9 @@ pub record IsBrokenOffIn (first : MachineState) (journal : List (List ℕ)) (cou
   pub answers : List (Option ℕ)
   pub are : AreAnswers first journal count place (take (at - 1) orders) answers end
   pub breaks : BreaksOffIn first journal count end order fault answers before after
+
+-- so a script ended
+pub record AreAnsweredIn (first : MachineState) (journal : List (List ℕ)) (count place : ℕ) (orders : List Order) (result : Result (Unit {0}) Stop)
+    (end : ℕ) (before after : Option (List ℕ)) : Type 0 where
+  pub written : OnOk result (AreWrittenIn first journal count place orders end before after)
+  pub broken_off : IfErr result (λ stop. IsBrokenOffIn first journal count place orders stop.order stop.fault end before after)

@@ -1,18 +1,17 @@
 -- The first line of a script with a fault, and its place. The rules are 1 NotCommand, 2 Number, 3 Address, 4 Range.
 use Rattle.std.specs.Prelude.{◌≡◌, ◌≢◌, ◌+◌, ℕ, List, [], ◌∷◌, ◌++◌, length}
-use Rattle.action_text.specs.Tokens.{Token}
-use Rattle.action_text.specs.ScheduleText.{lines}
+use Rattle.line_texts.specs.Tokens.{Token, words}
+use Rattle.line_texts.specs.Lines.{lines}
 use Rattle.reverse_console.specs.declared.command.Command.{Command}
 use Rattle.reverse_console.specs.declared.command.Command.TheVariants as command
 use Rattle.reverse_console.specs.declared.order.Order.{Order}
 use Rattle.reverse_console.specs.declared.fault.Rule.{Rule}
 use Rattle.reverse_console.specs.declared.fault.Rule.TheVariants as rule
 use Rattle.reverse_console.specs.declared.fault.LineFault.{LineFault}
-use Rattle.reverse_console.specs.declared.fault.ScriptFault.{ScriptFault}
-use Rattle.reverse_console.specs.declared.fault.ScriptFault.TheVariants.{At, Memory}
+use Rattle.line_texts.specs.declared.fault.Fault.{Fault}
+use Rattle.line_texts.specs.declared.fault.Fault.TheVariants.{At, Memory}
 use Rattle.reverse_console.specs.Answer.{IsOrder}
 use Rattle.reverse_console.specs.Script.{command_word, order_with, IsOperand, LinesSay, IsPassed}
-use Rattle.reverse_console.specs.ScriptWords.{words}
 
 -- a rule is broken in this column
 abbrev pub broken : Rule → ℕ → LineFault
@@ -55,11 +54,11 @@ number_of_rule rule.Number = 2
 number_of_rule rule.Address = 3
 number_of_rule rule.Range = 4
 
-abbrev pub fault_at : ℕ → LineFault → ScriptFault
+abbrev pub fault_at : ℕ → LineFault → Fault
 fault_at line fault = At (number_of_rule fault.rule) line fault.column
 
 -- The lines before this one mean orders or nothing, and this one has the fault. Lines are counted from 1.
-pub record IsFirstFault (count : ℕ) (bytes : List ℕ) (fault : ScriptFault) : Type 0 where
+pub record IsFirstFault (count : ℕ) (bytes : List ℕ) (fault : Fault) : Type 0 where
   pub before : List (List ℕ)
   pub here : List ℕ
   pub after : List (List ℕ)
@@ -71,6 +70,6 @@ pub record IsFirstFault (count : ℕ) (bytes : List ℕ) (fault : ScriptFault) :
   pub is : fault ≡ fault_at (length before + 1) of_line
 
 -- a lack of memory is no fault of the bytes
-abbrev pub HasFirstFault : ℕ → List ℕ → ScriptFault → Type 0
+abbrev pub HasFirstFault : ℕ → List ℕ → Fault → Type 0
 HasFirstFault count bytes (At r line column) = IsFirstFault count bytes (At r line column)
 HasFirstFault count bytes Memory = ⊥

@@ -1,7 +1,7 @@
 -- What the definitions of scripts imply, in a run of any number of steps.
 use Rattle.std.specs.Prelude.{◌≡◌, ◌⊎◌, ℕ, List}
 use Rattle.reverse_console.specs.declared.order.Order.{Order}
-use Rattle.reverse_console.specs.declared.fault.ScriptFault.{ScriptFault}
+use Rattle.line_texts.specs.declared.fault.Fault.{Fault}
 use Rattle.reverse_console.specs.Script.{IsScript}
 use Rattle.reverse_console.specs.ScriptFaults.{HasFirstFault}
 
@@ -11,12 +11,12 @@ OneScript = (count : ℕ) (bytes : List ℕ) (a b : List Order) → IsScript cou
 
 -- they have one first fault at most, and a script has none
 abbrev pub OneFault : Type 0
-OneFault = (count : ℕ) (bytes : List ℕ) (a b : ScriptFault) → HasFirstFault count bytes a → HasFirstFault count bytes b → a ≡ b
+OneFault = (count : ℕ) (bytes : List ℕ) (a b : Fault) → HasFirstFault count bytes a → HasFirstFault count bytes b → a ≡ b
 
 abbrev pub ScriptsHaveNoFault : Type 0
 ScriptsHaveNoFault =
-    (count : ℕ) (bytes : List ℕ) (orders : List Order) (fault : ScriptFault) → IsScript count bytes orders → HasFirstFault count bytes fault → ⊥
+    (count : ℕ) (bytes : List ℕ) (orders : List Order) (fault : Fault) → IsScript count bytes orders → HasFirstFault count bytes fault → ⊥
 
 -- all bytes are a script or have a first fault
 abbrev pub ScriptOrFault : Type 0
-ScriptOrFault = (count : ℕ) (bytes : List ℕ) → ((orders : List Order) × IsScript count bytes orders) ⊎ ((fault : ScriptFault) × HasFirstFault count bytes fault)
+ScriptOrFault = (count : ℕ) (bytes : List ℕ) → ((orders : List Order) × IsScript count bytes orders) ⊎ ((fault : Fault) × HasFirstFault count bytes fault)

@@ -1,25 +1,22 @@
 -- No public clause cites this file. What the reader of scripts computes, as functions on lists.
-use Rattle.std.specs.Prelude.{◌≡◌, ◌+◌, ◌==◌, ◌++◌, ◌&&◌, ℕ, Bool, true, List, [], ◌∷◌, length, Option, Some, None, Result, Ok, Err, nat_le, codes, if◌then◌else◌}
-use Rattle.std.specs.Int.{w32, from_be_bytes}
-use Rattle.std.specs.Option.{option_to_list, option_and_then}
-use Rattle.std.specs.Result.{result_ok}
+use Rattle.std.specs.Prelude.{◌+◌, ◌++◌, ℕ, Bool, true, List, [], ◌∷◌, length, Option, Some, None, Result, Ok, Err, nat_le, codes, if◌then◌else◌}
+use Rattle.std.specs.Option.{option_to_list}
 use Rattle.std.specs.Str.{bytes_eq}
-use Rattle.hex.specs.Hex.{decode_sized}
-use Rattle.state_image.specs.Line.{hex_word}
-use Rattle.action_text.specs.Tokens.{Token}
-use Rattle.action_text.specs.ScheduleText.{lines}
-use Rattle.action_text.specs.Reading.{number_of}
+use Rattle.plan_types.specs.declared.limits.TheConstants.{MOST_STEPS}
+use Rattle.line_texts.specs.Tokens.{Token, words}
+use Rattle.line_texts.specs.Lines.{lines}
+use Rattle.line_texts.specs.Reading.{◌>>=◌}
+use Rattle.line_texts.specs.Reading as texts
 use Rattle.reverse_console.specs.declared.command.Command.{Command}
 use Rattle.reverse_console.specs.declared.command.Command.TheVariants as command
 use Rattle.reverse_console.specs.declared.order.Order.{Order}
 use Rattle.reverse_console.specs.declared.order.Order.TheVariants.{Goto, BackChange, BackWrite}
 use Rattle.reverse_console.specs.declared.fault.Rule.TheVariants as rule
 use Rattle.reverse_console.specs.declared.fault.LineFault.{LineFault}
-use Rattle.reverse_console.specs.declared.fault.ScriptFault.{ScriptFault}
-use Rattle.reverse_console.specs.declared.fault.ScriptFault.TheVariants.{At, Memory}
+use Rattle.line_texts.specs.declared.fault.Fault.{Fault}
 use Rattle.reverse_console.specs.Script.{order_with}
 use Rattle.reverse_console.specs.ScriptFaults.{broken, rule_of, fault_at}
-use Rattle.reverse_console.specs.ScriptWords.{words, begins_comment}
+use Rattle.reverse_console.specs.ScriptWords.{begins_comment}
 
 -- ---- words
 
@@ -35,25 +32,12 @@ command_of text =
     else (if bytes_eq text (codes "back-write") then Some command.BackWrite
     else None))))))
 
--- the address of eight digits, which are the spelling of four bytes
-abbrev pub spelled : List ℕ → List ℕ → Option ℕ
-spelled digits bytes = if bytes_eq (hex_word (from_be_bytes w32 bytes)) digits then Some (from_be_bytes w32 bytes) else None
-
-abbrev pub address_in : List ℕ → Option ℕ
-address_in digits = option_and_then (spelled digits) (result_ok (decode_sized digits 4))
-
--- `0x`, and eight digits
-unfoldable pub address_of : List ℕ → Option ℕ
-address_of [] = None
-address_of (a ∷ []) = None
-address_of (a ∷ b ∷ digits) = if a == 48 && b == 120 then address_in digits else None
-
 -- the operand of a command that a text is
 abbrev pub operand_of : Command → List ℕ → Option ℕ
-operand_of command.Back text = number_of text
-operand_of command.Step text = number_of text
-operand_of command.Goto text = number_of text
-operand_of _ text = address_of text
+operand_of command.Back text = texts.number_of MOST_STEPS text
+operand_of command.Step text = texts.number_of MOST_STEPS text
+operand_of command.Goto text = texts.number_of MOST_STEPS text
+operand_of _ text = texts.address_of text
 
 -- an order may be given in a run of so many steps
 abbrev pub is_given : ℕ → Order → Bool
@@ -100,31 +84,16 @@ line_of count end (w ∷ ws) = if begins_comment w.text then Ok None else with_c
 
 -- ---- the text
 
-infixl 10 ◌>>=◌
--- what comes after a line without a fault
-abbrev pub ◌>>=◌ : {A B F : Type 0} → Result A F → (A → Result B F) → Result B F
-(Ok x) >>= f = f x
-(Err e) >>= f = Err e
-
 -- a fault of the line with this number
-abbrev pub in_line : {A : Type 0} → ℕ → Result A LineFault → Result A ScriptFault
+abbrev pub in_line : {A : Type 0} → ℕ → Result A LineFault → Result A Fault
 in_line line (Ok x) = Ok x
 in_line line (Err fault) = Err (fault_at line fault)
 
 -- the orders of lines after a list; the first line has this number
-unfoldable pub orders_from : ℕ → List Order → ℕ → List (List ℕ) → Result (List Order) ScriptFault
+unfoldable pub orders_from : ℕ → List Order → ℕ → List (List ℕ) → Result (List Order) Fault
 orders_from count orders line [] = Ok orders
 orders_from count orders line (l ∷ ls) =
     in_line line (line_of count (length l + 1) (words 1 l)) >>= λ found. orders_from count (orders ++ option_to_list found) (line + 1) ls
 
-unfoldable pub script_of : ℕ → List ℕ → Result (List Order) ScriptFault
+unfoldable pub script_of : ℕ → List ℕ → Result (List Order) Fault
 script_of count bytes = orders_from count [] 1 (lines bytes)
-
--- a function's result, seen through `view`, is what is read, unless memory ran out
-abbrev pub Fails : {Y : Type 0} → ScriptFault → Result Y ScriptFault → Type 0
-Fails Memory read = Unit {0}
-Fails (At r line column) read = read ≡ Err (At r line column)
-
-abbrev pub GivesUnlessMemory : {X Y : Type 0} → (X → Y) → Result X ScriptFault → Result Y ScriptFault → Type 0
-GivesUnlessMemory view (Ok x) read = read ≡ Ok (view x)
-GivesUnlessMemory view (Err e) read = Fails e read

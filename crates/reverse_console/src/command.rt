@@ -1,13 +1,14 @@
 // The words of an order: its command and its operand.
-ghost use Rattle.std.specs.Prelude.{◌≡◌, ◌≤◌, IfSome};
+ghost use Rattle.std.specs.Prelude.{◌≡◌};
 ghost use Rattle.plan_types.specs.declared.limits.TheConstants.{MOST_STEPS};
-ghost use Rattle.action_text.specs.Reading.{GivesSome, digits_at, number_at, number_of as number_in};
+ghost use Rattle.line_texts.specs.Reading.{number_of as number_in};
 ghost use Rattle.reverse_console.specs.Script.{order_with as order_of_command};
 ghost use Rattle.reverse_console.specs.ScriptFaults.{rule_of as rule_of_command};
-ghost use Rattle.reverse_console.specs.ScriptReading.{command_of as command_in, address_of as address_in, operand_of as operand_in, is_given};
+ghost use Rattle.reverse_console.specs.ScriptReading.{command_of as command_in, operand_of as operand_in, is_given};
 
 use crate::fault::Rule;
 use crate::order::Order;
+use line_texts::address_of;
 use plan_types::MOST_STEPS;
 
 // What an order begins with.
@@ -93,64 +94,12 @@ pub(crate) fn operand_of(command: Command, word: &[u8]) -> Option<u32>
     }
 }
 
-// The number of the digits at the front, and the bytes after them. None above 1,000,000.
-#[tactic(auto, unfolding(action_text::specs::Reading::digits_at))]
-fn digits(bytes: &[u8]) -> Option<(u32, &[u8])>
-    ensures { GivesSome (λ x. (x.0, x.1.now)) result (digits_at MOST_STEPS 0 bytes.now) }
-{
-    let mut n = 0;
-    let mut rest = bytes;
-    while let [byte @ b'0'..=b'9', after @ ..] = rest {
-        let next = n * 10 + u32::from(*byte - b'0');
-        if next > MOST_STEPS {
-            return None;
-        }
-        n = next;
-        rest = after;
-    }
-    Some((n, rest))
-}
-
-// The number at the front of the bytes, written without a leading zero, and the bytes after it.
-#[tactic(auto, unfolding(action_text::specs::Reading::number_at))]
-fn number_at(bytes: &[u8]) -> Option<(u32, &[u8])>
-    ensures { GivesSome (λ x. (x.0, x.1.now)) result (number_at MOST_STEPS bytes.now) }
-{
-    match bytes {
-        [b'0', b'0'..=b'9', ..] => None,
-        [b'0', rest @ ..] => Some((0, rest)),
-        [b'1'..=b'9', ..] => digits(bytes),
-        _ => None,
-    }
-}
-
-// The number that a word spells: decimal digits without a leading zero, and nothing after them.
-#[tactic(auto, unfolding(action_text::specs::Reading::number_of))]
+// The number of steps or of a state that a word spells.
 fn number_of(word: &[u8]) -> Option<u32>
-    ensures { result ≡ number_in word.now }
+    ensures { result ≡ number_in MOST_STEPS word.now }
 {
-    match number_at(word) {
-        Some((n, [])) => Some(n),
-        _ => None,
-    }
-}
-
-// `0x` and eight lower-case hexadecimal digits.
-#[tactic(auto, unfolding(crate::specs::ScriptReading::address_of))]
-fn address_of(word: &[u8]) -> Option<u32>
-    ensures { result ≡ address_in word.now }
-{
-    let [b'0', b'x', digits @ ..] = word else {
-        return None;
-    };
-    let mut bytes = [0; 4];
-    hex::decode_to_slice(digits, &mut bytes).ok()?;
-    let address = u32::from_be_bytes(bytes);
-    let mut spelled = [0; 8];
-    hex::encode_to_slice(&address.to_be_bytes(), &mut spelled).unwrap();
-    if spelled.as_slice() == digits {
-        Some(address)
-    } else {
-        None
+    match line_texts::number_of(word, u64::from(MOST_STEPS)) {
+        Some(n) => Some(n as u32),
+        None => None,
     }
 }

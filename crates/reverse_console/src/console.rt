@@ -1,25 +1,24 @@
 // A console.
-ghost use Rattle.std.specs.Prelude.{◌≡◌, ◌≢◌, ◌+◌, ◌-◌, ◌*◌, ◌<◌, ◌≤◌, ◌↔◌, ℕ, List, [], true, false, length, map, max, slice_get, Option, Some, None, Ok, Err, IfOk, IfErr, OnOk, OnErr, IsErrOf, IsSome};
+ghost use Rattle.std.specs.Prelude.{◌≡◌, ◌≢◌, ◌-◌, ◌*◌, ◌<◌, ◌≤◌, ◌↔◌, ℕ, List, true, false, length, map, max, Option, Some, None, Ok, Err, IfOk, OnErr, IsErrOf};
 ghost use Rattle.plan_types.specs.declared.limits.TheConstants.{MOST_STEPS};
-ghost use Rattle.keepers.specs.Counts.{Rose};
 ghost use Rattle.keepers.specs.Told.{Images};
 ghost use Rattle.level_book.specs.BookCosts.{slots_of, total_room};
 ghost use Rattle.rv_machine.specs.MachineState.{MachineState, IsMachineState};
 ghost use Rattle.rv_machine.specs.States.{state_number};
-ghost use Rattle.reverse_runner.specs.KeepersSeen.{by_number, told_by, calls_to, HaveRoom, Called, CalledAtMost};
-ghost use Rattle.reverse_runner.specs.Rooms.{image_room, rooms_by, AreRoomy, SameRooms};
-ghost use Rattle.reverse_runner.specs.SessionState.{SamePages};
-ghost use Rattle.reverse_console.specs.Answer.{IsAnswer, IsOrder, IsGiven, found_at};
-ghost use Rattle.reverse_console.specs.ConsoleState.{GoesOn, source_of};
-ghost use Rattle.reverse_console.specs.Costs.{puts_of, StopsPutting, effort_of, looking, BreaksLooking, Takes, TookUntil};
-ghost use Rattle.reverse_console.specs.Marks.{MarkPlan, span, stride, marked, mark, mark_count, mark_of};
+ghost use Rattle.reverse_runner.specs.After.{VisitorAfter};
+ghost use Rattle.reverse_runner.specs.Desks.{KeepersAre};
+ghost use Rattle.reverse_runner.specs.KeepersSeen.{told_by, calls_to, HaveRoom};
+ghost use Rattle.reverse_runner.specs.Rooms.{image_room, rooms_by, AreRoomy};
+ghost use Rattle.reverse_console.specs.Answer.{IsAnswer, IsOrder};
+ghost use Rattle.reverse_console.specs.ConsoleState.{source_of};
+ghost use Rattle.reverse_console.specs.Costs.{PutsMarks, looking, BreaksLooking};
+ghost use Rattle.reverse_console.specs.Marks.{span};
 ghost use Rattle.reverse_console.specs.Handling.{IsReady, source, Gets, Looks};
-ghost use Rattle.reverse_console.specs.Refusals.{IsOfPutting};
+ghost use Rattle.reverse_console.specs.OrderResults.{IsPerformed, IsPerformedIn, LeavesConsole, LeavesKeepers};
 ghost use Rattle.reverse_console.specs.Seen.{ComesFrom, IsAnswerSeen};
 ghost use Rattle.reverse_console.specs.Standing.{Stands, MarksTell, KeepsMarks};
 ghost use Rattle.reverse_console.specs.declared.order.Order.{Order as AnOrder};
 
-use crate::desk::Desk;
 use crate::going::{go, set_marks};
 use crate::marks::Marks;
 use crate::order::{Order, Sought};
@@ -27,7 +26,7 @@ use crate::seeking::{first_after, last_before};
 use input_journal::Journal;
 use keepers::Keeper;
 use level_book::Book;
-use reverse_runner::{RunFault, Visitor};
+use reverse_runner::{Desk, RunFault, Visitor};
 use rv_machine::{State, Steps};
 use std::alloc::Global;
 use std::marker::Model;
@@ -75,44 +74,22 @@ impl Console {
         // It is at state 0, and represents the run over keepers that claim their content.
         ensures begun { IfOk result (λ c. (c.plan ≡ (record { slots = slots_of book; count = count })) × (c.journal ≡ journal) × (c.place ≡ 0)
             × (c.ended ≡ false)) }
-        ensures stands { MarksTell (record { slots = slots_of book; count = count }) (told_by K.told keepers.old.items) →
-            IfOk result (λ c. Stands start c (told_by K.told keepers.new.items)) }
+        ensures stands { MarksTell (record { slots = slots_of book; count = count }) (told_by K.Storage keepers.old.items) →
+            IfOk result (λ c. Stands start c (told_by K.Storage keepers.new.items)) }
 
         // It keeps the length and digest of each mark's image, over any keepers.
-        ensures marks { IfOk result (λ c. KeepsMarks start (source_of c (told_by K.told keepers.new.items))) }
+        ensures marks { IfOk result (λ c. KeepsMarks start (source_of c (told_by K.Storage keepers.new.items))) }
 
-        // It puts each mark on its level, and takes the steps to the last one.
-        ensures counted { OnOk result (steps.new
-            ≡ steps.old + marked (record { slots = slots_of book; count = count }) (mark_count (record { slots = slots_of book; count = count }) - 1)) }
-        ensures called { OnOk result (Called (puts_of (record { slots = slots_of book; count = count })
-            (mark_count (record { slots = slots_of book; count = count }))) (calls_to K.put_count K.get_count K.free_count keepers.old.items)
-            (calls_to K.put_count K.get_count K.free_count keepers.new.items)) }
-
-        // What was done before a refusal, and its cause.
-        ensures counted_at_most { (steps.old ≤ steps.new)
-            × (steps.new ≤ steps.old + marked (record { slots = slots_of book; count = count })
-            (mark_count (record { slots = slots_of book; count = count }) - 1)) }
-        ensures called_at_most { CalledAtMost (puts_of (record { slots = slots_of book; count = count })
-            (mark_count (record { slots = slots_of book; count = count }))) (calls_to K.put_count K.get_count K.free_count keepers.old.items)
-            (calls_to K.put_count K.get_count K.free_count keepers.new.items) }
-        ensures putting { IfErr result (IsOfPutting (record { slots = slots_of book; count = count })) }
-        ensures put_until { (k : ℕ) → result ≡ Err (RunFault.Keeper k) → StopsPutting (record { slots = slots_of book; count = count }) k steps.old steps.new
-            (calls_to K.put_count K.get_count K.free_count keepers.old.items) (calls_to K.put_count K.get_count K.free_count keepers.new.items) }
-        ensures keeper_cause { (k : ℕ) → result ≡ Err (RunFault.Keeper k) → (k < length (slots_of book))
-            × Rose (by_number 0 K.fault_count keepers.old.items k) (by_number 0 K.fault_count keepers.new.items k) }
-        ensures keepers_quiet { (j : ℕ) → result ≢ Err (RunFault.Keeper j) →
-            by_number 0 K.fault_count keepers.new.items j ≡ by_number 0 K.fault_count keepers.old.items j }
-        ensures keepers_later { (k : ℕ) → by_number 0 K.fault_count keepers.old.items k ≤ by_number 0 K.fault_count keepers.new.items k }
+        // What it takes: each mark is put on its level.
+        ensures puts { PutsMarks (record { slots = slots_of book; count = count }) result steps.old steps.new (calls_to K.Storage keepers.old.items)
+            (calls_to K.Storage keepers.new.items) }
 
         // Over keepers with room for the images it runs out of memory only before anything else is done.
-        ensures roomy { AreRoomy (image_room start) (length (slots_of book)) (rooms_by K.room_bytes keepers.old.items) → result ≡ Err RunFault.Memory →
+        ensures roomy { AreRoomy (image_room start) (length (slots_of book)) (rooms_by K.Storage keepers.old.items) → result ≡ Err RunFault.Memory →
             (keepers.new ≡ keepers.old) × (steps.new ≡ steps.old) }
 
-        // The keepers have the same slots and rooms. Those past the levels of the book are unchanged.
-        ensures slots { map K.slot_count keepers.new.items ≡ map K.slot_count keepers.old.items }
-        ensures rooms { SameRooms (rooms_by K.room_bytes keepers.old.items) (rooms_by K.room_bytes keepers.new.items) }
-        ensures places { map K.place keepers.new.items ≡ map K.place keepers.old.items }
-        ensures others { (k : ℕ) → length (slots_of book) ≤ k → slice_get keepers.new.items k ≡ slice_get keepers.old.items k }
+        // What it leaves of the keepers. Those past the levels of the book are unchanged.
+        ensures kept { KeepersAre K.Storage (λ k. k < length (slots_of book)) result keepers.old.items keepers.new.items }
     {
         let marks = Marks::new(book, count);
         marks.are_roomy();
@@ -167,66 +144,27 @@ impl Console {
         ensures inert { result ≡ Err RunFault.Ended → (self.new ≡ self.old) × (keepers.new ≡ keepers.old) × (visitor.new ≡ visitor.old)
             × (steps.new ≡ steps.old) }
 
-        // The answer, if the console represents a run, and that it still represents it.
-        ensures answer { (first : MachineState) → IsMachineState first → Stands first self.old (told_by K.told keepers.old.items) →
-            IfOk result (λ found. (new : Option ℕ) × (IsAnswer first self.old.journal self.old.plan.count self.old.place order.now new
-            × IsGiven (λ before n s after. V.got before n s self.old.journal after) (λ n s. s ≡ state_number first self.old.journal n) new found
-            self.old.place self.new.place visitor.old visitor.new)) }
-        ensures stands { (first : MachineState) → IsMachineState first → Stands first self.old (told_by K.told keepers.old.items) →
-            OnOk result (Stands first self.new (told_by K.told keepers.new.items)) }
+        // The answer and what it took, by the fetched bytes.
+        ensures performed { IsPerformed V.got V.missed (source_of self.old (told_by K.Storage keepers.old.items)) self.old.place self.new.place order.now
+            result visitor.old visitor.new steps.old steps.new (calls_to K.Storage keepers.old.items) (calls_to K.Storage keepers.new.items) }
 
-        // The answer by the fetched bytes, also if it represents no run.
-        ensures seen { IfOk result (λ found. (new : Option ℕ)
-            × (IsAnswerSeen (source_of self.old (told_by K.told keepers.old.items)) self.old.place order.now new
-            × IsGiven (λ before n s after. V.got before n s self.old.journal after)
-            (λ n s. ComesFrom (source_of self.old (told_by K.told keepers.old.items)) (mark_of self.old.plan n) n s) new found self.old.place
-            self.new.place visitor.old visitor.new)) }
+        // The answer in the run, if the console represents one.
+        ensures in_run { (first : MachineState) → IsMachineState first → Stands first self.old (told_by K.Storage keepers.old.items) →
+            IsPerformedIn V.got V.missed first self.old self.new order.now result visitor.old visitor.new (told_by K.Storage keepers.new.items) }
 
-        // What it took.
-        ensures takes { IfOk result (λ found. Takes self.old.plan (effort_of self.old.plan self.old.place order.now (found_at found self.new.place))
-            steps.old steps.new (calls_to K.put_count K.get_count K.free_count keepers.old.items)
-            (calls_to K.put_count K.get_count K.free_count keepers.new.items)) }
-        ensures goes_on { OnOk result (GoesOn self.old self.new × (self.new.ended ≡ false)) }
+        // The console afterwards. A refusal ends it.
+        ensures leaves { LeavesConsole result self.old self.new }
+        ensures over { OnErr result (self.new.ended ≡ true) }
 
-        // The console after a refusal.
-        ensures over { OnErr result (GoesOn self.old self.new × (self.new.place ≡ self.old.place) × (self.new.ended ≡ true)) }
-        ensures took_until { IfErr result (λ fault. TookUntil (source_of self.old (told_by K.told keepers.old.items)) self.old.place order.now fault steps.old
-            steps.new (calls_to K.put_count K.get_count K.free_count keepers.old.items) (calls_to K.put_count K.get_count K.free_count keepers.new.items)) }
-        ensures misses { result ≡ Err RunFault.Visitor → (n : ℕ)
-            × ((s : MachineState) × (IsAnswerSeen (source_of self.old (told_by K.told keepers.old.items)) self.old.place order.now (Some n)
-            × ComesFrom (source_of self.old (told_by K.told keepers.old.items)) (mark_of self.old.plan n) n s
-            × V.missed visitor.old n s self.old.journal visitor.new
-            × Takes self.old.plan (effort_of self.old.plan self.old.place order.now (Some n)) steps.old steps.new
-            (calls_to K.put_count K.get_count K.free_count keepers.old.items) (calls_to K.put_count K.get_count K.free_count keepers.new.items))) }
-        ensures misses_state { (first : MachineState) → IsMachineState first → Stands first self.old (told_by K.told keepers.old.items) →
-            result ≡ Err RunFault.Visitor → (n : ℕ)
-            × (IsAnswer first self.old.journal self.old.plan.count self.old.place order.now (Some n)
-            × V.missed visitor.old n (state_number first self.old.journal n) self.old.journal visitor.new) }
-        ensures unseen { OnErr result (result ≢ Err RunFault.Visitor → visitor.new ≡ visitor.old) }
-
-        // The cause of each refusal.
-        ensures keeper_cause { (k : ℕ) → result ≡ Err (RunFault.Keeper k) → (k < length self.old.plan.slots)
-            × Rose (by_number 0 K.fault_count keepers.old.items k) (by_number 0 K.fault_count keepers.new.items k) }
-        ensures keepers_quiet { (j : ℕ) → result ≢ Err (RunFault.Keeper j) →
-            by_number 0 K.fault_count keepers.new.items j ≡ by_number 0 K.fault_count keepers.old.items j }
-        ensures keepers_later { (k : ℕ) → by_number 0 K.fault_count keepers.old.items k ≤ by_number 0 K.fault_count keepers.new.items k }
-        ensures undamaged { (first : MachineState) → IsMachineState first → Stands first self.old (told_by K.told keepers.old.items) →
-            (k : ℕ) (put got : List ℕ) → result ≢ Err (RunFault.Damaged k put got) }
-        ensures cause { result ≡ Err RunFault.Visitor → Rose (V.fault_count visitor.old) (V.fault_count visitor.new) }
-        ensures quiet { result ≢ Err RunFault.Visitor → V.fault_count visitor.new ≡ V.fault_count visitor.old }
-        ensures later { V.fault_count visitor.old ≤ V.fault_count visitor.new }
+        // The visitor was called only for the state of an answer.
+        ensures seen { VisitorAfter V.fault_count result visitor.old visitor.new }
 
         // Over keepers with room for the images no order runs out of memory.
-        ensures roomy { AreRoomy (image_room self.old.work) (length self.old.plan.slots) (rooms_by K.room_bytes keepers.old.items) →
+        ensures roomy { AreRoomy (image_room self.old.work) (length self.old.plan.slots) (rooms_by K.Storage keepers.old.items) →
             result ≢ Err RunFault.Memory }
 
-        // The keepers claim what they claimed, and have the same slots and rooms. Those past the levels of the book are
-        // unchanged.
-        ensures same { (k : ℕ) → told_by K.told keepers.new.items k ≡ told_by K.told keepers.old.items k }
-        ensures slots { map K.slot_count keepers.new.items ≡ map K.slot_count keepers.old.items }
-        ensures rooms { SameRooms (rooms_by K.room_bytes keepers.old.items) (rooms_by K.room_bytes keepers.new.items) }
-        ensures places { map K.place keepers.new.items ≡ map K.place keepers.old.items }
-        ensures others { (k : ℕ) → length self.old.plan.slots ≤ k → slice_get keepers.new.items k ≡ slice_get keepers.old.items k }
+        // What it leaves of the keepers.
+        ensures keepers { LeavesKeepers K.Storage (length self.old.plan.slots) result keepers.old.items keepers.new.items }
     {
         if self.ended {
             return Err(RunFault::Ended);
@@ -263,30 +201,13 @@ fn answer<K: Keeper, V: Visitor, L: Ledger>(
     requires within { place.old ≤ marks.now.count }
     requires order { IsOrder marks.now.count order.now }
     requires ready { IsReady marks.now desk.old (map K.slot_count keepers.old.items) }
-    ensures seen { IfOk result (λ found. (new : Option ℕ)
-        × (IsAnswerSeen (source marks.now journal.now desk.old (told_by K.told keepers.old.items)) place.old order.now new
-        × IsGiven (λ before n s after. V.got before n s journal.now after)
-        (λ n s. ComesFrom (source marks.now journal.now desk.old (told_by K.told keepers.old.items)) (mark_of marks.now n) n s) new found place.old
-        place.new visitor.old visitor.new)) }
+    ensures performed { IsPerformed V.got V.missed (source marks.now journal.now desk.old (told_by K.Storage keepers.old.items)) place.old place.new order.now
+        result visitor.old visitor.new steps.old steps.new (calls_to K.Storage keepers.old.items) (calls_to K.Storage keepers.new.items) }
     ensures within { place.new ≤ marks.now.count }
     ensures stays { OnErr result (place.new ≡ place.old) }
-    ensures misses { result ≡ Err RunFault.Visitor → (n : ℕ)
-        × ((s : MachineState) × (IsAnswerSeen (source marks.now journal.now desk.old (told_by K.told keepers.old.items)) place.old order.now (Some n)
-        × ComesFrom (source marks.now journal.now desk.old (told_by K.told keepers.old.items)) (mark_of marks.now n) n s
-        × V.missed visitor.old n s journal.now visitor.new
-        × Takes marks.now (effort_of marks.now place.old order.now (Some n)) steps.old steps.new
-        (calls_to K.put_count K.get_count K.free_count keepers.old.items) (calls_to K.put_count K.get_count K.free_count keepers.new.items))) }
-    ensures unseen { OnErr result (result ≢ Err RunFault.Visitor → visitor.new ≡ visitor.old) }
-    ensures gets { (list : List ℕ) × Gets K.told K.put_count K.get_count K.free_count K.slot_count K.place K.fault_count K.room_bytes marks.now journal.now list
+    ensures gets { (list : List ℕ) × Gets K.Storage marks.now journal.now list
         result desk.old desk.new keepers.old.items keepers.new.items }
-    ensures takes { IfOk result (λ found. Takes marks.now (effort_of marks.now place.old order.now (found_at found place.new)) steps.old steps.new
-        (calls_to K.put_count K.get_count K.free_count keepers.old.items) (calls_to K.put_count K.get_count K.free_count keepers.new.items)) }
-    ensures took_until { IfErr result (λ fault. TookUntil (source marks.now journal.now desk.old (told_by K.told keepers.old.items)) place.old order.now fault
-        steps.old steps.new (calls_to K.put_count K.get_count K.free_count keepers.old.items)
-        (calls_to K.put_count K.get_count K.free_count keepers.new.items)) }
-    ensures cause { result ≡ Err RunFault.Visitor → Rose (V.fault_count visitor.old) (V.fault_count visitor.new) }
-    ensures quiet { result ≢ Err RunFault.Visitor → V.fault_count visitor.new ≡ V.fault_count visitor.old }
-    ensures later { V.fault_count visitor.old ≤ V.fault_count visitor.new }
+    ensures seen { VisitorAfter V.fault_count result visitor.old visitor.new }
 {
     marks.have_room();
     let found = new_place(desk, marks, journal, *place, order, keepers, steps)?;
@@ -313,8 +234,8 @@ fn new_place<K: Keeper, L: Ledger>(
     requires within { place ≤ marks.now.count }
     requires order { IsOrder marks.now.count order.now }
     requires ready { IsReady marks.now desk.old (map K.slot_count keepers.old.items) }
-    ensures seen { IfOk result (IsAnswerSeen (source marks.now journal.now desk.old (told_by K.told keepers.old.items)) place order.now) }
-    ensures looks { Looks K.told K.put_count K.get_count K.free_count K.slot_count K.place K.fault_count K.room_bytes marks.now journal.now
+    ensures seen { IfOk result (IsAnswerSeen (source marks.now journal.now desk.old (told_by K.Storage keepers.old.items)) place order.now) }
+    ensures looks { Looks K.Storage marks.now journal.now
         (looking marks.now place order.now) (BreaksLooking marks.now place order.now) result desk.old desk.new keepers.old.items keepers.new.items
         steps.old steps.new }
 {

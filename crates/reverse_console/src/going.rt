@@ -1,28 +1,23 @@
 // Setting marks, and reaching a state from its mark.
-ghost use Rattle.std.specs.Prelude.{◌≡◌, ◌≢◌, ◌+◌, ◌-◌, ◌<◌, ◌≤◌, ℕ, List, [], ◌∷◌, length, map, Option, Ok, Err, OnOk, OnErr, IfErr, IsSome};
-ghost use Rattle.keepers.specs.Counts.{Rose};
-ghost use Rattle.input_journal.specs.Form.{IsRecorded};
-ghost use Rattle.rv_machine.specs.MachineState.{MachineState, IsMachineState};
+ghost use Rattle.std.specs.Prelude.{◌≡◌, ◌≢◌, ◌+◌, ◌-◌, ◌<◌, ◌≤◌, [], ◌∷◌, length, map, Ok, Err, OnOk, IfErr};
+ghost use Rattle.rv_machine.specs.MachineState.{MachineState};
 ghost use Rattle.rv_machine.specs.States.{state_number};
-ghost use Rattle.image_store.specs.Shelves.{level_of};
-ghost use Rattle.image_store.specs.Standing.{LevelStands};
-ghost use Rattle.reverse_runner.specs.KeepersSeen.{told_by, calls_to, HaveRoom, Called, CalledAtMost};
+ghost use Rattle.reverse_runner.specs.After.{VisitorAfter};
+ghost use Rattle.reverse_runner.specs.Desks.{KeepersAre};
+ghost use Rattle.reverse_runner.specs.KeepersSeen.{told_by, calls_to, HaveRoom};
 ghost use Rattle.reverse_runner.specs.SessionState.{SamePages};
-ghost use Rattle.reverse_runner.specs.Rooms.{image_room, rooms_by, AreRoomy, AreShort, SameRooms};
-ghost use Rattle.reverse_runner.specs.Touching.{one_put};
-ghost use Rattle.reverse_console.specs.Desks.{Fits, levels_in};
-ghost use Rattle.reverse_console.specs.Costs.{puts_of, StopsPutting, way};
-ghost use Rattle.reverse_console.specs.Marks.{span, stride, marked, mark, mark_count, mark_of, mark_level};
-ghost use Rattle.reverse_console.specs.Causes.{KeepersStay, Quiet, HasCause};
-ghost use Rattle.reverse_console.specs.Handling.{AreSet, AreKept, StandAt, IsReady, source, Gets};
-ghost use Rattle.reverse_console.specs.Refusals.{IsOfPutting, IsNotGot};
+ghost use Rattle.reverse_runner.specs.Rooms.{image_room, rooms_by, AreRoomy, AreShort};
+ghost use Rattle.reverse_runner.specs.DeskFields.{Fits};
+ghost use Rattle.reverse_console.specs.Costs.{PutsMarks, way};
+ghost use Rattle.reverse_console.specs.Marks.{span, stride, marked, mark_count, mark_of};
+ghost use Rattle.reverse_console.specs.Handling.{AreSet, AreKept, StandAt, PutsMark, SetsMark, IsReady, source, Gets};
+ghost use Rattle.reverse_console.specs.Refusals.{IsNotGot};
 ghost use Rattle.reverse_console.specs.Seen.{ComesFrom};
 
-use crate::desk::Desk;
 use crate::marks::Marks;
 use input_journal::Journal;
 use keepers::Keeper;
-use reverse_runner::{RunFault, Visitor};
+use reverse_runner::{Desk, RunFault, Visitor};
 use rv_machine::Steps;
 use std::sync::ledger::Ledger;
 
@@ -37,25 +32,14 @@ fn set_mark<K: Keeper>(
     requires set { AreSet marks.now mark desk.old.store }
     requires room { HaveRoom (span marks.now) marks.now.slots (map K.slot_count keepers.old.items) }
     requires fits { Fits desk.old }
-    ensures set { OnOk result (AreSet marks.now (mark + 1) desk.new.store) }
-    ensures stand { (first : MachineState) (journal : List (List ℕ)) →
-        StandAt first journal marks.now mark desk.old.store (told_by K.told keepers.old.items) →
-        desk.old.work ≡ state_number first journal (marked marks.now mark) →
-        OnOk result (StandAt first journal marks.now (mark + 1) desk.new.store (told_by K.told keepers.new.items)) }
-    ensures kept { (first : MachineState) (journal : List (List ℕ)) → AreKept first journal marks.now mark desk.old.store →
-        desk.old.work ≡ state_number first journal (marked marks.now mark) → OnOk result (AreKept first journal marks.now (mark + 1) desk.new.store) }
+    ensures sets { SetsMark marks.now mark desk.old.work result desk.old.store desk.new.store (told_by K.Storage keepers.old.items)
+        (told_by K.Storage keepers.new.items) }
     ensures work { desk.new.work ≡ desk.old.work }
     ensures fits { Fits desk.new }
-    ensures called { Called (one_put (mark_level marks.now mark)) (calls_to K.put_count K.get_count K.free_count keepers.old.items)
-        (calls_to K.put_count K.get_count K.free_count keepers.new.items) }
-    ensures stay { KeepersStay K.slot_count K.place K.fault_count marks.now keepers.old.items keepers.new.items }
-    ensures quiet { OnOk result (Quiet K.fault_count keepers.old.items keepers.new.items) }
-    ensures cause { IfErr result (HasCause K.fault_count marks.now keepers.old.items keepers.new.items) }
-    ensures putting { IfErr result (IsOfPutting marks.now) }
-    ensures on_level { (k : ℕ) → result ≡ Err (RunFault.Keeper k) → mark_level marks.now mark ≡ k }
+    ensures puts { PutsMark marks.now mark result (calls_to K.Storage keepers.old.items) (calls_to K.Storage keepers.new.items) }
+    ensures are { KeepersAre K.Storage (λ k. k < length marks.now.slots) result keepers.old.items keepers.new.items }
     ensures short { AreShort (image_room desk.old.work) desk.old.store → OnOk result (AreShort (image_room desk.old.work) desk.new.store) }
-    ensures roomy { AreRoomy (image_room desk.old.work) (length marks.now.slots) (rooms_by K.room_bytes keepers.old.items) → result ≢ Err RunFault.Memory }
-    ensures rooms { SameRooms (rooms_by K.room_bytes keepers.old.items) (rooms_by K.room_bytes keepers.new.items) }
+    ensures roomy { AreRoomy (image_room desk.old.work) (length marks.now.slots) (rooms_by K.Storage keepers.old.items) → result ≢ Err RunFault.Memory }
 {
     marks.are_roomy();
     marks.have_room();
@@ -76,26 +60,15 @@ fn set_next<K: Keeper, L: Ledger>(
     requires set { AreSet marks.now mark desk.old.store }
     requires room { HaveRoom (span marks.now) marks.now.slots (map K.slot_count keepers.old.items) }
     requires fits { Fits desk.old }
-    ensures set { OnOk result (AreSet marks.now (mark + 1) desk.new.store) }
-    ensures stand { (first : MachineState) (journal : List (List ℕ)) →
-        StandAt first journal marks.now mark desk.old.store (told_by K.told keepers.old.items) →
-        desk.new.work ≡ state_number first journal (marked marks.now mark) →
-        OnOk result (StandAt first journal marks.now (mark + 1) desk.new.store (told_by K.told keepers.new.items)) }
-    ensures kept { (first : MachineState) (journal : List (List ℕ)) → AreKept first journal marks.now mark desk.old.store →
-        desk.new.work ≡ state_number first journal (marked marks.now mark) → OnOk result (AreKept first journal marks.now (mark + 1) desk.new.store) }
+    ensures sets { SetsMark marks.now mark desk.new.work result desk.old.store desk.new.store (told_by K.Storage keepers.old.items)
+        (told_by K.Storage keepers.new.items) }
     ensures work { desk.new.work ≡ state_number desk.old.work journal.now (stride marks.now) }
     ensures fits { Fits desk.new }
     ensures counted { steps.new ≡ steps.old + stride marks.now }
-    ensures called { Called (one_put (mark_level marks.now mark)) (calls_to K.put_count K.get_count K.free_count keepers.old.items)
-        (calls_to K.put_count K.get_count K.free_count keepers.new.items) }
-    ensures stay { KeepersStay K.slot_count K.place K.fault_count marks.now keepers.old.items keepers.new.items }
-    ensures quiet { OnOk result (Quiet K.fault_count keepers.old.items keepers.new.items) }
-    ensures cause { IfErr result (HasCause K.fault_count marks.now keepers.old.items keepers.new.items) }
-    ensures putting { IfErr result (IsOfPutting marks.now) }
-    ensures on_level { (k : ℕ) → result ≡ Err (RunFault.Keeper k) → mark_level marks.now mark ≡ k }
+    ensures puts { PutsMark marks.now mark result (calls_to K.Storage keepers.old.items) (calls_to K.Storage keepers.new.items) }
+    ensures are { KeepersAre K.Storage (λ k. k < length marks.now.slots) result keepers.old.items keepers.new.items }
     ensures short { AreShort (image_room desk.old.work) desk.old.store → OnOk result (AreShort (image_room desk.old.work) desk.new.store) }
-    ensures roomy { AreRoomy (image_room desk.old.work) (length marks.now.slots) (rooms_by K.room_bytes keepers.old.items) → result ≢ Err RunFault.Memory }
-    ensures rooms { SameRooms (rooms_by K.room_bytes keepers.old.items) (rooms_by K.room_bytes keepers.new.items) }
+    ensures roomy { AreRoomy (image_room desk.old.work) (length marks.now.slots) (rooms_by K.Storage keepers.old.items) → result ≢ Err RunFault.Memory }
 {
     desk.advance(journal, marks.stride(), steps);
     set_mark(desk, marks, mark, keepers)
@@ -113,26 +86,15 @@ pub(crate) fn set_marks<K: Keeper, L: Ledger>(
     requires room { HaveRoom (span marks.now) marks.now.slots (map K.slot_count keepers.old.items) }
     requires fits { Fits desk.old }
     ensures set { OnOk result (AreSet marks.now (mark_count marks.now) desk.new.store) }
-    ensures stand { StandAt desk.old.work journal.now marks.now 0 desk.old.store (told_by K.told keepers.old.items) →
-        OnOk result (StandAt desk.old.work journal.now marks.now (mark_count marks.now) desk.new.store (told_by K.told keepers.new.items)) }
+    ensures stand { StandAt desk.old.work journal.now marks.now 0 desk.old.store (told_by K.Storage keepers.old.items) →
+        OnOk result (StandAt desk.old.work journal.now marks.now (mark_count marks.now) desk.new.store (told_by K.Storage keepers.new.items)) }
     ensures kept { OnOk result (AreKept desk.old.work journal.now marks.now (mark_count marks.now) desk.new.store) }
     ensures machine { SamePages desk.new.work desk.old.work }
     ensures fits { Fits desk.new }
-    ensures counted { OnOk result (steps.new ≡ steps.old + marked marks.now (mark_count marks.now - 1)) }
-    ensures counted_at_most { (steps.old ≤ steps.new) × (steps.new ≤ steps.old + marked marks.now (mark_count marks.now - 1)) }
-    ensures called { OnOk result (Called (puts_of marks.now (mark_count marks.now)) (calls_to K.put_count K.get_count K.free_count keepers.old.items)
-        (calls_to K.put_count K.get_count K.free_count keepers.new.items)) }
-    ensures called_at_most { CalledAtMost (puts_of marks.now (mark_count marks.now)) (calls_to K.put_count K.get_count K.free_count keepers.old.items)
-        (calls_to K.put_count K.get_count K.free_count keepers.new.items) }
-    ensures stay { KeepersStay K.slot_count K.place K.fault_count marks.now keepers.old.items keepers.new.items }
-    ensures quiet { OnOk result (Quiet K.fault_count keepers.old.items keepers.new.items) }
-    ensures cause { IfErr result (HasCause K.fault_count marks.now keepers.old.items keepers.new.items) }
-    ensures putting { IfErr result (IsOfPutting marks.now) }
-    ensures put_until { (k : ℕ) → result ≡ Err (RunFault.Keeper k) → StopsPutting marks.now k steps.old steps.new
-        (calls_to K.put_count K.get_count K.free_count keepers.old.items) (calls_to K.put_count K.get_count K.free_count keepers.new.items) }
+    ensures puts { PutsMarks marks.now result steps.old steps.new (calls_to K.Storage keepers.old.items) (calls_to K.Storage keepers.new.items) }
+    ensures are { KeepersAre K.Storage (λ k. k < length marks.now.slots) result keepers.old.items keepers.new.items }
     ensures short { AreShort (image_room desk.old.work) desk.old.store → OnOk result (AreShort (image_room desk.old.work) desk.new.store) }
-    ensures roomy { AreRoomy (image_room desk.old.work) (length marks.now.slots) (rooms_by K.room_bytes keepers.old.items) → result ≢ Err RunFault.Memory }
-    ensures rooms { SameRooms (rooms_by K.room_bytes keepers.old.items) (rooms_by K.room_bytes keepers.new.items) }
+    ensures roomy { AreRoomy (image_room desk.old.work) (length marks.now.slots) (rooms_by K.Storage keepers.old.items) → result ≢ Err RunFault.Memory }
 {
     marks.have_room();
     set_mark(desk, marks, 0, keepers)?;
@@ -152,11 +114,11 @@ pub(crate) fn recall<K: Keeper>(
 ) -> Result<(), RunFault>
     requires known { mark < mark_count marks.now }
     requires ready { IsReady marks.now desk.old (map K.slot_count keepers.old.items) }
-    ensures comes { OnOk result (ComesFrom (source marks.now journal.now desk.old (told_by K.told keepers.old.items)) mark (marked marks.now mark)
+    ensures comes { OnOk result (ComesFrom (source marks.now journal.now desk.old (told_by K.Storage keepers.old.items)) mark (marked marks.now mark)
         desk.new.work) }
-    ensures gets { Gets K.told K.put_count K.get_count K.free_count K.slot_count K.place K.fault_count K.room_bytes marks.now journal.now (mark ∷ []) result
+    ensures gets { Gets K.Storage marks.now journal.now (mark ∷ []) result
         desk.old desk.new keepers.old.items keepers.new.items }
-    ensures not_got { IfErr result (IsNotGot (source marks.now journal.now desk.old (told_by K.told keepers.old.items)) mark) }
+    ensures not_got { IfErr result (IsNotGot (source marks.now journal.now desk.old (told_by K.Storage keepers.old.items)) mark) }
 {
     marks.are_roomy();
     marks.have_room();
@@ -179,22 +141,19 @@ pub(crate) fn go<K: Keeper, V: Visitor, L: Ledger>(
     requires within { n ≤ marks.now.count }
     requires ready { IsReady marks.now desk.old (map K.slot_count keepers.old.items) }
     ensures got { OnOk result ((s : MachineState)
-        × (ComesFrom (source marks.now journal.now desk.old (told_by K.told keepers.old.items)) (mark_of marks.now n) n s
+        × (ComesFrom (source marks.now journal.now desk.old (told_by K.Storage keepers.old.items)) (mark_of marks.now n) n s
         × V.got visitor.old n s journal.now visitor.new)) }
     ensures missed { result ≡ Err RunFault.Visitor → (s : MachineState)
-        × (ComesFrom (source marks.now journal.now desk.old (told_by K.told keepers.old.items)) (mark_of marks.now n) n s
+        × (ComesFrom (source marks.now journal.now desk.old (told_by K.Storage keepers.old.items)) (mark_of marks.now n) n s
         × V.missed visitor.old n s journal.now visitor.new) }
-    ensures unseen { result ≢ Ok tt → result ≢ Err RunFault.Visitor → visitor.new ≡ visitor.old }
-    ensures gets { Gets K.told K.put_count K.get_count K.free_count K.slot_count K.place K.fault_count K.room_bytes marks.now journal.now
+    ensures gets { Gets K.Storage marks.now journal.now
         (mark_of marks.now n ∷ []) result desk.old desk.new keepers.old.items keepers.new.items }
     ensures not_got { result ≢ Err RunFault.Visitor →
-        IfErr result (IsNotGot (source marks.now journal.now desk.old (told_by K.told keepers.old.items)) (mark_of marks.now n)) }
+        IfErr result (IsNotGot (source marks.now journal.now desk.old (told_by K.Storage keepers.old.items)) (mark_of marks.now n)) }
     ensures counted { OnOk result (steps.new ≡ steps.old + way marks.now n n) }
     ensures counted_unseen { result ≡ Err RunFault.Visitor → steps.new ≡ steps.old + way marks.now n n }
     ensures idle { result ≢ Ok tt → result ≢ Err RunFault.Visitor → steps.new ≡ steps.old }
-    ensures visitor_quiet { result ≢ Err RunFault.Visitor → V.fault_count visitor.new ≡ V.fault_count visitor.old }
-    ensures visitor_later { V.fault_count visitor.old ≤ V.fault_count visitor.new }
-    ensures visitor_cause { result ≡ Err RunFault.Visitor → Rose (V.fault_count visitor.old) (V.fault_count visitor.new) }
+    ensures seen { VisitorAfter V.fault_count result visitor.old visitor.new }
 {
     marks.have_room();
     let mark = marks.of(n);

@@ -1,6 +1,6 @@
 //! A console that moves about in a run and answers each order by a state with its number. It uses `image_store`,
-//! `reverse_runner`, `reverse_queries` and `action_text`. `requests` and `reversal` use it. It keeps marks of the run
-//! in storage. It also reads scripts of orders, and writes their answers.
+//! `reverse_runner`, `reverse_queries` and `line_texts`. `reversal` uses it. It keeps marks of the run in storage. It
+//! also reads scripts of orders, and writes their answers.
 //!
 //! In `specs/`:
 //!
@@ -16,7 +16,6 @@
 
 mod command;
 mod console;
-mod desk;
 mod fault;
 mod going;
 pub mod laws;
@@ -27,10 +26,8 @@ mod order;
 mod reading;
 mod script;
 mod seeking;
-mod text;
 
 pub use crate::console::Console;
-pub use crate::fault::ScriptFault;
 pub use crate::order::Order;
 pub use crate::reading::read_orders;
 pub use crate::script::{Stop, answer_all};

@@ -1,12 +1,13 @@
 // What a line of a script means.
 ghost use Rattle.std.specs.Prelude.{◌≡◌, ◌<◌, ◌^◌, ◌+◌, length};
-ghost use Rattle.reverse_console.specs.ScriptWords.{words as words_of, begins_comment as comment_begins};
+ghost use Rattle.reverse_console.specs.ScriptWords.{begins_comment as comment_begins};
+ghost use Rattle.line_texts.specs.Tokens.{words as words_of};
 ghost use Rattle.reverse_console.specs.ScriptReading.{line_of, not_command as not_a_command, given as given_with};
 
 use crate::command::{Command, command_of, may_be_given, operand_of, order_with, rule_of};
 use crate::fault::{LineFault, Rule};
 use crate::order::Order;
-use crate::text::{Word, Words};
+use line_texts::{Token, Words};
 
 // The order of a line, if any, in a run of so many steps.
 #[tactic(auto, unfolding(crate::specs::ScriptReading::line_of))]
@@ -15,7 +16,7 @@ pub(crate) fn line(bytes: &[u8], count: u32) -> Result<Option<Order>, LineFault>
     ensures { result ≡ line_of count (length bytes.now + 1) (words_of 1 bytes.now) }
 {
     let end = bytes.len() as u32 + 1;
-    let mut words = Words::new(bytes);
+    let mut words = Words::new(bytes, 1);
     let Some(first) = words.next() else {
         return Ok(None);
     };
@@ -60,7 +61,7 @@ fn not_command(column: u32) -> LineFault
 
 // The order of a command with its operand.
 #[tactic(auto, unfolding(crate::specs::ScriptReading::given))]
-fn given(command: Command, operand: Word, count: u32) -> Result<Order, LineFault>
+fn given(command: Command, operand: Token, count: u32) -> Result<Order, LineFault>
     ensures { result ≡ given_with count command operand.entry.column operand.entry.text.now }
 {
     let column = operand.column;

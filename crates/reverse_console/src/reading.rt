@@ -4,32 +4,32 @@ ghost use Rattle.std.specs.Vec.{vec_len};
 ghost use Rattle.std.specs.Option.{option_to_list};
 ghost use Rattle.plan_types.specs.declared.limits.TheConstants.{MOST_STEPS};
 ghost use Rattle.reverse_console.specs.declared.order.Order.{Order as AnOrder};
-ghost use Rattle.reverse_console.specs.declared.fault.ScriptFault.{ScriptFault as AFault};
+ghost use Rattle.line_texts.specs.declared.fault.Fault.{Fault as AFault};
 ghost use Rattle.reverse_console.specs.Answer.{IsOrder};
 ghost use Rattle.reverse_console.specs.Script.{IsScript};
 ghost use Rattle.reverse_console.specs.ScriptFaults.{HasFirstFault};
-ghost use Rattle.reverse_console.specs.ScriptReading.{script_of, GivesUnlessMemory};
+ghost use Rattle.reverse_console.specs.ScriptReading.{script_of};
+ghost use Rattle.line_texts.specs.Reading.{GivesUnlessMemory};
 
-use crate::fault::ScriptFault;
 use crate::line::line;
 use crate::order::Order;
-use crate::text::Lines;
+use line_texts::{Fault, Lines};
 use std::alloc::Global;
 
 /// The orders of a script, for a console in a run of so many steps, or its first fault. It reads the text once, and
-/// takes memory for the list alone.
-pub fn read_orders(alloc: Global, bytes: &[u8], count: u32) -> Result<Vec<Order>, ScriptFault>
+/// takes memory for the list alone. The rules of a fault are 1 NotCommand, 2 Number, 3 Address and 4 Range.
+pub fn read_orders(alloc: Global, bytes: &[u8], count: u32) -> Result<Vec<Order>, Fault>
     requires few { length bytes.now < 2 ^ 31 }
     requires count { count ≤ MOST_STEPS }
     // The script means the orders that are read. A script that means orders is read, unless memory runs out.
     ensures found { IfOk result (λ orders. IsScript count bytes.now orders.items) }
     ensures only { (orders : List AnOrder) → IsScript count bytes.now orders →
-        MatchResult result (λ v. v.items ≡ orders) (λ e. e ≡ ScriptFault.Memory) }
+        MatchResult result (λ v. v.items ≡ orders) (λ e. e ≡ Fault.Memory) }
 
     // A refusal has the first fault. Bytes with a fault are refused for it, unless memory runs out.
-    ensures refused { IfErr result (λ e. e ≢ ScriptFault.Memory → HasFirstFault count bytes.now e) }
+    ensures refused { IfErr result (λ e. e ≢ Fault.Memory → HasFirstFault count bytes.now e) }
     ensures first { (e : AFault) → HasFirstFault count bytes.now e →
-        MatchResult result (λ _. ⊥) (λ answer. (answer ≡ e) ⊎ (answer ≡ ScriptFault.Memory)) }
+        MatchResult result (λ _. ⊥) (λ answer. (answer ≡ e) ⊎ (answer ≡ Fault.Memory)) }
 
     // Each order is allowed for the console, and a count of orders fits.
     ensures orders { IfOk result (λ orders. (i : ℕ) (order : AnOrder) → slice_get orders.items i ≡ Some order → IsOrder count order) }
@@ -39,7 +39,7 @@ pub fn read_orders(alloc: Global, bytes: &[u8], count: u32) -> Result<Vec<Order>
 }
 
 #[tactic(auto, unfolding(crate::specs::ScriptReading::script_of))]
-fn read_lines(alloc: Global, bytes: &[u8], count: u32) -> Result<Vec<Order>, ScriptFault>
+fn read_lines(alloc: Global, bytes: &[u8], count: u32) -> Result<Vec<Order>, Fault>
     requires { length bytes.now < 2 ^ 31 }
     ensures read { GivesUnlessMemory (λ orders. orders.items) result (script_of count bytes.now) }
     ensures few { IfOk result (λ orders. vec_len orders < 2 ^ 32) }
@@ -59,9 +59,9 @@ fn read_lines(alloc: Global, bytes: &[u8], count: u32) -> Result<Vec<Order>, Scr
 }
 
 // Adds an order to a list, if there is one.
-fn add(orders: &mut Vec<Order>, found: Option<Order>) -> Result<(), ScriptFault>
+fn add(orders: &mut Vec<Order>, found: Option<Order>) -> Result<(), Fault>
     ensures added { OnOk result (orders.new.items ≡ orders.old.items ++ option_to_list found) }
-    ensures memory { IfErr result (λ e. e ≡ ScriptFault.Memory) }
+    ensures memory { IfErr result (λ e. e ≡ Fault.Memory) }
 {
     if let Some(order) = found {
         orders.push(order)?;

@@ -1,26 +1,23 @@
 // Searching a run for a state from its marks.
-ghost use Rattle.std.specs.Prelude.{◌≡◌, ◌≢◌, ◌+◌, ◌-◌, ◌<◌, ◌≤◌, ◌↔◌, ℕ, List, length, map, unwrap_or, Err, OnOk, IfOk, IfErr, IsTrue};
-ghost use Rattle.rv_machine.specs.MachineState.{MachineState, IsMachineState};
+ghost use Rattle.std.specs.Prelude.{◌≡◌, ◌+◌, ◌-◌, ◌<◌, ◌≤◌, ◌↔◌, map, unwrap_or, IfOk, IsTrue};
 ghost use Rattle.rv_machine.specs.States.{state_number};
 ghost use Rattle.rv_machine.specs.StepTable.{next};
 ghost use Rattle.reverse_runner.specs.KeepersSeen.{told_by};
 ghost use Rattle.reverse_runner.specs.SessionState.{SamePages};
 ghost use Rattle.reverse_queries.specs.Queries.{IsLast};
 ghost use Rattle.reverse_console.specs.Answer.{IsFirst};
-ghost use Rattle.reverse_console.specs.Marks.{mark_count};
 ghost use Rattle.reverse_console.specs.Costs.{looking_back, looking_on, BreaksBack, BreaksOn};
 ghost use Rattle.reverse_console.specs.Handling.{IsReady, source, Looks};
 ghost use Rattle.reverse_console.specs.Seeking.{Meets, IsSought, MeetsFrom};
 ghost use Rattle.reverse_console.specs.Seen.{HasPc, IsLastSeen, IsFirstSeen};
 
-use crate::desk::Desk;
 use crate::going::recall;
 use crate::marks::Marks;
 use crate::memory_word::{bytes_of_word, some_differ};
 use crate::order::Sought;
 use input_journal::Journal;
 use keepers::Keeper;
-use reverse_runner::{KnownState, RunFault};
+use reverse_runner::{Desk, KnownState, RunFault};
 use rv_machine::{Steps, wrote};
 use std::sync::ledger::Ledger;
 
@@ -118,8 +115,8 @@ pub(crate) fn last_before<K: Keeper, L: Ledger>(
     requires within { place ≤ marks.now.count }
     requires sought { IsSought sought.now }
     requires ready { IsReady marks.now desk.old (map K.slot_count keepers.old.items) }
-    ensures seen { IfOk result (IsLastSeen (source marks.now journal.now desk.old (told_by K.told keepers.old.items)) (Meets sought.now journal.now) place) }
-    ensures looks { Looks K.told K.put_count K.get_count K.free_count K.slot_count K.place K.fault_count K.room_bytes marks.now journal.now
+    ensures seen { IfOk result (IsLastSeen (source marks.now journal.now desk.old (told_by K.Storage keepers.old.items)) (Meets sought.now journal.now) place) }
+    ensures looks { Looks K.Storage marks.now journal.now
         (looking_back marks.now place) (BreaksBack marks.now place) result desk.old desk.new keepers.old.items keepers.new.items steps.old steps.new }
 {
     marks.have_room();
@@ -150,8 +147,8 @@ pub(crate) fn first_after<K: Keeper, L: Ledger>(
 ) -> Result<Option<u32>, RunFault>
     requires before_end { place < marks.now.count }
     requires ready { IsReady marks.now desk.old (map K.slot_count keepers.old.items) }
-    ensures seen { IfOk result (IsFirstSeen (source marks.now journal.now desk.old (told_by K.told keepers.old.items)) (HasPc address) place marks.now.count) }
-    ensures looks { Looks K.told K.put_count K.get_count K.free_count K.slot_count K.place K.fault_count K.room_bytes marks.now journal.now
+    ensures seen { IfOk result (IsFirstSeen (source marks.now journal.now desk.old (told_by K.Storage keepers.old.items)) (HasPc address) place marks.now.count) }
+    ensures looks { Looks K.Storage marks.now journal.now
         (looking_on marks.now place) (BreaksOn marks.now place) result desk.old desk.new keepers.old.items keepers.new.items steps.old steps.new }
 {
     marks.have_room();

@@ -1,5 +1,6 @@
 -- What is known of a session, of the count of steps and of the keepers on the way through a valid list.
-use Rattle.std.proofs.Common.{◌≡◌, ℕ, zero, suc, ◌+◌, ◌*◌, ◌-◌, ◌^◌, ◌<◌, ◌≤◌, min, false, true, cond, List, [], ◌∷◌, length, map, take, sum_by, Option, Some, Contains, Result, Ok, Err, OnErr, refl, sym, ◌∙◌, ap, subst, arith, slice_get}
+use Rattle.std.proofs.Common.{◌≡◌, ℕ, zero, suc, ◌+◌, ◌*◌, ◌-◌, ◌^◌, ◌<◌, ◌≤◌, min, false, true, cond, List, [], ◌∷◌, length, map, take, sum_by, Option, Some, Contains, Result, Ok, Err, OnErr, refl, sym, ◌∙◌, ap, subst, inl, inr, arith, slice_get}
+use Rattle.std.proofs.lemmas.Bool.{cases_lt}
 use Rattle.std.proofs.lemmas.List.{length-take-le, take_all}
 use Rattle.std.proofs.lemmas.List.Sums.{sum_by-append}
 use Rattle.std.proofs.Math.Nat.{mul-zero, mul-add}
@@ -11,7 +12,8 @@ use Rattle.level_book.specs.Rules.{rule, levels_named}
 use Rattle.level_book.specs.Valid.{Leads, Valid}
 use Rattle.level_book.specs.CostFold.{steps_of, forward, is_write, is_read}
 use Rattle.keepers.specs.Counts.{raised}
-use Rattle.keepers.specs.Told.{Location, Images}
+use Rattle.keepers.specs.Told.{Images}
+use Rattle.keepers.specs.declared.storage.Storage.{Ghosts}
 use Rattle.schedule_rules.specs.Situation.{Situation}
 use Rattle.schedule_rules.specs.After.{after}
 use Rattle.schedule_rules.specs.Reached.{IsSound}
@@ -21,14 +23,17 @@ use Rattle.schedule_rules.proofs.Reaching.{sound_on, sound_start, leads_unique}
 use Rattle.rv_machine.specs.MachineState.{MachineState, IsMachineState}
 use Rattle.reverse_runner.specs.declared.fault.RunFault.{RunFault}
 use Rattle.reverse_runner.specs.Acts.{Holdings, Acts}
-use Rattle.reverse_runner.specs.After.{KeepersAfter, VisitorAfter}
-use Rattle.reverse_runner.specs.KeepersSeen.{Calls, Called, CalledAtMost, CalledBetween, by_number, told_by, calls_to, calls_of, is_release, HaveRoom}
+use Rattle.reverse_runner.specs.After.{VisitorAfter}
+use Rattle.reverse_runner.specs.Desks.{KeepersAre}
+use Rattle.reverse_runner.specs.KeepersSeen.{Calls, Called, CalledAtMost, CalledBetween, told_by, calls_to, calls_of, is_release, HaveRoom}
 use Rattle.reverse_runner.specs.SessionState.{SessionState, SamePages, levels_of, holdings_of}
 use Rattle.reverse_runner.specs.LevelsStand.{AreAlone, HoldingsStandAt}
 use Rattle.reverse_runner.specs.Handed.{handed_by}
 use Rattle.reverse_runner.specs.Performed.{GetsAll, MissesOne}
 use Rattle.rv_machine.specs.States.{state_number}
 use Rattle.reverse_runner.specs.Standing.{StandsAt, Performs, SessionEnds}
+use Rattle.reverse_runner.proofs.Caused.{no_keeper}
+use Rattle.reverse_runner.proofs.Touched.{are_still, are_then, are_wider}
 use Rattle.reverse_queries.specs.Asked.{IsSpared}
 use Rattle.reverse_queries.specs.Performing.{calls_of_all, done_after, PerformsAll, FaultFits, RefusedIn}
 use Rattle.reverse_queries.proofs.Fronts.{is_within}
@@ -39,17 +44,14 @@ use Rattle.reverse_queries.proofs.Turning.{Turns, turns_start, turns_on, out_of_
 use Rattle.reverse_queries.specs.OnTheWay.{HaveOut}
 
 -- the first i actions of a list were performed
-pub record Way {K : Type 0} (told : K → Option Images) (puts gets frees slots : K → ℕ) (places : K → Location) (faults : K → ℕ) (list : List Action) (i : ℕ) (old new : SessionState) (ks ls : List K) (before after : ℕ) : Type 0 where
+pub record Way {K : Type 0} (seen : Ghosts K) (list : List Action) (i : ℕ) (old new : SessionState) (ks ls : List K) (before after : ℕ) : Type 0 where
   pub performs : PerformsAll old (take i list) new
   pub counted : after ≡ before + old.unit * forward (take i list)
-  pub called : Called (calls_of_all (take i list)) (calls_to puts gets frees ks) (calls_to puts gets frees ls)
-  pub room : map slots ls ≡ map slots ks
-  pub places_same : map places ls ≡ map places ks
-  pub quiet : (k : ℕ) → by_number 0 faults ls k ≡ by_number 0 faults ks k
-  pub others : (k : ℕ) → length old.situation.slots ≤ k → slice_get ls k ≡ slice_get ks k
+  pub called : Called (calls_of_all (take i list)) (calls_to seen ks) (calls_to seen ls)
+  pub are : KeepersAre {A = Unit} seen (λ k. k < length old.situation.slots) (Ok tt) ks ls
   pub pages : SamePages new.work old.work
-  pub stands : (first : MachineState) → IsMachineState first → StandsAt first old (told_by told ks) → StandsAt first new (told_by told ls)
-  pub alone : AreAlone (levels_of old (told_by told ks)) → AreAlone (levels_of new (told_by told ls))
+  pub stands : (first : MachineState) → IsMachineState first → StandsAt first old (told_by seen ks) → StandsAt first new (told_by seen ls)
+  pub alone : AreAlone (levels_of old (told_by seen ks)) → AreAlone (levels_of new (told_by seen ls))
   pub turns : Turns old.situation.steps new.situation.at
 
 no_more : (a : ℕ) → a ≡ raised a 0
@@ -58,16 +60,13 @@ no_more a = omega arith
 none_yet : (n unit : ℕ) → n ≡ n + unit * 0
 none_yet n unit = let none = mul-zero unit in omega (arith, none)
 
-pub way_start : {K : Type 0} (told : K → Option Images) (puts gets frees slots : K → ℕ) (places : K → Location) (faults : K → ℕ) (list : List Action) (old : SessionState) (ks : List K) (n : ℕ) →
-    old.situation.at ≡ start old.situation.steps old.situation.slots → old.ended ≡ false → Way told puts gets frees slots places faults list 0 old old ks ks n n
-way_start told puts gets frees slots places faults list old ks n at lasts = record {
+pub way_start : {K : Type 0} (seen : Ghosts K) (list : List Action) (old : SessionState) (ks : List K) (n : ℕ) →
+    old.situation.at ≡ start old.situation.steps old.situation.slots → old.ended ≡ false → Way seen list 0 old old ks ks n n
+way_start seen list old ks n at lasts = record {
   performs = record { leads = refl; steps = refl; slots = refl; unit = refl; journal = refl; done = refl; lasts = lasts };
   counted = none_yet n old.unit;
   called = record { put_calls = λ k. no_more _; get_calls = λ k. no_more _; free_calls = λ k. no_more _ };
-  room = refl;
-  places_same = refl;
-  quiet = λ k. refl;
-  others = λ k past. refl;
+  are = are_still seen (λ k. k < length old.situation.slots) tt ks;
   pages = refl;
   stands = λ first is stands. stands;
   alone = λ alone. alone;
@@ -146,34 +145,31 @@ performs_more old mid new list i a start_ at so_far performs =
     }
 
 -- the next action breaks no rule, and there is room
-pub may_perform : {K : Type 0} (told : K → Option Images) (puts gets frees slots : K → ℕ) (places : K → Location) (faults : K → ℕ) (list : List Action) (i : ℕ) (old mid : SessionState) (ks ls : List K) (before after : ℕ) (a : Action) →
+pub may_perform : {K : Type 0} (seen : Ghosts K) (list : List Action) (i : ℕ) (old mid : SessionState) (ks ls : List K) (before after : ℕ) (a : Action) →
     old.situation.at ≡ start old.situation.steps old.situation.slots → Valid old.situation.steps old.situation.slots list → slice_get list i ≡ Some a →
-    Way told puts gets frees slots places faults list i old mid ks ls before after → rule mid.situation.steps mid.situation.slots mid.situation.at a ≡ 0
-may_perform told puts gets frees slots places faults list i old mid ks ls before after a start_ valid at way =
+    Way seen list i old mid ks ls before after → rule mid.situation.steps mid.situation.slots mid.situation.at a ≡ 0
+may_perform seen list i old mid ks ls before after a start_ valid at way =
     let performs = way.performs in
     (λ j. rule (performs.steps j) (performs.slots j) mid.situation.at a)
     ∙ kept_on_the_way old.situation.steps old.situation.slots list i mid.situation.at a valid.0 at (leads_from old (take i list) mid.situation.at start_ performs.leads) valid.1
 
-pub has_room : {K : Type 0} (told : K → Option Images) (puts gets frees slots : K → ℕ) (places : K → Location) (faults : K → ℕ) (list : List Action) (i : ℕ) (old mid : SessionState) (ks ls : List K) (before after : ℕ) →
-    HaveRoom old.situation.steps old.situation.slots (map slots ks) → Way told puts gets frees slots places faults list i old mid ks ls before after → HaveRoom mid.situation.steps mid.situation.slots (map slots ls)
-has_room told puts gets frees slots places faults list i old mid ks ls before after room way =
-    let N : ℕ → Type 0 = λ n. HaveRoom n mid.situation.slots (map slots ls) in
-    let S : List Slots → Type 0 = λ s. HaveRoom old.situation.steps s (map slots ls) in
+pub has_room : {K : Type 0} (seen : Ghosts K) (list : List Action) (i : ℕ) (old mid : SessionState) (ks ls : List K) (before after : ℕ) →
+    HaveRoom old.situation.steps old.situation.slots (map seen.slot_count ks) → Way seen list i old mid ks ls before after → HaveRoom mid.situation.steps mid.situation.slots (map seen.slot_count ls)
+has_room seen list i old mid ks ls before after room way =
+    let N : ℕ → Type 0 = λ n. HaveRoom n mid.situation.slots (map seen.slot_count ls) in
+    let S : List Slots → Type 0 = λ s. HaveRoom old.situation.steps s (map seen.slot_count ls) in
     let C : List ℕ → Type 0 = λ l. HaveRoom old.situation.steps old.situation.slots l in
-    subst N (sym way.performs.steps) (subst S (sym way.performs.slots) (subst C (sym way.room) room))
+    subst N (sym way.performs.steps) (subst S (sym way.performs.slots) (subst C (sym way.are.slots) room))
 
 -- what becomes of the keepers where an action was performed
-pub record Went {K : Type 0} (told : K → Option Images) (puts gets frees slots : K → ℕ) (places : K → Location) (faults : K → ℕ) (mid new : SessionState) (a : Action) (ls ms : List K) (after last : ℕ) : Type 0 where
+pub record Went {K : Type 0} (seen : Ghosts K) (mid new : SessionState) (a : Action) (ls ms : List K) (after last : ℕ) : Type 0 where
   pub performs : Performs mid a new
-  pub acts : Acts mid.unit mid.journal a (holdings_of mid (told_by told ls)) (holdings_of new (told_by told ms))
+  pub acts : Acts mid.unit mid.journal a (holdings_of mid (told_by seen ls)) (holdings_of new (told_by seen ms))
   pub counted : last ≡ after + mid.unit * steps_of a
-  pub called : Called (calls_of a) (calls_to puts gets frees ls) (calls_to puts gets frees ms)
-  pub room : map slots ms ≡ map slots ls
-  pub places_same : map places ms ≡ map places ls
-  pub quiet : (k : ℕ) → by_number 0 faults ms k ≡ by_number 0 faults ls k
-  pub others : (k : ℕ) → (Contains (levels_named a) k → ⊥) → slice_get ms k ≡ slice_get ls k
-  pub stands : (first : MachineState) → IsMachineState first → StandsAt first mid (told_by told ls) → StandsAt first new (told_by told ms)
-  pub alone : AreAlone (levels_of mid (told_by told ls)) → AreAlone (levels_of new (told_by told ms))
+  pub called : Called (calls_of a) (calls_to seen ls) (calls_to seen ms)
+  pub are : KeepersAre {A = Unit} seen (λ k. Contains (levels_named a) k) (Ok tt) ls ms
+  pub stands : (first : MachineState) → IsMachineState first → StandsAt first mid (told_by seen ls) → StandsAt first new (told_by seen ms)
+  pub alone : AreAlone (levels_of mid (told_by seen ls)) → AreAlone (levels_of new (told_by seen ms))
 
 -- the count of steps after one action more
 counted_on : (before after last unit mid x y z : ℕ) → after ≡ before + unit * x → last ≡ after + mid * y → mid ≡ unit → z ≡ x + y → last ≡ before + unit * z
@@ -182,20 +178,26 @@ counted_on before after last unit mid x y z one two same sum =
     let taken : mid * y ≡ unit * y = ap (λ n. n * y) same in
     omega (arith, one, two, more, taken)
 
-pub way_on : {K : Type 0} (told : K → Option Images) (puts gets frees slots : K → ℕ) (places : K → Location) (faults : K → ℕ) (list : List Action) (i : ℕ) (old mid new : SessionState) (ks ls ms : List K) (before after last : ℕ) (a : Action) →
-    old.situation.at ≡ start old.situation.steps old.situation.slots → slice_get list i ≡ Some a → Way told puts gets frees slots places faults list i old mid ks ls before after →
-    Went told puts gets frees slots places faults mid new a ls ms after last → Way told puts gets frees slots places faults list (i + 1) old new ks ms before last
-way_on told puts gets frees slots places faults list i old mid new ks ls ms before after last a start_ at way went =
+-- a level that an action names is one of the book
+named_below : (steps : ℕ) (slots : List Slots) (c : Configuration) (a : Action) (d : Configuration) (k : ℕ) → Goes steps slots c a d → Contains (levels_named a) k → k < length slots
+named_below steps slots c a d k goes named = elim (cases_lt k (length slots)) [
+  | inl lt ↦ lt
+  | inr ge ↦ absurd (past_is_unnamed steps slots c a d k goes ge named)
+]
+
+pub way_on : {K : Type 0} (seen : Ghosts K) (list : List Action) (i : ℕ) (old mid new : SessionState) (ks ls ms : List K) (before after last : ℕ) (a : Action) →
+    old.situation.at ≡ start old.situation.steps old.situation.slots → slice_get list i ≡ Some a → Way seen list i old mid ks ls before after →
+    Went seen mid new a ls ms after last → Way seen list (i + 1) old new ks ms before last
+way_on seen list i old mid new ks ls ms before after last a start_ at way went =
     let goes = goes_from old mid new (take i list) a way.performs went.performs in
     let steps = count_more steps_of list i a at in
+    let T : ℕ → Type 0 = λ k. k < length old.situation.slots in
     record {
       performs = performs_more old mid new list i a start_ at way.performs went.performs;
       counted = counted_on before after last old.unit mid.unit _ _ _ way.counted went.counted way.performs.unit steps;
       called = called_more list i a _ _ _ at way.called went.called;
-      room = went.room ∙ way.room;
-      places_same = went.places_same ∙ way.places_same;
-      quiet = λ k. went.quiet k ∙ way.quiet k;
-      others = λ k past. went.others k (past_is_unnamed old.situation.steps old.situation.slots mid.situation.at a new.situation.at k goes past) ∙ way.others k past;
+      are = are_then seen T (Ok tt) (Ok tt) ks ls ms (λ k. no_keeper (Ok tt) tt k refl) way.are
+          (are_wider seen (λ k. Contains (levels_named a) k) T (Ok tt) ls ms (λ k named. named_below old.situation.steps old.situation.slots mid.situation.at a new.situation.at k goes named) went.are);
       pages = acts_keep_pages mid.unit mid.journal a _ _ went.acts ∙ way.pages;
       stands = λ first is stands. went.stands first is (way.stands first is stands);
       alone = λ alone. went.alone (way.alone alone);
@@ -204,23 +206,23 @@ way_on told puts gets frees slots places faults list i old mid new ks ls ms befo
 
 -- ---- a refusal
 
-pub refused_in : {K : Type 0} (told : K → Option Images) (puts gets frees slots : K → ℕ) (places : K → Location) (faults : K → ℕ) (list front : List Action) (i : ℕ) (old mid new : SessionState) (ks ls ms : List K) (before after last : ℕ) (a : Action) (Misses : Action → Holdings → Type 0) (fault : RunFault) →
+pub refused_in : {K : Type 0} (seen : Ghosts K) (list front : List Action) (i : ℕ) (old mid new : SessionState) (ks ls ms : List K) (before after last : ℕ) (a : Action) (Misses : Action → Holdings → Type 0) (fault : RunFault) →
     slice_get list i ≡ Some a → take i front ≡ take i list → take (i + 1) front ≡ take (i + 1) list → i < length front →
-    Way told puts gets frees slots places faults list i old mid ks ls before after → Gone old.unit old.situation.steps old.journal list i (holdings_of old (told_by told ks)) (holdings_of mid (told_by told ls)) mid.situation.at → SessionEnds mid new → last ≡ after →
-    CalledAtMost (calls_of a) (calls_to puts gets frees ls) (calls_to puts gets frees ms) → FaultFits Misses fault a (holdings_of mid (told_by told ls)) →
-    RefusedIn Misses front fault old new (told_by told ks) before last (calls_to puts gets frees ks) (calls_to puts gets frees ms)
-refused_in told puts gets frees slots places faults list front i old mid new ks ls ms before after last a Misses fault at here there inside way gone ends still most fits =
+    Way seen list i old mid ks ls before after → Gone old.unit old.situation.steps old.journal list i (holdings_of old (told_by seen ks)) (holdings_of mid (told_by seen ls)) mid.situation.at → SessionEnds mid new → last ≡ after →
+    CalledAtMost (calls_of a) (calls_to seen ls) (calls_to seen ms) → FaultFits Misses fault a (holdings_of mid (told_by seen ls)) →
+    RefusedIn Misses front fault old new (told_by seen ks) before last (calls_to seen ks) (calls_to seen ms)
+refused_in seen list front i old mid new ks ls ms before after last a Misses fault at here there inside way gone ends still most fits =
     let within = is_within list i a at in
     let C : Configuration → Type 0 = λ x. Leads old.situation.steps old.situation.slots old.situation.at (take i list) x in
     let L : List Action → Type 0 = λ l. Leads old.situation.steps old.situation.slots old.situation.at l new.situation.at in
-    let B : List Action → Type 0 = λ l. CalledBetween (calls_of_all l) (calls_of_all (take (i + 1) front)) (calls_to puts gets frees ks) (calls_to puts gets frees ms) in
-    let M : List Action → Type 0 = λ l. CalledBetween (calls_of_all (take i list)) (calls_of_all l) (calls_to puts gets frees ks) (calls_to puts gets frees ms) in
+    let B : List Action → Type 0 = λ l. CalledBetween (calls_of_all l) (calls_of_all (take (i + 1) front)) (calls_to seen ks) (calls_to seen ms) in
+    let M : List Action → Type 0 = λ l. CalledBetween (calls_of_all (take i list)) (calls_of_all l) (calls_to seen ks) (calls_to seen ms) in
     record {
       place = i;
       within = inside;
       next = a;
       there = same_there list front i a there at;
-      held = holdings_of mid (told_by told ls);
+      held = holdings_of mid (told_by seen ls);
       states = gone.states;
       through = through old.unit old.situation.steps old.journal list (take i front) i _ _ mid.situation.at (omega (arith, within)) here gone;
       fits = fits;
@@ -232,10 +234,10 @@ refused_in told puts gets frees slots places faults list front i old mid new ks 
     }
 
 -- a whole valid list leads to the end
-pub at_end : {K : Type 0} (told : K → Option Images) (puts gets frees slots : K → ℕ) (places : K → Location) (faults : K → ℕ) (list : List Action) (i : ℕ) (old new : SessionState) (ks ls : List K) (before after : ℕ) →
+pub at_end : {K : Type 0} (seen : Ghosts K) (list : List Action) (i : ℕ) (old new : SessionState) (ks ls : List K) (before after : ℕ) →
     old.situation.at ≡ start old.situation.steps old.situation.slots → Valid old.situation.steps old.situation.slots list → length list ≤ i →
-    Way told puts gets frees slots places faults list i old new ks ls before after → new.situation.at.ended ≡ true
-at_end told puts gets frees slots places faults list i old new ks ls before after start_ valid all way =
+    Way seen list i old new ks ls before after → new.situation.at.ended ≡ true
+at_end seen list i old new ks ls before after start_ valid all way =
     let P : List Action → Type 0 = λ l. Leads old.situation.steps old.situation.slots (start old.situation.steps old.situation.slots) l new.situation.at in
     let leads = subst P (take_all i list all) (leads_from old (take i list) new.situation.at start_ way.performs.leads) in
     ap (λ (c : Configuration). c.ended) (leads_unique old.situation.steps old.situation.slots (start old.situation.steps old.situation.slots) list new.situation.at valid.0 leads valid.1) ∙ valid.2
@@ -247,16 +249,22 @@ past_levels old mid front a k performs rule_is past named =
     let same = ap (λ (s : List Slots). length s) performs.slots in
     past_is_unnamed mid.situation.steps mid.situation.slots mid.situation.at a (after mid.situation.at a) k (goes mid.situation.steps mid.situation.slots mid.situation.at a rule_is) (omega (arith, past, same)) named
 
+pub below_levels : (old mid : SessionState) (front : List Action) (a : Action) → PerformsAll old front mid → rule mid.situation.steps mid.situation.slots mid.situation.at a ≡ 0 → (k : ℕ) → Contains (levels_named a) k → k < length old.situation.slots
+below_levels old mid front a performs rule_is k named = elim (cases_lt k (length old.situation.slots)) [
+  | inl lt ↦ lt
+  | inr ge ↦ absurd (past_levels old mid front a k performs rule_is ge named)
+]
+
 -- a fact holds where there is an error, and where there is none
 pub on_err_always : {T E P : Type 0} (r : Result T E) → P → OnErr r P
 on_err_always (Ok x) p = tt
 on_err_always (Err e) p = p
 
 -- the next action goes somewhere
-pub may_go : {K : Type 0} (told : K → Option Images) (puts gets frees slots : K → ℕ) (places : K → Location) (faults : K → ℕ) (list : List Action) (i : ℕ) (old mid : SessionState) (ks ls : List K) (before after' : ℕ) (a : Action) →
+pub may_go : {K : Type 0} (seen : Ghosts K) (list : List Action) (i : ℕ) (old mid : SessionState) (ks ls : List K) (before after' : ℕ) (a : Action) →
     old.situation.at ≡ start old.situation.steps old.situation.slots → Valid old.situation.steps old.situation.slots list → slice_get list i ≡ Some a →
-    Way told puts gets frees slots places faults list i old mid ks ls before after' → Goes old.situation.steps old.situation.slots mid.situation.at a (after mid.situation.at a)
-may_go told puts gets frees slots places faults list i old mid ks ls before after' a start_ valid at way =
+    Way seen list i old mid ks ls before after' → Goes old.situation.steps old.situation.slots mid.situation.at a (after mid.situation.at a)
+may_go seen list i old mid ks ls before after' a start_ valid at way =
     goes old.situation.steps old.situation.slots mid.situation.at a
     (kept_on_the_way old.situation.steps old.situation.slots list i mid.situation.at a valid.0 at (leads_from old (take i list) mid.situation.at start_ way.performs.leads) valid.1)
 
@@ -304,16 +312,5 @@ run_has first old mid told front a d start_ so_far goes stands =
 pub ok_spared : {A : Type 0} (x : A) (session : SessionState) (told : ℕ → Option Images) (rooms : ℕ → Option ℕ) → IsSpared (Ok x) session told rooms
 ok_spared x session told rooms = record { not_ended = λ e. cc; roomy = λ roomy e. cc; undamaged = λ first is stands k put got e. cc }
 
-pub ok_kept : {A K : Type 0} (slots : K → ℕ) (places : K → Location) (faults : K → ℕ) (Untouched : ℕ → Type 0) (x : A) (ks ls : List K) → ((k : ℕ) → by_number 0 faults ls k ≡ by_number 0 faults ks k) → map slots ls ≡ map slots ks → map places ls ≡ map places ks → ((k : ℕ) → Untouched k → slice_get ls k ≡ slice_get ks k) →
-    KeepersAfter slots places faults Untouched (Ok x) ks ls
-ok_kept slots places faults Untouched x ks ls quiet room there others = record {
-  keeper_cause = λ k e. absurd cc;
-  keepers_quiet = λ j never. quiet j;
-  keepers_later = λ k. (let same = quiet k in omega (arith, same));
-  slots = room;
-  places = there;
-  others = others;
-}
-
 pub ok_seen : {A V : Type 0} (faults : V → ℕ) (x : A) (v w : V) → faults w ≡ faults v → VisitorAfter faults (Ok x) v w
-ok_seen faults x v w same = record { unseen = tt; cause = λ e. absurd cc; quiet = λ never. same; later = omega (arith, same) }
+ok_seen faults x v w same = record { unseen = tt; faults = record { cause = λ e. absurd cc; quiet = λ never. same; later = omega (arith, same) } }

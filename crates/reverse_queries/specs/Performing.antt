@@ -3,7 +3,8 @@ use Rattle.std.specs.Prelude.{◌≡◌, ℕ, zero, suc, ◌+◌, ◌*◌, ◌-�
 use Rattle.keepers.specs.Told.{Images}
 use Rattle.plan_types.specs.declared.action.Action.{Action}
 use Rattle.level_book.specs.CostFold.{forward, writes, reads}
-use Rattle.level_book.specs.Valid.{Leads}
+use Rattle.level_book.specs.Configuration.{start as start_of}
+use Rattle.level_book.specs.Valid.{Valid, Leads}
 use Rattle.rv_machine.specs.MachineState.{MachineState, IsMachineState}
 use Rattle.rv_machine.specs.States.{state_number}
 use Rattle.reverse_runner.specs.declared.fault.RunFault.{RunFault}
@@ -24,6 +25,12 @@ calls_of_all list = record { puts = λ k. writes k list; gets = λ k. reads k li
 abbrev pub done_after : ℕ → ℕ → ℕ
 done_after done zero = done
 done_after done (suc n) = min (done + suc n) (2 ^ 64 - 1)
+
+-- a session is at its start and has not ended, and a list is valid from there
+pub record AwaitsList (s : SessionState) (list : List Action) : Type 0 where
+  pub start : s.situation.at ≡ start_of s.situation.steps s.situation.slots
+  pub lasts : s.ended ≡ false
+  pub valid : Valid s.situation.steps s.situation.slots list
 
 -- all actions of a list were performed
 pub record PerformsAll (old : SessionState) (list : List Action) (new : SessionState) : Type 0 where

@@ -1,16 +1,15 @@
 // The last step of a run that writes or changes a word.
 ghost use Rattle.std.specs.Prelude.{◌≡◌, ◌≢◌, ◌+◌, ◌*◌, ◌≤◌, ◌<◌, ◌↔◌, ℕ, List, false, length, map, slice_get, Option, Some, None, Ok, Err, IfOk, IfErr, OnOk, IsTrue};
-ghost use Rattle.level_book.specs.Configuration.{start};
-ghost use Rattle.level_book.specs.Valid.{Valid};
 ghost use Rattle.rv_machine.specs.MachineState.{MachineState, IsMachineState};
 ghost use Rattle.rv_machine.specs.States.{state_number};
-ghost use Rattle.reverse_runner.specs.After.{Stays, KeepersAfter};
+ghost use Rattle.reverse_runner.specs.After.{Stays};
+ghost use Rattle.reverse_runner.specs.Desks.{KeepersAre};
 ghost use Rattle.reverse_runner.specs.KeepersSeen.{told_by, calls_to, HaveRoom};
 ghost use Rattle.reverse_runner.specs.Rooms.{rooms_by};
 ghost use Rattle.reverse_runner.specs.SessionState.{holdings_of};
 ghost use Rattle.reverse_runner.specs.Standing.{StandsAt};
 ghost use Rattle.reverse_queries.specs.Queries.{Differ, IsLast, up_to};
-ghost use Rattle.reverse_queries.specs.Performing.{RefusedIn};
+ghost use Rattle.reverse_queries.specs.Performing.{AwaitsList, RefusedIn};
 ghost use Rattle.reverse_queries.specs.Asked.{Performed, IsSpared};
 ghost use Rattle.reverse_queries.specs.OnTheWay.{IsFoundOn};
 ghost use Rattle.reverse_queries.specs.Finding.{word_bytes, SomeDiffer, DoesWhatIsAsked, Finds, Got};
@@ -118,14 +117,12 @@ pub(crate) fn find_last<K: Keeper, L: Ledger>(
     word: u32,
     steps: &mut Steps<L>,
 ) -> Result<Option<u32>, RunFault>
-    requires start { session.old.situation.at ≡ start session.old.situation.steps session.old.situation.slots }
-    requires lasts { session.old.ended ≡ false }
-    requires valid { Valid session.old.situation.steps session.old.situation.slots list.now }
+    requires awaits { AwaitsList session.old list.now }
     requires room { HaveRoom session.old.situation.steps session.old.situation.slots (map K.slot_count keepers.old.items) }
     requires word { word ≤ 0xFFFFFFFC }
 
     // The answer, if the session is at its start.
-    ensures answer { (first : MachineState) → IsMachineState first → StandsAt first session.old (told_by K.told keepers.old.items) →
+    ensures answer { (first : MachineState) → IsMachineState first → StandsAt first session.old (told_by K.Storage keepers.old.items) →
         IfOk result (IsLast (DoesWhatIsAsked question session.old.journal word (state_number first session.old.journal))
         (session.old.unit * session.old.situation.steps)) }
 
@@ -133,21 +130,21 @@ pub(crate) fn find_last<K: Keeper, L: Ledger>(
     ensures found { IfOk result (λ answer. IsFoundOn
         (λ states. IsLast (DoesWhatIsAsked question session.old.journal word states) (session.old.unit * session.old.situation.steps) answer)
         session.old.unit session.old.situation.steps session.old.journal (up_to session.old.unit session.old.situation.steps answer list.now)
-        (holdings_of session.old (told_by K.told keepers.old.items)) (holdings_of session.new (told_by K.told keepers.new.items))) }
+        (holdings_of session.old (told_by K.Storage keepers.old.items)) (holdings_of session.new (told_by K.Storage keepers.new.items))) }
 
     // What was performed for it.
     ensures performed { IfOk result (λ answer. Performed session.old (up_to session.old.unit session.old.situation.steps answer list.now) session.new steps.old
-        steps.new (calls_to K.put_count K.get_count K.free_count keepers.old.items)
-        (calls_to K.put_count K.get_count K.free_count keepers.new.items)) }
-    ensures stays { OnOk result (Stays session.old (told_by K.told keepers.old.items) session.new (told_by K.told keepers.new.items)) }
+        steps.new (calls_to K.Storage keepers.old.items)
+        (calls_to K.Storage keepers.new.items)) }
+    ensures stays { OnOk result (Stays session.old (told_by K.Storage keepers.old.items) session.new (told_by K.Storage keepers.new.items)) }
 
     // The session after a refusal, and its cause.
-    ensures refused { IfErr result (λ fault. RefusedIn (λ action held. ⊥) list.now fault session.old session.new (told_by K.told keepers.old.items)
-        steps.old steps.new (calls_to K.put_count K.get_count K.free_count keepers.old.items)
-        (calls_to K.put_count K.get_count K.free_count keepers.new.items)) }
+    ensures refused { IfErr result (λ fault. RefusedIn (λ action held. ⊥) list.now fault session.old session.new (told_by K.Storage keepers.old.items)
+        steps.old steps.new (calls_to K.Storage keepers.old.items)
+        (calls_to K.Storage keepers.new.items)) }
     ensures not_visitor { result ≢ Err RunFault.Visitor }
-    ensures spared { IsSpared result session.old (told_by K.told keepers.old.items) (rooms_by K.room_bytes keepers.old.items) }
-    ensures kept { KeepersAfter K.slot_count K.place K.fault_count (λ k. length session.old.situation.slots ≤ k) result keepers.old.items keepers.new.items }
+    ensures spared { IsSpared result session.old (told_by K.Storage keepers.old.items) (rooms_by K.Storage keepers.old.items) }
+    ensures kept { KeepersAre K.Storage (λ k. k < length session.old.situation.slots) result keepers.old.items keepers.new.items }
 {
     let last = session.unit() * session.config().reverse();
     let mut finder = Finder::new(question, word, last);

@@ -1,9 +1,8 @@
 // The questions on a run.
 ghost use Rattle.std.specs.Prelude.{◌≡◌, ◌≢◌, ◌+◌, ◌*◌, ◌≤◌, ◌<◌, ℕ, List, false, length, map, slice_get, Some, Err, IfOk, IfErr, OnOk, OnErr};
-ghost use Rattle.level_book.specs.Configuration.{start};
-ghost use Rattle.level_book.specs.Valid.{Valid};
 ghost use Rattle.rv_machine.specs.MachineState.{MachineState, IsMachineState};
-ghost use Rattle.reverse_runner.specs.After.{Stays, KeepersAfter, VisitorAfter};
+ghost use Rattle.reverse_runner.specs.After.{Stays, VisitorAfter};
+ghost use Rattle.reverse_runner.specs.Desks.{KeepersAre};
 ghost use Rattle.reverse_runner.specs.KeepersSeen.{told_by, calls_to, HaveRoom};
 ghost use Rattle.reverse_runner.specs.Rooms.{rooms_by};
 ghost use Rattle.reverse_runner.specs.SessionState.{holdings_of};
@@ -11,7 +10,7 @@ ghost use Rattle.reverse_runner.specs.Standing.{StandsAt};
 ghost use Rattle.reverse_queries.specs.Queries.{WritesIn, ChangesIn, WritesWord, ChangesWord, IsLast, front_to, up_to};
 ghost use Rattle.reverse_queries.specs.Asked.{Performed, IsSpared};
 ghost use Rattle.reverse_queries.specs.OnTheWay.{IsFoundOn};
-ghost use Rattle.reverse_queries.specs.Performing.{GetsState, MissesState, RefusedIn};
+ghost use Rattle.reverse_queries.specs.Performing.{AwaitsList, GetsState, MissesState, RefusedIn};
 
 use crate::finder::Sought;
 use crate::finding::find_last;
@@ -32,33 +31,31 @@ pub fn state_at<K: Keeper, V: Visitor, L: Ledger>(
     visitor: &mut V,
     steps: &mut Steps<L>,
 ) -> Result<(), RunFault>
-    requires start { session.old.situation.at ≡ start session.old.situation.steps session.old.situation.slots }
-    requires lasts { session.old.ended ≡ false }
-    requires valid { Valid session.old.situation.steps session.old.situation.slots list.now }
+    requires awaits { AwaitsList session.old list.now }
     requires room { HaveRoom session.old.situation.steps session.old.situation.slots (map K.slot_count keepers.old.items) }
     requires place { place ≤ session.old.unit * session.old.situation.steps }
 
     // The visitor gets one state under this number, among those given on the way. If the session is at its start, that
     // is the run's state.
-    ensures gets { OnOk result (IsFoundOn (GetsState V.got session.old (told_by K.told keepers.old.items) place visitor.old visitor.new)
+    ensures gets { OnOk result (IsFoundOn (GetsState V.got session.old (told_by K.Storage keepers.old.items) place visitor.old visitor.new)
         session.old.unit session.old.situation.steps session.old.journal (front_to session.old.unit session.old.situation.steps place list.now)
-        (holdings_of session.old (told_by K.told keepers.old.items)) (holdings_of session.new (told_by K.told keepers.new.items))) }
+        (holdings_of session.old (told_by K.Storage keepers.old.items)) (holdings_of session.new (told_by K.Storage keepers.new.items))) }
 
     // What was performed for it.
     ensures performed { OnOk result (Performed session.old (front_to session.old.unit session.old.situation.steps place list.now) session.new
-        steps.old steps.new (calls_to K.put_count K.get_count K.free_count keepers.old.items)
-        (calls_to K.put_count K.get_count K.free_count keepers.new.items)) }
-    ensures stays { OnOk result (Stays session.old (told_by K.told keepers.old.items) session.new (told_by K.told keepers.new.items)) }
+        steps.old steps.new (calls_to K.Storage keepers.old.items)
+        (calls_to K.Storage keepers.new.items)) }
+    ensures stays { OnOk result (Stays session.old (told_by K.Storage keepers.old.items) session.new (told_by K.Storage keepers.new.items)) }
 
     // The session after a refusal, and its cause.
     ensures refused { IfErr result (λ fault. RefusedIn
-        (MissesState V.missed session.old (told_by K.told keepers.old.items) place visitor.old visitor.new)
-        (front_to session.old.unit session.old.situation.steps place list.now) fault session.old session.new (told_by K.told keepers.old.items)
-        steps.old steps.new (calls_to K.put_count K.get_count K.free_count keepers.old.items)
-        (calls_to K.put_count K.get_count K.free_count keepers.new.items)) }
-    ensures spared { IsSpared result session.old (told_by K.told keepers.old.items) (rooms_by K.room_bytes keepers.old.items) }
+        (MissesState V.missed session.old (told_by K.Storage keepers.old.items) place visitor.old visitor.new)
+        (front_to session.old.unit session.old.situation.steps place list.now) fault session.old session.new (told_by K.Storage keepers.old.items)
+        steps.old steps.new (calls_to K.Storage keepers.old.items)
+        (calls_to K.Storage keepers.new.items)) }
+    ensures spared { IsSpared result session.old (told_by K.Storage keepers.old.items) (rooms_by K.Storage keepers.old.items) }
     ensures seen { VisitorAfter V.fault_count result visitor.old visitor.new }
-    ensures kept { KeepersAfter K.slot_count K.place K.fault_count (λ k. length session.old.situation.slots ≤ k) result keepers.old.items keepers.new.items }
+    ensures kept { KeepersAre K.Storage (λ k. k < length session.old.situation.slots) result keepers.old.items keepers.new.items }
 {
     let mut picked = Picked::new(place, visitor);
     for action in list {
@@ -79,35 +76,33 @@ pub fn last_write<K: Keeper, L: Ledger>(
     word: u32,
     steps: &mut Steps<L>,
 ) -> Result<Option<u32>, RunFault>
-    requires start { session.old.situation.at ≡ start session.old.situation.steps session.old.situation.slots }
-    requires lasts { session.old.ended ≡ false }
-    requires valid { Valid session.old.situation.steps session.old.situation.slots list.now }
+    requires awaits { AwaitsList session.old list.now }
     requires room { HaveRoom session.old.situation.steps session.old.situation.slots (map K.slot_count keepers.old.items) }
     requires word { word ≤ 0xFFFFFFFC }
 
     // The answer, if the session is at its start.
-    ensures answer { (first : MachineState) → IsMachineState first → StandsAt first session.old (told_by K.told keepers.old.items) →
+    ensures answer { (first : MachineState) → IsMachineState first → StandsAt first session.old (told_by K.Storage keepers.old.items) →
         IfOk result (IsLast (WritesWord first session.old.journal word) (session.old.unit * session.old.situation.steps)) }
 
     // The answer by the states that were given on the way, also if the session isn't at its start.
     ensures found { IfOk result (λ answer. IsFoundOn
         (λ states. IsLast (WritesIn states session.old.journal word) (session.old.unit * session.old.situation.steps) answer) session.old.unit
         session.old.situation.steps session.old.journal (up_to session.old.unit session.old.situation.steps answer list.now)
-        (holdings_of session.old (told_by K.told keepers.old.items)) (holdings_of session.new (told_by K.told keepers.new.items))) }
+        (holdings_of session.old (told_by K.Storage keepers.old.items)) (holdings_of session.new (told_by K.Storage keepers.new.items))) }
 
     // What was performed for it.
     ensures performed { IfOk result (λ answer. Performed session.old (up_to session.old.unit session.old.situation.steps answer list.now) session.new steps.old
-        steps.new (calls_to K.put_count K.get_count K.free_count keepers.old.items)
-        (calls_to K.put_count K.get_count K.free_count keepers.new.items)) }
-    ensures stays { OnOk result (Stays session.old (told_by K.told keepers.old.items) session.new (told_by K.told keepers.new.items)) }
+        steps.new (calls_to K.Storage keepers.old.items)
+        (calls_to K.Storage keepers.new.items)) }
+    ensures stays { OnOk result (Stays session.old (told_by K.Storage keepers.old.items) session.new (told_by K.Storage keepers.new.items)) }
 
     // The session after a refusal, and its cause.
-    ensures refused { IfErr result (λ fault. RefusedIn (λ action held. ⊥) list.now fault session.old session.new (told_by K.told keepers.old.items)
-        steps.old steps.new (calls_to K.put_count K.get_count K.free_count keepers.old.items)
-        (calls_to K.put_count K.get_count K.free_count keepers.new.items)) }
+    ensures refused { IfErr result (λ fault. RefusedIn (λ action held. ⊥) list.now fault session.old session.new (told_by K.Storage keepers.old.items)
+        steps.old steps.new (calls_to K.Storage keepers.old.items)
+        (calls_to K.Storage keepers.new.items)) }
     ensures not_visitor { result ≢ Err RunFault.Visitor }
-    ensures spared { IsSpared result session.old (told_by K.told keepers.old.items) (rooms_by K.room_bytes keepers.old.items) }
-    ensures kept { KeepersAfter K.slot_count K.place K.fault_count (λ k. length session.old.situation.slots ≤ k) result keepers.old.items keepers.new.items }
+    ensures spared { IsSpared result session.old (told_by K.Storage keepers.old.items) (rooms_by K.Storage keepers.old.items) }
+    ensures kept { KeepersAre K.Storage (λ k. k < length session.old.situation.slots) result keepers.old.items keepers.new.items }
 {
     find_last(session, list, keepers, Sought::Write, word, steps)
 }
@@ -121,35 +116,33 @@ pub fn last_change<K: Keeper, L: Ledger>(
     word: u32,
     steps: &mut Steps<L>,
 ) -> Result<Option<u32>, RunFault>
-    requires start { session.old.situation.at ≡ start session.old.situation.steps session.old.situation.slots }
-    requires lasts { session.old.ended ≡ false }
-    requires valid { Valid session.old.situation.steps session.old.situation.slots list.now }
+    requires awaits { AwaitsList session.old list.now }
     requires room { HaveRoom session.old.situation.steps session.old.situation.slots (map K.slot_count keepers.old.items) }
     requires word { word ≤ 0xFFFFFFFC }
 
     // The answer, if the session is at its start.
-    ensures answer { (first : MachineState) → IsMachineState first → StandsAt first session.old (told_by K.told keepers.old.items) →
+    ensures answer { (first : MachineState) → IsMachineState first → StandsAt first session.old (told_by K.Storage keepers.old.items) →
         IfOk result (IsLast (ChangesWord first session.old.journal word) (session.old.unit * session.old.situation.steps)) }
 
     // The answer by the states that were given on the way, also if the session isn't at its start.
     ensures found { IfOk result (λ answer. IsFoundOn
         (λ states. IsLast (ChangesIn states word) (session.old.unit * session.old.situation.steps) answer) session.old.unit
         session.old.situation.steps session.old.journal (up_to session.old.unit session.old.situation.steps answer list.now)
-        (holdings_of session.old (told_by K.told keepers.old.items)) (holdings_of session.new (told_by K.told keepers.new.items))) }
+        (holdings_of session.old (told_by K.Storage keepers.old.items)) (holdings_of session.new (told_by K.Storage keepers.new.items))) }
 
     // What was performed for it.
     ensures performed { IfOk result (λ answer. Performed session.old (up_to session.old.unit session.old.situation.steps answer list.now) session.new steps.old
-        steps.new (calls_to K.put_count K.get_count K.free_count keepers.old.items)
-        (calls_to K.put_count K.get_count K.free_count keepers.new.items)) }
-    ensures stays { OnOk result (Stays session.old (told_by K.told keepers.old.items) session.new (told_by K.told keepers.new.items)) }
+        steps.new (calls_to K.Storage keepers.old.items)
+        (calls_to K.Storage keepers.new.items)) }
+    ensures stays { OnOk result (Stays session.old (told_by K.Storage keepers.old.items) session.new (told_by K.Storage keepers.new.items)) }
 
     // The session after a refusal, and its cause.
-    ensures refused { IfErr result (λ fault. RefusedIn (λ action held. ⊥) list.now fault session.old session.new (told_by K.told keepers.old.items)
-        steps.old steps.new (calls_to K.put_count K.get_count K.free_count keepers.old.items)
-        (calls_to K.put_count K.get_count K.free_count keepers.new.items)) }
+    ensures refused { IfErr result (λ fault. RefusedIn (λ action held. ⊥) list.now fault session.old session.new (told_by K.Storage keepers.old.items)
+        steps.old steps.new (calls_to K.Storage keepers.old.items)
+        (calls_to K.Storage keepers.new.items)) }
     ensures not_visitor { result ≢ Err RunFault.Visitor }
-    ensures spared { IsSpared result session.old (told_by K.told keepers.old.items) (rooms_by K.room_bytes keepers.old.items) }
-    ensures kept { KeepersAfter K.slot_count K.place K.fault_count (λ k. length session.old.situation.slots ≤ k) result keepers.old.items keepers.new.items }
+    ensures spared { IsSpared result session.old (told_by K.Storage keepers.old.items) (rooms_by K.Storage keepers.old.items) }
+    ensures kept { KeepersAre K.Storage (λ k. k < length session.old.situation.slots) result keepers.old.items keepers.new.items }
 {
     find_last(session, list, keepers, Sought::Change, word, steps)
 }

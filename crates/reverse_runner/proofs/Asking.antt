@@ -1,5 +1,5 @@
 -- What an action asks of the levels, and what it does to them.
-use Rattle.std.proofs.Common.{◌≡◌, ◌≢◌, ℕ, ◌-◌, ◌*◌, ◌<◌, ◌≤◌, List, [], ◌∷◌, length, map, get_or, Option, Some, None, IsSome, Contains, Result, Ok, Err, add-zero, zero-add, refl, sym, ◌∙◌, ap, subst, inl, arith}
+use Rattle.std.proofs.Common.{◌≡◌, ◌≢◌, ℕ, ◌-◌, ◌*◌, ◌<◌, ◌≤◌, List, [], ◌∷◌, length, map, get_or, Option, Some, None, IsSome, Contains, add-zero, zero-add, refl, sym, ◌∙◌, ap, subst, inl, arith}
 use Rattle.std.proofs.lemmas.List.{get_or-map, length-map}
 use Rattle.std.proofs.lemmas.Option.{slice_get-get_or}
 use Rattle.std.specs.Option.{option_map_or}
@@ -28,10 +28,10 @@ use Rattle.image_store.specs.Shelves.{ShelfState, level_of, kept_at}
 use Rattle.reverse_runner.specs.LevelsStand.{IsLaidOut}
 use Rattle.reverse_runner.specs.KeepersSeen.{by_number, HaveRoom, Calls, calls_of, Called, one_if}
 use Rattle.reverse_runner.specs.declared.fault.RunFault.{RunFault}
-use Rattle.reverse_runner.specs.declared.fault.RunFault.TheVariants.{Keeper, Damaged, Visitor, Memory, Ended}
+use Rattle.reverse_runner.specs.declared.fault.RunFault.TheVariants.{Keeper}
 use Rattle.reverse_runner.specs.Acts.{Levels, Holdings, IsFetched, IsDecoded, Keeps, Releases, IsAsBefore, Acts}
 use Rattle.reverse_runner.specs.Standing.{pair_read, IsDamage}
-use Rattle.reverse_runner.specs.Touching.{IsOther, IsKeeping, IsCaused, one_free}
+use Rattle.reverse_runner.specs.Touching.{IsOther, IsKeeping, one_free}
 use Rattle.reverse_runner.proofs.AllCalls.{calls_then, called_then, called_same}
 use Rattle.reverse_runner.proofs.RoomLeft.{room_left, is_there, is_new, has_place, held_is_below}
 
@@ -245,15 +245,6 @@ called_move_then n k dest a b c copied freed =
     writes_same : (n k : ℕ) (dest : Dest) (j : ℕ) → is_write j (Copy n k dest) ≡ is_write j (Move n k dest)
     writes_same n k Work j = refl
     writes_same n k (Level i) j = refl
-
--- a cause stays where nothing was counted before
-pub caused_then : {K : Type 0} (faults : K → ℕ) (a b c : List K) (r : Result Unit RunFault) → ((j : ℕ) → by_number 0 faults b j ≡ by_number 0 faults a j) → IsCaused faults b c r → IsCaused faults a c r
-caused_then faults a b c (Ok x) same h = λ j. h j ∙ same j
-caused_then faults a b c (Err (Keeper k)) same h = record { rose = (let rose = h.rose in omega (arith, rose, same k)); others = λ j ne. h.others j ne ∙ same j }
-caused_then faults a b c (Err (Damaged k put got)) same h = λ j. h j ∙ same j
-caused_then faults a b c (Err Visitor) same h = λ j. h j ∙ same j
-caused_then faults a b c (Err Memory) same h = λ j. h j ∙ same j
-caused_then faults a b c (Err Ended) same h = λ j. h j ∙ same j
 
 -- ---- what a Forward does
 

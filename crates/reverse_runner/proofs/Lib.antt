@@ -1,6 +1,7 @@
 pub mod Asking
 pub mod AllCalls
 pub mod Collision
+pub mod DeskLaws
 pub mod Getting
 pub mod Handing
 pub mod HoldingJust
@@ -15,6 +16,7 @@ pub mod RoomLeft
 pub mod Rooms
 pub mod StandingAfter
 pub mod Taping
+pub mod Touched
 pub mod Undamaged
 pub mod Caused
 pub mod InOrder

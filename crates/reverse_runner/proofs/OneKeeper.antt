@@ -1,5 +1,5 @@
 -- The keeper of one level was called: what is seen of the keepers then.
-use Rattle.std.proofs.Common.{◌≡◌, ◌≢◌, ℕ, ◌==◌, ◌<◌, ◌≤◌, true, false, List, length, get_or, set, slice_get, Err, Option, Some, None, IsSome, refl, sym, ◌∙◌, ap, subst, inl, inr, arith, eq-eqb}
+use Rattle.std.proofs.Common.{◌≡◌, ◌≢◌, ℕ, ◌==◌, ◌<◌, ◌≤◌, true, false, List, length, get_or, set, slice_get, Option, Some, None, IsSome, refl, sym, ◌∙◌, ap, subst, inl, inr, arith, eq-eqb}
 use Rattle.std.specs.Option.{option_map_or}
 use Rattle.std.proofs.Math.ListN.{length-set}
 use Rattle.std.proofs.Math.Seq.{map-set_same}
@@ -7,11 +7,12 @@ use Rattle.std.proofs.lemmas.Bool.{false≢true, cases_eq, cases_lt, ne_eqb}
 use Rattle.std.proofs.lemmas.List.{get_or-set_same, get_or-set_other}
 use Rattle.std.proofs.lemmas.Option.{slice_get-get_or, slice_get_past}
 use Rattle.keepers.specs.Told.{Location}
-use Rattle.keepers.specs.Counts.{raised, Rose}
+use Rattle.keepers.specs.declared.storage.Storage.{Ghosts}
+use Rattle.keepers.specs.Counts.{raised}
 use Rattle.image_store.specs.declared.shelf.StoreFault.{StoreFault}
 use Rattle.image_store.specs.declared.shelf.StoreFault.TheVariants as store
 use Rattle.reverse_runner.specs.KeepersSeen.{by_number, calls_to, one_if, Called}
-use Rattle.reverse_runner.specs.Touching.{one_put, one_get, one_free, Remain, OthersRemain, IsCaused, IsKeeping, fault_on}
+use Rattle.reverse_runner.specs.Touching.{one_put, one_get, one_free, Remain, OthersRemain, IsKeeping, fault_on}
 use Rattle.reverse_runner.specs.declared.fault.RunFault.TheVariants.{Damaged}
 
 raised_none : (a : ℕ) → a ≡ raised a 0
@@ -73,15 +74,15 @@ module _ {K : Type 0} (ks : List K) (k : ℕ) (x y : K) (within : k < length ks)
     pub uncounted : count y ≡ count x → (j : ℕ) → by_number 0 count (set ks k y) j ≡ raised (by_number 0 count ks j) 0
     uncounted same j = seen_same 0 count same j ∙ raised_none (by_number 0 count ks j)
 
-  module _ (puts gets frees : K → ℕ) where
-    pub put_was_called : puts y ≡ raised (puts x) 1 → gets y ≡ gets x → frees y ≡ frees x → Called (one_put k) (calls_to puts gets frees ks) (calls_to puts gets frees (set ks k y))
-    put_was_called p g f = record { put_calls = counted puts p; get_calls = uncounted gets g; free_calls = uncounted frees f }
+  module _ (seen : Ghosts K) where
+    pub put_was_called : seen.put_count y ≡ raised (seen.put_count x) 1 → seen.get_count y ≡ seen.get_count x → seen.free_count y ≡ seen.free_count x → Called (one_put k) (calls_to seen ks) (calls_to seen (set ks k y))
+    put_was_called p g f = record { put_calls = counted seen.put_count p; get_calls = uncounted seen.get_count g; free_calls = uncounted seen.free_count f }
 
-    pub get_was_called : puts y ≡ puts x → gets y ≡ raised (gets x) 1 → frees y ≡ frees x → Called (one_get k) (calls_to puts gets frees ks) (calls_to puts gets frees (set ks k y))
-    get_was_called p g f = record { put_calls = uncounted puts p; get_calls = counted gets g; free_calls = uncounted frees f }
+    pub get_was_called : seen.put_count y ≡ seen.put_count x → seen.get_count y ≡ raised (seen.get_count x) 1 → seen.free_count y ≡ seen.free_count x → Called (one_get k) (calls_to seen ks) (calls_to seen (set ks k y))
+    get_was_called p g f = record { put_calls = uncounted seen.put_count p; get_calls = counted seen.get_count g; free_calls = uncounted seen.free_count f }
 
-    pub free_was_called : puts y ≡ puts x → gets y ≡ gets x → frees y ≡ raised (frees x) 1 → Called (one_free k) (calls_to puts gets frees ks) (calls_to puts gets frees (set ks k y))
-    free_was_called p g f = record { put_calls = uncounted puts p; get_calls = uncounted gets g; free_calls = counted frees f }
+    pub free_was_called : seen.put_count y ≡ seen.put_count x → seen.get_count y ≡ seen.get_count x → seen.free_count y ≡ raised (seen.free_count x) 1 → Called (one_free k) (calls_to seen ks) (calls_to seen (set ks k y))
+    free_was_called p g f = record { put_calls = uncounted seen.put_count p; get_calls = uncounted seen.get_count g; free_calls = counted seen.free_count f }
 
   -- the slots and the places are those that they were, and no count of faults fell
   module _ (slots : K → ℕ) (places : K → Location) (faults : K → ℕ) where
@@ -96,14 +97,6 @@ module _ {K : Type 0} (ks : List K) (k : ℕ) (x y : K) (within : k < length ks)
         | inr ne ↦ omega (arith, seen_else 0 faults j ne)
       ];
     }
-
-  -- a refusal has its cause
-  module _ (faults : K → ℕ) where
-    pub caused : (A : Type 0) (e : StoreFault) → (e ≡ store.Keeper → Rose (faults x) (faults y)) → ((e ≡ store.Keeper → ⊥) → faults y ≡ faults x) →
-        IsCaused {A = A} faults ks (set ks k y) (Err (fault_on k e))
-    caused A store.Keeper rose quiet = record { rose = omega (arith, rose refl, seen_there 0 faults, seen_before 0 faults); others = seen_else 0 faults }
-    caused A (store.Damaged put got) rose quiet = seen_same 0 faults (quiet (λ e. cc))
-    caused A store.Memory rose quiet = seen_same 0 faults (quiet (λ e. cc))
 
 -- a pair that is held
 pub some_kept : {X : Type 0} (o : Option X) → IsSome o → (x : X) × (o ≡ Some x)

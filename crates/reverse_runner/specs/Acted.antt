@@ -1,5 +1,5 @@
 -- What a performed action did, what a refused one leaves, and which faults occur: relations that contracts share.
-use Rattle.std.specs.Prelude.{◌≡◌, ◌≢◌, ℕ, ◌+◌, ◌*◌, List, Option, Result, Err, IsTrue, Contains}
+use Rattle.std.specs.Prelude.{◌≡◌, ◌≢◌, ℕ, ◌+◌, ◌*◌, List, Option, Result, Err, OnOk, OnErr, IsTrue, Contains}
 use Rattle.keepers.specs.Told.{Images}
 use Rattle.plan_types.specs.declared.action.Action.{Action}
 use Rattle.level_book.specs.Configuration.{Configuration}
@@ -30,9 +30,15 @@ pub record Leaves (action : Action) (old : Levels) (told : ℕ → Option Images
   pub uncounted : steps' ≡ steps
   pub called_at_most : CalledAtMost (calls_of action) calls calls'
 
--- A fault has its reason in the action. A keeper that failed is that of a level which the action names, and the levels
--- that the action didn't reach are unchanged. Damaged bytes are those of the pair that it reads, and what the keepers
--- claim is unchanged. Memory runs out only if it calls keepers.
+-- How an action ended: it was performed, or this is what its refusal leaves.
+pub record ActionEnds {A : Type 0} (result : Result A RunFault) (unit : ℕ) (journal : List (List ℕ)) (action : Action) (old new : Holdings)
+    (steps steps' : ℕ) (calls calls' : Calls) : Type 0 where
+  pub acted : OnOk result (Acted unit journal action old new steps steps' calls calls')
+  pub leaves : OnErr result (Leaves action old.levels new.levels.told steps steps' calls calls')
+
+-- A fault has its reason in the action. A keeper that failed is that of a level which the action names. Damaged bytes
+-- are those of the pair that it reads, and what the keepers claim is unchanged. If a keeper failed, the claims of the
+-- levels after it are unchanged. Memory runs out only if it calls keepers.
 pub record HasReason {A : Type 0} (result : Result A RunFault) (action : Action) (old : Holdings) (told : ℕ → Option Images) : Type 0 where
   pub named : (k : ℕ) → result ≡ Err (Keeper k) → Contains (levels_named action) k
   pub damaged : (k : ℕ) (put got : List ℕ) → result ≡ Err (Damaged k put got) → IsDamage action old k put got

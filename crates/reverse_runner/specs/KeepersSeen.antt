@@ -1,8 +1,9 @@
--- The keepers of a session by level: what they claim, and how often they were called.
-use Rattle.std.specs.Prelude.{◌≡◌, ◌≢◌, ℕ, ◌==◌, ◌<◌, ◌≤◌, Bool, false, cond, List, length, slice_get, slice_index_or, Option, None}
+-- The keepers of a session by the numbers of their levels: what they claim, and how often they were called.
+use Rattle.std.specs.Prelude.{◌≡◌, ℕ, ◌==◌, ◌<◌, ◌≤◌, Bool, false, cond, List, length, slice_get, slice_index_or, Option, None}
 use Rattle.std.specs.Option.{option_map_or}
-use Rattle.keepers.specs.Counts.{raised, Rose}
+use Rattle.keepers.specs.Counts.{raised}
 use Rattle.keepers.specs.Told.{Images}
+use Rattle.keepers.specs.declared.storage.Storage.{Ghosts}
 use Rattle.plan_types.specs.declared.action.Action.{Action}
 use Rattle.plan_types.specs.declared.action.Action.TheVariants.{Move}
 use Rattle.level_book.specs.declared.book.Slots.{Slots}
@@ -14,14 +15,9 @@ use Rattle.level_book.specs.CostFold.{is_write, is_read}
 abbrev pub by_number : {K A : Type 0} → A → (K → A) → List K → ℕ → A
 by_number nothing seen keepers k = option_map_or seen (slice_get keepers k) nothing
 
--- The fault count of keeper k rose, and no other one changed.
-pub record FailsAlone {K : Type 0} (faults : K → ℕ) (k : ℕ) (old new : List K) : Type 0 where
-  pub rose : Rose (by_number 0 faults old k) (by_number 0 faults new k)
-  pub others : (j : ℕ) → j ≢ k → by_number 0 faults new j ≡ by_number 0 faults old j
-
 -- what the keepers claim
-abbrev pub told_by : {K : Type 0} → (K → Option Images) → List K → ℕ → Option Images
-told_by told keepers = by_number None told keepers
+abbrev pub told_by : {K : Type 0} → Ghosts K → List K → ℕ → Option Images
+told_by seen keepers = by_number None seen.told keepers
 
 -- Each level of a book has a keeper. It has as many slots as a run of so many steps can use there. The keepers are
 -- given by their numbers of slots.
@@ -36,8 +32,8 @@ pub record Calls : Type 0 where
   pub frees : ℕ → ℕ
 
 -- how often the keepers were called
-abbrev pub calls_to : {K : Type 0} → (K → ℕ) → (K → ℕ) → (K → ℕ) → List K → Calls
-calls_to puts gets frees keepers = record { puts = by_number 0 puts keepers; gets = by_number 0 gets keepers; frees = by_number 0 frees keepers }
+abbrev pub calls_to : {K : Type 0} → Ghosts K → List K → Calls
+calls_to seen keepers = record { puts = by_number 0 seen.put_count keepers; gets = by_number 0 seen.get_count keepers; frees = by_number 0 seen.free_count keepers }
 
 -- whether an action empties a slot of level k
 abbrev pub is_release : ℕ → Action → Bool

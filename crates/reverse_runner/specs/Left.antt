@@ -22,8 +22,8 @@ use Rattle.reverse_runner.specs.Standing.{pair_read}
 abbrev pub Spares : Action → ℕ → Type 0
 Spares action k = (is_write k action ≡ false) × (is_release k action ≡ false)
 
--- Level j, which an action didn't reach if the keeper of level k failed. An action gets an image, then puts it, and a Move
--- releases it last. So a Copy whose get failed put nothing, and a Move whose put failed released nothing.
+-- Level j, which an action didn't reach if the keeper of level k failed. An image is got, then put, and a Move releases
+-- it last. So a Copy put none if its get failed, and a Move released none if its put failed.
 abbrev pub NotReached : Action → (k j : ℕ) → Type 0
 NotReached (Copy n from (Level to)) k j = (k ≡ from) × (j ≡ to)
 NotReached (Move n from (Level to)) k j = (k ≡ to) × (j ≡ from)

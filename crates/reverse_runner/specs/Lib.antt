@@ -2,6 +2,9 @@ pub mod Acted
 pub mod Acts
 pub mod Collision
 pub mod After
+pub mod DeskFields
+pub mod DeskGives
+pub mod Desks
 pub mod Handed
 pub mod HoldsJust
 pub mod KnownDigests

@@ -1,9 +1,11 @@
 -- What the visitor of a session gets from an action, and which actions call keepers. The states are the session's.
-use Rattle.std.specs.Prelude.{◌≡◌, ◌⊎◌, ℕ, Bool, true, false, List, [], ◌∷◌}
+use Rattle.std.specs.Prelude.{◌≡◌, ◌⊎◌, ℕ, Bool, true, false, List, [], ◌∷◌, Result, Err, OnOk}
 use Rattle.plan_types.specs.declared.action.Keep.TheVariants.{Store}
 use Rattle.plan_types.specs.declared.action.Action.{Action}
 use Rattle.plan_types.specs.declared.action.Action.TheVariants.{Forward, Reverse, Copy, Move, EndForward}
 use Rattle.rv_machine.specs.MachineState.{MachineState}
+use Rattle.reverse_runner.specs.declared.fault.RunFault.{RunFault}
+use Rattle.reverse_runner.specs.declared.fault.RunFault.TheVariants.{Visitor}
 
 -- whether an action calls a keeper; no other action can run out of memory
 abbrev pub calls_keepers : Action → Bool
@@ -31,3 +33,9 @@ abbrev pub MissesOne : {V : Type 0} → (V → ℕ → MachineState → List (Li
 MissesOne {V} got missed journal (n ∷ numbers) (s ∷ states) before after =
     missed before n s journal after ⊎ ((between : V) × (got before n s journal between × MissesOne got missed journal numbers states between after))
 MissesOne got missed journal _ _ before after = ⊥
+
+-- These states were given to the visitor with these numbers, or those before one that it refused.
+pub record HandsOut {A V : Type 0} (got missed : V → ℕ → MachineState → List (List ℕ) → V → Type 0) (journal : List (List ℕ))
+    (numbers : List ℕ) (states : List MachineState) (result : Result A RunFault) (before after : V) : Type 0 where
+  pub gets : OnOk result (GetsAll got journal numbers states before after)
+  pub misses : result ≡ Err Visitor → MissesOne got missed journal numbers states before after

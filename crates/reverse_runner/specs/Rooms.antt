@@ -1,5 +1,6 @@
 -- When no action runs out of memory: how much room the keepers need, and how long stored images are.
 use Rattle.std.specs.Prelude.{◌≡◌, ℕ, ◌+◌, ◌*◌, ◌<◌, ◌≤◌, List, length, Option, None, Some}
+use Rattle.keepers.specs.declared.storage.Storage.{Ghosts}
 use Rattle.rv_pages.specs.Memory.{page_numbers}
 use Rattle.rv_machine.specs.MachineState.{MachineState}
 use Rattle.image_store.specs.declared.shelf.Kept.{Kept}
@@ -16,8 +17,8 @@ IsRoomy bytes None = ⊥
 IsRoomy bytes (Some room) = bytes ≤ room
 
 -- the rooms of keepers, by the numbers of their levels
-abbrev pub rooms_by : {K : Type 0} → (K → Option ℕ) → List K → ℕ → Option ℕ
-rooms_by room keepers = by_number None room keepers
+abbrev pub rooms_by : {K : Type 0} → Ghosts K → List K → ℕ → Option ℕ
+rooms_by seen keepers = by_number None seen.room_bytes keepers
 
 -- each of the first so many levels has a keeper with a room of at least so many bytes
 abbrev pub AreRoomy : ℕ → ℕ → (ℕ → Option ℕ) → Type 0

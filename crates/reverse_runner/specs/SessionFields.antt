@@ -10,9 +10,9 @@ abbrev pub session_state : Inside → SessionState
 session_state s = record {
   situation = s.config;
   unit = s.unit;
-  work = s.space.work;
+  work = s.space.desk.work;
   tape = tape_in s.space;
-  store = s.space.store;
+  store = s.space.desk.store;
   journal = s.journal;
   done = s.done;
   ended = s.ended;
@@ -22,6 +22,6 @@ session_state s = record {
 -- was made for the recorded input. No stored image is longer than one of the state in work can be.
 pub record IsSession (s : Inside) : Type 0 where
   pub fits : IsInOrder s.space
-  pub laid : s.ended ≡ false → IsLaidOut s.config.steps s.config.slots s.config.at s.space.store
+  pub laid : s.ended ≡ false → IsLaidOut s.config.steps s.config.slots s.config.at s.space.desk.store
   pub units : s.ended ≡ false → HasUnits s.unit s.journal s.config.steps s.config.at s.space
-  pub short : s.ended ≡ false → AreShort (image_room s.space.work) s.space.store
+  pub short : s.ended ≡ false → AreShort (image_room s.space.desk.work) s.space.desk.store

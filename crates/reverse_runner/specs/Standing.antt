@@ -1,5 +1,5 @@
 -- At which configuration of a run a session is, and what becomes of it through actions.
-use Rattle.std.specs.Prelude.{◌≡◌, ◌≢◌, ◌⊎◌, ℕ, ◌+◌, ◌^◌, ◌-◌, true, false, min, List, [], Option, None, Some}
+use Rattle.std.specs.Prelude.{◌≡◌, ◌≢◌, ◌⊎◌, ℕ, ◌+◌, ◌^◌, ◌-◌, true, false, min, List, [], Option, None, Some, Result, OnOk, OnErr}
 use Rattle.sha2.specs.Sha256.{sha256}
 use Rattle.keepers.specs.Told.{Images}
 use Rattle.plan_types.specs.declared.action.Action.{Action}
@@ -13,6 +13,7 @@ use Rattle.image_store.specs.declared.shelf.Kept.{Kept}
 use Rattle.image_store.specs.Shelves.{kept_at, no_pairs_on}
 use Rattle.image_store.specs.Calls.{IsGot}
 use Rattle.reverse_runner.specs.SessionState.{SessionState, SamePages, holdings_of}
+use Rattle.reverse_runner.specs.declared.fault.RunFault.{RunFault}
 use Rattle.reverse_runner.specs.Acts.{Holdings}
 use Rattle.reverse_runner.specs.LevelsStand.{HoldingsStandAt}
 
@@ -46,6 +47,12 @@ pub record SessionEnds (old new : SessionState) : Type 0 where
   pub journal : new.journal ≡ old.journal
   pub done : new.done ≡ old.done
   pub over : new.ended ≡ true
+
+-- What an action makes of a session: the next configuration, or its end. Its states map the same pages as before.
+pub record SessionAfter {A : Type 0} (result : Result A RunFault) (old : SessionState) (action : Action) (new : SessionState) : Type 0 where
+  pub performs : OnOk result (Performs old action new)
+  pub refused : OnErr result (SessionEnds old new)
+  pub pages : SamePages old.work new.work
 
 -- Over what its keepers claim, a session is at its configuration of the run from `first`. Its states are the run's. Its
 -- levels have the images of the states that they hold.

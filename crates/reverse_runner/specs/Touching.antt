@@ -1,5 +1,5 @@
 -- No public clause cites this file. What a call on one level's keeper does to all keepers, and how it is refused.
-use Rattle.std.specs.Prelude.{◌≡◌, ◌≢◌, ℕ, ◌==◌, ◌≤◌, List, map, slice_get, Some, Result, Ok, Err}
+use Rattle.std.specs.Prelude.{◌≡◌, ◌≢◌, ℕ, ◌==◌, ◌≤◌, List, map, slice_get, Some}
 use Rattle.keepers.specs.Told.{Location}
 use Rattle.sha2.specs.Sha256.{sha256}
 use Rattle.image_store.specs.declared.shelf.Kept.{Kept}
@@ -10,7 +10,7 @@ use Rattle.image_store.specs.declared.shelf.StoreFault.TheVariants as store
 use Rattle.reverse_runner.specs.declared.fault.RunFault.{RunFault}
 use Rattle.reverse_runner.specs.declared.fault.RunFault.TheVariants.{Keeper, Damaged, Visitor, Memory, Ended}
 use Rattle.reverse_runner.specs.Acts.{Levels}
-use Rattle.reverse_runner.specs.KeepersSeen.{Calls, one_if, by_number, FailsAlone}
+use Rattle.reverse_runner.specs.KeepersSeen.{Calls, one_if, by_number}
 
 -- one put on level k, one get from it, one free there
 abbrev pub one_put : ℕ → Calls
@@ -31,15 +31,6 @@ pub record Remain {K : Type 0} (slots : K → ℕ) (places : K → Location) (fa
 -- all keepers but that of level k are unchanged
 abbrev pub OthersRemain : {K : Type 0} → ℕ → List K → List K → Type 0
 OthersRemain k old new = (j : ℕ) → j ≢ k → slice_get new j ≡ slice_get old j
-
--- the count of a keeper that is said to have failed rose, and no other did
-abbrev pub IsCaused : {K A : Type 0} → (K → ℕ) → List K → List K → Result A RunFault → Type 0
-IsCaused faults old new (Err (Keeper k)) = FailsAlone faults k old new
-IsCaused faults old new (Err (Damaged k put got)) = (j : ℕ) → by_number 0 faults new j ≡ by_number 0 faults old j
-IsCaused faults old new (Err Visitor) = (j : ℕ) → by_number 0 faults new j ≡ by_number 0 faults old j
-IsCaused faults old new (Err Memory) = (j : ℕ) → by_number 0 faults new j ≡ by_number 0 faults old j
-IsCaused faults old new (Err Ended) = (j : ℕ) → by_number 0 faults new j ≡ by_number 0 faults old j
-IsCaused faults old new (Ok x) = (j : ℕ) → by_number 0 faults new j ≡ by_number 0 faults old j
 
 -- a fault of the storage of level k, as a session answers it
 abbrev pub fault_on : ℕ → StoreFault → RunFault

@@ -18,7 +18,7 @@ use Rattle.reverse_runner.specs.SessionState.{SamePages}
 
 -- its levels over what the keepers claim, and all that it holds
 abbrev pub levels_in : Workspace → (ℕ → Option Images) → Levels
-levels_in w told = record { store = w.store; told = told }
+levels_in w told = record { store = w.desk.store; told = told }
 
 -- the tape: the states over which its undo list leads back from the state after them
 abbrev pub tape_in : Workspace → TapeState
@@ -29,31 +29,36 @@ abbrev pub IsTaped : ℕ → Configuration → Workspace → Type 0
 IsTaped unit c w = MatchOption c.tape (Unit {0}) (λ n. length w.undo.entries ≡ unit)
 
 abbrev pub holdings_in : Workspace → (ℕ → Option Images) → Holdings
-holdings_in w told = record { work = w.work; tape = tape_in w; levels = levels_in w told }
+holdings_in w told = record { work = w.desk.work; tape = tape_in w; levels = levels_in w told }
+
+-- The undo list leads back from the tape. A known digest of a state on the tape is that of its image.
+pub record HasTape (w : Workspace) : Type 0 where
+  pub back : LeadsBack w.undo.entries w.tape (led_back w.undo.entries w.tape)
+  pub known : AreDigests w.known.items (states_of w.undo.entries w.tape)
 
 -- Its states map the same pages. The buffer has room for the image of each. The undo list leads back from the tape. A
 -- known digest of a state on the tape is that of its image. There is room for the digests of a whole unit.
 pub record IsInOrder (w : Workspace) : Type 0 where
-  pub pages : SamePages w.tape w.work
-  pub few : length (page_numbers w.work.memory) ≤ 4096
+  pub pages : SamePages w.tape w.desk.work
+  pub few : length (page_numbers w.desk.work.memory) ≤ 4096
   pub back : LeadsBack w.undo.entries w.tape (led_back w.undo.entries w.tape)
   pub known : AreDigests w.known.items (states_of w.undo.entries w.tape)
   pub some : 1 ≤ w.undo.unit
   pub room : w.undo.unit ≤ vec_capacity w.known
-  pub buffer : 164 + 4100 * length (page_numbers w.work.memory) ≤ vec_capacity w.buffer
+  pub buffer : 164 + 4100 * length (page_numbers w.desk.work.memory) ≤ vec_capacity w.desk.buffer
 
 -- A workspace stays in order. Its states map the same pages as before. No stored image becomes longer than one of the
 -- state in work can be.
 pub record StaysInOrder (old new : Workspace) : Type 0 where
   pub fits : IsInOrder new
-  pub pages : SamePages old.work new.work
-  pub short : AreShort (image_room old.work) old.store → AreShort (image_room old.work) new.store
+  pub pages : SamePages old.desk.work new.desk.work
+  pub short : AreShort (image_room old.desk.work) old.desk.store → AreShort (image_room old.desk.work) new.desk.store
 
 -- An action is allowed at a sound configuration. The levels hold the configuration's pairs, and there are keepers with
 -- so many slots.
 pub record IsReady (steps : ℕ) (slots : List Slots) (c : Configuration) (w : Workspace) (counts : List ℕ) : Type 0 where
   pub sound : IsSound steps slots c
-  pub laid : IsLaidOut steps slots c w.store
+  pub laid : IsLaidOut steps slots c w.desk.store
   pub room : HaveRoom steps slots counts
   pub fits : IsInOrder w
 

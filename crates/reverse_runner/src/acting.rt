@@ -4,12 +4,13 @@ ghost use Rattle.level_book.specs.Configuration.{Configuration};
 ghost use Rattle.level_book.specs.Moves.{Goes};
 ghost use Rattle.level_book.specs.Rules.{rule, levels_named};
 ghost use Rattle.input_journal.specs.Form.{IsRecorded};
-ghost use Rattle.reverse_runner.specs.Acted.{Acted, Leaves, HasReason, IsSafe};
-ghost use Rattle.reverse_runner.specs.After.{KeepersAfter, VisitorAfter};
+ghost use Rattle.reverse_runner.specs.Acted.{ActionEnds, Acted, Leaves, HasReason, IsSafe};
+ghost use Rattle.reverse_runner.specs.After.{VisitorAfter};
+ghost use Rattle.reverse_runner.specs.Desks.{KeepersAre};
 ghost use Rattle.reverse_runner.specs.KeepersSeen.{told_by, calls_to};
 ghost use Rattle.reverse_runner.specs.Handed.{handed_by};
-ghost use Rattle.reverse_runner.specs.Performed.{states_out, GetsAll, MissesOne, calls_keepers};
-ghost use Rattle.reverse_runner.specs.Rooms.{image_room, rooms_by, SameRooms, AreShort};
+ghost use Rattle.reverse_runner.specs.Performed.{states_out, HandsOut, calls_keepers};
+ghost use Rattle.reverse_runner.specs.Rooms.{image_room, rooms_by, AreShort};
 ghost use Rattle.reverse_runner.specs.Touching.{IsOfStorage};
 ghost use Rattle.reverse_runner.specs.Workspaces.{IsReady, HasUnits, StaysInOrder, tape_in, levels_in, holdings_in};
 
@@ -37,27 +38,20 @@ pub(crate) fn act<K: Keeper, V: Visitor, L: Ledger>(
     requires ready { IsReady config.now.steps config.now.slots config.now.at space.old (map K.slot_count keepers.old.items) }
     requires units { HasUnits unit journal.now config.now.steps config.now.at space.old }
     requires allowed { rule config.now.steps config.now.slots config.now.at action.now ≡ 0 }
-    ensures acted { OnOk result (Acted unit journal.now action.now
-        (holdings_in space.old (told_by K.told keepers.old.items)) (holdings_in space.new (told_by K.told keepers.new.items)) steps.old steps.new
-        (calls_to K.put_count K.get_count K.free_count keepers.old.items) (calls_to K.put_count K.get_count K.free_count keepers.new.items)) }
-    ensures leaves { OnErr result (Leaves action.now
-        (levels_in space.old (told_by K.told keepers.old.items)) (told_by K.told keepers.new.items) steps.old steps.new
-        (calls_to K.put_count K.get_count K.free_count keepers.old.items) (calls_to K.put_count K.get_count K.free_count keepers.new.items)) }
-    ensures caused { HasReason result action.now (holdings_in space.old (told_by K.told keepers.old.items)) (told_by K.told keepers.new.items) }
-    ensures spared { IsRecorded journal.now → AreShort (image_room space.old.work) space.old.store →
-        IsSafe result journal.now unit config.now.at (holdings_in space.old (told_by K.told keepers.old.items)) (length config.now.slots)
-        (rooms_by K.room_bytes keepers.old.items) }
-    ensures kept { KeepersAfter K.slot_count K.place K.fault_count (λ k. Contains (levels_named action.now) k → ⊥) result keepers.old.items keepers.new.items }
-    ensures rooms { SameRooms (rooms_by K.room_bytes keepers.old.items) (rooms_by K.room_bytes keepers.new.items) }
+    ensures does { ActionEnds result unit journal.now action.now
+        (holdings_in space.old (told_by K.Storage keepers.old.items)) (holdings_in space.new (told_by K.Storage keepers.new.items)) steps.old steps.new
+        (calls_to K.Storage keepers.old.items) (calls_to K.Storage keepers.new.items) }
+    ensures caused { HasReason result action.now (holdings_in space.old (told_by K.Storage keepers.old.items)) (told_by K.Storage keepers.new.items) }
+    ensures spared { IsRecorded journal.now → AreShort (image_room space.old.desk.work) space.old.desk.store →
+        IsSafe result journal.now unit config.now.at (holdings_in space.old (told_by K.Storage keepers.old.items)) (length config.now.slots)
+        (rooms_by K.Storage keepers.old.items) }
+    ensures kept { KeepersAre K.Storage (λ k. Contains (levels_named action.now) k) result keepers.old.items keepers.new.items }
     ensures order { StaysInOrder space.old space.new }
     ensures units { (d : Configuration) → Goes config.now.steps config.now.slots config.now.at action.now d →
         OnOk result (HasUnits unit journal.now config.now.steps d space.new) }
     ensures lasting { result ≢ Err RunFault.Ended }
-    ensures gets { OnOk result (GetsAll V.got journal.now (handed_by unit config.now.steps action.now)
-        (states_out action.now space.old.work (tape_in space.old).states) visitor.old visitor.new) }
-    ensures misses { result ≡ Err RunFault.Visitor →
-        MissesOne V.got V.missed journal.now (handed_by unit config.now.steps action.now)
-        (states_out action.now space.old.work (tape_in space.old).states) visitor.old visitor.new }
+    ensures hands { HandsOut V.got V.missed journal.now (handed_by unit config.now.steps action.now)
+        (states_out action.now space.old.desk.work (tape_in space.old).states) result visitor.old visitor.new }
     ensures seen { VisitorAfter V.fault_count result visitor.old visitor.new }
 {
     match *action {
@@ -67,7 +61,7 @@ pub(crate) fn act<K: Keeper, V: Visitor, L: Ledger>(
         Action::Reverse { to, .. } => space.hand_back(unit * to, visitor, journal),
         Action::Copy { n, from, dest } => copy(space, config, keepers, n, from, dest),
         Action::Move { n, from, dest } => move_(space, config, keepers, n, from, dest),
-        Action::EndForward => hand_out(visitor, unit * config.work(), &space.work, journal),
+        Action::EndForward => hand_out(visitor, unit * config.work(), &space.desk.work, journal),
         Action::EndReverse => Ok(()),
     }
 }
@@ -87,20 +81,15 @@ fn forward<K: Keeper, L: Ledger>(
     requires ready { IsReady config.now.steps config.now.slots config.now.at space.old (map K.slot_count keepers.old.items) }
     requires units { HasUnits unit journal.now config.now.steps config.now.at space.old }
     requires allowed { rule config.now.steps config.now.slots config.now.at (Action.Forward from to keep) ≡ 0 }
-    ensures acted { OnOk result (Acted unit journal.now (Action.Forward from to keep)
-        (holdings_in space.old (told_by K.told keepers.old.items)) (holdings_in space.new (told_by K.told keepers.new.items)) steps.old steps.new
-        (calls_to K.put_count K.get_count K.free_count keepers.old.items) (calls_to K.put_count K.get_count K.free_count keepers.new.items)) }
-    ensures leaves { OnErr result (Leaves (Action.Forward from to keep)
-        (levels_in space.old (told_by K.told keepers.old.items)) (told_by K.told keepers.new.items) steps.old steps.new
-        (calls_to K.put_count K.get_count K.free_count keepers.old.items) (calls_to K.put_count K.get_count K.free_count keepers.new.items)) }
-    ensures caused { HasReason result (Action.Forward from to keep) (holdings_in space.old (told_by K.told keepers.old.items))
-        (told_by K.told keepers.new.items) }
-    ensures spared { IsRecorded journal.now → AreShort (image_room space.old.work) space.old.store →
-        IsSafe result journal.now unit config.now.at (holdings_in space.old (told_by K.told keepers.old.items)) (length config.now.slots)
-        (rooms_by K.room_bytes keepers.old.items) }
-    ensures kept { KeepersAfter K.slot_count K.place K.fault_count (λ k. Contains (levels_named (Action.Forward from to keep)) k → ⊥) result
-        keepers.old.items keepers.new.items }
-    ensures rooms { SameRooms (rooms_by K.room_bytes keepers.old.items) (rooms_by K.room_bytes keepers.new.items) }
+    ensures does { ActionEnds result unit journal.now (Action.Forward from to keep)
+        (holdings_in space.old (told_by K.Storage keepers.old.items)) (holdings_in space.new (told_by K.Storage keepers.new.items)) steps.old steps.new
+        (calls_to K.Storage keepers.old.items) (calls_to K.Storage keepers.new.items) }
+    ensures caused { HasReason result (Action.Forward from to keep) (holdings_in space.old (told_by K.Storage keepers.old.items))
+        (told_by K.Storage keepers.new.items) }
+    ensures spared { IsRecorded journal.now → AreShort (image_room space.old.desk.work) space.old.desk.store →
+        IsSafe result journal.now unit config.now.at (holdings_in space.old (told_by K.Storage keepers.old.items)) (length config.now.slots)
+        (rooms_by K.Storage keepers.old.items) }
+    ensures kept { KeepersAre K.Storage (λ k. Contains (levels_named (Action.Forward from to keep)) k) result keepers.old.items keepers.new.items }
     ensures order { StaysInOrder space.old space.new }
     ensures units { (d : Configuration) → Goes config.now.steps config.now.slots config.now.at (Action.Forward from to keep) d →
         OnOk result (HasUnits unit journal.now config.now.steps d space.new) }
@@ -132,19 +121,17 @@ fn copy<K: Keeper>(
     requires ready { IsReady config.now.steps config.now.slots config.now.at space.old (map K.slot_count keepers.old.items) }
     requires allowed { rule config.now.steps config.now.slots config.now.at (Action.Copy n from dest) ≡ 0 }
     ensures acted { (unit : ℕ) (journal : List (List ℕ)) (steps : ℕ) → OnOk result (Acted unit journal (Action.Copy n from dest)
-        (holdings_in space.old (told_by K.told keepers.old.items)) (holdings_in space.new (told_by K.told keepers.new.items)) steps steps
-        (calls_to K.put_count K.get_count K.free_count keepers.old.items) (calls_to K.put_count K.get_count K.free_count keepers.new.items)) }
+        (holdings_in space.old (told_by K.Storage keepers.old.items)) (holdings_in space.new (told_by K.Storage keepers.new.items)) steps steps
+        (calls_to K.Storage keepers.old.items) (calls_to K.Storage keepers.new.items)) }
     ensures leaves { (steps : ℕ) → OnErr result (Leaves (Action.Copy n from dest)
-        (levels_in space.old (told_by K.told keepers.old.items)) (told_by K.told keepers.new.items) steps steps
-        (calls_to K.put_count K.get_count K.free_count keepers.old.items) (calls_to K.put_count K.get_count K.free_count keepers.new.items)) }
-    ensures caused { HasReason result (Action.Copy n from dest) (holdings_in space.old (told_by K.told keepers.old.items))
-        (told_by K.told keepers.new.items) }
-    ensures spared { (unit : ℕ) (journal : List (List ℕ)) → IsRecorded journal → AreShort (image_room space.old.work) space.old.store →
-        IsSafe result journal unit config.now.at (holdings_in space.old (told_by K.told keepers.old.items)) (length config.now.slots)
-        (rooms_by K.room_bytes keepers.old.items) }
-    ensures kept { KeepersAfter K.slot_count K.place K.fault_count (λ k. Contains (levels_named (Action.Copy n from dest)) k → ⊥) result
-        keepers.old.items keepers.new.items }
-    ensures rooms { SameRooms (rooms_by K.room_bytes keepers.old.items) (rooms_by K.room_bytes keepers.new.items) }
+        (levels_in space.old (told_by K.Storage keepers.old.items)) (told_by K.Storage keepers.new.items) steps steps
+        (calls_to K.Storage keepers.old.items) (calls_to K.Storage keepers.new.items)) }
+    ensures caused { HasReason result (Action.Copy n from dest) (holdings_in space.old (told_by K.Storage keepers.old.items))
+        (told_by K.Storage keepers.new.items) }
+    ensures spared { (unit : ℕ) (journal : List (List ℕ)) → IsRecorded journal → AreShort (image_room space.old.desk.work) space.old.desk.store →
+        IsSafe result journal unit config.now.at (holdings_in space.old (told_by K.Storage keepers.old.items)) (length config.now.slots)
+        (rooms_by K.Storage keepers.old.items) }
+    ensures kept { KeepersAre K.Storage (λ k. Contains (levels_named (Action.Copy n from dest)) k) result keepers.old.items keepers.new.items }
     ensures order { StaysInOrder space.old space.new }
     ensures fault { IfErr result IsOfStorage }
     ensures undo { space.new.undo ≡ space.old.undo }
@@ -168,19 +155,17 @@ fn move_<K: Keeper>(
     requires ready { IsReady config.now.steps config.now.slots config.now.at space.old (map K.slot_count keepers.old.items) }
     requires allowed { rule config.now.steps config.now.slots config.now.at (Action.Move n from dest) ≡ 0 }
     ensures acted { (unit : ℕ) (journal : List (List ℕ)) (steps : ℕ) → OnOk result (Acted unit journal (Action.Move n from dest)
-        (holdings_in space.old (told_by K.told keepers.old.items)) (holdings_in space.new (told_by K.told keepers.new.items)) steps steps
-        (calls_to K.put_count K.get_count K.free_count keepers.old.items) (calls_to K.put_count K.get_count K.free_count keepers.new.items)) }
+        (holdings_in space.old (told_by K.Storage keepers.old.items)) (holdings_in space.new (told_by K.Storage keepers.new.items)) steps steps
+        (calls_to K.Storage keepers.old.items) (calls_to K.Storage keepers.new.items)) }
     ensures leaves { (steps : ℕ) → OnErr result (Leaves (Action.Move n from dest)
-        (levels_in space.old (told_by K.told keepers.old.items)) (told_by K.told keepers.new.items) steps steps
-        (calls_to K.put_count K.get_count K.free_count keepers.old.items) (calls_to K.put_count K.get_count K.free_count keepers.new.items)) }
-    ensures caused { HasReason result (Action.Move n from dest) (holdings_in space.old (told_by K.told keepers.old.items))
-        (told_by K.told keepers.new.items) }
-    ensures spared { (unit : ℕ) (journal : List (List ℕ)) → IsRecorded journal → AreShort (image_room space.old.work) space.old.store →
-        IsSafe result journal unit config.now.at (holdings_in space.old (told_by K.told keepers.old.items)) (length config.now.slots)
-        (rooms_by K.room_bytes keepers.old.items) }
-    ensures kept { KeepersAfter K.slot_count K.place K.fault_count (λ k. Contains (levels_named (Action.Move n from dest)) k → ⊥) result
-        keepers.old.items keepers.new.items }
-    ensures rooms { SameRooms (rooms_by K.room_bytes keepers.old.items) (rooms_by K.room_bytes keepers.new.items) }
+        (levels_in space.old (told_by K.Storage keepers.old.items)) (told_by K.Storage keepers.new.items) steps steps
+        (calls_to K.Storage keepers.old.items) (calls_to K.Storage keepers.new.items)) }
+    ensures caused { HasReason result (Action.Move n from dest) (holdings_in space.old (told_by K.Storage keepers.old.items))
+        (told_by K.Storage keepers.new.items) }
+    ensures spared { (unit : ℕ) (journal : List (List ℕ)) → IsRecorded journal → AreShort (image_room space.old.desk.work) space.old.desk.store →
+        IsSafe result journal unit config.now.at (holdings_in space.old (told_by K.Storage keepers.old.items)) (length config.now.slots)
+        (rooms_by K.Storage keepers.old.items) }
+    ensures kept { KeepersAre K.Storage (λ k. Contains (levels_named (Action.Move n from dest)) k) result keepers.old.items keepers.new.items }
     ensures order { StaysInOrder space.old space.new }
     ensures fault { IfErr result IsOfStorage }
     ensures undo { space.new.undo ≡ space.old.undo }

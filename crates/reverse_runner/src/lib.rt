@@ -10,6 +10,7 @@
 #![tactic(auto)]
 
 mod acting;
+mod desk;
 mod fault;
 mod known_state;
 pub mod laws;
@@ -18,6 +19,7 @@ mod session;
 mod visitor;
 mod workspace;
 
+pub use crate::desk::Desk;
 pub use crate::fault::RunFault;
 pub use crate::known_state::KnownState;
 pub use crate::line_writer::{LineWriter, write_line};

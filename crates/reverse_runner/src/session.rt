@@ -7,15 +7,16 @@ ghost use Rattle.plan_types.specs.declared.limits.TheConstants.{MOST_STEPS};
 ghost use Rattle.level_book.specs.BookCosts.{slots_of};
 ghost use Rattle.level_book.specs.Rules.{rule, levels_named};
 ghost use Rattle.keepers.specs.Told.{Images};
-ghost use Rattle.reverse_runner.specs.Acted.{Acted, Leaves, HasReason, IsSafe};
-ghost use Rattle.reverse_runner.specs.After.{Stays, KeepersAfter, VisitorAfter};
+ghost use Rattle.reverse_runner.specs.Acted.{ActionEnds, HasReason, IsSafe};
+ghost use Rattle.reverse_runner.specs.After.{Stays, VisitorAfter};
+ghost use Rattle.reverse_runner.specs.Desks.{KeepersAre};
 ghost use Rattle.reverse_runner.specs.KeepersSeen.{told_by, calls_to, HaveRoom};
 ghost use Rattle.reverse_runner.specs.LevelsStand.{AreAlone};
 ghost use Rattle.reverse_runner.specs.Handed.{handed_by};
-ghost use Rattle.reverse_runner.specs.Performed.{states_out, GetsAll, MissesOne};
-ghost use Rattle.reverse_runner.specs.Rooms.{rooms_by, SameRooms};
+ghost use Rattle.reverse_runner.specs.Performed.{states_out, HandsOut};
+ghost use Rattle.reverse_runner.specs.Rooms.{rooms_by};
 ghost use Rattle.reverse_runner.specs.SessionState.{SamePages, levels_of, holdings_of};
-ghost use Rattle.reverse_runner.specs.Standing.{begun, Performs, SessionEnds, StandsAt};
+ghost use Rattle.reverse_runner.specs.Standing.{begun, SessionAfter, StandsAt};
 
 use crate::acting::act;
 use crate::fault::RunFault;
@@ -141,38 +142,25 @@ impl Session {
         ensures inert { result ≡ Err RunFault.Ended →
             (self.new ≡ self.old) × (keepers.new ≡ keepers.old) × (visitor.new ≡ visitor.old) × (steps.new ≡ steps.old) }
 
-        // What was done to the configuration, the states and the levels, by the fetched bytes.
-        ensures performs { OnOk result (Performs self.old action.now self.new) }
-        ensures acted { OnOk result (Acted self.old.unit self.old.journal action.now
-            (holdings_of self.old (told_by K.told keepers.old.items)) (holdings_of self.new (told_by K.told keepers.new.items)) steps.old steps.new
-            (calls_to K.put_count K.get_count K.free_count keepers.old.items) (calls_to K.put_count K.get_count K.free_count keepers.new.items)) }
-        ensures gets { OnOk result (GetsAll V.got self.old.journal (handed_by self.old.unit self.old.situation.steps action.now)
-            (states_out action.now self.old.work self.old.tape.states) visitor.old visitor.new) }
+        // What was done to the configuration, the states and the levels, by the fetched bytes. A refusal ends the session.
+        ensures session { SessionAfter result self.old action.now self.new }
+        ensures does { self.old.ended ≡ false → ActionEnds result self.old.unit self.old.journal action.now
+            (holdings_of self.old (told_by K.Storage keepers.old.items)) (holdings_of self.new (told_by K.Storage keepers.new.items)) steps.old steps.new
+            (calls_to K.Storage keepers.old.items) (calls_to K.Storage keepers.new.items) }
+        ensures hands { HandsOut V.got V.missed self.old.journal (handed_by self.old.unit self.old.situation.steps action.now)
+            (states_out action.now self.old.work self.old.tape.states) result visitor.old visitor.new }
 
         // If the session was at its configuration before, it is at its new one.
-        ensures stays { OnOk result (Stays self.old (told_by K.told keepers.old.items) self.new (told_by K.told keepers.new.items)) }
-
-        // A refusal ends the session, and this is what it leaves.
-        ensures refused { OnErr result (SessionEnds self.old self.new) }
-        ensures leaves { self.old.ended ≡ false → OnErr result (Leaves action.now
-            (levels_of self.old (told_by K.told keepers.old.items)) (told_by K.told keepers.new.items) steps.old steps.new
-            (calls_to K.put_count K.get_count K.free_count keepers.old.items) (calls_to K.put_count K.get_count K.free_count keepers.new.items)) }
-        ensures misses { result ≡ Err RunFault.Visitor →
-            MissesOne V.got V.missed self.old.journal (handed_by self.old.unit self.old.situation.steps action.now)
-            (states_out action.now self.old.work self.old.tape.states) visitor.old visitor.new }
+        ensures stays { OnOk result (Stays self.old (told_by K.Storage keepers.old.items) self.new (told_by K.Storage keepers.new.items)) }
 
         // The cause of each refusal, and which refusals can't happen.
-        ensures caused { HasReason result action.now (holdings_of self.old (told_by K.told keepers.old.items)) (told_by K.told keepers.new.items) }
-        ensures spared { IsSafe result self.old.journal self.old.unit self.old.situation.at (holdings_of self.old (told_by K.told keepers.old.items))
-            (length self.old.situation.slots) (rooms_by K.room_bytes keepers.old.items) }
+        ensures caused { HasReason result action.now (holdings_of self.old (told_by K.Storage keepers.old.items)) (told_by K.Storage keepers.new.items) }
+        ensures spared { IsSafe result self.old.journal self.old.unit self.old.situation.at (holdings_of self.old (told_by K.Storage keepers.old.items))
+            (length self.old.situation.slots) (rooms_by K.Storage keepers.old.items) }
         ensures seen { VisitorAfter V.fault_count result visitor.old visitor.new }
 
-        // The states map the same pages as before.
-        ensures pages { SamePages self.old.work self.new.work }
-
-        // The keepers keep their rooms. Those of levels that the action doesn't name are unchanged.
-        ensures kept { KeepersAfter K.slot_count K.place K.fault_count (λ k. Contains (levels_named action.now) k → ⊥) result keepers.old.items keepers.new.items }
-        ensures rooms { SameRooms (rooms_by K.room_bytes keepers.old.items) (rooms_by K.room_bytes keepers.new.items) }
+        // What it leaves of the keepers. Those of levels that the action doesn't name are unchanged.
+        ensures kept { KeepersAre K.Storage (λ k. Contains (levels_named action.now) k) result keepers.old.items keepers.new.items }
     {
         if self.ended {
             return Err(RunFault::Ended);

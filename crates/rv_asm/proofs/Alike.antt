@@ -4,17 +4,21 @@ use Rattle.std.specs.Str.{bytes_eq}
 use Rattle.std.specs.Map.{lookup}
 use Rattle.std.specs.Option.{option_to_list}
 use Rattle.rv_asm.specs.declared.fault.LineFault.{LineFault}
-use Rattle.rv_asm.specs.declared.fault.AsmFault.{AsmFault}
+use Rattle.line_texts.specs.declared.fault.Fault.{Fault}
 use Rattle.rv_asm.specs.declared.label.Label.{Label}
 use Rattle.rv_asm.specs.declared.table.Format.{Format}
 use Rattle.rv_asm.specs.declared.table.Operands.{Operands}
-use Rattle.rv_asm.specs.Tokens.{Token, tokens, lines}
+use Rattle.rv_asm.specs.Tokens.{tokens}
+use Rattle.line_texts.specs.Tokens.{Token}
+use Rattle.line_texts.specs.Lines.{lines}
 use Rattle.rv_asm.specs.Numbers.{is_name}
 use Rattle.rv_asm.specs.Table.{Statement, Row, Table, wants, rows, named}
-use Rattle.rv_asm.specs.Reading.{◌>>=◌, Names, operands_of, no_operands, said, instruction_of, text_in, begins_label, behind_label, is_bare_name, is_earlier, line_of}
+use Rattle.rv_asm.specs.Reading.{Names, operands_of, no_operands, said, instruction_of, begins_label, behind_label, is_bare_name, is_earlier, line_of}
+use Rattle.line_texts.specs.Reading.{◌>>=◌}
+use Rattle.line_texts.specs.Cursors.{text_in}
 use Rattle.rv_asm.specs.Source.{label_in, words_in, labels_of, names_in, fault_at}
 use Rattle.rv_asm.specs.Coding.{code_table, encoded, encoded_option, encoded_line, encoded_list, lines_from, unless_empty, source_of}
-use Rattle.rv_asm.proofs.Steps.{which}
+use Rattle.line_texts.proofs.Steps.{which}
 use Rattle.rv_asm.proofs.Ties.{AreAlike, named_alike}
 
 -- ---- names
@@ -126,7 +130,7 @@ lines_alike names list line (l ∷ ls) = by_line (line_of rows names line (lengt
         step_err code_table names (map encoded list) line l ls fault (ap (λ (n : ℕ). line_of code_table names line n (length l + 1) (tokens 1 l)) (length-map list) ∙ line_alike names line (length list) (length l + 1) (tokens 1 l) ∙ ap encoded_line e)
         ∙ sym (ap encoded_list (step_err rows names list line l ls fault e))
 
-unless_alike : (r : Result (List Statement) AsmFault) → (encoded_list r >>= λ list. unless_empty list) ≡ encoded_list (r >>= λ list. unless_empty list)
+unless_alike : (r : Result (List Statement) Fault) → (encoded_list r >>= λ list. unless_empty list) ≡ encoded_list (r >>= λ list. unless_empty list)
 unless_alike (Ok []) = refl
 unless_alike (Ok (s ∷ list)) = refl
 unless_alike (Err fault) = refl
@@ -135,5 +139,5 @@ pub source_alike : (text : List ℕ) → source_of code_table text ≡ encoded_l
 unfolding source_of
 source_alike text =
     ap (λ (names : Names). lines_from code_table names [] 1 (lines text) >>= λ list. unless_empty list) (same_names text)
-    ∙ ap (λ (r : Result (List ℕ) AsmFault). r >>= λ list. unless_empty list) (lines_alike (names_in rows text) [] 1 (lines text))
+    ∙ ap (λ (r : Result (List ℕ) Fault). r >>= λ list. unless_empty list) (lines_alike (names_in rows text) [] 1 (lines text))
     ∙ unless_alike (lines_from rows (names_in rows text) [] 1 (lines text))

@@ -4,7 +4,7 @@ use Rattle.std.specs.Prelude.{codes, decimal, nat_le, nat_lt}
 use Rattle.std.specs.List.{AllByRecursion}
 use Rattle.std.proofs.lemmas.List.{append-nil}
 use Rattle.std.proofs.lemmas.Bool.Decides.{nat_tests}
-use Rattle.rv_asm.specs.declared.fault.AsmFault.{AsmFault}
+use Rattle.line_texts.specs.declared.fault.Fault.{Fault}
 use Rattle.rv_asm.specs.declared.fault.LineFault.{LineFault}
 use Rattle.rv_asm.specs.declared.table.Field.{Field}
 use Rattle.rv_asm.specs.declared.table.Field.TheVariants as fields
@@ -17,14 +17,18 @@ use Rattle.rv_asm.specs.declared.table.Operands.{Operands}
 use Rattle.rv_asm.specs.declared.number.Signed.{Signed}
 use Rattle.rv_asm.specs.declared.number.Signed.TheVariants.{Plus}
 use Rattle.rv_asm.specs.declared.fault.Rule.{Rule}
-use Rattle.rv_asm.specs.Tokens.{Token, is_run_byte, tokens, lines, longer_line}
+use Rattle.rv_asm.specs.Tokens.{is_run_byte, tokens}
+use Rattle.line_texts.specs.Tokens.{Token, tokens as line_tokens}
+use Rattle.line_texts.specs.Lines.{lines, longer_line}
 use Rattle.rv_asm.specs.Table.{Statement, instruction, bare, any_word, wants, rows, named, IsWordOf}
-use Rattle.rv_asm.specs.Reading.{◌>>=◌, Names, no_operands, is_within, number_in, put_number, taken, operands_of, instruction_of, line_of}
+use Rattle.rv_asm.specs.Reading.{Names, no_operands, is_within, number_in, put_number, taken, operands_of, instruction_of, line_of}
+use Rattle.line_texts.specs.Reading.{◌>>=◌}
 use Rattle.rv_asm.specs.Source.{names_of, reading, LinesSay, AreWordsOf, Means, HasFault}
-use Rattle.rv_asm.specs.Bytes.{token_of}
-use Rattle.rv_asm.specs.Canonical.{signed_text, printed_want, printed, operands_text, unpacked, hex_word, IsCanonical}
+use Rattle.line_texts.specs.Cursors.{token_of}
+use Rattle.rv_asm.specs.Canonical.{signed_text, printed_want, printed, operands_text, unpacked, IsCanonical}
+use Rattle.line_texts.specs.Numbers.{hex_word}
 use Rattle.rv_asm.specs.Laws.{OneMeaning, OneFault, MeaningsHaveNoFault, MeaningOrFault, AreCanonical, ended, CanonicalIsAssembled}
-use Rattle.rv_asm.proofs.Steps.{which, ok_is, err_is, not_both}
+use Rattle.line_texts.proofs.Steps.{which, ok_is, err_is, not_both}
 use Rattle.rv_asm.proofs.Seen.{past_blank, nothing}
 use Rattle.rv_asm.proofs.Digits.{AreRun, decimal_run, hex_run, hex_read}
 use Rattle.rv_asm.proofs.Unpacked.{unpacked_in}
@@ -47,7 +51,7 @@ no_fault text words fault m f = not_both words fault (sym (means_read text words
 pub meaning_or_fault : MeaningOrFault
 meaning_or_fault text = by_answer (source_of code_table text) (whole_answer text)
   where
-    by_answer : (r : Result (List ℕ) AsmFault) → IsWholeAnswer text r → ((words : List ℕ) × Means text words) ⊎ ((fault : AsmFault) × HasFault text fault)
+    by_answer : (r : Result (List ℕ) Fault) → IsWholeAnswer text r → ((words : List ℕ) × Means text words) ⊎ ((fault : Fault) × HasFault text fault)
     by_answer (Ok words) means = inl (words, means)
     by_answer (Err fault) has = inr (fault, has)
 
@@ -217,7 +221,7 @@ line_first (b ∷ line) rest inside = rw (inside.0) (ap (longer_line b) (line_fi
 
 -- nothing is left behind the last line
 last_line : (names : Names) (line place : ℕ) → LinesSay names line place (lines []) []
-unfolding lines tokens line_of instruction_of
+unfolding lines tokens line_tokens line_of instruction_of
 last_line names line place = (refl, tt)
 
 -- statements of lines, and their words

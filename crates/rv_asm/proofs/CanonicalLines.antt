@@ -17,8 +17,9 @@ use Rattle.rv_asm.specs.declared.table.Code.{Code}
 use Rattle.rv_asm.specs.Table.{Statement, instruction, bare, Row, wants, rows, named}
 use Rattle.rv_asm.specs.Packing.{packed, is_base, IsBase, InFormat, takes}
 use Rattle.rv_asm.specs.Coding.{code_row, entries, coded, code_table, encoded}
-use Rattle.rv_asm.specs.Canonical.{unpacked, operands_text, IsSpelled, hex_word, IsCanonical}
-use Rattle.rv_asm.proofs.Steps.{which, both, itself, other_bytes}
+use Rattle.rv_asm.specs.Canonical.{unpacked, operands_text, IsSpelled, IsCanonical}
+use Rattle.line_texts.specs.Numbers.{hex_word}
+use Rattle.line_texts.proofs.Steps.{which, both, itself, other_bytes}
 use Rattle.rv_asm.proofs.InRange.{at_most}
 use Rattle.rv_asm.specs.Laws.{OneLine, SomeLine}
 use Rattle.rv_asm.proofs.Names.{name_of, name_in}

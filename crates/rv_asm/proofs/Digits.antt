@@ -1,19 +1,19 @@
 -- Decimal digits are read as their number.
-use Rattle.std.proofs.Common.{◌≡◌, ℕ, zero, suc, ◌+◌, ◌*◌, ◌/◌, ◌%◌, ◌^◌, ◌<◌, ◌≤◌, Bool, true, false, eqb, ltb, ◌&&◌, List, [], ◌∷◌, ◌++◌, Option, Some, refl, sym, ap, subst, ◌∙◌, append_assoc, arith, inl, inr}
+use Rattle.std.proofs.Common.{◌≡◌, ℕ, zero, suc, ◌+◌, ◌*◌, ◌/◌, ◌%◌, ◌^◌, ◌<◌, ◌≤◌, Bool, true, eqb, ltb, ◌&&◌, List, [], ◌∷◌, Option, Some, refl, sym, ap, subst, ◌∙◌, arith, inl, inr}
 use Rattle.std.specs.Prelude.{decimal, option_map, slice_index}
 use Rattle.std.specs.Char.{is_ascii_digit}
 use Rattle.std.specs.List.{AllByRecursion}
-use Rattle.std.proofs.lemmas.List.{append-nil}
 use Rattle.std.proofs.lemmas.Bool.{cases_eq, eqb-true, ne_eqb}
 use Rattle.std.proofs.lemmas.Bool.Decides.{nat_tests}
-use Rattle.std.proofs.lemmas.Fmt.{decimal_digit, decimal_by_steps}
+use Rattle.std.proofs.lemmas.Fmt.{decimal_digit}
 use Rattle.rv_asm.specs.declared.number.Signed.{Signed}
 use Rattle.rv_asm.specs.declared.number.Signed.TheVariants.{Plus, Minus}
 use Rattle.rv_asm.specs.Tokens.{is_run_byte}
 use Rattle.rv_asm.specs.Numbers.{digit, value_behind, decimal_of, hex_of, negative, number_of, register_of}
 use Rattle.hex.specs.Hex.{lower_digits, encode_with}
-use Rattle.rv_asm.specs.Canonical.{hex_word}
-use Rattle.rv_asm.proofs.Steps.{both}
+use Rattle.line_texts.specs.Numbers.{hex_word}
+use Rattle.line_texts.proofs.Decimal.{begins_well, decimal_is, digits_are}
+use Rattle.line_texts.proofs.Steps.{both}
 
 abbrev pub option_plus : Option ℕ → Option Signed
 option_plus o = option_map (λ n. Plus n) o
@@ -21,69 +21,27 @@ option_plus o = option_map (λ n. Plus n) o
 pub digit_test : (c : ℕ) → 48 ≤ c → c < 58 → is_ascii_digit c ≡ true
 digit_test c low high = grind (arith, nat_tests)
 
-digit_value : (d : ℕ) → d < 10 → digit (48 + d) ≡ d
-digit_value d low = rw (digit_test (48 + d) (omega arith) (omega arith)) (omega arith)
-
 below : (a b : ℕ) → a < b → ltb a b ≡ true
 below a b h = grind (arith, nat_tests)
 
-one_digit : (base n v next : ℕ) (c : ℕ) (rest : List ℕ) → digit c ≡ v → v < base → n * base + v ≡ next → next < 2 ^ 32 → value_behind base n (c ∷ rest) ≡ value_behind base next rest
+one_digit : (n v next : ℕ) (c : ℕ) (rest : List ℕ) → digit c ≡ v → v < 16 → n * 16 + v ≡ next → next < 2 ^ 32 → value_behind n (c ∷ rest) ≡ value_behind next rest
 unfolding value_behind
-one_digit base n v next c rest is low same fits =
-    let value : n * base + digit c ≡ next = ap (λ (x : ℕ). n * base + x) is ∙ same in
-    rw (value, is, below v base low, below next (2 ^ 32) fits) refl
+one_digit n v next c rest is low same fits =
+    let value : n * 16 + digit c ≡ next = ap (λ (x : ℕ). n * 16 + x) is ∙ same in
+    rw (value, is, below v 16 low, below next (2 ^ 32) fits) refl
 
-all_read : (base n : ℕ) → value_behind base n [] ≡ Some n
+all_read : (n : ℕ) → value_behind n [] ≡ Some n
 unfolding value_behind
-all_read base n = refl
-
--- what the digits of n leave to read
-digits_again : (n : ℕ) (rest : List ℕ) → n < 2 ^ 32 → value_behind 10 0 (decimal n ++ rest) ≡ value_behind 10 n rest
-digits_again n rest small =
-    decimal_by_steps (λ n ds. n < 2 ^ 32 → (rest : List ℕ) → value_behind 10 0 (ds ++ rest) ≡ value_behind 10 n rest)
-    (λ n low fits rest. one_digit 10 0 n n (48 + n) rest (digit_value n low) low (omega arith) fits)
-    (λ n ds high front fits rest.
-    rw append_assoc (front (omega arith) ((48 + n % 10) ∷ rest) ∙ one_digit 10 (n / 10) (n % 10) n (48 + n % 10) rest (digit_value (n % 10) (omega arith)) (omega arith) (omega arith) fits))
-    n (omega arith) small rest
-
--- how the digits of a number that isn't 0 begin
-pub record BeginsWell (ds : List ℕ) : Type 0 where
-  pub first : ℕ
-  pub others : List ℕ
-  pub parts : ds ≡ first ∷ others
-  pub low : 48 < first
-  pub high : first < 58
-
-pub begins_well : (n : ℕ) → 0 < n → n < 2 ^ 64 → BeginsWell (decimal n)
-begins_well n some wide =
-    decimal_by_steps (λ n ds. 0 < n → BeginsWell ds)
-    (λ n low some. record { first = 48 + n; others = []; parts = refl; low = omega arith; high = omega arith })
-    (λ n ds high front some.
-    let f = front (omega arith) in
-    record { first = f.first; others = f.others ++ (48 + n % 10) ∷ []; parts = ap (λ (bs : List ℕ). bs ++ (48 + n % 10) ∷ []) f.parts; low = f.low; high = f.high })
-    n wide some
-
-whole_value : (n : ℕ) → n < 2 ^ 32 → value_behind 10 0 (decimal n) ≡ Some n
-whole_value n small = ap (value_behind 10 0) (sym (append-nil (decimal n))) ∙ digits_again n [] small ∙ all_read 10 n
-
-some_digits : (c : ℕ) (cs : List ℕ) → eqb c 48 ≡ false → decimal_of (c ∷ cs) ≡ value_behind 10 0 (c ∷ cs)
-unfolding decimal_of
-some_digits c cs other = rw other refl
-
-zero_digits : decimal_of (48 ∷ []) ≡ Some 0
-unfolding decimal_of
-zero_digits = refl
+all_read n = refl
 
 zero_text : (n : ℕ) → n ≡ 0 → decimal n ≡ 48 ∷ []
 zero_text n is = ap decimal is ∙ decimal_digit 0 (omega arith)
 
 pub decimal_read : (n : ℕ) → n < 2 ^ 32 → decimal_of (decimal n) ≡ Some n
-decimal_read n small = elim (cases_eq n 0) [
-  | inl zero_is ↦ ap decimal_of (zero_text n zero_is) ∙ zero_digits ∙ ap (λ (k : ℕ). let o : Option ℕ = Some k in o) (sym zero_is)
-  | inr some ↦
-      let b = begins_well n (omega arith) (omega arith) in
-      ap decimal_of b.parts ∙ some_digits b.first b.others (ne_eqb _ _ (omega (arith, b.low))) ∙ ap (value_behind 10 0) (sym b.parts) ∙ whole_value n small
-]
+decimal_read n small = decimal_is 0xFFFFFFFF n (omega arith) (omega arith)
+
+zero_digits : decimal_of (48 ∷ []) ≡ Some 0
+zero_digits = ap decimal_of (sym (zero_text 0 refl)) ∙ decimal_read 0 (omega arith)
 
 -- ---- registers
 
@@ -172,10 +130,10 @@ pub hex_digits : (w : ℕ) → hex_word w ≡ eight w
 unfolding encode_with
 hex_digits w = refl
 
-hex_behind : (n k next : ℕ) (rest : List ℕ) → k < 16 → n * 16 + k ≡ next → next < 2 ^ 32 → value_behind 16 n (hex_digit k ∷ rest) ≡ value_behind 16 next rest
-hex_behind n k next rest low same fits = one_digit 16 n k next (hex_digit k) rest (hex_value k low) low same fits
+hex_behind : (n k next : ℕ) (rest : List ℕ) → k < 16 → n * 16 + k ≡ next → next < 2 ^ 32 → value_behind n (hex_digit k ∷ rest) ≡ value_behind next rest
+hex_behind n k next rest low same fits = one_digit n k next (hex_digit k) rest (hex_value k low) low same fits
 
-eight_read : (w : ℕ) → w < 2 ^ 32 → value_behind 16 0 (eight w) ≡ Some w
+eight_read : (w : ℕ) → w < 2 ^ 32 → value_behind 0 (eight w) ≡ Some w
 eight_read w small =
     let a : ℕ = w / 256 ^ 3 % 256 in
     let b : ℕ = w / 256 ^ 2 % 256 in
@@ -196,9 +154,9 @@ eight_read w small =
     ∙ hex_behind (w / 2 ^ 12) (c % 16) (w / 2 ^ 8) r2 (omega arith) (omega arith) (omega arith)
     ∙ hex_behind (w / 2 ^ 8) (d / 16) (w / 2 ^ 4) r1 (omega arith) (omega arith) (omega arith)
     ∙ hex_behind (w / 2 ^ 4) (d % 16) w [] (omega arith) (omega arith) small
-    ∙ all_read 16 w
+    ∙ all_read w
 
-hex_whole : (w : ℕ) → hex_of (eight w) ≡ value_behind 16 0 (eight w)
+hex_whole : (w : ℕ) → hex_of (eight w) ≡ value_behind 0 (eight w)
 unfolding hex_of
 hex_whole w = refl
 
@@ -217,16 +175,8 @@ AreRun bs = AllByRecursion (λ b. is_run_byte b ≡ true) bs
 digit_is_run : (b : ℕ) → 48 ≤ b → b < 58 → is_run_byte b ≡ true
 digit_is_run b low high = grind (arith, nat_tests)
 
-run_more : (ds : List ℕ) (b : ℕ) → AreRun ds → is_run_byte b ≡ true → AreRun (ds ++ b ∷ [])
-run_more [] b all one = (one, tt)
-run_more (d ∷ ds) b all one = (all.0, run_more ds b all.1 one)
-
 pub decimal_run : (n : ℕ) → n < 2 ^ 64 → AreRun (decimal n)
-decimal_run n small =
-    decimal_by_steps (λ n ds. AreRun ds)
-    (λ n low. (digit_is_run (48 + n) (omega arith) (omega arith), tt))
-    (λ n ds high front. run_more ds (48 + n % 10) front (digit_is_run (48 + n % 10) (omega arith) (omega arith)))
-    n small
+decimal_run n small = digits_are is_run_byte digit_is_run n small
 
 pub hex_run : (w : ℕ) → AreRun (hex_word w)
 hex_run w = subst AreRun (sym (hex_digits w)) (eight_run w)

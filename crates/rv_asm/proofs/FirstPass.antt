@@ -4,10 +4,11 @@ use Rattle.std.specs.Str.{bytes_eq}
 use Rattle.std.specs.Map.{lookup}
 use Rattle.std.specs.Option.{option_or}
 use Rattle.rv_asm.specs.declared.label.Label.{Label}
-use Rattle.rv_asm.specs.Tokens.{tokens, lines}
+use Rattle.rv_asm.specs.Tokens.{tokens}
+use Rattle.line_texts.specs.Lines.{lines}
 use Rattle.rv_asm.specs.Source.{label_in, words_in, labels_of, names_in}
 use Rattle.rv_asm.specs.Coding.{code_table}
-use Rattle.rv_asm.proofs.Steps.{which}
+use Rattle.line_texts.proofs.Steps.{which}
 
 or_none : (o : Option Label) → option_or o None ≡ o
 or_none None = refl

@@ -18,13 +18,15 @@ use Rattle.rv_asm.specs.declared.table.Want.TheVariants.{Register, Mark, Number,
 use Rattle.rv_asm.specs.declared.table.Format.{Format}
 use Rattle.rv_asm.specs.declared.table.Format.TheVariants.{Upper, Jump, Indexed, Branch, Store, Immediate, Shift, Registers, Plain, Word}
 use Rattle.rv_asm.specs.declared.table.Operands.{Operands}
-use Rattle.rv_asm.specs.Tokens.{Token}
+use Rattle.line_texts.specs.Tokens.{Token}
 use Rattle.rv_asm.specs.Numbers.{register_of, decimal_of, below_32, begins_letter}
 use Rattle.rv_asm.specs.Table.{Statement, Row, wants, rows, named}
-use Rattle.rv_asm.specs.Reading.{◌>>=◌, Names, no_operands, put, bits_of, is_within, is_even, number_in, target_in, put_number, put_register, taken, in_column, operands_of, said, instruction_of, begins_label, text_in, is_bare_name, is_earlier, line_of}
+use Rattle.rv_asm.specs.Reading.{Names, no_operands, put, bits_of, is_within, is_even, number_in, target_in, put_number, put_register, taken, in_column, operands_of, said, instruction_of, begins_label, is_bare_name, is_earlier, line_of}
+use Rattle.line_texts.specs.Reading.{◌>>=◌}
+use Rattle.line_texts.specs.Cursors.{text_in}
 use Rattle.rv_asm.specs.Packing.{IsImmediate, InFormat}
 use Rattle.rv_asm.specs.Coding.{encoded, code_table}
-use Rattle.rv_asm.proofs.Steps.{which, chosen, both, bind_ok, ok_is, done}
+use Rattle.line_texts.proofs.Steps.{which, chosen, both, bind_ok, ok_is, done}
 use Rattle.rv_asm.proofs.Ties.{AreAlike, HasStatement, named_alike}
 
 pub at_most : (n high : ℕ) → nat_le n high ≡ true → n ≤ high

@@ -5,14 +5,15 @@ use Rattle.std.specs.Str.{bytes_eq}
 use Rattle.std.specs.Option.{option_or}
 use Rattle.rv_asm.specs.declared.label.Label.{Label}
 use Rattle.rv_asm.specs.Numbers.{is_name}
-use Rattle.rv_asm.proofs.Steps.{which, same_bytes, itself, other_bytes}
+use Rattle.line_texts.proofs.Steps.{which, same_bytes, itself, other_bytes}
 use Rattle.rv_asm.specs.declared.fault.LineFault.{LineFault}
 use Rattle.rv_asm.specs.declared.table.Code.{Code}
 use Rattle.rv_asm.specs.declared.table.Operands.{Operands}
 use Rattle.rv_asm.specs.declared.table.Want.TheVariants.{Mark}
-use Rattle.rv_asm.specs.Tokens.{Token}
+use Rattle.line_texts.specs.Tokens.{Token}
 use Rattle.rv_asm.specs.Table.{named}
-use Rattle.rv_asm.specs.Reading.{Names, not_instruction, taken, said, instruction_of, unlabelled_of, text_in, column_in, begins_label, behind_label, is_bare_name, is_earlier, line_of}
+use Rattle.rv_asm.specs.Reading.{Names, not_instruction, taken, said, instruction_of, unlabelled_of, begins_label, behind_label, is_bare_name, is_earlier, line_of}
+use Rattle.line_texts.specs.Cursors.{text_in, column_in}
 use Rattle.rv_asm.specs.Source.{words_in}
 use Rattle.rv_asm.specs.Coding.{code_row, coded, entries, code_table, behind, next_of}
 use Rattle.rv_asm.proofs.CanonicalLines.{named_code}

@@ -1,4 +1,3 @@
-pub mod Steps
 pub mod Seen
 pub mod Names
 pub mod Ties

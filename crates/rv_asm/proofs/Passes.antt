@@ -1,13 +1,14 @@
 -- A line of the second pass.
-use Rattle.std.proofs.Common.{◌≡◌, ℕ, suc, ◌+◌, ◌≤◌, Bool, true, false, cond, eqb, is_some, List, [], ◌∷◌, ◌++◌, length, Option, Some, None, Ok, Err, sym, ap, ◌∙◌, arith, inl, inr, length-append}
+use Rattle.std.proofs.Common.{◌≡◌, ℕ, ◌+◌, ◌≤◌, Bool, true, false, cond, is_some, List, [], ◌∷◌, ◌++◌, length, Option, Some, None, Ok, Err, sym, ap, ◌∙◌, arith, length-append}
 use Rattle.std.specs.Option.{option_to_list}
 use Rattle.rv_asm.specs.declared.fault.LineFault.{LineFault}
-use Rattle.rv_asm.specs.Tokens.{Token, tokens, lines, longer_line}
+use Rattle.rv_asm.specs.Tokens.{tokens}
+use Rattle.line_texts.specs.Tokens.{Token}
 use Rattle.rv_asm.specs.Table.{named}
-use Rattle.rv_asm.specs.Reading.{Names, text_in, behind_label, line_of}
+use Rattle.rv_asm.specs.Reading.{Names, behind_label, line_of}
+use Rattle.line_texts.specs.Cursors.{text_in}
 use Rattle.rv_asm.specs.Source.{fault_at, words_in}
 use Rattle.rv_asm.specs.Coding.{code_table, lines_from}
-use Rattle.rv_asm.proofs.Steps.{which}
 use Rattle.rv_asm.proofs.Alike.{step_ok, step_err, step_end}
 
 pub pass_ok : (names : Names) (words more : List ℕ) (number place : ℕ) (bytes : List ℕ) (ls old : List (List ℕ)) (found : Option ℕ) → old ≡ bytes ∷ ls → place ≡ length words →
@@ -38,26 +39,3 @@ one_or_none false = omega arith
 
 pub at_most_one : (ts : List Token) → words_in code_table ts ≤ 1
 at_most_one ts = one_or_none (is_some (named code_table (text_in (behind_label ts))))
-
-longer_length : (b : ℕ) (ls : List (List ℕ)) → length (longer_line b ls) ≤ length ls + 1
-longer_length b [] = omega arith
-longer_length b (l ∷ ls) = omega arith
-
-longer_some : (b : ℕ) (l : List ℕ) (ls : List (List ℕ)) → length (longer_line b (l ∷ ls)) ≡ suc (length ls)
-longer_some b l ls = omega arith
-
-some_line : (bs : List ℕ) → (l : List ℕ) × (ls : List (List ℕ)) × (lines bs ≡ l ∷ ls)
-unfolding lines
-some_line [] = ([], [], λ i. [] ∷ [])
-some_line (b ∷ bs) = elim (which (eqb b 10)) [
-  | inl end ↦ ([], lines bs, rw end (λ i. [] ∷ lines bs))
-  | inr more ↦ let s = some_line bs in (b ∷ s.0, s.1, rw more (ap (longer_line b) s.2))
-]
-
-pub lines_few : (bs : List ℕ) → length (lines bs) ≤ length bs + 1
-unfolding lines
-lines_few [] = omega arith
-lines_few (b ∷ bs) = elim (which (eqb b 10)) [
-  | inl end ↦ rw end (omega (arith, lines_few bs))
-  | inr more ↦ let s = some_line bs in rw more (omega (arith, lines_few bs, ap (λ (ls : List (List ℕ)). length (longer_line b ls)) s.2, ap length s.2))
-]

@@ -3,14 +3,16 @@ use Rattle.std.proofs.Common.{◌≡◌, ◌≢◌, ℕ, suc, ◌+◌, List, [],
 use Rattle.std.specs.Option.{option_to_list}
 use Rattle.std.proofs.lemmas.List.{append-nil}
 use Rattle.rv_asm.specs.declared.fault.LineFault.{LineFault}
-use Rattle.rv_asm.specs.declared.fault.AsmFault.{AsmFault}
-use Rattle.rv_asm.specs.Tokens.{tokens, lines}
+use Rattle.line_texts.specs.declared.fault.Fault.{Fault}
+use Rattle.rv_asm.specs.Tokens.{tokens}
+use Rattle.line_texts.specs.Lines.{lines}
 use Rattle.rv_asm.specs.Table.{Statement, rows}
-use Rattle.rv_asm.specs.Reading.{◌>>=◌, Names, line_of}
+use Rattle.rv_asm.specs.Reading.{Names, line_of}
+use Rattle.line_texts.specs.Reading.{◌>>=◌}
 use Rattle.rv_asm.specs.Source.{names_of, reading, LinesSay, HasFault, fault_at}
 use Rattle.rv_asm.specs.Coding.{lines_from, unless_empty, source_of}
 use Rattle.rv_asm.proofs.Alike.{step_ok, step_err, step_end}
-use Rattle.rv_asm.proofs.Steps.{failed}
+use Rattle.line_texts.proofs.Steps.{failed}
 
 -- a line at a place that is the length of the list
 at_place : (names : Names) (list : List Statement) (place line : ℕ) (l : List ℕ) (r : Result (Option Statement) LineFault) → length list ≡ place → reading names line place l ≡ r →
@@ -33,7 +35,7 @@ longer_by_one list s place is = omega (arith, is, length-append list (s ∷ []))
 regroup : (list : List Statement) (s : Statement) (more : List Statement) → (list ++ s ∷ []) ++ more ≡ list ++ s ∷ more
 regroup list s more = append_assoc list (s ∷ []) more
 
-abbrev read_all : List Statement → Result (List Statement) AsmFault
+abbrev read_all : List Statement → Result (List Statement) Fault
 read_all list = Ok list
 
 -- ---- what is said is read
@@ -88,7 +90,7 @@ pub record IsReadWhole (names : Names) (place line : ℕ) (ls : List (List ℕ))
   pub says : LinesSay names line place ls more
 
 -- lines that weren't, with the fault that was met
-pub record IsReadUpTo (names : Names) (place line : ℕ) (ls : List (List ℕ)) (e : AsmFault) : Type 0 where
+pub record IsReadUpTo (names : Names) (place line : ℕ) (ls : List (List ℕ)) (e : Fault) : Type 0 where
   pub before : List (List ℕ)
   pub here : List ℕ
   pub after : List (List ℕ)
@@ -99,7 +101,7 @@ pub record IsReadUpTo (names : Names) (place line : ℕ) (ls : List (List ℕ)) 
   pub met : reading names (length before + line) (length more + place) here ≡ Err fault
   pub answer : e ≡ fault_at (length before + line) fault
 
-abbrev pub AreRead : Names → ℕ → ℕ → List (List ℕ) → List Statement → Result (List Statement) AsmFault → Type 0
+abbrev pub AreRead : Names → ℕ → ℕ → List (List ℕ) → List Statement → Result (List Statement) Fault → Type 0
 AreRead names place line ls list (Ok out) = IsReadWhole names place line ls list out
 AreRead names place line ls list (Err e) = IsReadUpTo names place line ls e
 
@@ -107,7 +109,7 @@ more_none : (names : Names) (place line : ℕ) (l : List ℕ) (ls : List (List �
 more_none names place line l ls [] e say = (e, say)
 more_none names place line l ls (s ∷ more) e say = inl (e, say)
 
-one_more_none : (names : Names) (place line : ℕ) (l : List ℕ) (ls : List (List ℕ)) (list : List Statement) (r : Result (List Statement) AsmFault) → reading names line place l ≡ Ok None →
+one_more_none : (names : Names) (place line : ℕ) (l : List ℕ) (ls : List (List ℕ)) (list : List Statement) (r : Result (List Statement) Fault) → reading names line place l ≡ Ok None →
     AreRead names place (line + 1) ls list r → AreRead names place line (l ∷ ls) list r
 one_more_none names place line l ls list (Ok out) e read =
     record { more = read.more; parts = read.parts; says = more_none names place line l ls read.more e read.says }
@@ -125,7 +127,7 @@ one_more_none names place line l ls list (Err f) e read =
       answer = read.answer ∙ ap (λ (n : ℕ). fault_at n read.fault) numbers;
     }
 
-one_more_some : (names : Names) (place line : ℕ) (l : List ℕ) (ls : List (List ℕ)) (list : List Statement) (s : Statement) (r : Result (List Statement) AsmFault) → reading names line place l ≡ Ok (Some s) →
+one_more_some : (names : Names) (place line : ℕ) (l : List ℕ) (ls : List (List ℕ)) (list : List Statement) (s : Statement) (r : Result (List Statement) Fault) → reading names line place l ≡ Ok (Some s) →
     AreRead names (place + 1) (line + 1) ls (list ++ s ∷ []) r → AreRead names place line (l ∷ ls) list r
 one_more_some names place line l ls list s (Ok out) e read =
     record { more = s ∷ read.more; parts = read.parts ∙ regroup list s read.more; says = inr (e, read.says) }
@@ -162,7 +164,7 @@ fault_here names place line l ls f e =
 
 pub are_read : (names : Names) (list : List Statement) (place line : ℕ) (ls : List (List ℕ)) → length list ≡ place → AreRead names place line ls list (lines_from rows names list line ls)
 are_read names list place line [] is =
-    let P : Result (List Statement) AsmFault → Type 0 = AreRead names place line [] list in
+    let P : Result (List Statement) Fault → Type 0 = AreRead names place line [] list in
     subst P (sym (step_end rows names list line)) (record { more = []; parts = sym (append-nil list); says = tt })
 are_read names list place line (l ∷ ls) is =
     by_line (reading names line place l) refl (are_read names list place (line + 1) ls is) (λ s. are_read names (list ++ s ∷ []) (place + 1) (line + 1) ls (longer_by_one list s place is))
@@ -172,13 +174,13 @@ are_read names list place line (l ∷ ls) is =
         ((s : Statement) → AreRead names (place + 1) (line + 1) ls (list ++ s ∷ []) (lines_from rows names (list ++ s ∷ []) (line + 1) ls)) →
         AreRead names place line (l ∷ ls) list (lines_from rows names list line (l ∷ ls))
     by_line (Ok None) e without with_one =
-        let P : Result (List Statement) AsmFault → Type 0 = AreRead names place line (l ∷ ls) list in
+        let P : Result (List Statement) Fault → Type 0 = AreRead names place line (l ∷ ls) list in
         subst P (sym (behind_none names list place line l ls is e)) (one_more_none names place line l ls list (lines_from rows names list (line + 1) ls) e without)
     by_line (Ok (Some s)) e without with_one =
-        let P : Result (List Statement) AsmFault → Type 0 = AreRead names place line (l ∷ ls) list in
+        let P : Result (List Statement) Fault → Type 0 = AreRead names place line (l ∷ ls) list in
         subst P (sym (next_ok names list place line l ls (Some s) is e)) (one_more_some names place line l ls list s (lines_from rows names (list ++ s ∷ []) (line + 1) ls) e (with_one s))
     by_line (Err f) e without with_one =
-        let P : Result (List Statement) AsmFault → Type 0 = AreRead names place line (l ∷ ls) list in
+        let P : Result (List Statement) Fault → Type 0 = AreRead names place line (l ∷ ls) list in
         subst P (sym (step_err rows names list line l ls f (at_place names list place line l (Err f) is e))) (fault_here names place line l ls f e)
 
 -- ---- a whole source
@@ -188,7 +190,7 @@ pub record SaysAll (text : List ℕ) (list : List Statement) : Type 0 where
   pub says : LinesSay (names_of text) 1 0 (lines text) list
   pub some : list ≢ []
 
-abbrev pub IsAnswer : List ℕ → Result (List Statement) AsmFault → Type 0
+abbrev pub IsAnswer : List ℕ → Result (List Statement) Fault → Type 0
 IsAnswer text (Ok list) = SaysAll text list
 IsAnswer text (Err e) = HasFault text e
 
@@ -196,7 +198,7 @@ pub source_answer : (text : List ℕ) → IsAnswer text (source_of rows text)
 unfolding source_of
 source_answer text = by_read (lines_from rows (names_of text) [] 1 (lines text)) (are_read (names_of text) [] 0 1 (lines text) refl)
   where
-    by_read : (r : Result (List Statement) AsmFault) → AreRead (names_of text) 0 1 (lines text) [] r → IsAnswer text (r >>= λ list. unless_empty list)
+    by_read : (r : Result (List Statement) Fault) → AreRead (names_of text) 0 1 (lines text) [] r → IsAnswer text (r >>= λ list. unless_empty list)
     by_read (Ok []) read =
         let none : read.more ≡ [] = sym read.parts in
         inr (subst (λ (xs : List Statement). LinesSay (names_of text) 1 0 (lines text) xs) none read.says, refl)
@@ -220,21 +222,21 @@ source_answer text = by_read (lines_from rows (names_of text) [] 1 (lines text))
 pub source_said : (text : List ℕ) (list : List Statement) → SaysAll text list → source_of rows text ≡ Ok list
 unfolding source_of
 source_said text list say =
-    ap (λ (r : Result (List Statement) AsmFault). r >>= λ xs. unless_empty xs) (said_read (names_of text) [] 0 1 (lines text) list refl say.says)
+    ap (λ (r : Result (List Statement) Fault). r >>= λ xs. unless_empty xs) (said_read (names_of text) [] 0 1 (lines text) list refl say.says)
     ∙ whole list say.some
   where
     whole : (xs : List Statement) → xs ≢ [] → unless_empty xs ≡ Ok xs
     whole [] some = absurd (some refl)
     whole (x ∷ xs) some = refl
 
-pub source_refused : (text : List ℕ) (e : AsmFault) → HasFault text e → source_of rows text ≡ Err e
+pub source_refused : (text : List ℕ) (e : Fault) → HasFault text e → source_of rows text ≡ Err e
 unfolding source_of
 source_refused text e (inl f) =
     let places : length f.statements + 0 ≡ length f.statements = omega arith in
     let whole : lines_from rows (names_of text) [] 1 (lines text) ≡ Err (fault_at (length f.before + 1) f.of_line) =
     ap (lines_from rows (names_of text) [] 1) f.parts
     ∙ fault_met (names_of text) [] 0 1 f.before f.here f.after f.statements f.of_line refl f.says (ap (λ (n : ℕ). reading (names_of text) (length f.before + 1) n f.here) places ∙ f.met) in
-    ap (λ (r : Result (List Statement) AsmFault). r >>= λ xs. unless_empty xs) whole ∙ ap (λ (x : AsmFault). failed (List Statement) x) (sym f.is)
+    ap (λ (r : Result (List Statement) Fault). r >>= λ xs. unless_empty xs) whole ∙ ap (λ (x : Fault). failed (List Statement) x) (sym f.is)
 source_refused text e (inr n) =
-    ap (λ (r : Result (List Statement) AsmFault). r >>= λ xs. unless_empty xs) (said_read (names_of text) [] 0 1 (lines text) [] refl n.0)
-    ∙ ap (λ (x : AsmFault). failed (List Statement) x) (sym n.1)
+    ap (λ (r : Result (List Statement) Fault). r >>= λ xs. unless_empty xs) (said_read (names_of text) [] 0 1 (lines text) [] refl n.0)
+    ∙ ap (λ (x : Fault). failed (List Statement) x) (sym n.1)

@@ -19,17 +19,20 @@ use Rattle.rv_asm.specs.declared.table.Want.TheVariants.{Register, Mark, Number,
 use Rattle.rv_asm.specs.declared.table.Format.{Format}
 use Rattle.rv_asm.specs.declared.table.Format.TheVariants.{Upper, Jump, Indexed, Branch, Store, Immediate, Shift, Registers, Plain, Word}
 use Rattle.rv_asm.specs.declared.table.Operands.{Operands}
-use Rattle.rv_asm.specs.Tokens.{Token, is_blank, is_run_byte, starts_run, longer, tokens}
+use Rattle.rv_asm.specs.Tokens.{is_run_byte, starts_run, tokens}
+use Rattle.line_texts.specs.Tokens.{Token, is_blank, longer}
 use Rattle.rv_asm.specs.Numbers.{number_of, begins_number, is_name}
 use Rattle.rv_asm.specs.Table.{Statement, Row, wants, rows, named}
-use Rattle.rv_asm.specs.Reading.{◌>>=◌, Names, no_operands, put, bits_of, is_within, is_even, number_in, target_in, put_number, taken, operands_of, said, instruction_of, begins_label, is_bare_name, line_of}
+use Rattle.rv_asm.specs.Reading.{Names, no_operands, put, bits_of, is_within, is_even, number_in, target_in, put_number, taken, operands_of, said, instruction_of, begins_label, is_bare_name, line_of}
+use Rattle.line_texts.specs.Reading.{◌>>=◌}
 use Rattle.rv_asm.specs.Source.{reading}
-use Rattle.rv_asm.specs.Bytes.{token_of}
+use Rattle.line_texts.specs.Cursors.{token_of}
 use Rattle.rv_asm.specs.Packing.{InFormat}
 use Rattle.rv_asm.specs.Canonical.{register_in, signed_text, printed, operands_text, unpacked}
-use Rattle.rv_asm.proofs.Steps.{which, both, same_bytes}
+use Rattle.line_texts.proofs.Steps.{which, both, same_bytes}
 use Rattle.rv_asm.proofs.Seen.{run_is_no_blank, run_is_no_comment, past_blank, alone, in_run, nothing}
-use Rattle.rv_asm.proofs.Digits.{AreRun, begins_well, decimal_run, register_read, plus_read, minus_read, digit_test}
+use Rattle.rv_asm.proofs.Digits.{AreRun, decimal_run, register_read, plus_read, minus_read, digit_test}
+use Rattle.line_texts.proofs.Decimal.{begins_well}
 
 -- ---- tokens of printed bytes
 

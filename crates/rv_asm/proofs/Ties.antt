@@ -16,7 +16,7 @@ use Rattle.rv_asm.specs.Table.{Statement, instruction, bare, Row, upper, jump, i
 use Rattle.rv_asm.specs.Packing.{packed, is_small, is_wide, is_base, IsSmall, IsWide, IsBase, InFormat}
 use Rattle.rv_asm.specs.Coding.{code_of, code_row, entries, code_table, encoded}
 use Rattle.rv_asm.proofs.Names.{name_of, name_in}
-use Rattle.rv_asm.proofs.Steps.{which, both, same_bytes}
+use Rattle.line_texts.proofs.Steps.{which, both, same_bytes}
 
 -- ---- words of 32 bits
 

@@ -4,14 +4,16 @@ use Rattle.std.specs.Prelude.{MatchResult, IfOk, IfErr}
 use Rattle.std.specs.Global.{Vec}
 use Rattle.rv_decode.proofs.Reading.{read}
 use Rattle.rv_decode.proofs.Telling.{only as only_word}
-use Rattle.rv_asm.specs.declared.fault.AsmFault.{AsmFault}
-use Rattle.rv_asm.specs.declared.fault.AsmFault.TheVariants.{At, Memory}
-use Rattle.rv_asm.specs.Tokens.{lines, tokens}
+use Rattle.line_texts.specs.declared.fault.Fault.{Fault}
+use Rattle.line_texts.specs.declared.fault.Fault.TheVariants.{At, Memory}
+use Rattle.rv_asm.specs.Tokens.{tokens}
+use Rattle.line_texts.specs.Lines.{lines}
 use Rattle.rv_asm.specs.Table.{Statement, instruction, bare, rows, IsWordOf}
 use Rattle.rv_asm.specs.Reading.{Names}
 use Rattle.rv_asm.specs.Source.{LinesSay, AreWordsOf, Means, HasFault}
-use Rattle.rv_asm.specs.Coding.{code_table, encoded, encoded_list, source_of, GivesUnlessMemory}
-use Rattle.rv_asm.proofs.Steps.{done, ok_is, err_is, not_both}
+use Rattle.rv_asm.specs.Coding.{code_table, encoded, encoded_list, source_of}
+use Rattle.line_texts.specs.Reading.{GivesUnlessMemory}
+use Rattle.line_texts.proofs.Steps.{done, ok_is, err_is, not_both}
 use Rattle.rv_asm.proofs.Alike.{source_alike}
 use Rattle.rv_asm.proofs.InRange.{IsWritable, line_writable}
 use Rattle.rv_asm.proofs.Sayings.{IsAnswer, source_answer, source_said, source_refused}
@@ -44,11 +46,11 @@ words_are (s ∷ list) (w ∷ ws) are =
 
 -- ---- answers
 
-abbrev pub IsWholeAnswer : List ℕ → Result (List ℕ) AsmFault → Type 0
+abbrev pub IsWholeAnswer : List ℕ → Result (List ℕ) Fault → Type 0
 IsWholeAnswer text (Ok words) = Means text words
 IsWholeAnswer text (Err e) = HasFault text e
 
-in_words : (text : List ℕ) (r : Result (List Statement) AsmFault) → IsAnswer text r → IsWholeAnswer text (encoded_list r)
+in_words : (text : List ℕ) (r : Result (List Statement) Fault) → IsAnswer text r → IsWholeAnswer text (encoded_list r)
 in_words text (Ok list) say = record { statements = list; says = say.says; some = say.some; are = said_words _ 1 0 (lines text) list say.says }
 in_words text (Err e) fault = fault
 
@@ -59,30 +61,30 @@ pub means_read : (text words : List ℕ) → Means text words → source_of code
 means_read text words m =
     source_alike text
     ∙ ap encoded_list (source_said text m.statements (record { says = m.says; some = m.some }))
-    ∙ ap (done AsmFault) (sym (words_are m.statements words m.are))
+    ∙ ap (done Fault) (sym (words_are m.statements words m.are))
 
-pub fault_read : (text : List ℕ) (e : AsmFault) → HasFault text e → source_of code_table text ≡ Err e
+pub fault_read : (text : List ℕ) (e : Fault) → HasFault text e → source_of code_table text ≡ Err e
 fault_read text e fault = source_alike text ∙ ap encoded_list (source_refused text e fault)
 
 -- ---- what a function returned
 
-pub found : (text : List ℕ) (r : Result (Vec ℕ) AsmFault) → GivesUnlessMemory (λ (v : Vec ℕ). v.items) r (source_of code_table text) → IfOk r (λ v. Means text v.items)
+pub found : (text : List ℕ) (r : Result (Vec ℕ) Fault) → GivesUnlessMemory (λ (v : Vec ℕ). v.items) r (source_of code_table text) → IfOk r (λ v. Means text v.items)
 found text (Ok v) given = subst (IsWholeAnswer text) given (whole_answer text)
 found text (Err e) given = tt
 
-pub only : (text : List ℕ) (r : Result (Vec ℕ) AsmFault) → GivesUnlessMemory (λ (v : Vec ℕ). v.items) r (source_of code_table text) →
+pub only : (text : List ℕ) (r : Result (Vec ℕ) Fault) → GivesUnlessMemory (λ (v : Vec ℕ). v.items) r (source_of code_table text) →
     (words : List ℕ) → Means text words → MatchResult r (λ v. v.items ≡ words) (λ e. e ≡ Memory)
 only text (Ok v) given words m = sym (ok_is words v.items (sym (means_read text words m) ∙ given))
 only text (Err Memory) given words m = refl
 only text (Err (At r l c)) given words m = absurd (not_both words (At r l c) (sym (means_read text words m) ∙ given))
 
-pub refused : (text : List ℕ) (r : Result (Vec ℕ) AsmFault) → GivesUnlessMemory (λ (v : Vec ℕ). v.items) r (source_of code_table text) → IfErr r (λ e. e ≢ Memory → HasFault text e)
+pub refused : (text : List ℕ) (r : Result (Vec ℕ) Fault) → GivesUnlessMemory (λ (v : Vec ℕ). v.items) r (source_of code_table text) → IfErr r (λ e. e ≢ Memory → HasFault text e)
 refused text (Ok v) given = tt
 refused text (Err Memory) given = λ other. absurd (other refl)
 refused text (Err (At r l c)) given = λ other. subst (IsWholeAnswer text) given (whole_answer text)
 
-pub first : (text : List ℕ) (r : Result (Vec ℕ) AsmFault) → GivesUnlessMemory (λ (v : Vec ℕ). v.items) r (source_of code_table text) →
-    (e : AsmFault) → HasFault text e → MatchResult r (λ _. ⊥) (λ answer. (answer ≡ e) ⊎ (answer ≡ Memory))
+pub first : (text : List ℕ) (r : Result (Vec ℕ) Fault) → GivesUnlessMemory (λ (v : Vec ℕ). v.items) r (source_of code_table text) →
+    (e : Fault) → HasFault text e → MatchResult r (λ _. ⊥) (λ answer. (answer ≡ e) ⊎ (answer ≡ Memory))
 first text (Ok v) given e fault = not_both v.items e (sym given ∙ fault_read text e fault)
 first text (Err Memory) given e fault = inr refl
 first text (Err (At r l c)) given e fault = inl (err_is (List ℕ) (At r l c) e (sym given ∙ fault_read text e fault))

@@ -2,12 +2,11 @@
 -- are no blanks in `number(rs1)`. Numbers are decimal, and targets are numbers. A word without such a line is `.word
 -- 0x` and eight digits. The rows and operands are those of sources.
 use Rattle.std.specs.Prelude.{◌≡◌, ◌⊎◌, ◌-◌, ◌/◌, ◌^◌, ◌==◌, ◌++◌, ℕ, List, [], ◌∷◌, Some, nat_lt, codes, decimal, if◌then◌else◌}
-use Rattle.std.specs.Int.{to_be_bytes, w32}
 use Rattle.std.specs.List.{flat_map}
-use Rattle.hex.specs.Hex.{encode_lower}
 use Rattle.rv_decode.specs.declared.instruction.Inst.{Inst}
 use Rattle.rv_decode.specs.Formats.{rd, rs1, rs2, imm_i, imm_s, imm_b, imm_j, shift_amount}
 use Rattle.rv_decode.specs.Rows.{decoded}
+use Rattle.line_texts.specs.Numbers.{hex_word}
 use Rattle.rv_asm.specs.declared.table.Field.{Field}
 use Rattle.rv_asm.specs.declared.table.Field.TheVariants.{Rd, Rs1, Rs2}
 use Rattle.rv_asm.specs.declared.table.Want.{Want}
@@ -67,10 +66,6 @@ pub record IsSpelled (w : ℕ) (line : List ℕ) : Type 0 where
   pub says : row.says (unpacked row.format w) ≡ instruction inst
   pub word : decoded w ≡ Some inst
   pub text : line ≡ name ++ operands_text (unpacked row.format w) (wants row.format)
-
--- a word as eight lower-case hexadecimal digits
-abbrev pub hex_word : ℕ → List ℕ
-hex_word w = encode_lower (to_be_bytes w32 w)
 
 -- the line of a word: that of its row, or of the plain word if it has none
 abbrev pub IsCanonical : ℕ → List ℕ → Type 0

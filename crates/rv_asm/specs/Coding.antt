@@ -1,13 +1,13 @@
 -- No public clause cites this file. What the assembler computes. It makes words in place of statements, by its own
 -- table. It appends line by line.
-use Rattle.std.specs.Prelude.{◌≡◌, ◌+◌, ◌^◌, ◌<◌, ◌≤◌, ◌++◌, ℕ, Bool, List, [], ◌∷◌, map, length, Option, Some, None, Result, Ok, Err, if◌then◌else◌}
+use Rattle.std.specs.Prelude.{◌+◌, ◌^◌, ◌<◌, ◌≤◌, ◌++◌, ℕ, Bool, List, [], ◌∷◌, map, length, Option, Some, None, Result, Ok, Err, if◌then◌else◌}
 use Rattle.std.specs.Str.{bytes_eq}
 use Rattle.std.specs.Map.{lookup}
 use Rattle.std.specs.Option.{option_to_list}
 use Rattle.rv_decode.specs.Words.{word_of}
 use Rattle.rv_asm.specs.declared.fault.LineFault.{LineFault}
-use Rattle.rv_asm.specs.declared.fault.AsmFault.{AsmFault}
-use Rattle.rv_asm.specs.declared.fault.AsmFault.TheVariants.{At, Memory}
+use Rattle.line_texts.specs.declared.fault.Fault.{Fault}
+use Rattle.line_texts.specs.declared.fault.Fault.TheVariants.{At}
 use Rattle.rv_asm.specs.declared.number.Signed.{Signed}
 use Rattle.rv_asm.specs.declared.number.Signed.TheVariants.{Plus, Minus}
 use Rattle.rv_asm.specs.declared.table.Want.{Want}
@@ -16,9 +16,12 @@ use Rattle.rv_asm.specs.declared.table.Format.{Format}
 use Rattle.rv_asm.specs.declared.table.Operands.{Operands}
 use Rattle.rv_asm.specs.declared.table.Code.{Code}
 use Rattle.rv_asm.specs.declared.table.TheConstants.{TABLE}
-use Rattle.rv_asm.specs.Tokens.{Token, tokens, lines}
+use Rattle.rv_asm.specs.Tokens.{tokens}
+use Rattle.line_texts.specs.Tokens.{Token}
+use Rattle.line_texts.specs.Lines.{lines}
 use Rattle.rv_asm.specs.Table.{Row, Table, Statement, instruction, bare}
-use Rattle.rv_asm.specs.Reading.{◌>>=◌, Names, in_column, not_instruction, taken, instruction_of, unlabelled_of, line_of}
+use Rattle.rv_asm.specs.Reading.{Names, in_column, not_instruction, taken, instruction_of, unlabelled_of, line_of}
+use Rattle.line_texts.specs.Reading.{◌>>=◌}
 use Rattle.rv_asm.specs.Source.{fault_at, names_in}
 use Rattle.rv_asm.specs.Bytes.{IsMark}
 use Rattle.rv_asm.specs.Packing.{packed}
@@ -50,23 +53,23 @@ encoded (instruction inst) = word_of inst
 encoded (bare n) = n
 
 -- a fault of the line with this number
-abbrev pub in_line : {A : Type 0} → ℕ → Result A LineFault → Result A AsmFault
+abbrev pub in_line : {A : Type 0} → ℕ → Result A LineFault → Result A Fault
 in_line line (Ok x) = Ok x
 in_line line (Err fault) = Err (fault_at line fault)
 
 -- what lines add to a list, where the first line has this number
-unfoldable pub lines_from : {A : Type 0} → Table A → Names → List A → ℕ → List (List ℕ) → Result (List A) AsmFault
+unfoldable pub lines_from : {A : Type 0} → Table A → Names → List A → ℕ → List (List ℕ) → Result (List A) Fault
 lines_from table names list line [] = Ok list
 lines_from table names list line (l ∷ ls) =
     in_line line (line_of table names line (length list) (length l + 1) (tokens 1 l))
     >>= λ found. lines_from table names (list ++ option_to_list found) (line + 1) ls
 
 -- an empty source has a fault
-abbrev pub unless_empty : {A : Type 0} → List A → Result (List A) AsmFault
+abbrev pub unless_empty : {A : Type 0} → List A → Result (List A) Fault
 unless_empty [] = Err (At 7 0 0)
 unless_empty (x ∷ list) = Ok (x ∷ list)
 
-unfoldable pub source_of : {A : Type 0} → Table A → List ℕ → Result (List A) AsmFault
+unfoldable pub source_of : {A : Type 0} → Table A → List ℕ → Result (List A) Fault
 source_of table text = lines_from table (names_in table text) [] 1 (lines text) >>= λ list. unless_empty list
 
 -- the operands with the next token's value
@@ -101,15 +104,6 @@ abbrev pub encoded_line : Result (Option Statement) LineFault → Result (Option
 encoded_line (Ok found) = Ok (encoded_option found)
 encoded_line (Err fault) = Err fault
 
-abbrev pub encoded_list : Result (List Statement) AsmFault → Result (List ℕ) AsmFault
+abbrev pub encoded_list : Result (List Statement) Fault → Result (List ℕ) Fault
 encoded_list (Ok list) = Ok (map encoded list)
 encoded_list (Err fault) = Err fault
-
--- a function's result, seen through `view`, is what is read, unless memory ran out
-abbrev pub Fails : {Y : Type 0} → AsmFault → Result Y AsmFault → Type 0
-Fails Memory read = Unit {0}
-Fails (At rule line column) read = read ≡ Err (At rule line column)
-
-abbrev pub GivesUnlessMemory : {X Y : Type 0} → (X → Y) → Result X AsmFault → Result Y AsmFault → Type 0
-GivesUnlessMemory view (Ok x) read = read ≡ Ok (view x)
-GivesUnlessMemory view (Err e) read = Fails e read

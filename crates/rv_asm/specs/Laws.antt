@@ -1,7 +1,7 @@
 -- What the definitions imply.
 use Rattle.std.specs.Prelude.{◌≡◌, ◌⊎◌, ◌≤◌, ◌<◌, ◌^◌, ℕ, List, [], ◌∷◌, ◌++◌, length}
 use Rattle.std.specs.List.{flat_map}
-use Rattle.rv_asm.specs.declared.fault.AsmFault.{AsmFault}
+use Rattle.line_texts.specs.declared.fault.Fault.{Fault}
 use Rattle.rv_asm.specs.Source.{Means, HasFault}
 use Rattle.rv_asm.specs.Canonical.{IsCanonical}
 
@@ -11,14 +11,14 @@ OneMeaning = (text a b : List ℕ) → Means text a → Means text b → a ≡ b
 
 -- it has one fault at most, and none where it means some words
 abbrev pub OneFault : Type 0
-OneFault = (text : List ℕ) (a b : AsmFault) → HasFault text a → HasFault text b → a ≡ b
+OneFault = (text : List ℕ) (a b : Fault) → HasFault text a → HasFault text b → a ≡ b
 
 abbrev pub MeaningsHaveNoFault : Type 0
-MeaningsHaveNoFault = (text words : List ℕ) (fault : AsmFault) → Means text words → HasFault text fault → ⊥
+MeaningsHaveNoFault = (text words : List ℕ) (fault : Fault) → Means text words → HasFault text fault → ⊥
 
 -- each text means some words or has a fault
 abbrev pub MeaningOrFault : Type 0
-MeaningOrFault = (text : List ℕ) → ((words : List ℕ) × Means text words) ⊎ ((fault : AsmFault) × HasFault text fault)
+MeaningOrFault = (text : List ℕ) → ((words : List ℕ) × Means text words) ⊎ ((fault : Fault) × HasFault text fault)
 
 -- a word has one canonical line at most, and a word of 32 bits has one
 abbrev pub OneLine : Type 0

@@ -5,6 +5,7 @@
 use Rattle.std.specs.Prelude.{ℕ, ◌+◌, ◌-◌, ◌*◌, ◌^◌, ◌==◌, ◌&&◌, ◌||◌, Bool, false, List, [], ◌∷◌, length, Option, Some, None, nat_lt, nat_le, not, option_map, if◌then◌else◌}
 use Rattle.std.specs.Char.{is_ascii_digit, is_ascii_alphabetic, is_ascii_alphanumeric}
 use Rattle.std.specs.List.{list_all}
+use Rattle.line_texts.specs.Reading as texts
 use Rattle.rv_asm.specs.declared.number.Signed.{Signed}
 use Rattle.rv_asm.specs.declared.number.Signed.TheVariants.{Plus, Minus}
 
@@ -12,20 +13,19 @@ use Rattle.rv_asm.specs.declared.number.Signed.TheVariants.{Plus, Minus}
 abbrev pub digit : ℕ → ℕ
 digit c = if is_ascii_digit c then c - 48 else (if nat_le 97 c && nat_le c 102 then c - 87 else 16)
 
--- The number of n followed by digits of a base. None for another byte, or above 32 bits.
-unfoldable pub value_behind : ℕ → ℕ → List ℕ → Option ℕ
-value_behind base n [] = Some n
-value_behind base n (c ∷ cs) =
-    if nat_lt (digit c) base && nat_lt (n * base + digit c) (2 ^ 32) then value_behind base (n * base + digit c) cs else None
+-- The number of n followed by hexadecimal digits. None for another byte, or above 32 bits.
+unfoldable pub value_behind : ℕ → List ℕ → Option ℕ
+value_behind n [] = Some n
+value_behind n (c ∷ cs) =
+    if nat_lt (digit c) 16 && nat_lt (n * 16 + digit c) (2 ^ 32) then value_behind (n * 16 + digit c) cs else None
 
--- decimal digits without a leading zero
-unfoldable pub decimal_of : List ℕ → Option ℕ
-decimal_of [] = None
-decimal_of (c ∷ cs) = if c == 48 then (if length cs == 0 then Some 0 else None) else value_behind 10 0 (c ∷ cs)
+-- decimal digits without a leading zero, up to 32 bits
+abbrev pub decimal_of : List ℕ → Option ℕ
+decimal_of text = texts.number_of 0xFFFFFFFF text
 
 -- 1 to 8 hexadecimal digits
 unfoldable pub hex_of : List ℕ → Option ℕ
-hex_of digits = if nat_le 1 (length digits) && nat_le (length digits) 8 then value_behind 16 0 digits else None
+hex_of digits = if nat_le 1 (length digits) && nat_le (length digits) 8 then value_behind 0 digits else None
 
 -- the number after a `-`; `-0` is no number
 abbrev pub negative : Option ℕ → Option Signed

@@ -14,15 +14,11 @@ use Rattle.rv_asm.specs.declared.table.Field.TheVariants.{Rd, Rs1, Rs2}
 use Rattle.rv_asm.specs.declared.table.Want.{Want}
 use Rattle.rv_asm.specs.declared.table.Want.TheVariants.{Register, Mark, Number, Target}
 use Rattle.rv_asm.specs.declared.table.Operands.{Operands}
-use Rattle.rv_asm.specs.Tokens.{Token}
+use Rattle.line_texts.specs.Tokens.{Token}
+use Rattle.line_texts.specs.Cursors.{text_in, column_in}
+use Rattle.line_texts.specs.Reading.{◌>>=◌}
 use Rattle.rv_asm.specs.Numbers.{number_of, register_of, begins_number, begins_letter, is_name}
 use Rattle.rv_asm.specs.Table.{wants, Row, Table, named}
-
--- what comes after a step that may have a fault
-infixl 10 ◌>>=◌
-abbrev pub ◌>>=◌ : {A B F : Type 0} → Result A F → (A → Result B F) → Result B F
-(Ok x) >>= f = f x
-(Err e) >>= f = Err e
 
 -- the label of a name, if some line defines it
 abbrev pub Names : Type 0
@@ -112,15 +108,6 @@ said names place end column ts (Some row) =
 unfoldable pub instruction_of : {A : Type 0} → Table A → Names → ℕ → ℕ → List Token → Result (Option A) LineFault
 instruction_of table names place end [] = Ok None
 instruction_of table names place end (t ∷ ts) = said names place end t.column ts (named table t.text)
-
--- the text and the column of the first token
-abbrev pub text_in : List Token → List ℕ
-text_in [] = []
-text_in (t ∷ ts) = t.text
-
-abbrev pub column_in : ℕ → List Token → ℕ
-column_in end [] = end
-column_in end (t ∷ ts) = t.column
 
 -- a label begins the line: a name and `:`
 abbrev pub begins_label : List Token → Bool

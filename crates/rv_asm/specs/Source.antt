@@ -6,12 +6,15 @@ use Rattle.std.specs.Map.{lookup}
 use Rattle.rv_asm.specs.declared.fault.Rule.{Rule}
 use Rattle.rv_asm.specs.declared.fault.Rule.TheVariants.{NotInstruction, Number, Register, Label, Twice, TooLong}
 use Rattle.rv_asm.specs.declared.fault.LineFault.{LineFault}
-use Rattle.rv_asm.specs.declared.fault.AsmFault.{AsmFault}
-use Rattle.rv_asm.specs.declared.fault.AsmFault.TheVariants.{At}
+use Rattle.line_texts.specs.declared.fault.Fault.{Fault}
+use Rattle.line_texts.specs.declared.fault.Fault.TheVariants.{At}
 use Rattle.rv_asm.specs.declared.label.Label as labels
-use Rattle.rv_asm.specs.Tokens.{Token, lines, tokens}
+use Rattle.rv_asm.specs.Tokens.{tokens}
+use Rattle.line_texts.specs.Tokens.{Token}
+use Rattle.line_texts.specs.Lines.{lines}
 use Rattle.rv_asm.specs.Table.{Statement, Table, rows, named, IsWordOf}
-use Rattle.rv_asm.specs.Reading.{Names, begins_label, behind_label, text_in, line_of}
+use Rattle.rv_asm.specs.Reading.{Names, begins_label, behind_label, line_of}
+use Rattle.line_texts.specs.Cursors.{text_in}
 
 -- ---- labels
 
@@ -76,11 +79,11 @@ number_of_rule Label = 4
 number_of_rule Twice = 5
 number_of_rule TooLong = 6
 
-abbrev pub fault_at : ℕ → LineFault → AsmFault
+abbrev pub fault_at : ℕ → LineFault → Fault
 fault_at line fault = At (number_of_rule fault.rule) line fault.column
 
 -- the lines before one say some statements or none, and it has a fault
-pub record IsFirstFault (text : List ℕ) (fault : AsmFault) : Type 0 where
+pub record IsFirstFault (text : List ℕ) (fault : Fault) : Type 0 where
   pub before : List (List ℕ)
   pub here : List ℕ
   pub after : List (List ℕ)
@@ -92,5 +95,5 @@ pub record IsFirstFault (text : List ℕ) (fault : AsmFault) : Type 0 where
   pub is : fault ≡ fault_at (length before + 1) of_line
 
 -- the fault of a text: its first one, or that it is empty; a lack of memory is none
-abbrev pub HasFault : List ℕ → AsmFault → Type 0
+abbrev pub HasFault : List ℕ → Fault → Type 0
 HasFault text fault = IsFirstFault text fault ⊎ (LinesSay (names_of text) 1 0 (lines text) [] × (fault ≡ At 7 0 0))

@@ -3,37 +3,40 @@ ghost use Rattle.std.specs.Prelude.{◌≡◌, ◌≢◌, ◌⊎◌, ◌<◌, �
 ghost use Rattle.std.specs.Str.{bytes_eq};
 ghost use Rattle.std.specs.Map.{lookup};
 ghost use Rattle.std.specs.Option.{option_or, option_to_list};
-ghost use Rattle.rv_asm.specs.declared.fault.AsmFault.{AsmFault};
-ghost use Rattle.rv_asm.specs.Tokens.{lines as lines_in, tokens as tokens_of};
+ghost use Rattle.line_texts.specs.declared.fault.Fault.{Fault};
+ghost use Rattle.rv_asm.specs.Tokens.{tokens as tokens_of};
+ghost use Rattle.line_texts.specs.Lines.{lines as lines_in};
 ghost use Rattle.rv_asm.specs.Source.{label_in, words_in, names_in, Means, HasFault};
 ghost use Rattle.rv_asm.specs.Named.{names_at};
-ghost use Rattle.rv_asm.specs.Coding.{code_table, lines_from, source_of, GivesUnlessMemory};
+ghost use Rattle.rv_asm.specs.Coding.{code_table, lines_from, source_of};
+ghost use Rattle.line_texts.specs.Reading.{GivesUnlessMemory};
 
-use crate::fault::AsmFault;
 use crate::label::{Label, Labels};
 use crate::line::{line, take_colon, words};
-use crate::tokens::{Lines, Tokens};
+use crate::tokens::line_tokens;
+use line_texts::{Fault, Lines};
 use std::alloc::Global;
 
 /// The words of a source, or its first fault. It reads the text twice, for the labels and then for the words. It takes
-/// memory for these alone.
-pub fn assemble(alloc: Global, text: &[u8]) -> Result<Vec<u32>, AsmFault>
+/// memory for these alone. The rules of a fault are 1 NotInstruction, 2 Number, 3 Register, 4 Label, 5 Twice, 6 TooLong
+/// and 7 Empty. Rule 7 has line 0 and column 0.
+pub fn assemble(alloc: Global, text: &[u8]) -> Result<Vec<u32>, Fault>
     requires { length text.now < 2 ^ 31 }
     // The text means the words that are assembled. A text that means words is assembled, unless memory runs out.
     ensures found { IfOk result (λ words. Means text.now words.items) }
     ensures only { (words : List ℕ) → Means text.now words →
-        MatchResult result (λ v. v.items ≡ words) (λ e. e ≡ AsmFault.Memory) }
+        MatchResult result (λ v. v.items ≡ words) (λ e. e ≡ Fault.Memory) }
 
     // A refusal has the first fault. Bytes with a fault are refused for it, unless memory runs out.
-    ensures refused { IfErr result (λ e. e ≢ AsmFault.Memory → HasFault text.now e) }
-    ensures first { (e : AsmFault) → HasFault text.now e →
-        MatchResult result (λ _. ⊥) (λ answer. (answer ≡ e) ⊎ (answer ≡ AsmFault.Memory)) }
+    ensures refused { IfErr result (λ e. e ≢ Fault.Memory → HasFault text.now e) }
+    ensures first { (e : Fault) → HasFault text.now e →
+        MatchResult result (λ _. ⊥) (λ answer. (answer ≡ e) ⊎ (answer ≡ Fault.Memory)) }
 {
     assembled(alloc, text)
 }
 
 #[tactic(auto, unfolding(crate::specs::Coding::source_of))]
-fn assembled(alloc: Global, text: &[u8]) -> Result<Vec<u32>, AsmFault>
+fn assembled(alloc: Global, text: &[u8]) -> Result<Vec<u32>, Fault>
     requires { length text.now < 2 ^ 31 }
     ensures { GivesUnlessMemory (λ words. words.items) result (source_of code_table text.now) }
 {
@@ -46,7 +49,7 @@ fn assembled(alloc: Global, text: &[u8]) -> Result<Vec<u32>, AsmFault>
         Err(fault) => return Err(fault),
     };
     if words.len() == 0 {
-        return Err(AsmFault::At {
+        return Err(Fault::At {
             rule: 7,
             line: 0,
             column: 0,
@@ -56,11 +59,11 @@ fn assembled(alloc: Global, text: &[u8]) -> Result<Vec<u32>, AsmFault>
 }
 
 // The labels of a text.
-fn labels_of<'a>(alloc: Global, text: &'a [u8]) -> Result<Labels<'a>, AsmFault>
+fn labels_of<'a>(alloc: Global, text: &'a [u8]) -> Result<Labels<'a>, Fault>
     requires { length text.now < 2 ^ 31 }
     ensures value { IfOk result (λ labels. (name : List ℕ) →
         names_at labels.by_name name ≡ names_in code_table text.now name) }
-    ensures memory { IfErr result (λ e. e ≡ AsmFault.Memory) }
+    ensures memory { IfErr result (λ e. e ≡ Fault.Memory) }
 {
     let mut labels = Labels::new(alloc);
     let mut lines = Lines::new(text);
@@ -80,14 +83,14 @@ fn add_label<'a>(
     bytes: &'a [u8],
     line: u32,
     place: u32,
-) -> Result<u32, AsmFault>
+) -> Result<u32, Fault>
     requires { length bytes.now < 2 ^ 31 }
     ensures added { OnOk result ((name : List ℕ) → names_at labels.new.by_name name
         ≡ option_or (names_at labels.old.by_name name) (lookup (bytes_eq name) (label_in line place (tokens_of 1 bytes.now)))) }
     ensures words { IfOk result (λ words. words ≡ words_in code_table (tokens_of 1 bytes.now)) }
-    ensures memory { IfErr result (λ e. e ≡ AsmFault.Memory) }
+    ensures memory { IfErr result (λ e. e ≡ Fault.Memory) }
 {
-    let mut tokens = Tokens::new(bytes);
+    let mut tokens = line_tokens(bytes);
     let Some(first) = tokens.next() else {
         return Ok(0);
     };
@@ -102,7 +105,7 @@ fn add_label<'a>(
 }
 
 // The words of the lines of a text.
-fn words_of(alloc: Global, text: &[u8], labels: &Labels) -> Result<Vec<u32>, AsmFault>
+fn words_of(alloc: Global, text: &[u8], labels: &Labels) -> Result<Vec<u32>, Fault>
     requires { length text.now < 2 ^ 31 }
     ensures { GivesUnlessMemory (λ words. words.items) result
         (lines_from code_table (names_at labels.now.by_name) [] 1 (lines_in text.now)) }
@@ -122,9 +125,9 @@ fn words_of(alloc: Global, text: &[u8], labels: &Labels) -> Result<Vec<u32>, Asm
 }
 
 // Adds a word to a list, if there is one.
-fn add(words: &mut Vec<u32>, found: Option<u32>) -> Result<(), AsmFault>
+fn add(words: &mut Vec<u32>, found: Option<u32>) -> Result<(), Fault>
     ensures added { OnOk result (words.new.items ≡ words.old.items ++ option_to_list found) }
-    ensures memory { IfErr result (λ e. e ≡ AsmFault.Memory) }
+    ensures memory { IfErr result (λ e. e ≡ Fault.Memory) }
 {
     if let Some(word) = found {
         words.push(word)?;

@@ -1,4 +1,4 @@
-//! The assembler and disassembler of RV32IM. It uses `plan_types` and `rv_decode`. `requests` and `reversal` use it.
+//! The assembler and disassembler of RV32IM. It uses `plan_types`, `line_texts` and `rv_decode`. `reversal` uses it.
 //! `assemble` makes the words of a text of instructions, labels and comments. `disassemble` prints a word as the one
 //! line that reads as that word again.
 //!
@@ -26,7 +26,6 @@ mod tokens;
 mod unpacking;
 
 pub use crate::assembling::assemble;
-pub use crate::fault::AsmFault;
 pub use crate::printing::disassemble;
 
 #[cfg(test)]

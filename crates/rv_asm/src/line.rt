@@ -3,8 +3,8 @@ ghost use Rattle.std.specs.Prelude.{◌≡◌, ◌<◌, ◌^◌, ◌+◌, ◌&&�
 ghost use Rattle.rv_asm.specs.Tokens.{tokens as tokens_of};
 ghost use Rattle.rv_asm.specs.Numbers.{is_name as is_a_name};
 ghost use Rattle.rv_asm.specs.Table.{named as row_named};
-ghost use Rattle.rv_asm.specs.Reading.{begins_label, column_in, is_earlier as earlier, said as said_of, line_of};
-ghost use Rattle.rv_asm.specs.Bytes.{token_of};
+ghost use Rattle.rv_asm.specs.Reading.{begins_label, is_earlier as earlier, said as said_of, line_of};
+ghost use Rattle.line_texts.specs.Cursors.{column_in, token_of};
 ghost use Rattle.rv_asm.specs.Named.{names_at};
 ghost use Rattle.rv_asm.specs.Packing.{IsBase};
 ghost use Rattle.rv_asm.specs.Coding.{code_row, code_table, behind};
@@ -15,7 +15,8 @@ use crate::number::is_name;
 use crate::operands::operands;
 use crate::packing::packed;
 use crate::table::{Code, named, wants};
-use crate::tokens::{Token, Tokens};
+use crate::tokens::{SourceTokens, line_tokens};
+use line_texts::Token;
 
 // The most words of a source.
 const MOST_WORDS: u32 = 1_048_576;
@@ -32,7 +33,7 @@ pub(crate) fn line(
     ensures { result ≡ line_of code_table (names_at labels.now.by_name) number place (length bytes.now + 1) (tokens_of 1 bytes.now) }
 {
     let end = bytes.len() as u32 + 1;
-    let mut tokens = Tokens::new(bytes);
+    let mut tokens = line_tokens(bytes);
     let Some(first) = tokens.next() else {
         return Ok(None);
     };
@@ -52,7 +53,7 @@ pub(crate) fn line(
 }
 
 // Whether a label begins the line, which has this first token and these after it. It skips the label's colon.
-pub(crate) fn take_colon<'a>(first: Token<'a>, tokens: &mut Tokens<'a>) -> bool
+pub(crate) fn take_colon<'a>(first: Token<'a>, tokens: &mut SourceTokens<'a>) -> bool
     ensures label { result ≡ begins_label (token_of first.entry.column first.entry.text.now ∷ tokens.old) }
     ensures goes { tokens.new ≡ (if result then drop 1 tokens.old else tokens.old) }
 {
@@ -79,7 +80,7 @@ fn is_earlier(labels: &Labels, name: &[u8], number: u32) -> bool
 fn instruction(
     is_labelled: bool,
     name: Token,
-    tokens: &mut Tokens,
+    tokens: &mut SourceTokens,
     end: u32,
     place: u32,
     labels: &Labels,
@@ -97,7 +98,7 @@ fn instruction(
 
 // The column of the misfit in a line whose token names no instruction and has these tokens after it. A name could be
 // that of a label. Then the token after it is the misfit.
-fn unnamed_column(is_labelled: bool, name: Token, tokens: &Tokens, end: u32) -> u32
+fn unnamed_column(is_labelled: bool, name: Token, tokens: &SourceTokens, end: u32) -> u32
     ensures { result ≡ (if not is_labelled && is_a_name name.entry.text.now then column_in end tokens.now else name.entry.column) }
 {
     if !is_labelled && is_name(name.text) {
@@ -111,7 +112,7 @@ fn unnamed_column(is_labelled: bool, name: Token, tokens: &Tokens, end: u32) -> 
 fn said(
     code: Code,
     column: u32,
-    tokens: &mut Tokens,
+    tokens: &mut SourceTokens,
     end: u32,
     place: u32,
     labels: &Labels,

@@ -1,10 +1,10 @@
 // Numbers, registers and names, by their spelling.
-ghost use Rattle.std.specs.Prelude.{◌≡◌, ◌<◌, ◌^◌, ◌≤◌, IfSome, option_map};
+ghost use Rattle.std.specs.Prelude.{◌≡◌, option_map};
 ghost use Rattle.rv_asm.specs.Numbers.{negative, digit as digit_of, value_behind, decimal_of as decimal_value, hex_of as hex_value, number_of as number_value, register_of as register_value, begins_number as number_begins, begins_letter as letter_begins, is_name_byte, is_name as is_a_name};
 ghost use Rattle.std.specs.List.{list_all};
 ghost use Rattle.rv_asm.specs.declared.number.Signed.TheVariants.{Plus};
 
-use crate::tokens::without_first;
+use line_texts::without_first;
 
 // A number with its sign. `Minus` is of numbers that aren't 0.
 #[derive(Clone, Copy)]
@@ -24,20 +24,19 @@ fn digit(c: u8) -> u64
     }
 }
 
-// The number of the digits in a base. None if another byte is among them, or above 32 bits.
+// The number of hexadecimal digits. None if another byte is among them, or above 32 bits.
 #[tactic(auto, unfolding(crate::specs::Numbers::value_behind))]
-fn value(base: u64, digits: &[u8]) -> Option<u64>
-    requires { base ≤ 16 }
-    ensures { result ≡ value_behind base 0 digits.now }
+fn value(digits: &[u8]) -> Option<u64>
+    ensures { result ≡ value_behind 0 digits.now }
 {
     let mut n = 0u64;
     let mut rest = digits;
     while let [byte, after @ ..] = rest {
         let last = digit(*byte);
-        if last >= base {
+        if last >= 16 {
             return None;
         }
-        let shifted = n * base;
+        let shifted = n * 16;
         let next = shifted + last;
         if next > u64::from(u32::MAX) {
             return None;
@@ -49,16 +48,10 @@ fn value(base: u64, digits: &[u8]) -> Option<u64>
 }
 
 // Decimal digits without a leading zero.
-#[tactic(auto, unfolding(crate::specs::Numbers::decimal_of))]
 fn decimal_of(digits: &[u8]) -> Option<u64>
     ensures { result ≡ decimal_value digits.now }
 {
-    match digits {
-        [] => None,
-        [b'0'] => Some(0),
-        [b'0', ..] => None,
-        _ => value(10, digits),
-    }
+    line_texts::number_of(digits, 0xffff_ffff)
 }
 
 // 1 to 8 hexadecimal digits.
@@ -69,7 +62,7 @@ fn hex_of(digits: &[u8]) -> Option<u64>
     if digits.len() < 1 || digits.len() > 8 {
         return None;
     }
-    value(16, digits)
+    value(digits)
 }
 
 // The number that a text spells.

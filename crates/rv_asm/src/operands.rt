@@ -3,7 +3,8 @@ ghost use Rattle.std.specs.Prelude.{◌≡◌, IsTrue, [], ◌∷◌, drop, Ok, 
 ghost use Rattle.std.specs.List.{AllByRecursion};
 ghost use Rattle.std.specs.Str.{bytes_eq};
 ghost use Rattle.rv_asm.specs.Numbers.{begins_letter as letter_begins, register_of as register_value};
-ghost use Rattle.rv_asm.specs.Reading.{put as put_in, bits_of as number_bits, is_within as within, is_even as even, distance as distance_of, number_in as number_said, target_in as target_said, put_number as number_put, put_register as register_put, taken as taken_of, operands_of, no_operands, not_instruction, text_in, column_in};
+ghost use Rattle.rv_asm.specs.Reading.{put as put_in, bits_of as number_bits, is_within as within, is_even as even, distance as distance_of, number_in as number_said, target_in as target_said, put_number as number_put, put_register as register_put, taken as taken_of, operands_of, no_operands, not_instruction};
+ghost use Rattle.line_texts.specs.Cursors.{text_in, column_in};
 ghost use Rattle.rv_asm.specs.Bytes.{IsMark};
 ghost use Rattle.rv_asm.specs.Named.{names_at};
 ghost use Rattle.rv_asm.specs.Coding.{next_of, IsOf32Bits, IsNarrow, IsOperand};
@@ -12,13 +13,13 @@ use crate::fault::{LineFault, Rule};
 use crate::label::Labels;
 use crate::number::{Signed, begins_letter, begins_number, is_name, number_of, register_of};
 use crate::table::{Field, Operands, Want};
-use crate::tokens::Tokens;
+use crate::tokens::SourceTokens;
 
 // The operands that the tokens of a line mean, one for each want, in the word with this number.
 #[tactic(auto, unfolding(crate::specs::Reading::operands_of))]
 pub(crate) fn operands(
     wants: &[Want],
-    tokens: &mut Tokens,
+    tokens: &mut SourceTokens,
     end: u32,
     place: u32,
     labels: &Labels,
@@ -52,7 +53,7 @@ pub(crate) fn operands(
 // Adds the next token's value to the operands.
 fn next_operand(
     want: Want,
-    tokens: &mut Tokens,
+    tokens: &mut SourceTokens,
     end: u32,
     place: u32,
     labels: &Labels,
@@ -82,7 +83,12 @@ fn next_operand(
 
 // The operands unchanged, if the next token is this byte.
 #[tactic(auto, unfolding(crate::specs::Reading::taken))]
-fn mark(byte: u8, tokens: &mut Tokens, end: u32, operands: Operands) -> Result<Operands, LineFault>
+fn mark(
+    byte: u8,
+    tokens: &mut SourceTokens,
+    end: u32,
+    operands: Operands,
+) -> Result<Operands, LineFault>
     requires { IsMark byte }
     ensures value { result ≡ (if bytes_eq (text_in tokens.old) (byte ∷ []) then Ok operands else Err (not_instruction (column_in end tokens.old))) }
     ensures goes { OnOk result (tokens.new ≡ drop 1 tokens.old) }

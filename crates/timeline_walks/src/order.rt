@@ -1,6 +1,6 @@
 // The orders of a walk.
 
-use crate::fault::Fault;
+use case_files::CaseFault;
 use run_timeline::{Range, Stops};
 use std::alloc::Global;
 
@@ -34,7 +34,7 @@ pub enum Move {
 }
 
 /// The order that a text spells.
-pub fn order_of(alloc: Global, text: &str) -> Result<Order, Fault> {
+pub fn order_of(alloc: Global, text: &str) -> Result<Order, CaseFault> {
     let (name, rest) = text.split_once(' ').unwrap_or((text, ""));
     match name {
         "stops" => Ok(Order::Stops(stops_of(alloc, rest)?)),
@@ -43,7 +43,7 @@ pub fn order_of(alloc: Global, text: &str) -> Result<Order, Fault> {
     }
 }
 
-fn move_of(name: &str, rest: &str) -> Result<Move, Fault> {
+fn move_of(name: &str, rest: &str) -> Result<Move, CaseFault> {
     match name {
         "go_to" => Ok(Move::To(number_of(rest)?)),
         "step_on" => Ok(Move::StepOn(count_of(rest)?)),
@@ -52,28 +52,28 @@ fn move_of(name: &str, rest: &str) -> Result<Move, Fault> {
         "run_back" => Ok(Move::RunBack),
         "part_on" => Ok(Move::PartOn),
         "part_back" => Ok(Move::PartBack),
-        _ => Err(Fault::Form),
+        _ => Err(CaseFault::Form),
     }
 }
 
-fn number_of(text: &str) -> Result<u32, Fault> {
-    text.parse::<u32>().map_err(|_| Fault::Form)
+fn number_of(text: &str) -> Result<u32, CaseFault> {
+    text.parse::<u32>().map_err(|_| CaseFault::Form)
 }
 
 // How many steps; one by default.
-fn count_of(text: &str) -> Result<u32, Fault> {
+fn count_of(text: &str) -> Result<u32, CaseFault> {
     if text.is_empty() {
         return Ok(1);
     }
     number_of(text)
 }
 
-fn hexadecimal(digits: &str) -> Result<u32, Fault> {
-    u32::from_str_radix(digits, 16).map_err(|_| Fault::Form)
+fn hexadecimal(digits: &str) -> Result<u32, CaseFault> {
+    u32::from_str_radix(digits, 16).map_err(|_| CaseFault::Form)
 }
 
 /// The breakpoints and watched ranges of a text.
-pub fn stops_of(alloc: Global, text: &str) -> Result<Stops, Fault> {
+pub fn stops_of(alloc: Global, text: &str) -> Result<Stops, CaseFault> {
     let mut stops = Stops {
         addresses: Vec::new(alloc),
         ranges: Vec::new(alloc),
@@ -87,15 +87,19 @@ pub fn stops_of(alloc: Global, text: &str) -> Result<Stops, Fault> {
 }
 
 // Adds a breakpoint, or a watched range.
-fn add(stops: &mut Stops, word: &str) -> Result<(), Fault> {
+fn add(stops: &mut Stops, word: &str) -> Result<(), CaseFault> {
     let added = match word.split_once('+') {
         None => stops.addresses.push(hexadecimal(word)?).is_ok(),
         Some((start, length)) => stops.ranges.push(range_of(start, length)?).is_ok(),
     };
-    if added { Ok(()) } else { Err(Fault::Memory) }
+    if added {
+        Ok(())
+    } else {
+        Err(CaseFault::Memory)
+    }
 }
 
-fn range_of(start: &str, length: &str) -> Result<Range, Fault> {
+fn range_of(start: &str, length: &str) -> Result<Range, CaseFault> {
     Ok(Range {
         start: hexadecimal(start)?,
         length: hexadecimal(length)?,

@@ -1,7 +1,7 @@
 // How fast moves are, and how much memory they take.
 ghost use Rattle.std.specs.Prelude.{◌≡◌, ◌<◌};
 
-use crate::inputs::program_of;
+use case_files::program_of;
 use input_journal::Journal;
 use run_timeline::{Hit, Range, Stops, Timeline};
 use rv_machine::{State, Steps, advance};

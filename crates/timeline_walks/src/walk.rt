@@ -1,11 +1,9 @@
 // A walk over a run.
 
-use crate::fault::Fault;
-use crate::inputs::{Inputs, text_of};
 use crate::moves::{part_back, part_on, steps_back, steps_on};
 use crate::order::{Move, Order, order_of, stops_of};
 use crate::sum::sum_of;
-use input_journal::Journal;
+use case_files::{CaseFault, Inputs, text_of, timeline_of};
 use run_timeline::{Hit, Step, Stops, Timeline};
 use rv_machine::Steps;
 use serde_json::Value;
@@ -21,23 +19,12 @@ pub struct Walk {
 }
 
 /// The walk of a value, before its first order.
-pub fn walk_of(alloc: Global, inputs: &Inputs, value: &Value) -> Result<Walk, Fault> {
-    let start = inputs.program(alloc, text_of(value, "program")?)?;
-    let journal = match value.get("journal").and_then(Value::as_str) {
-        Some(name) => inputs.journal(alloc, name)?,
-        None => Journal::none(alloc),
-    };
-    let budget = number_of(value, "budget")?;
-    let most = u32::try_from(number_of(value, "most")?).map_err(|_| Fault::Form)?;
+pub fn walk_of(alloc: Global, inputs: &Inputs, value: &Value) -> Result<Walk, CaseFault> {
     Ok(Walk {
-        timeline: Timeline::begin(alloc, start, journal, budget, most)?,
+        timeline: timeline_of(alloc, inputs, value)?,
         stops: stops_of(alloc, "")?,
         furthest: 0,
     })
-}
-
-fn number_of(value: &Value, name: &str) -> Result<u64, Fault> {
-    value.get(name).and_then(Value::as_u64).ok_or(Fault::Form)
 }
 
 impl Walk {

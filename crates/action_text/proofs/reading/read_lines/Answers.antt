@@ -2,9 +2,10 @@ use Rattle.std.proofs.Common.{◌≡◌, ◌+◌, ℕ, List, [], true, eqb, leng
 use Rattle.plan_types.specs.declared.action.Action.{Action}
 use Rattle.level_book.specs.BookCosts.{names_of}
 use Rattle.action_text.specs.Rest.{Rest}
-use Rattle.action_text.specs.ScheduleText.{lines}
+use Rattle.line_texts.specs.Lines.{lines}
 use Rattle.action_text.specs.Reading.{has_line, next_line, here_of}
-use Rattle.action_text.proofs.ManyLines.{here_err, here_ok, lines_end, lines_next, one_line_less, lines_few, first_line_here}
+use Rattle.action_text.proofs.ManyLines.{here_err, here_ok, lines_end, lines_next, one_line_less, first_line_here}
+use Rattle.line_texts.proofs.Seen.{lines_few}
 use Rattle.action_text.proofs.Seen.{lines_are}
 use Rattle.action_text.proofs.reading.read_lines.Goals as goal
 

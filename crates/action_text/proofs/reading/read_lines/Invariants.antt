@@ -1,6 +1,6 @@
 use Rattle.std.proofs.Common.{◌≡◌, ◌+◌, length}
 use Rattle.level_book.specs.BookCosts.{names_of}
-use Rattle.action_text.specs.ScheduleText.{lines}
+use Rattle.line_texts.specs.Lines.{lines}
 use Rattle.action_text.specs.Reading.{here_of, reading}
 use Rattle.action_text.proofs.reading.read_lines.Given as goal
 

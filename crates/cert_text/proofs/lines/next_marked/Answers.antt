@@ -1,6 +1,6 @@
 use Rattle.std.proofs.Common.{sym, ◌∙◌, arith, ◌+◌}
 use Rattle.std.proofs.lemmas.Bool.{eqb-true}
-use Rattle.action_text.specs.ScheduleText.{lines}
+use Rattle.line_texts.specs.Lines.{lines}
 use Rattle.cert_text.proofs.LineLemmas.{none_left, marked_first, marked_later, behind_mark_within, no_line_counted}
 use Rattle.cert_text.proofs.lines.next_marked.Goals as goal
 

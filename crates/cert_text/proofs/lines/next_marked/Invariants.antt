@@ -1,5 +1,5 @@
 use Rattle.std.proofs.Common.{◌≡◌, ◌+◌, ◌^◌, ◌<◌, ◌≤◌, length}
-use Rattle.action_text.specs.ScheduleText.{lines}
+use Rattle.line_texts.specs.Lines.{lines}
 use Rattle.cert_text.specs.MarkedLines.{marked, line_count}
 use Rattle.cert_text.proofs.lines.next_marked.Given as goal
 

@@ -1,5 +1,5 @@
 use Rattle.std.proofs.Common.{ℕ, ap, ◌∙◌}
-use Rattle.cert_text.specs.declared.fault.CertFault.TheVariants.{At}
+use Rattle.line_texts.specs.declared.fault.Fault.TheVariants.{At}
 use Rattle.cert_text.specs.Faults.{first_column}
 use Rattle.cert_text.specs.Left.{left}
 use Rattle.cert_text.proofs.reading.too_large.Goals as goal

@@ -9,7 +9,7 @@ use Rattle.library_tests.proofs.console_tests.answered.Goals as goal
 
 pub begin-requires-clause-room : goal.begin-requires-clause-room
 begin-requires-clause-room g c =
-    let f = g.K.Keeper.slot_count in
+    let f = g.K.Storage.slot_count in
     let slots = slots_of c.args.over.book in
     let roomy : c.have_room.result ≡ true = cc in
     let P : Bool → Type 0 = λ b. OnTrue b (HaveRoom c.max-2.result slots (map f c.as_slice.result.now)) in
@@ -26,12 +26,12 @@ answer_all-requires-clause-orders g c i order at =
 
 pub answer_all-requires-clause-room : goal.answer_all-requires-clause-room
 answer_all-requires-clause-room g c =
-    let f = g.K.Keeper.slot_count in
+    let f = g.K.Storage.slot_count in
     let slots = slots_of c.args.over.book in
     let roomy : c.have_room.result ≡ true = cc in
     let P : Bool → Type 0 = λ b. OnTrue b (HaveRoom c.max-2.result slots (map f c.as_slice.result.now)) in
     let M : ℕ → Type 0 = λ n. HaveRoom n slots (map f c.as_slice.result.now) in
     let Q : List ℕ → Type 0 = λ counts. HaveRoom (max c.args.over.count 1) slots counts in
     let R : MarkPlan → Type 0 = λ p. HaveRoom (span p) p.slots (map f c.begin.new.keepers.items) in
-    let have = subst Q (sym c.begin.ensures.slots) (subst Q (ap (λ ks. map f ks) c.as_slice.ensures.value) (subst M c.max-2.ensures (subst P roomy c.have_room.ensures))) in
+    let have = subst Q (sym c.begin.ensures.kept.slots) (subst Q (ap (λ ks. map f ks) c.as_slice.ensures.value) (subst M c.max-2.ensures (subst P roomy c.have_room.ensures))) in
     subst R (sym c.in_ok-console.ensures.begun.0) have

@@ -7,7 +7,7 @@ use Rattle.library_tests.proofs.query_tests.performed.Goals as goal
 
 pub ask_session-step-requires-clause-room : goal.ask_session-step-requires-clause-room
 ask_session-step-requires-clause-room g c =
-    let f = g.K.Keeper.slot_count in
+    let f = g.K.Storage.slot_count in
     let slots = slots_of c.args.book in
     let roomy : c.have_room.result ≡ true = cc in
     let P : Bool → Type 0 = λ b. OnTrue b (HaveRoom 4 slots (map f c.as_slice.result.now)) in

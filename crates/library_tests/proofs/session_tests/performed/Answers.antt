@@ -7,7 +7,7 @@ use Rattle.library_tests.proofs.session_tests.performed.Goals as goal
 
 pub go_through-requires : goal.go_through-requires
 go_through-requires g c =
-    let f = g.K.Keeper.slot_count in
+    let f = g.K.Storage.slot_count in
     let slots = slots_of c.args.book in
     let roomy : c.have_room.result ≡ true = cc in
     let P : Bool → Type 0 = λ b. OnTrue b (HaveRoom c.args.count slots (map f c.as_slice.result.now)) in

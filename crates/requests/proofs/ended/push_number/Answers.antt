@@ -1,6 +1,6 @@
 use Rattle.std.proofs.Common.{ℕ, length, ap, arith}
 use Rattle.std.proofs.lemmas.List.{length-append}
-use Rattle.requests.proofs.Decimal.{decimal_is_short}
+use Rattle.line_texts.proofs.Decimal.{decimal_is_short}
 use Rattle.requests.proofs.ended.push_number.Goals as goal
 
 pub push_decimal-requires : goal.push_decimal-requires

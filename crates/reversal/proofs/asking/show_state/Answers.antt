@@ -20,6 +20,7 @@ use Rattle.reversal.specs.JobReading.{Works, fault_ending, run_from}
 use Rattle.reversal.specs.Output.{Adds}
 use Rattle.reversal.proofs.Asked.{front_shorter, performed_so_far, is_visitor, state_done, state_ended}
 use Rattle.reversal.proofs.Rooms.{is_memory}
+use Rattle.reverse_runner.proofs.Touched.{past_others}
 use Rattle.reversal.proofs.asking.show_state.Goals as goal
 use Rattle.reversal.proofs.Progress.{FaultCounts, same_Err}
 
@@ -42,16 +43,16 @@ returns-in-Ok-clause-works g c =
     let got = found.holds.gets in
     let same = c.new-writer.ensures.same in
     let last = c.out-1.given.1 (sym (got.0 ∙ c.new-writer.ensures.same_reference)) in
-    let told = told_by g.K.Keeper.told c.args.keepers.now.items in
-    let old = moment g.O.Sink.told g.O.Sink.call_count g.O.Sink.fault_count g.K.Keeper.told g.K.Keeper.put_count g.K.Keeper.get_count g.K.Keeper.free_count g.K.Keeper.fault_count c.args.out.now c.args.keepers.now.items c.args.counter.now in
-    let new = λ (o : g.row.O.Denot). moment g.O.Sink.told g.O.Sink.call_count g.O.Sink.fault_count g.K.Keeper.told g.K.Keeper.put_count g.K.Keeper.get_count g.K.Keeper.free_count g.K.Keeper.fault_count o c.state_at.new.keepers.items c.state_at.new.steps in
-    let end = holdings_of c.state_at.new.session (told_by g.K.Keeper.told c.state_at.new.keepers.items) in
+    let told = told_by g.K.Storage c.args.keepers.now.items in
+    let old = moment g.O.Sink.told g.O.Sink.call_count g.O.Sink.fault_count g.K.Storage.told g.K.Storage.put_count g.K.Storage.get_count g.K.Storage.free_count g.K.Storage.fault_count c.args.out.now c.args.keepers.now.items c.args.counter.now in
+    let new = λ (o : g.row.O.Denot). moment g.O.Sink.told g.O.Sink.call_count g.O.Sink.fault_count g.K.Storage.told g.K.Storage.put_count g.K.Storage.get_count g.K.Storage.free_count g.K.Storage.fault_count o c.state_at.new.keepers.items c.state_at.new.steps in
+    let end = holdings_of c.state_at.new.session (told_by g.K.Storage c.state_at.new.keepers.items) in
     let T : g.row.O.Denot → Type 0 = λ o. Tells (g.O.Sink.told o) (g.O.Sink.told c.state_at.new.visitor.out.now) (Adds (line place (found.states place) ++ 10 ∷ [])) in
     let C : g.row.O.Denot → Type 0 = λ o. g.O.Sink.call_count c.state_at.new.visitor.out.now ≡ raised (g.O.Sink.call_count o) 1 in
     let H : Holdings → Type 0 = λ h. GoesThrough session.unit session.situation.steps session.journal (front_to session.unit session.situation.steps place c.args.list.now) h end found.states in
     let through = subst H (ap (λ (s : SessionState). holdings_of s told) c.requires.begun) found.through in
     let quiet : NothingFails old (new c.state_at.new.visitor.out.now) =
-    record { sink = c.state_at.ensures.seen.quiet (λ e. cc) ∙ ap g.O.Sink.fault_count same; keepers = λ j. c.state_at.ensures.kept.keepers_quiet j (λ e. cc) } in
+    record { sink = c.state_at.ensures.seen.faults.quiet (λ e. cc) ∙ ap g.O.Sink.fault_count same; keepers = λ j. c.state_at.ensures.kept.quiet j (λ e. cc) } in
     let P : g.row.O.Denot → Type 0 = λ o. Works (ask (State place) run) done old (new o) in
     let E : Ended → Type 0 = λ e. Works (ask (State place) run) e old (new c.out-1.given.0) in
     subst E (sym c.done.ensures) (subst P (sym last)
@@ -65,13 +66,13 @@ returns-in-Err-clause-works g c =
     let place = c.args.place in
     let fault = c.in-Err.fault in
     let all = c.state_at.ensures in
-    let told = told_by g.K.Keeper.told c.args.keepers.now.items in
+    let told = told_by g.K.Storage c.args.keepers.now.items in
     let w = c.new-writer.result in
     let v = c.state_at.new.visitor in
     let Missing : Action → Holdings → Type 0 = MissesState (λ w n s journal v. (v.out.ghost_name ≡ w.out.ghost_name) × Tells (g.O.Sink.told w.out.now) (g.O.Sink.told v.out.now) (AddsPrefix (line n s ++ 10 ∷ [])) × (g.O.Sink.call_count v.out.now ≡ raised (g.O.Sink.call_count w.out.now) 1)) session told place w v in
     let front = front_to session.unit session.situation.steps place c.args.list.now in
     let R : SessionState → Type 0 = λ s. RefusedIn Missing front fault s c.state_at.new.session told c.args.counter.now c.state_at.new.steps
-    (calls_to g.K.Keeper.put_count g.K.Keeper.get_count g.K.Keeper.free_count c.args.keepers.now.items) (calls_to g.K.Keeper.put_count g.K.Keeper.get_count g.K.Keeper.free_count c.state_at.new.keepers.items) in
+    (calls_to g.K.Storage c.args.keepers.now.items) (calls_to g.K.Storage c.state_at.new.keepers.items) in
     let refused = subst R c.requires.begun c.in-Err.ensures.refused in
     let shorter = front_shorter session.unit session.situation.steps place c.args.list.now in
     let count = refused.done ∙ performed_so_far refused.place (omega (arith, refused.within, shorter, c.requires.few)) in
@@ -85,15 +86,15 @@ returns-in-Err-clause-works g c =
       | inr other ↦ ap (λ x. x.out.ghost_name) (unseen other)
     ] in
     let last = c.out-1.given.1 (sym (kept ∙ c.new-writer.ensures.same_reference)) in
-    let old = moment g.O.Sink.told g.O.Sink.call_count g.O.Sink.fault_count g.K.Keeper.told g.K.Keeper.put_count g.K.Keeper.get_count g.K.Keeper.free_count g.K.Keeper.fault_count c.args.out.now c.args.keepers.now.items c.args.counter.now in
-    let new = λ (o : g.row.O.Denot). moment g.O.Sink.told g.O.Sink.call_count g.O.Sink.fault_count g.K.Keeper.told g.K.Keeper.put_count g.K.Keeper.get_count g.K.Keeper.free_count g.K.Keeper.fault_count o c.state_at.new.keepers.items c.state_at.new.steps in
+    let old = moment g.O.Sink.told g.O.Sink.call_count g.O.Sink.fault_count g.K.Storage.told g.K.Storage.put_count g.K.Storage.get_count g.K.Storage.free_count g.K.Storage.fault_count c.args.out.now c.args.keepers.now.items c.args.counter.now in
+    let new = λ (o : g.row.O.Denot). moment g.O.Sink.told g.O.Sink.call_count g.O.Sink.fault_count g.K.Storage.told g.K.Storage.put_count g.K.Storage.get_count g.K.Storage.free_count g.K.Storage.fault_count o c.state_at.new.keepers.items c.state_at.new.steps in
     let C : g.row.O.Denot → Type 0 = λ o. g.O.Sink.call_count v.out.now ≡ raised (g.O.Sink.call_count o) 1 in
     let N : ℕ → Type 0 = λ n. Rose n (g.O.Sink.fault_count v.out.now) in
     let counts : FaultCounts fault old (new v.out.now) = record {
-      sink = λ e. subst N (ap g.O.Sink.fault_count same) (all.seen.cause (is _ e));
-      sink_quiet = λ ne. all.seen.quiet (isnt _ ne) ∙ ap g.O.Sink.fault_count same;
-      keeper = λ k e. all.kept.keeper_cause k (is _ e);
-      keepers_quiet = λ j ne. all.kept.keepers_quiet j (isnt _ ne);
+      sink = λ e. subst N (ap g.O.Sink.fault_count same) (all.seen.faults.cause (is _ e));
+      sink_quiet = λ ne. all.seen.faults.quiet (isnt _ ne) ∙ ap g.O.Sink.fault_count same;
+      keeper = λ k e. (all.kept.cause k (is _ e)).1;
+      keepers_quiet = λ j ne. all.kept.quiet j (isnt _ ne);
     } in
     let P : g.row.O.Denot → Type 0 = λ o. Works (ask (State place) run) (fault_ending (refused.place + 1) fault) old (new o) in
     let E : Ended → Type 0 = λ e. Works (ask (State place) run) e old (new c.out-1.given.0) in
@@ -104,6 +105,14 @@ returns-in-Err-clause-works g c =
     let M : g.row.O.Denot → Type 0 = λ o. Tells (g.O.Sink.told o) (g.O.Sink.told v.out.now) (AddsPrefix (line place missed.state ++ 10 ∷ [])) in
     (missed.state, (missed.out, λ tells. missed.of_run session.work c.requires.state (stands tells), subst M same missed.misses.1, subst C same missed.misses.2)))
     (λ k put got e tells. all.spared.undamaged session.work c.requires.state (stands tells) k put got (is _ e)) counts))
+
+pub returns-in-Ok-clause-others : goal.returns-in-Ok-clause-others
+returns-in-Ok-clause-others g c =
+    (record { slots_same = c.state_at.ensures.kept.slots; places_same = c.state_at.ensures.kept.places }, past_others g.K.Storage _ _ _ _ c.state_at.ensures.kept)
+
+pub returns-in-Err-clause-others : goal.returns-in-Err-clause-others
+returns-in-Err-clause-others g c =
+    (record { slots_same = c.state_at.ensures.kept.slots; places_same = c.state_at.ensures.kept.places }, past_others g.K.Storage _ _ _ _ c.state_at.ensures.kept)
 
 pub returns-in-Err-clause-roomy : goal.returns-in-Err-clause-roomy
 returns-in-Err-clause-roomy g c roomy e =

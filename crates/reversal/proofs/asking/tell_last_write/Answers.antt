@@ -10,6 +10,7 @@ use Rattle.reversal.specs.JobReading.{run_from}
 use Rattle.reversal.proofs.Progress.{FaultCounts, same_Err}
 use Rattle.reversal.proofs.Asked.{last_told, last_refused, is_found}
 use Rattle.requests.specs.declared.ended.Ended.{Ended}
+use Rattle.reverse_runner.proofs.Touched.{past_others}
 use Rattle.reversal.proofs.Rooms.{is_memory}
 use Rattle.reversal.proofs.asking.tell_last_write.Goals as goal
 
@@ -18,15 +19,15 @@ returns-in-Ok-clause-works g c =
     let session = c.args.session.now in
     let run = run_from session c.args.list.now in
     let ok = c.in-Ok.ensures in
-    let old = moment g.O.Sink.told g.O.Sink.call_count g.O.Sink.fault_count g.K.Keeper.told g.K.Keeper.put_count g.K.Keeper.get_count g.K.Keeper.free_count g.K.Keeper.fault_count c.args.out.now c.args.keepers.now.items c.args.counter.now in
-    let new = moment g.O.Sink.told g.O.Sink.call_count g.O.Sink.fault_count g.K.Keeper.told g.K.Keeper.put_count g.K.Keeper.get_count g.K.Keeper.free_count g.K.Keeper.fault_count c.write_answer.new.out c.last_write.new.keepers.items c.last_write.new.steps in
+    let old = moment g.O.Sink.told g.O.Sink.call_count g.O.Sink.fault_count g.K.Storage.told g.K.Storage.put_count g.K.Storage.get_count g.K.Storage.free_count g.K.Storage.fault_count c.args.out.now c.args.keepers.now.items c.args.counter.now in
+    let new = moment g.O.Sink.told g.O.Sink.call_count g.O.Sink.fault_count g.K.Storage.told g.K.Storage.put_count g.K.Storage.get_count g.K.Storage.free_count g.K.Storage.fault_count c.write_answer.new.out c.last_write.new.keepers.items c.last_write.new.steps in
     let found = is_found (λ states. WritesIn states session.journal c.args.address) session c.last_write.new.session c.args.list.now c.in-Ok.answer old new c.requires.begun ok.found in
-    last_told run (λ states. WritesIn states session.journal c.args.address) c.in-Ok.answer old new (found, λ tells. ok.answer session.work c.requires.state (c.requires.stands (told_by g.K.Keeper.told c.args.keepers.now.items) tells))
-    c.write_answer.ensures.calls ok.performed.counted ok.performed.called c.write_answer.result c.write_answer.ensures.ends (λ j. c.last_write.ensures.kept.keepers_quiet j (λ e. cc))
+    last_told run (λ states. WritesIn states session.journal c.args.address) c.in-Ok.answer old new (found, λ tells. ok.answer session.work c.requires.state (c.requires.stands (told_by g.K.Storage c.args.keepers.now.items) tells))
+    c.write_answer.ensures.calls ok.performed.counted ok.performed.called c.write_answer.result c.write_answer.ensures.ends (λ j. c.last_write.ensures.kept.quiet j (λ e. cc))
 
 pub returns-in-Ok-clause-others : goal.returns-in-Ok-clause-others
 returns-in-Ok-clause-others g c =
-    (record { slots_same = c.last_write.ensures.kept.slots; places_same = c.last_write.ensures.kept.places }, c.last_write.ensures.kept.others)
+    (record { slots_same = c.last_write.ensures.kept.slots; places_same = c.last_write.ensures.kept.places }, past_others g.K.Storage _ _ _ _ c.last_write.ensures.kept)
 
 pub returns-in-Err-clause-works : goal.returns-in-Err-clause-works
 returns-in-Err-clause-works g c =
@@ -34,25 +35,25 @@ returns-in-Err-clause-works g c =
     let run = run_from session c.args.list.now in
     let fault = c.in-Err.fault in
     let all = c.last_write.ensures in
-    let told = told_by g.K.Keeper.told c.args.keepers.now.items in
-    let old = moment g.O.Sink.told g.O.Sink.call_count g.O.Sink.fault_count g.K.Keeper.told g.K.Keeper.put_count g.K.Keeper.get_count g.K.Keeper.free_count g.K.Keeper.fault_count c.args.out.now c.args.keepers.now.items c.args.counter.now in
-    let new = moment g.O.Sink.told g.O.Sink.call_count g.O.Sink.fault_count g.K.Keeper.told g.K.Keeper.put_count g.K.Keeper.get_count g.K.Keeper.free_count g.K.Keeper.fault_count c.args.out.now c.last_write.new.keepers.items c.last_write.new.steps in
+    let told = told_by g.K.Storage c.args.keepers.now.items in
+    let old = moment g.O.Sink.told g.O.Sink.call_count g.O.Sink.fault_count g.K.Storage.told g.K.Storage.put_count g.K.Storage.get_count g.K.Storage.free_count g.K.Storage.fault_count c.args.out.now c.args.keepers.now.items c.args.counter.now in
+    let new = moment g.O.Sink.told g.O.Sink.call_count g.O.Sink.fault_count g.K.Storage.told g.K.Storage.put_count g.K.Storage.get_count g.K.Storage.free_count g.K.Storage.fault_count c.args.out.now c.last_write.new.keepers.items c.last_write.new.steps in
     let R : SessionState → Type 0 = λ s. RefusedIn (λ action held. ⊥) c.args.list.now fault s c.last_write.new.session told c.args.counter.now c.last_write.new.steps
-    (calls_to g.K.Keeper.put_count g.K.Keeper.get_count g.K.Keeper.free_count c.args.keepers.now.items) (calls_to g.K.Keeper.put_count g.K.Keeper.get_count g.K.Keeper.free_count c.last_write.new.keepers.items) in
+    (calls_to g.K.Storage c.args.keepers.now.items) (calls_to g.K.Storage c.last_write.new.keepers.items) in
     let is = λ (f : RunFault) (e : fault ≡ f). c.in-Err.is ∙ ap (λ x. Err x) e in
     let seen = λ (e : fault ≡ Visitor). all.not_visitor (is _ e) in
     let counts : FaultCounts fault old new = record {
       sink = λ e. absurd (seen e);
       sink_quiet = λ ne. refl;
-      keeper = λ k e. all.kept.keeper_cause k (is _ e);
-      keepers_quiet = λ j ne. all.kept.keepers_quiet j (λ e. ne (same_Err c.last_write.result _ _ c.in-Err.is e));
+      keeper = λ k e. (all.kept.cause k (is _ e)).1;
+      keepers_quiet = λ j ne. all.kept.quiet j (λ e. ne (same_Err c.last_write.result _ _ c.in-Err.is e));
     } in
     last_refused run (λ states. WritesIn states session.journal c.args.address) fault c.last_write.new.session c.refused.result old new c.requires.few (subst R c.requires.begun c.in-Err.ensures.refused) c.refused.ensures refl refl seen
     (λ k put got e tells. all.spared.undamaged session.work c.requires.state (c.requires.stands told tells) k put got (is _ e)) counts
 
 pub returns-in-Err-clause-others : goal.returns-in-Err-clause-others
 returns-in-Err-clause-others g c =
-    (record { slots_same = c.last_write.ensures.kept.slots; places_same = c.last_write.ensures.kept.places }, c.last_write.ensures.kept.others)
+    (record { slots_same = c.last_write.ensures.kept.slots; places_same = c.last_write.ensures.kept.places }, past_others g.K.Storage _ _ _ _ c.last_write.ensures.kept)
 
 pub returns-in-Err-clause-roomy : goal.returns-in-Err-clause-roomy
 returns-in-Err-clause-roomy g c roomy e =

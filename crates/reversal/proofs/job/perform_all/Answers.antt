@@ -39,10 +39,10 @@ abbrev list_of : (g : Over) (c : After-perform g) → List Action
 list_of g c = left_of c.args.actions.now
 
 abbrev old_of : (g : Over) (c : After-perform g) → Moment
-old_of g c = moment g.O.Sink.told g.O.Sink.call_count g.O.Sink.fault_count g.K.Keeper.told g.K.Keeper.put_count g.K.Keeper.get_count g.K.Keeper.free_count g.K.Keeper.fault_count c.args.out.now c.args.keepers.now.items c.args.counter.now
+old_of g c = moment g.O.Sink.told g.O.Sink.call_count g.O.Sink.fault_count g.K.Storage.told g.K.Storage.put_count g.K.Storage.get_count g.K.Storage.free_count g.K.Storage.fault_count c.args.out.now c.args.keepers.now.items c.args.counter.now
 
 abbrev mid_of : (g : Over) (c : After-perform g) → Moment
-mid_of g c = moment g.O.Sink.told g.O.Sink.call_count g.O.Sink.fault_count g.K.Keeper.told g.K.Keeper.put_count g.K.Keeper.get_count g.K.Keeper.free_count g.K.Keeper.fault_count c.loop-action.writer.out.now c.loop-action.keepers.items c.loop-action.counter
+mid_of g c = moment g.O.Sink.told g.O.Sink.call_count g.O.Sink.fault_count g.K.Storage.told g.K.Storage.put_count g.K.Storage.get_count g.K.Storage.free_count g.K.Storage.fault_count c.loop-action.writer.out.now c.loop-action.keepers.items c.loop-action.counter
 
 there : (g : Over) (c : After-perform g) → slice_get (list_of g c) c.loop-action.place ≡ Some c.in-Some.action
 there g c = (at_front (list_of g c) c.loop-action.place c.in-Some.action _ (sym c.loop-action.invariant.rest ∙ c.in-Some.ensures)).0
@@ -80,10 +80,10 @@ perform-requires-clause-allowed g c ended =
 pub perform-requires-clause-room : goal.perform-requires-clause-room
 perform-requires-clause-room g c ended =
     let so_far = c.loop-action.invariant.so_far.1 in
-    let N : ℕ → Type 0 = λ n. HaveRoom n c.loop-action.session.situation.slots (map g.K.Keeper.slot_count c.loop-action.keepers.items) in
-    let S : List Slots → Type 0 = λ s. HaveRoom c.args.session.now.situation.steps s (map g.K.Keeper.slot_count c.loop-action.keepers.items) in
+    let N : ℕ → Type 0 = λ n. HaveRoom n c.loop-action.session.situation.slots (map g.K.Storage.slot_count c.loop-action.keepers.items) in
+    let S : List Slots → Type 0 = λ s. HaveRoom c.args.session.now.situation.steps s (map g.K.Storage.slot_count c.loop-action.keepers.items) in
     let C : List ℕ → Type 0 = λ l. HaveRoom c.args.session.now.situation.steps c.args.session.now.situation.slots l in
-    let T : SessionState → Type 0 = λ s. HaveRoom s.situation.steps s.situation.slots (map g.K.Keeper.slot_count c.loop-action.keepers.items) in
+    let T : SessionState → Type 0 = λ s. HaveRoom s.situation.steps s.situation.slots (map g.K.Storage.slot_count c.loop-action.keepers.items) in
     subst T (sym c.digest_lines.ensures.session) (subst N (sym so_far.steps) (subst S (sym so_far.slots) (subst C (sym c.loop-action.invariant.room) c.requires.room)))
 
 pub loop-action-init : goal.loop-action-init
@@ -91,8 +91,8 @@ loop-action-init g c =
     let session = c.args.session.now in
     let list = left_of c.args.actions.now in
     let same = c.new-writer.ensures.same in
-    let old = moment g.O.Sink.told g.O.Sink.call_count g.O.Sink.fault_count g.K.Keeper.told g.K.Keeper.put_count g.K.Keeper.get_count g.K.Keeper.free_count g.K.Keeper.fault_count c.args.out.now c.args.keepers.now.items c.args.counter.now in
-    let mid = moment g.O.Sink.told g.O.Sink.call_count g.O.Sink.fault_count g.K.Keeper.told g.K.Keeper.put_count g.K.Keeper.get_count g.K.Keeper.free_count g.K.Keeper.fault_count c.new-writer.result.out.now c.args.keepers.now.items c.args.counter.now in
+    let old = moment g.O.Sink.told g.O.Sink.call_count g.O.Sink.fault_count g.K.Storage.told g.K.Storage.put_count g.K.Storage.get_count g.K.Storage.free_count g.K.Storage.fault_count c.args.out.now c.args.keepers.now.items c.args.counter.now in
+    let mid = moment g.O.Sink.told g.O.Sink.call_count g.O.Sink.fault_count g.K.Storage.told g.K.Storage.put_count g.K.Storage.get_count g.K.Storage.free_count g.K.Storage.fault_count c.new-writer.result.out.now c.args.keepers.now.items c.args.counter.now in
     record {
       rest = refl;
       within = omega arith;
@@ -120,30 +120,31 @@ loop-action-preserved g c =
     let list = list_of g p in
     let next = at_front list c.loop-action.place c.in-Some.action _ (sym inv.rest ∙ c.in-Some.ensures) in
     let ok = c.in-Ok.ensures in
-    let new = moment g.O.Sink.told g.O.Sink.call_count g.O.Sink.fault_count g.K.Keeper.told g.K.Keeper.put_count g.K.Keeper.get_count g.K.Keeper.free_count g.K.Keeper.fault_count c.perform.new.visitor.out.now c.perform.new.keepers.items c.perform.new.steps in
+    let does = ok.does (so_far_of g p).lasts in
+    let new = moment g.O.Sink.told g.O.Sink.call_count g.O.Sink.fault_count g.K.Storage.told g.K.Storage.put_count g.K.Storage.get_count g.K.Storage.free_count g.K.Storage.fault_count c.perform.new.visitor.out.now c.perform.new.keepers.items c.perform.new.steps in
     let numbers = handed_by before.unit before.situation.steps c.in-Some.action in
     let states = states_out c.in-Some.action before.work before.tape.states in
-    let lines = all_written g.O.Sink.told g.O.Sink.call_count before.journal numbers states c.loop-action.writer c.perform.new.visitor ok.gets in
+    let lines = all_written g.O.Sink.told g.O.Sink.call_count before.journal numbers states c.loop-action.writer c.perform.new.visitor ok.hands.gets in
     let one = more g.O.Sink.told g.O.Sink.call_count first before list c.loop-action.place inv.so_far.0 c.loop-action.writer.out.now (old_of g p) (mid_of g p) c.in-Some.action (there g p) (record { tells = refl; counts = refl }) (here g p)
-    (Got g.O.Sink.told g.O.Sink.call_count) after c.loop-action.writer c.perform.new.visitor c.perform.new.visitor.out.now new (record { tells = refl; counts = refl }) ok.performs ok.acted.acts ok.gets lines ok.acted.counted ok.acted.called
-    (ok.stays.stands first c.requires.state) ok.stays.alone (record { sink = c.perform.ensures.seen.quiet (λ e. cc); keepers = λ j. c.perform.ensures.kept.keepers_quiet j (λ e. cc) }) in
+    (Got g.O.Sink.told g.O.Sink.call_count) after c.loop-action.writer c.perform.new.visitor c.perform.new.visitor.out.now new (record { tells = refl; counts = refl }) ok.session.performs does.acted.acts ok.hands.gets lines does.acted.counted does.acted.called
+    (ok.stays.stands first c.requires.state) ok.stays.alone (record { sink = c.perform.ensures.seen.faults.quiet (λ e. cc); keepers = λ j. c.perform.ensures.kept.quiet j (λ e. cc) }) in
     let now : States = _ in
     let R : Run → Type 0 = λ r. SoFar r (c.loop-action.place + 1) now after (old_of g p) new in
     record {
       rest = sym next.1;
       within = omega (arith, next.2);
       so_far = (_, subst R (run_now g p) one);
-      rooms = λ k. c.perform.ensures.rooms k ∙ inv.rooms k;
-      pages = sym c.perform.ensures.pages ∙ pages_of g p;
+      rooms = λ k. c.perform.ensures.kept.rooms k ∙ inv.rooms k;
+      pages = sym c.perform.ensures.session.pages ∙ pages_of g p;
       digesters =
           subst (λ (ds : List (List ℕ)). AllByRecursion (HasPages after.work) ds) (sym c.digest_lines.ensures.pages)
           (subst (λ (ps : List ℕ). AllByRecursion (λ (qs : List ℕ). qs ≡ ps) c.loop-action.digesters)
-          (sym (ap (λ (t : SessionState). page_numbers t.work.memory) c.digest_lines.ensures.session) ∙ c.perform.ensures.pages) inv.digesters);
+          (sym (ap (λ (t : SessionState). page_numbers t.work.memory) c.digest_lines.ensures.session) ∙ c.perform.ensures.session.pages) inv.digesters);
       room = c.perform.ensures.kept.slots ∙ inv.room;
       places = c.perform.ensures.kept.places ∙ inv.places;
-      reference = same_sink g.O.Sink.told g.O.Sink.call_count before.journal numbers states c.loop-action.writer c.perform.new.visitor ok.gets ∙ inv.reference;
+      reference = same_sink g.O.Sink.told g.O.Sink.call_count before.journal numbers states c.loop-action.writer c.perform.new.visitor ok.hands.gets ∙ inv.reference;
       others = λ k past.
-          c.perform.ensures.kept.others k (past_is_unnamed before.situation.steps before.situation.slots before.situation.at c.in-Some.action after.situation.at k ok.performs.goes
+          c.perform.ensures.kept.others k (past_is_unnamed before.situation.steps before.situation.slots before.situation.at c.in-Some.action after.situation.at k ok.session.performs.goes
           (let slots = ap length (so_far_of g p).slots in omega (arith, past, slots)))
           ∙ inv.others k past;
     }
@@ -167,15 +168,15 @@ returns-in-Err-clause-works g c =
     let list = list_of g p in
     let a = c.in-Some.action in
     let so_far = here g p in
-    let leaves = err.leaves so_far.lasts in
+    let leaves = (err.does so_far.lasts).leaves in
     let is = λ (f : RunFault) (e : fault ≡ f). c.in-Err.is ∙ ap (λ x. Err x) e in
     let isnt = λ (f : RunFault) (ne : fault ≢ f) (e : c.perform.result ≡ Err f). ne (same_Err c.perform.result _ _ c.in-Err.is e) in
     let kept : c.perform.new.visitor.out.ghost_name ≡ c.loop-action.writer.out.ghost_name = elim (is_visitor fault) [
-      | inl e ↦ same_sink_missed g.O.Sink.told g.O.Sink.call_count before.journal (handed_by before.unit before.situation.steps a) (states_out a before.work before.tape.states) c.loop-action.writer c.perform.new.visitor (all.misses (is _ e))
+      | inl e ↦ same_sink_missed g.O.Sink.told g.O.Sink.call_count before.journal (handed_by before.unit before.situation.steps a) (states_out a before.work before.tape.states) c.loop-action.writer c.perform.new.visitor (all.hands.misses (is _ e))
       | inr ne ↦ ap (λ v. v.out.ghost_name) (err.seen.unseen (λ e. ne cc))
     ] in
     let last = c.in-Err.out-1-own.given.1 (sym (kept ∙ inv.reference ∙ c.new-writer.ensures.same_reference)) in
-    let new = moment g.O.Sink.told g.O.Sink.call_count g.O.Sink.fault_count g.K.Keeper.told g.K.Keeper.put_count g.K.Keeper.get_count g.K.Keeper.free_count g.K.Keeper.fault_count c.in-Err.out-1-own.given.0 c.perform.new.keepers.items c.perform.new.steps in
+    let new = moment g.O.Sink.told g.O.Sink.call_count g.O.Sink.fault_count g.K.Storage.told g.K.Storage.put_count g.K.Storage.get_count g.K.Storage.free_count g.K.Storage.fault_count c.in-Err.out-1-own.given.0 c.perform.new.keepers.items c.perform.new.steps in
     let at_end : IsAt g.O.Sink.told g.O.Sink.call_count c.perform.new.visitor.out.now new = record { tells = ap g.O.Sink.told last; counts = ap g.O.Sink.call_count last } in
     let V : ℕ → Type 0 = λ n. Rose (g.O.Sink.fault_count c.loop-action.writer.out.now) n in
     let numbers = handed_by before.unit before.situation.steps a in
@@ -187,13 +188,13 @@ returns-in-Err-clause-works g c =
       left = leaves.left;
       unreached = λ k j e past. all.caused.unreached k j (is _ e) past;
       whole = λ k put got e. all.caused.whole k put got (is _ e);
-      breaks = λ e. one_broken g.O.Sink.told g.O.Sink.call_count before.journal numbers states c.loop-action.writer c.perform.new.visitor (all.misses (is _ e));
+      breaks = λ e. one_broken g.O.Sink.told g.O.Sink.call_count before.journal numbers states c.loop-action.writer c.perform.new.visitor (all.hands.misses (is _ e));
       unseen = λ ne. ap (λ v. v.out.now) (err.seen.unseen (λ e. ne cc));
       counts = record {
-        sink = λ e. subst V (ap g.O.Sink.fault_count (sym last)) (all.seen.cause (is _ e));
-        sink_quiet = λ ne. ap g.O.Sink.fault_count last ∙ all.seen.quiet (isnt _ ne);
-        keeper = λ k e. all.kept.keeper_cause k (is _ e);
-        keepers_quiet = λ j ne. all.kept.keepers_quiet j (isnt _ ne);
+        sink = λ e. subst V (ap g.O.Sink.fault_count (sym last)) (all.seen.faults.cause (is _ e));
+        sink_quiet = λ ne. ap g.O.Sink.fault_count last ∙ all.seen.faults.quiet (isnt _ ne);
+        keeper = λ k e. (all.kept.cause k (is _ e)).1;
+        keepers_quiet = λ j ne. all.kept.quiet j (isnt _ ne);
       };
       named = λ k e. all.caused.named k (is _ e);
       damaged = λ k put got e. all.caused.damaged k put got (is _ e);
@@ -239,8 +240,8 @@ returns-clause-works g c =
     let list = left_of c.args.actions.now in
     let short : length list ≤ c.loop-action.place = none_left list c.loop-action.place (sym inv.rest ∙ c.in_default.ensures.0) in
     let last = c.out-in_default-1.given.1 (sym (inv.reference ∙ c.new-writer.ensures.same_reference)) in
-    let old = moment g.O.Sink.told g.O.Sink.call_count g.O.Sink.fault_count g.K.Keeper.told g.K.Keeper.put_count g.K.Keeper.get_count g.K.Keeper.free_count g.K.Keeper.fault_count c.args.out.now c.args.keepers.now.items c.args.counter.now in
-    let mid = λ (o : g.row.O.Denot). moment g.O.Sink.told g.O.Sink.call_count g.O.Sink.fault_count g.K.Keeper.told g.K.Keeper.put_count g.K.Keeper.get_count g.K.Keeper.free_count g.K.Keeper.fault_count o c.loop-action.keepers.items c.loop-action.counter in
+    let old = moment g.O.Sink.told g.O.Sink.call_count g.O.Sink.fault_count g.K.Storage.told g.K.Storage.put_count g.K.Storage.get_count g.K.Storage.free_count g.K.Storage.fault_count c.args.out.now c.args.keepers.now.items c.args.counter.now in
+    let mid = λ (o : g.row.O.Denot). moment g.O.Sink.told g.O.Sink.call_count g.O.Sink.fault_count g.K.Storage.told g.K.Storage.put_count g.K.Storage.get_count g.K.Storage.free_count g.K.Storage.fault_count o c.loop-action.keepers.items c.loop-action.counter in
     let eq = same_run session c.args.session.now first list so_far.journal so_far.unit so_far.steps so_far.slots in
     let R : Run → Type 0 = λ r. SoFar r c.loop-action.place inv.so_far.0 session old (mid c.loop-action.writer.out.now) in
     let V2 : List Slots → Type 0 = λ s. Valid session.situation.steps s list in
@@ -267,6 +268,6 @@ returns-in-Err-clause-roomy g c roomy e =
     let is = λ (f : RunFault) (q : fault ≡ f). c.in-Err.is ∙ ap (λ x. Err x) q in
     let wants = is_memory (c.loop-action.place + 1) fault (λ q. absurd (false≢true (sym so_far.lasts ∙ c.perform.ensures.ended.0 (is _ q))))
     (sym (ap (λ (x : Ending). x.status) c.fault_ending.ensures) ∙ e) in
-    let rooms = rooms_by g.K.Keeper.room_bytes in
+    let rooms = rooms_by g.K.Storage in
     c.perform.ensures.spared.roomy
     (still_roomy first.work before.work first.situation.slots before.situation.slots (rooms c.args.keepers.now.items) (rooms c.loop-action.keepers.items) (pages_of g p) so_far.slots inv.rooms roomy) (is _ wants)

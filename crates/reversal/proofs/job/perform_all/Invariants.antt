@@ -18,13 +18,13 @@ invariant-loop-action g l = record {
   so_far :
       (shown : States)
       × SoFar (run_from l.fn.session (left_of l.fn.actions)) l.place shown l.session
-      (moment g.O.Sink.told g.O.Sink.call_count g.O.Sink.fault_count g.K.Keeper.told g.K.Keeper.put_count g.K.Keeper.get_count g.K.Keeper.free_count g.K.Keeper.fault_count l.fn.out l.fn.keepers.items l.fn.counter)
-      (moment g.O.Sink.told g.O.Sink.call_count g.O.Sink.fault_count g.K.Keeper.told g.K.Keeper.put_count g.K.Keeper.get_count g.K.Keeper.free_count g.K.Keeper.fault_count l.writer.out.now l.keepers.items l.counter);
-  rooms : SameRooms (rooms_by g.K.Keeper.room_bytes l.fn.keepers.items) (rooms_by g.K.Keeper.room_bytes l.keepers.items);
+      (moment g.O.Sink.told g.O.Sink.call_count g.O.Sink.fault_count g.K.Storage.told g.K.Storage.put_count g.K.Storage.get_count g.K.Storage.free_count g.K.Storage.fault_count l.fn.out l.fn.keepers.items l.fn.counter)
+      (moment g.O.Sink.told g.O.Sink.call_count g.O.Sink.fault_count g.K.Storage.told g.K.Storage.put_count g.K.Storage.get_count g.K.Storage.free_count g.K.Storage.fault_count l.writer.out.now l.keepers.items l.counter);
+  rooms : SameRooms (rooms_by g.K.Storage l.fn.keepers.items) (rooms_by g.K.Storage l.keepers.items);
   pages : SamePages l.session.work l.fn.session.work;
   digesters : AllByRecursion (HasPages l.session.work) l.digesters;
-  room : map g.K.Keeper.slot_count l.keepers.items ≡ map g.K.Keeper.slot_count l.fn.keepers.items;
-  places : map g.K.Keeper.place l.keepers.items ≡ map g.K.Keeper.place l.fn.keepers.items;
+  room : map g.K.Storage.slot_count l.keepers.items ≡ map g.K.Storage.slot_count l.fn.keepers.items;
+  places : map g.K.Storage.place l.keepers.items ≡ map g.K.Storage.place l.fn.keepers.items;
   reference : l.writer.out.ghost_name ≡ l.initial.writer.out.ghost_name;
   others : (k : ℕ) → length l.fn.session.situation.slots ≤ k → slice_get l.keepers.items k ≡ slice_get l.fn.keepers.items k;
 }

@@ -18,12 +18,12 @@ returns-clause-comes g c =
     let after = g.I.Inputs.asked c.read_inputs.new.inputs in
     let R : List (Vec ℕ Global) → Type 0 = λ l. Reads (inputs_of r.command) told before after (all (map (λ b. b.items) l)) in
     let reads = subst R (sym c.deref_mut.ensures.value) c.in_ok-bytes.ensures.read in
-    let same : c.deref.result.now ≡ map g.K.Keeper.slot_count c.args.keepers.now = c.deref.ensures.value ∙ c.in_ok-counts.ensures in
+    let same : c.deref.result.now ≡ map g.K.Storage.slot_count c.args.keepers.now = c.deref.ensures.value ∙ c.in_ok-counts.ensures in
     if_okay c.decide.result _ _ (λ job decides. let P : List ℕ → Type 0 = λ slots. Comes r told before after slots (accept (job_of job)) in subst P same (comes_by r told before after (map (λ b. b.items) c.deref_mut.result.now) c.deref.result.now (accept (job_of job)) reads decides)) c.decide.ensures.accepted
 
 pub returns-clause-room : goal.returns-clause-room
 returns-clause-room g c =
-    let same : c.deref.result.now ≡ map g.K.Keeper.slot_count c.args.keepers.now = c.deref.ensures.value ∙ c.in_ok-counts.ensures in
+    let same : c.deref.result.now ≡ map g.K.Storage.slot_count c.args.keepers.now = c.deref.ensures.value ∙ c.in_ok-counts.ensures in
     let P : List ℕ → Type 0 = λ slots. IfOk c.decide.result (λ job. KeepersHaveRoom job slots) in
     subst P same c.decide.ensures.room
 
@@ -35,7 +35,7 @@ returns-clause-refused g c =
     let after = g.I.Inputs.asked c.read_inputs.new.inputs in
     let R : List (Vec ℕ Global) → Type 0 = λ l. Reads (inputs_of r.command) told before after (all (map (λ b. b.items) l)) in
     let reads = subst R (sym c.deref_mut.ensures.value) c.in_ok-bytes.ensures.read in
-    let same : c.deref.result.now ≡ map g.K.Keeper.slot_count c.args.keepers.now = c.deref.ensures.value ∙ c.in_ok-counts.ensures in
+    let same : c.deref.result.now ≡ map g.K.Storage.slot_count c.args.keepers.now = c.deref.ensures.value ∙ c.in_ok-counts.ensures in
     if_error c.decide.result _ _ (λ e h. let P : List ℕ → Type 0 = λ slots. Refused r told e before after slots in subst P same (decides_refused r told e before after (map (λ b. b.items) c.deref_mut.result.now) c.deref.result.now reads h)) c.decide.ensures.refused
 
 pub returns-clause-cause : goal.returns-clause-cause
@@ -51,4 +51,4 @@ returns-in_err-bytes-clause-refused g c =
     on_error c.from_residual.result _ _ c.from_residual.ensures.1 (λ e gives.
     let same : c.in_err-bytes.field-0.0 ≡ e = cc in
     let S : Ended → Type 0 = λ x. Stops (inputs_of r.command) told x before after in
-    stops_refused r told e before after (map g.K.Keeper.slot_count c.args.keepers.now) (subst S same c.in_err-bytes.ensures.stops))
+    stops_refused r told e before after (map g.K.Storage.slot_count c.args.keepers.now) (subst S same c.in_err-bytes.ensures.stops))

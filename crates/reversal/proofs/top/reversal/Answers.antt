@@ -49,9 +49,9 @@ said_job : (g : Over) (c : goal.After-work g) → Says (words_of c.args.words.no
 said_job g c = let P : _ → Type 0 = λ l. Says (map (λ w. w.items) l) (request_of c.in-Some.request) in subst P c.deref.ensures.value c.in-Some.ensures.found
 
 -- the decision was come to by the slots of the keepers
-come_to : (g : Over) (c : goal.After-work g) → Comes (request_of c.in-Some.request) (g.I.Inputs.told c.args.inputs.now) (g.I.Inputs.asked c.args.inputs.now) (g.I.Inputs.asked c.prepared.new.inputs) (map g.K.Keeper.slot_count c.args.keepers.now.items) (accept (job_of c.in-Ok.job))
+come_to : (g : Over) (c : goal.After-work g) → Comes (request_of c.in-Some.request) (g.I.Inputs.told c.args.inputs.now) (g.I.Inputs.asked c.args.inputs.now) (g.I.Inputs.asked c.prepared.new.inputs) (map g.K.Storage.slot_count c.args.keepers.now.items) (accept (job_of c.in-Ok.job))
 come_to g c =
-    let P : _ → Type 0 = λ l. Comes (request_of c.in-Some.request) (g.I.Inputs.told c.args.inputs.now) (g.I.Inputs.asked c.args.inputs.now) (g.I.Inputs.asked c.prepared.new.inputs) (map g.K.Keeper.slot_count l) (accept (job_of c.in-Ok.job)) in
+    let P : _ → Type 0 = λ l. Comes (request_of c.in-Some.request) (g.I.Inputs.told c.args.inputs.now) (g.I.Inputs.asked c.args.inputs.now) (g.I.Inputs.asked c.prepared.new.inputs) (map g.K.Storage.slot_count l) (accept (job_of c.in-Ok.job)) in
     subst P c.deref-2.ensures.value c.in-Ok.ensures.comes
 
 pub returns-in-Ok-clause-words : goal.returns-in-Ok-clause-words
@@ -150,7 +150,7 @@ returns-in-Err-clause-decided g c r asks n3 n17 = elim c.in-Err.ensures.refused 
     | inr refused ↦ (
       refuse c.in-Err.refusal,
       comes_of (words_of c.args.words.now) (request_of c.in-Some.request) r _ _ _ _ _ (said_refusal g c) asks.says
-          (let P : _ → Type 0 = λ l. Comes (request_of c.in-Some.request) (g.I.Inputs.told c.args.inputs.now) (g.I.Inputs.asked c.args.inputs.now) (g.I.Inputs.asked c.prepared.new.inputs) (map g.K.Keeper.slot_count l) (refuse c.in-Err.refusal) in subst P c.deref-2.ensures.value refused.5),
+          (let P : _ → Type 0 = λ l. Comes (request_of c.in-Some.request) (g.I.Inputs.told c.args.inputs.now) (g.I.Inputs.asked c.args.inputs.now) (g.I.Inputs.asked c.prepared.new.inputs) (map g.K.Storage.slot_count l) (refuse c.in-Err.refusal) in subst P c.deref-2.ensures.value refused.5),
       refl,
       refl,
       tt,

@@ -1,4 +1,4 @@
-use Rattle.std.proofs.Common.{◌≡◌, ℕ, ◌+◌, ◌-◌, ◌<◌, refl, sym, ◌∙◌, ap, subst, arith}
+use Rattle.std.proofs.Common.{◌≡◌, ℕ, ◌+◌, ◌-◌, ◌<◌, length, Ok, refl, sym, ◌∙◌, ap, subst, arith}
 use Rattle.std.proofs.lemmas.Result.{IfErr-at_err, err_from_is_err_and}
 use Rattle.rv_machine.specs.MachineState.{MachineState}
 use Rattle.rv_machine.specs.States.{state_number}
@@ -7,15 +7,15 @@ use Rattle.rv_machine.proofs.Runs.{state_number_keeps_pages}
 use Rattle.reverse_runner.specs.KeepersSeen.{calls_to, told_by, Called, HaveRoom}
 use Rattle.reverse_console.specs.Costs.{puts_of}
 use Rattle.reverse_console.specs.Marks.{marked, mark_count, span, stride}
-use Rattle.reverse_console.specs.Causes.{HasCause}
 use Rattle.reverse_console.specs.Handling.{AreSet, AreKept, StandAt}
 use Rattle.reverse_console.specs.Refusals.{IsOfPutting}
-use Rattle.reverse_console.proofs.Calling.{stay_then, cause_then}
 use Rattle.reverse_runner.specs.declared.fault.RunFault.TheVariants.{Keeper, Memory}
 use Rattle.reverse_runner.specs.Rooms.{rooms_by, AreShort}
 use Rattle.reverse_runner.proofs.Rooms.{same_room, still_roomy}
+use Rattle.reverse_runner.proofs.Touched.{are_ok, are_err}
 use Rattle.reverse_queries.proofs.Ways.{same_fault}
-use Rattle.reverse_console.proofs.Getting.{err_at, at_ok}
+use Rattle.reverse_console.proofs.Calling.{are_after}
+use Rattle.reverse_console.proofs.Getting.{err_at, at_ok, ok_never}
 use Rattle.reverse_console.proofs.Numbers.{first_known, marked_first, marked_within, one_less}
 use Rattle.reverse_console.proofs.Putting.{puts_more, puts_none, puts_within, next_state, same_mark}
 use Rattle.reverse_console.proofs.going.set_marks.Goals as goal
@@ -27,25 +27,23 @@ pub loop-mark-init : goal.loop-mark-init
 loop-mark-init g c =
     let p = c.args.marks.now in
     let done = c.in_ok-set_mark.ensures in
-    let old = (calls_to g.K.Keeper.put_count g.K.Keeper.get_count g.K.Keeper.free_count c.args.keepers.now.items) in
+    let old = (calls_to g.K.Storage c.args.keepers.now.items) in
     let first : marked p (1 - 1) ≡ 0 = marked_first p in
     let some = first_known p in
-    let told = told_by g.K.Keeper.told in
+    let told = told_by g.K.Storage in
     let stand_first = λ (stands : StandAt c.args.desk.now.work c.args.journal.now p 0 c.args.desk.now.store (told c.args.keepers.now.items)).
-    at_ok c.set_mark.result _ c.in_ok-set_mark.was (c.set_mark.ensures.stand c.args.desk.now.work c.args.journal.now stands (sym (ap (state_number c.args.desk.now.work c.args.journal.now) (marked_first p)))) in
+    at_ok c.set_mark.result _ c.in_ok-set_mark.was (c.set_mark.ensures.sets.stand c.args.desk.now.work c.args.journal.now stands (sym (ap (state_number c.args.desk.now.work c.args.journal.now) (marked_first p)))) in
     record {
-      set = done.set;
+      set = done.sets.set;
       stand = λ stands. stand_first stands;
-      kept = at_ok c.set_mark.result _ c.in_ok-set_mark.was (c.set_mark.ensures.kept c.args.desk.now.work c.args.journal.now (λ j lt. absurd (omega (arith, lt))) (sym (ap (state_number c.args.desk.now.work c.args.journal.now) (marked_first p))));
+      kept = at_ok c.set_mark.result _ c.in_ok-set_mark.was (c.set_mark.ensures.sets.kept c.args.desk.now.work c.args.journal.now (λ j lt. absurd (omega (arith, lt))) (sym (ap (state_number c.args.desk.now.work c.args.journal.now) (marked_first p))));
       work = c.set_mark.ensures.work ∙ sym (ap (state_number c.args.desk.now.work c.args.journal.now) first);
       fits = c.set_mark.ensures.fits;
       counted = omega (arith, first);
-      called = puts_more p 0 old old (calls_to g.K.Keeper.put_count g.K.Keeper.get_count g.K.Keeper.free_count c.set_mark.new.keepers.items) (puts_none p old) c.set_mark.ensures.called;
-      stay = c.set_mark.ensures.stay;
-      quiet = done.quiet;
+      called = puts_more p 0 old old (calls_to g.K.Storage c.set_mark.new.keepers.items) (puts_none p old) c.set_mark.ensures.puts.called;
+      are = are_ok g.K.Storage _ c.set_mark.result _ tt _ _ c.in_ok-set_mark.was c.set_mark.ensures.are;
       known = omega (arith, some);
       short = λ short. at_ok c.set_mark.result _ c.in_ok-set_mark.was (c.set_mark.ensures.short short);
-      rooms = c.set_mark.ensures.rooms;
     }
 
 pub loop-mark-preserved : goal.loop-mark-preserved
@@ -54,96 +52,105 @@ loop-mark-preserved g c =
     let so_far = c.loop-mark.invariant in
     let i = c.loop-mark.mark in
     let done = c.in_ok-set_next.ensures in
-    let told = told_by g.K.Keeper.told in
+    let told = told_by g.K.Storage in
     let some : 0 < i = omega arith in
     let work = next_state c.args.desk.now.work c.args.journal.now p i c.loop-mark.desk.work c.set_next.new.desk.work some so_far.work c.set_next.ensures.work in
     let here = same_mark p i in
     let step = one_less p i some in
     let below : i < mark_count p = omega (arith, c.number-mark-end.ensures) in
+    let T : ℕ → Type 0 = λ k. k < length p.slots in
     record {
-      set = done.set;
-      stand = λ stands. at_ok c.set_next.result _ c.in_ok-set_next.was (c.set_next.ensures.stand c.args.desk.now.work c.args.journal.now (so_far.stand stands) work);
-      kept = at_ok c.set_next.result _ c.in_ok-set_next.was (c.set_next.ensures.kept c.args.desk.now.work c.args.journal.now so_far.kept work);
+      set = done.sets.set;
+      stand = λ stands. at_ok c.set_next.result _ c.in_ok-set_next.was (c.set_next.ensures.sets.stand c.args.desk.now.work c.args.journal.now (so_far.stand stands) work);
+      kept = at_ok c.set_next.result _ c.in_ok-set_next.was (c.set_next.ensures.sets.kept c.args.desk.now.work c.args.journal.now so_far.kept work);
       work = work ∙ sym (ap (state_number c.args.desk.now.work c.args.journal.now) here);
       fits = c.set_next.ensures.fits;
       counted = omega (arith, so_far.counted, c.set_next.ensures.counted, step, here);
-      called = puts_more p i (calls_to g.K.Keeper.put_count g.K.Keeper.get_count g.K.Keeper.free_count c.args.keepers.now.items) (calls_to g.K.Keeper.put_count g.K.Keeper.get_count g.K.Keeper.free_count c.loop-mark.keepers.items) (calls_to g.K.Keeper.put_count g.K.Keeper.get_count g.K.Keeper.free_count c.set_next.new.keepers.items) so_far.called c.set_next.ensures.called;
-      stay = stay_then g.K.Keeper.slot_count g.K.Keeper.place g.K.Keeper.fault_count p c.args.keepers.now.items c.loop-mark.keepers.items c.set_next.new.keepers.items so_far.stay c.set_next.ensures.stay;
-      quiet = λ j. done.quiet j ∙ so_far.quiet j;
+      called = puts_more p i (calls_to g.K.Storage c.args.keepers.now.items) (calls_to g.K.Storage c.loop-mark.keepers.items) (calls_to g.K.Storage c.set_next.new.keepers.items) so_far.called c.set_next.ensures.puts.called;
+      are = are_after {B = Unit} g.K.Storage T (Ok tt) _ _ _ so_far.are (are_ok g.K.Storage T c.set_next.result _ tt _ _ c.in_ok-set_next.was c.set_next.ensures.are);
       known = omega (arith, below);
       short = λ short.
           let pages = same_room c.loop-mark.desk.work c.args.desk.now.work (ap (λ (s : MachineState). page_numbers s.memory) so_far.work ∙ state_number_keeps_pages c.args.desk.now.work c.args.journal.now (marked p (i - 1))) in
           let S : ℕ → Type 0 = λ most. AreShort most c.loop-mark.desk.store in
           let P : ℕ → Type 0 = λ most. AreShort most c.set_next.new.desk.store in
           subst P pages (at_ok c.set_next.result _ c.in_ok-set_next.was (c.set_next.ensures.short (subst S (sym pages) (so_far.short short))));
-      rooms = λ k. c.set_next.ensures.rooms k ∙ so_far.rooms k;
     }
 
-pub returns-in_err-set_mark-clause-counted_at_most : goal.returns-in_err-set_mark-clause-counted_at_most
-returns-in_err-set_mark-clause-counted_at_most g c = (omega arith, omega arith)
+pub returns-in_err-set_mark-clause-puts : goal.returns-in_err-set_mark-clause-puts
+returns-in_err-set_mark-clause-puts g c =
+    let p = c.args.marks.now in
+    let old = (calls_to g.K.Storage c.args.keepers.now.items) in
+    let some = first_known p in
+    let q = err_from_is_err_and c.from_residual.result c.from_residual.ensures.1 in
+    let P = IsOfPutting c.args.marks.now in
+    let calls = calls_to g.K.Storage in
+    let first = marked_first p in
+    record {
+      counted = ok_never _ c.from_residual.result q.0 q.1;
+      called = ok_never _ c.from_residual.result q.0 q.1;
+      counted_at_most = (omega arith, omega arith);
+      called_at_most = puts_within p 1 (mark_count p) old (calls_to g.K.Storage c.set_mark.new.keepers.items) (omega (arith, some)) (puts_more p 0 old old (calls_to g.K.Storage c.set_mark.new.keepers.items) (puts_none p old) c.set_mark.ensures.puts.called);
+      putting = err_at P c.from_residual.result q.0 q.1 (subst P (sym q.2) (IfErr-at_err P c.in_err-set_mark.was c.set_mark.ensures.puts.putting));
+      put_until = λ k e.
+          let old = calls c.args.keepers.now.items in
+          record {
+            mark = 0;
+            known = first_known p;
+            level_is = c.set_mark.ensures.puts.on_level k (same_fault c.set_mark.result c.from_residual.result _ _ (Keeper k) c.in_err-set_mark.was q.1 q.2 e);
+            counted = omega (arith, first);
+            called = puts_more p 0 old old (calls c.set_mark.new.keepers.items) (puts_none p old) c.set_mark.ensures.puts.called;
+          };
+    }
 
 pub returns-in_err-set_mark-clause-machine : goal.returns-in_err-set_mark-clause-machine
 returns-in_err-set_mark-clause-machine g c = ap (λ (s : MachineState). page_numbers s.memory) c.set_mark.ensures.work
 
-pub returns-in_err-set_mark-clause-called_at_most : goal.returns-in_err-set_mark-clause-called_at_most
-returns-in_err-set_mark-clause-called_at_most g c =
-    let p = c.args.marks.now in
-    let old = (calls_to g.K.Keeper.put_count g.K.Keeper.get_count g.K.Keeper.free_count c.args.keepers.now.items) in
-    let some = first_known p in
-    puts_within p 1 (mark_count p) old (calls_to g.K.Keeper.put_count g.K.Keeper.get_count g.K.Keeper.free_count c.set_mark.new.keepers.items) (omega (arith, some)) (puts_more p 0 old old (calls_to g.K.Keeper.put_count g.K.Keeper.get_count g.K.Keeper.free_count c.set_mark.new.keepers.items) (puts_none p old) c.set_mark.ensures.called)
-
-pub returns-in_err-set_mark-clause-cause : goal.returns-in_err-set_mark-clause-cause
-returns-in_err-set_mark-clause-cause g c =
+pub returns-in_err-set_mark-clause-are : goal.returns-in_err-set_mark-clause-are
+returns-in_err-set_mark-clause-are g c =
     let q = err_from_is_err_and c.from_residual.result c.from_residual.ensures.1 in
-    let H = HasCause g.K.Keeper.fault_count c.args.marks.now c.args.keepers.now.items c.set_mark.new.keepers.items in
-    err_at H c.from_residual.result q.0 q.1 (subst H (sym q.2) (IfErr-at_err H c.in_err-set_mark.was c.set_mark.ensures.cause))
-
-pub returns-in_err-set_mark-clause-putting : goal.returns-in_err-set_mark-clause-putting
-returns-in_err-set_mark-clause-putting g c =
-    let q = err_from_is_err_and c.from_residual.result c.from_residual.ensures.1 in
-    let P = IsOfPutting c.args.marks.now in
-    err_at P c.from_residual.result q.0 q.1 (subst P (sym q.2) (IfErr-at_err P c.in_err-set_mark.was c.set_mark.ensures.putting))
+    are_err g.K.Storage _ c.set_mark.result c.from_residual.result _ _ _ _ c.in_err-set_mark.was q.1 q.2 c.set_mark.ensures.are
 
 pub returns-in_err-set_next-clause-machine : goal.returns-in_err-set_next-clause-machine
 returns-in_err-set_next-clause-machine g c =
     ap (λ (s : MachineState). page_numbers s.memory) c.set_next.ensures.work ∙ state_number_keeps_pages c.loop-mark.desk.work c.args.journal.now (stride c.args.marks.now) ∙ ap (λ (s : MachineState). page_numbers s.memory) c.loop-mark.invariant.work ∙ state_number_keeps_pages c.args.desk.now.work c.args.journal.now (marked c.args.marks.now (c.loop-mark.mark - 1))
 
-pub returns-in_err-set_next-clause-counted_at_most : goal.returns-in_err-set_next-clause-counted_at_most
-returns-in_err-set_next-clause-counted_at_most g c =
+pub returns-in_err-set_next-clause-puts : goal.returns-in_err-set_next-clause-puts
+returns-in_err-set_next-clause-puts g c =
     let p = c.args.marks.now in
     let i = c.loop-mark.mark in
     let some : 0 < i = omega arith in
     let step = one_less p i some in
     let below : i < mark_count p = omega (arith, c.number-mark-end.ensures) in
     let last = marked_within p i (mark_count p - 1) (omega (arith, below)) in
-    (omega (arith, c.loop-mark.invariant.counted, c.set_next.ensures.counted), omega (arith, c.loop-mark.invariant.counted, c.set_next.ensures.counted, step, last))
-
-pub returns-in_err-set_next-clause-called_at_most : goal.returns-in_err-set_next-clause-called_at_most
-returns-in_err-set_next-clause-called_at_most g c =
-    let p = c.args.marks.now in
-    let i = c.loop-mark.mark in
-    let old = (calls_to g.K.Keeper.put_count g.K.Keeper.get_count g.K.Keeper.free_count c.args.keepers.now.items) in
-    let below : i < mark_count p = omega (arith, c.number-mark-end.ensures) in
-    puts_within p (i + 1) (mark_count p) old (calls_to g.K.Keeper.put_count g.K.Keeper.get_count g.K.Keeper.free_count c.set_next.new.keepers.items) (omega (arith, below)) (puts_more p i old (calls_to g.K.Keeper.put_count g.K.Keeper.get_count g.K.Keeper.free_count c.loop-mark.keepers.items) (calls_to g.K.Keeper.put_count g.K.Keeper.get_count g.K.Keeper.free_count c.set_next.new.keepers.items) c.loop-mark.invariant.called c.set_next.ensures.called)
-
-pub returns-in_err-set_next-clause-stay : goal.returns-in_err-set_next-clause-stay
-returns-in_err-set_next-clause-stay g c = stay_then g.K.Keeper.slot_count g.K.Keeper.place g.K.Keeper.fault_count c.args.marks.now c.args.keepers.now.items c.loop-mark.keepers.items c.set_next.new.keepers.items c.loop-mark.invariant.stay c.set_next.ensures.stay
-
-pub returns-in_err-set_next-clause-cause : goal.returns-in_err-set_next-clause-cause
-returns-in_err-set_next-clause-cause g c =
-    let q = err_from_is_err_and c.from_residual-in_err-set_next.result c.from_residual-in_err-set_next.ensures.1 in
-    let p = c.args.marks.now in
-    let f = g.K.Keeper.fault_count in
-    let H = HasCause f p c.loop-mark.keepers.items c.set_next.new.keepers.items in
-    let J = HasCause f p c.args.keepers.now.items c.set_next.new.keepers.items in
-    let cause = subst H (sym q.2) (IfErr-at_err H c.in_err-set_next.was c.set_next.ensures.cause) in
-    err_at J c.from_residual-in_err-set_next.result q.0 q.1 (cause_then f p c.args.keepers.now.items c.loop-mark.keepers.items c.set_next.new.keepers.items q.0 c.loop-mark.invariant.quiet cause)
-
-pub returns-in_err-set_next-clause-putting : goal.returns-in_err-set_next-clause-putting
-returns-in_err-set_next-clause-putting g c =
+    let old = (calls_to g.K.Storage c.args.keepers.now.items) in
     let q = err_from_is_err_and c.from_residual-in_err-set_next.result c.from_residual-in_err-set_next.ensures.1 in
     let P = IsOfPutting c.args.marks.now in
-    err_at P c.from_residual-in_err-set_next.result q.0 q.1 (subst P (sym q.2) (IfErr-at_err P c.in_err-set_next.was c.set_next.ensures.putting))
+    let calls = calls_to g.K.Storage in
+    record {
+      counted = ok_never _ c.from_residual-in_err-set_next.result q.0 q.1;
+      called = ok_never _ c.from_residual-in_err-set_next.result q.0 q.1;
+      counted_at_most = (omega (arith, c.loop-mark.invariant.counted, c.set_next.ensures.counted), omega (arith, c.loop-mark.invariant.counted, c.set_next.ensures.counted, step, last));
+      called_at_most = puts_within p (i + 1) (mark_count p) old (calls_to g.K.Storage c.set_next.new.keepers.items) (omega (arith, below)) (puts_more p i old (calls_to g.K.Storage c.loop-mark.keepers.items) (calls_to g.K.Storage c.set_next.new.keepers.items) c.loop-mark.invariant.called c.set_next.ensures.puts.called);
+      putting = err_at P c.from_residual-in_err-set_next.result q.0 q.1 (subst P (sym q.2) (IfErr-at_err P c.in_err-set_next.was c.set_next.ensures.puts.putting));
+      put_until = λ k e.
+          record {
+            mark = i;
+            known = omega (arith, c.number-mark-end.ensures);
+            level_is = c.set_next.ensures.puts.on_level k (same_fault c.set_next.result c.from_residual-in_err-set_next.result _ _ (Keeper k) c.in_err-set_next.was q.1 q.2 e);
+            counted = omega (arith, c.loop-mark.invariant.counted, c.set_next.ensures.counted, step);
+            called = puts_more p i (calls c.args.keepers.now.items) (calls c.loop-mark.keepers.items) (calls c.set_next.new.keepers.items) c.loop-mark.invariant.called c.set_next.ensures.puts.called;
+          };
+    }
+
+pub returns-in_err-set_next-clause-are : goal.returns-in_err-set_next-clause-are
+returns-in_err-set_next-clause-are g c =
+    let q = err_from_is_err_and c.from_residual-in_err-set_next.result c.from_residual-in_err-set_next.ensures.1 in
+    let T : ℕ → Type 0 = λ k. k < length c.args.marks.now.slots in
+    are_err g.K.Storage T c.set_next.result c.from_residual-in_err-set_next.result _ _ _ _ c.in_err-set_next.was q.1 q.2
+    (are_after g.K.Storage T c.set_next.result _ _ _ c.loop-mark.invariant.are c.set_next.ensures.are)
+
+pub returns-clause-are : goal.returns-clause-are
+returns-clause-are g c = c.loop-mark.invariant.are
 
 pub returns-clause-set : goal.returns-clause-set
 returns-clause-set g c =
@@ -153,7 +160,7 @@ returns-clause-set g c =
 pub returns-clause-stand : goal.returns-clause-stand
 returns-clause-stand g c stands =
     let all : c.loop-mark.mark ≡ mark_count c.args.marks.now = omega (arith, c.number-mark-end.ensures, c.loop-mark.invariant.known) in
-    subst (λ (i : ℕ). StandAt c.args.desk.now.work c.args.journal.now c.args.marks.now i c.loop-mark.desk.store (told_by g.K.Keeper.told c.loop-mark.keepers.items)) all (c.loop-mark.invariant.stand stands)
+    subst (λ (i : ℕ). StandAt c.args.desk.now.work c.args.journal.now c.args.marks.now i c.loop-mark.desk.store (told_by g.K.Storage c.loop-mark.keepers.items)) all (c.loop-mark.invariant.stand stands)
 
 pub returns-clause-kept : goal.returns-clause-kept
 returns-clause-kept g c =
@@ -163,28 +170,21 @@ returns-clause-kept g c =
 pub returns-clause-machine : goal.returns-clause-machine
 returns-clause-machine g c = ap (λ (s : MachineState). page_numbers s.memory) c.loop-mark.invariant.work ∙ state_number_keeps_pages c.args.desk.now.work c.args.journal.now (marked c.args.marks.now (c.loop-mark.mark - 1))
 
-pub returns-clause-counted : goal.returns-clause-counted
-returns-clause-counted g c =
+pub returns-clause-puts : goal.returns-clause-puts
+returns-clause-puts g c =
     let all : c.loop-mark.mark ≡ mark_count c.args.marks.now = omega (arith, c.number-mark-end.ensures, c.loop-mark.invariant.known) in
     let same = ap (λ (i : ℕ). marked c.args.marks.now (i - 1)) all in
-    omega (arith, c.loop-mark.invariant.counted, same)
-
-pub returns-clause-counted_at_most : goal.returns-clause-counted_at_most
-returns-clause-counted_at_most g c =
-    let all : c.loop-mark.mark ≡ mark_count c.args.marks.now = omega (arith, c.number-mark-end.ensures, c.loop-mark.invariant.known) in
-    let same = ap (λ (i : ℕ). marked c.args.marks.now (i - 1)) all in
-    (omega (arith, c.loop-mark.invariant.counted), omega (arith, c.loop-mark.invariant.counted, same))
-
-pub returns-clause-called : goal.returns-clause-called
-returns-clause-called g c =
-    let all : c.loop-mark.mark ≡ mark_count c.args.marks.now = omega (arith, c.number-mark-end.ensures, c.loop-mark.invariant.known) in
-    subst (λ (i : ℕ). Called (puts_of c.args.marks.now i) (calls_to g.K.Keeper.put_count g.K.Keeper.get_count g.K.Keeper.free_count c.args.keepers.now.items) (calls_to g.K.Keeper.put_count g.K.Keeper.get_count g.K.Keeper.free_count c.loop-mark.keepers.items)) all c.loop-mark.invariant.called
-
-pub returns-clause-called_at_most : goal.returns-clause-called_at_most
-returns-clause-called_at_most g c = puts_within c.args.marks.now c.loop-mark.mark (mark_count c.args.marks.now) (calls_to g.K.Keeper.put_count g.K.Keeper.get_count g.K.Keeper.free_count c.args.keepers.now.items) (calls_to g.K.Keeper.put_count g.K.Keeper.get_count g.K.Keeper.free_count c.loop-mark.keepers.items) c.loop-mark.invariant.known c.loop-mark.invariant.called
+    record {
+      counted = omega (arith, c.loop-mark.invariant.counted, same);
+      called = subst (λ (i : ℕ). Called (puts_of c.args.marks.now i) (calls_to g.K.Storage c.args.keepers.now.items) (calls_to g.K.Storage c.loop-mark.keepers.items)) all c.loop-mark.invariant.called;
+      counted_at_most = (omega (arith, c.loop-mark.invariant.counted), omega (arith, c.loop-mark.invariant.counted, same));
+      called_at_most = puts_within c.args.marks.now c.loop-mark.mark (mark_count c.args.marks.now) (calls_to g.K.Storage c.args.keepers.now.items) (calls_to g.K.Storage c.loop-mark.keepers.items) c.loop-mark.invariant.known c.loop-mark.invariant.called;
+      putting = tt;
+      put_until = λ k e. absurd cc;
+    }
 
 pub set_next-requires-clause-room : goal.set_next-requires-clause-room
-set_next-requires-clause-room g c = subst (HaveRoom (span c.args.marks.now) c.args.marks.now.slots) (sym c.loop-mark.invariant.stay.slots_same) c.requires.room
+set_next-requires-clause-room g c = subst (HaveRoom (span c.args.marks.now) c.args.marks.now.slots) (sym c.loop-mark.invariant.are.slots) c.requires.room
 
 pub returns-in_err-set_mark-clause-roomy : goal.returns-in_err-set_mark-clause-roomy
 returns-in_err-set_mark-clause-roomy g c has e =
@@ -197,39 +197,5 @@ returns-in_err-set_next-clause-roomy g c has e =
     let p = c.args.marks.now in
     let so_far = c.loop-mark.invariant in
     let pages = ap (λ (s : MachineState). page_numbers s.memory) so_far.work ∙ state_number_keeps_pages c.args.desk.now.work c.args.journal.now (marked p (c.loop-mark.mark - 1)) in
-    let here = still_roomy c.args.desk.now.work c.loop-mark.desk.work p.slots p.slots (rooms_by g.K.Keeper.room_bytes c.args.keepers.now.items) (rooms_by g.K.Keeper.room_bytes c.loop-mark.keepers.items) pages refl so_far.rooms has in
+    let here = still_roomy c.args.desk.now.work c.loop-mark.desk.work p.slots p.slots (rooms_by g.K.Storage c.args.keepers.now.items) (rooms_by g.K.Storage c.loop-mark.keepers.items) pages refl so_far.are.rooms has in
     c.set_next.ensures.roomy here (same_fault c.set_next.result c.from_residual-in_err-set_next.result _ _ Memory c.in_err-set_next.was q.1 q.2 e)
-
-pub returns-in_err-set_next-clause-rooms : goal.returns-in_err-set_next-clause-rooms
-returns-in_err-set_next-clause-rooms g c k = c.set_next.ensures.rooms k ∙ c.loop-mark.invariant.rooms k
-
-pub returns-in_err-set_mark-clause-put_until : goal.returns-in_err-set_mark-clause-put_until
-returns-in_err-set_mark-clause-put_until g c k e =
-    let p = c.args.marks.now in
-    let q = err_from_is_err_and c.from_residual.result c.from_residual.ensures.1 in
-    let calls = calls_to g.K.Keeper.put_count g.K.Keeper.get_count g.K.Keeper.free_count in
-    let old = calls c.args.keepers.now.items in
-    let first = marked_first p in
-    record {
-      mark = 0;
-      known = first_known p;
-      level_is = c.set_mark.ensures.on_level k (same_fault c.set_mark.result c.from_residual.result _ _ (Keeper k) c.in_err-set_mark.was q.1 q.2 e);
-      counted = omega (arith, first);
-      called = puts_more p 0 old old (calls c.set_mark.new.keepers.items) (puts_none p old) c.set_mark.ensures.called;
-    }
-
-pub returns-in_err-set_next-clause-put_until : goal.returns-in_err-set_next-clause-put_until
-returns-in_err-set_next-clause-put_until g c k e =
-    let p = c.args.marks.now in
-    let i = c.loop-mark.mark in
-    let q = err_from_is_err_and c.from_residual-in_err-set_next.result c.from_residual-in_err-set_next.ensures.1 in
-    let calls = calls_to g.K.Keeper.put_count g.K.Keeper.get_count g.K.Keeper.free_count in
-    let some : 0 < i = omega arith in
-    let step = one_less p i some in
-    record {
-      mark = i;
-      known = omega (arith, c.number-mark-end.ensures);
-      level_is = c.set_next.ensures.on_level k (same_fault c.set_next.result c.from_residual-in_err-set_next.result _ _ (Keeper k) c.in_err-set_next.was q.1 q.2 e);
-      counted = omega (arith, c.loop-mark.invariant.counted, c.set_next.ensures.counted, step);
-      called = puts_more p i (calls c.args.keepers.now.items) (calls c.loop-mark.keepers.items) (calls c.set_next.new.keepers.items) c.loop-mark.invariant.called c.set_next.ensures.called;
-    }

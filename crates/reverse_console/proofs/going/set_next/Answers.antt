@@ -16,14 +16,14 @@ set_mark-requires-clause-fits g c =
     let same = ap vec_capacity c.advance.ensures.buffer in
     fits_on c.args.desk.now c.advance.new.self (sym c.advance.ensures.pages) (omega (arith, same)) c.requires.fits
 
-pub returns-clause-stand : goal.returns-clause-stand
-returns-clause-stand g c first journal stands work =
-    let told = told_by g.K.Keeper.told c.args.keepers.now.items in
-    c.set_mark.ensures.stand first journal (subst (λ s. StandAt first journal c.args.marks.now c.args.mark s told) (sym c.advance.ensures.store) stands) (sym c.set_mark.ensures.work ∙ work)
-
-pub returns-clause-kept : goal.returns-clause-kept
-returns-clause-kept g c first journal kept work =
-    c.set_mark.ensures.kept first journal (subst (λ s. AreKept first journal c.args.marks.now c.args.mark s) (sym c.advance.ensures.store) kept) (sym c.set_mark.ensures.work ∙ work)
+pub returns-clause-sets : goal.returns-clause-sets
+returns-clause-sets g c =
+    let told = told_by g.K.Storage c.args.keepers.now.items in
+    record {
+      set = c.set_mark.ensures.sets.set;
+      stand = λ first journal stands work. c.set_mark.ensures.sets.stand first journal (subst (λ s. StandAt first journal c.args.marks.now c.args.mark s told) (sym c.advance.ensures.store) stands) (sym c.set_mark.ensures.work ∙ work);
+      kept = λ first journal kept work. c.set_mark.ensures.sets.kept first journal (subst (λ s. AreKept first journal c.args.marks.now c.args.mark s) (sym c.advance.ensures.store) kept) (sym c.set_mark.ensures.work ∙ work);
+    }
 
 pub returns-clause-work : goal.returns-clause-work
 returns-clause-work g c =
@@ -40,5 +40,5 @@ returns-clause-short g c short =
 pub returns-clause-roomy : goal.returns-clause-roomy
 returns-clause-roomy g c has =
     let p = c.args.marks.now in
-    let rooms = rooms_by g.K.Keeper.room_bytes c.args.keepers.now.items in
+    let rooms = rooms_by g.K.Storage c.args.keepers.now.items in
     c.set_mark.ensures.roomy (still_roomy c.args.desk.now.work c.advance.new.self.work p.slots p.slots rooms rooms (sym c.advance.ensures.pages) refl (λ k. refl) has)

@@ -1,9 +1,10 @@
 use Rattle.std.proofs.Common.{[], length, sym, ap, subst, ◌∙◌, arith}
-use Rattle.reverse_console.specs.declared.fault.ScriptFault.{ScriptFault}
-use Rattle.action_text.specs.ScheduleText.{lines}
-use Rattle.reverse_console.specs.ScriptReading.{orders_from, Fails, script_of}
+use Rattle.line_texts.specs.declared.fault.Fault.{Fault}
+use Rattle.line_texts.specs.Lines.{lines}
+use Rattle.reverse_console.specs.ScriptReading.{orders_from, script_of}
+use Rattle.line_texts.specs.Reading.{Fails}
 use Rattle.reverse_console.proofs.ScriptWhole.{step_ok, step_err, step_end, one_more_order}
-use Rattle.action_text.proofs.ManyLines.{lines_few}
+use Rattle.line_texts.proofs.Seen.{lines_few}
 use Rattle.reverse_console.proofs.reading.read_lines.Goals as goal
 
 pub overflow_add-number : goal.overflow_add-number
@@ -12,7 +13,7 @@ overflow_add-number c = omega (arith, ap length c.in-Some.ensures.value, c.lines
 pub returns-in-Err-clause-read : goal.returns-in-Err-clause-read
 unfolding script_of
 returns-in-Err-clause-read c =
-    subst (λ (e : ScriptFault). Fails e (orders_from c.args.count [] 1 (lines c.args.bytes.now))) (sym c.at.ensures)
+    subst (λ (e : Fault). Fails e (orders_from c.args.count [] 1 (lines c.args.bytes.now))) (sym c.at.ensures)
     (sym c.lines.invariant.read ∙ step_err c.args.count c.lines.orders.items c.lines.number c.in-Some.text.now c.next.new.self c.lines.lines c.in-Err.fault c.in-Some.ensures.value c.in-Err.ensures)
 
 pub lines-preserved : goal.lines-preserved

@@ -1,5 +1,5 @@
 use Rattle.std.proofs.Common.{◌≡◌, ◌+◌, ◌≤◌, [], length}
-use Rattle.action_text.specs.ScheduleText.{lines}
+use Rattle.line_texts.specs.Lines.{lines}
 use Rattle.reverse_console.specs.ScriptReading.{orders_from}
 use Rattle.reverse_console.proofs.reading.read_lines.Given as goal
 

@@ -27,14 +27,14 @@ returns-in_err-recall-clause-looks g c =
     let p = c.args.marks.now in
     let i = mark_of p c.args.place in
     let q = err_from_is_err_and c.from_residual.result c.from_residual.ensures.1 in
-    let src = source p c.args.journal.now c.args.desk.now (told_by g.K.Keeper.told c.args.keepers.now.items) in
+    let src = source p c.args.journal.now c.args.desk.now (told_by g.K.Storage c.args.keepers.now.items) in
     let R : ℕ → Type 0 = λ m. IfErr c.recall.result (IsNotGot src m) in
     let missed = subst R c.of-mark.ensures c.recall.ensures.not_got in
     let E : RunFault → Type 0 = λ fault. (mark : ℕ) × (BreaksOn p c.args.place mark (asking i) × IsNotGot src mark fault) in
     record {
       effort = asking i;
-      got = gets_as g.K.Keeper.told g.K.Keeper.put_count g.K.Keeper.get_count g.K.Keeper.free_count g.K.Keeper.slot_count g.K.Keeper.place g.K.Keeper.fault_count g.K.Keeper.room_bytes p c.args.journal.now (c.of-mark.result ∷ []) (i ∷ []) c.from_residual.result c.args.desk.now c.recall.new.desk c.args.keepers.now.items c.recall.new.keepers.items (ap (λ (m : ℕ). m ∷ []) c.of-mark.ensures)
-          (gets_err g.K.Keeper.told g.K.Keeper.put_count g.K.Keeper.get_count g.K.Keeper.free_count g.K.Keeper.slot_count g.K.Keeper.place g.K.Keeper.fault_count g.K.Keeper.room_bytes p c.args.journal.now (c.of-mark.result ∷ []) c.recall.result c.from_residual.result _ _ c.args.desk.now c.recall.new.desk c.args.keepers.now.items c.recall.new.keepers.items c.in_err-recall.was q.1 q.2 c.recall.ensures.gets);
+      got = gets_as g.K.Storage p c.args.journal.now (c.of-mark.result ∷ []) (i ∷ []) c.from_residual.result c.args.desk.now c.recall.new.desk c.args.keepers.now.items c.recall.new.keepers.items (ap (λ (m : ℕ). m ∷ []) c.of-mark.ensures)
+          (gets_err g.K.Storage p c.args.journal.now (c.of-mark.result ∷ []) c.recall.result c.from_residual.result _ _ c.args.desk.now c.recall.new.desk c.args.keepers.now.items c.recall.new.keepers.items c.in_err-recall.was q.1 q.2 c.recall.ensures.gets);
       counted = omega arith;
       done = never_done (λ answer. asking i ≡ looking_on p c.args.place answer) c.from_residual.result q.0 q.1;
       broken = err_at E c.from_residual.result q.0 q.1
@@ -51,7 +51,7 @@ returns-clause-seen g c =
     let low = mark_at_most p c.args.place in
     let at = ap (marked p) c.of-mark.ensures in
     let le : c.marked.result ≤ c.args.place = omega (arith, c.marked.ensures, at, low) in
-    let src = source p j w (told_by g.K.Keeper.told old) in
+    let src = source p j w (told_by g.K.Storage old) in
     let comes = went src c.of-mark.result (mark_of p c.args.place) c.args.place c.marked.result v1.work c.advance.new.self.work c.of-mark.ensures c.marked.ensures le c.in_ok-recall.ensures.comes c.advance.ensures.work in
     let P : ℕ → Type 0 = λ last. IsFirst (λ n. HasPc c.args.address (state_number c.advance.new.self.work j (n - c.args.place))) c.args.place last c.seek_first.result in
     first_on src c.args.address (mark_of p c.args.place) c.args.place p.count c.advance.new.self.work c.seek_first.result comes (subst P c.steps.ensures.value c.seek_first.ensures.first)
@@ -77,9 +77,9 @@ returns-clause-looks g c =
     let behind = first_behind (λ n. HasPc c.args.address (state_number c.advance.new.self.work j (n - c.args.place))) c.args.place p.count c.seek_first.result c.requires.before_end (subst P c.steps.ensures.value c.seek_first.ensures.first) in
     record {
       effort = record { marks = i ∷ []; steps = end - marked p i };
-      got = gets_as g.K.Keeper.told g.K.Keeper.put_count g.K.Keeper.get_count g.K.Keeper.free_count g.K.Keeper.slot_count g.K.Keeper.place g.K.Keeper.fault_count g.K.Keeper.room_bytes p j (c.of-mark.result ∷ []) (i ∷ []) (Ok c.seek_first.result) w w2 old c.recall.new.keepers.items (ap (λ (m : ℕ). m ∷ []) c.of-mark.ensures)
-          (gets_moved g.K.Keeper.told g.K.Keeper.put_count g.K.Keeper.get_count g.K.Keeper.free_count g.K.Keeper.slot_count g.K.Keeper.place g.K.Keeper.fault_count g.K.Keeper.room_bytes p j (c.of-mark.result ∷ []) (Ok c.seek_first.result) w v1 w2 old c.recall.new.keepers.items pages c.advance.ensures.store fits
-          (gets_ok g.K.Keeper.told g.K.Keeper.put_count g.K.Keeper.get_count g.K.Keeper.free_count g.K.Keeper.slot_count g.K.Keeper.place g.K.Keeper.fault_count g.K.Keeper.room_bytes p j (c.of-mark.result ∷ []) c.recall.result _ c.seek_first.result w v1 old c.recall.new.keepers.items c.in_ok-recall.was c.recall.ensures.gets));
+      got = gets_as g.K.Storage p j (c.of-mark.result ∷ []) (i ∷ []) (Ok c.seek_first.result) w w2 old c.recall.new.keepers.items (ap (λ (m : ℕ). m ∷ []) c.of-mark.ensures)
+          (gets_moved g.K.Storage p j (c.of-mark.result ∷ []) (Ok c.seek_first.result) w v1 w2 old c.recall.new.keepers.items pages c.advance.ensures.store fits
+          (gets_ok g.K.Storage p j (c.of-mark.result ∷ []) c.recall.result _ c.seek_first.result w v1 old c.recall.new.keepers.items c.in_ok-recall.was c.recall.ensures.gets));
       counted = omega (arith, counted, behind, c.advance.ensures.counted, c.marked.ensures, at, low);
       done = looked_on p c.args.place c.seek_first.result c.requires.before_end;
       broken = tt;

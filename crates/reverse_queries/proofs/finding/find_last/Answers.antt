@@ -1,4 +1,4 @@
-use Rattle.std.proofs.Common.{◌≡◌, ◌∙◌, ℕ, ◌*◌, ◌<◌, List, length, take, slice_get, slice_index_or, Some, Err, true≢false, refl, sym, ap, subst, arith}
+use Rattle.std.proofs.Common.{◌≡◌, ◌∙◌, ℕ, ◌*◌, ◌<◌, List, length, take, slice_get, slice_index_or, Some, Ok, Err, true≢false, refl, sym, ap, subst, arith}
 use Rattle.std.proofs.lemmas.Option.{slice_get-get_or}
 use Rattle.std.proofs.lemmas.Result.{err_from_is_err_and}
 use Rattle.plan_types.specs.declared.action.Action.{Action}
@@ -6,11 +6,10 @@ use Rattle.plan_types.specs.declared.action.Action.TheVariants.{Forward}
 use Rattle.plan_types.specs.declared.action.Keep.TheVariants.{Nothing}
 use Rattle.level_book.specs.declared.book.Slots.{Slots}
 use Rattle.level_book.specs.Configuration.{Configuration, start}
-use Rattle.keepers.specs.Counts.{Rose}
 use Rattle.schedule_rules.specs.Situation.{Situation}
 use Rattle.reverse_runner.specs.declared.fault.RunFault.{RunFault}
-use Rattle.reverse_runner.specs.declared.fault.RunFault.TheVariants.{Keeper, Damaged, Visitor, Ended, Memory}
-use Rattle.reverse_runner.specs.KeepersSeen.{calls_to, by_number, told_by}
+use Rattle.reverse_runner.specs.declared.fault.RunFault.TheVariants.{Damaged, Visitor, Ended, Memory}
+use Rattle.reverse_runner.specs.KeepersSeen.{calls_to, told_by}
 use Rattle.reverse_queries.specs.Asked.{Performed}
 use Rattle.reverse_queries.specs.Queries.{IsLast, up_to}
 use Rattle.reverse_queries.specs.Finding.{DoesWhatIsAsked, Got}
@@ -23,10 +22,12 @@ use Rattle.reverse_queries.proofs.Going.{gone_start, going_on, found_on, got_eve
 use Rattle.reverse_queries.proofs.Looking.{found_none}
 use Rattle.reverse_queries.proofs.Running.{ran_at}
 use Rattle.reverse_queries.proofs.Turning.{hands_of, left_before, left_at_start, left_at_end}
-use Rattle.reverse_queries.proofs.Ways.{way_start, way_on, may_perform, has_room, refused_in, at_end, goes_from, past_levels, same_fault, not_both, acts_there, gets_there, run_has, ok_spared, ok_kept}
+use Rattle.reverse_queries.proofs.Ways.{way_start, way_on, may_perform, has_room, refused_in, at_end, goes_from, below_levels, same_fault, acts_there, gets_there, run_has, ok_spared}
 use Rattle.reverse_queries.proofs.Fitting.{fault_fits, if_err_at}
 use Rattle.reverse_runner.specs.Rooms.{rooms_by}
 use Rattle.reverse_runner.proofs.Rooms.{still_roomy}
+use Rattle.reverse_runner.proofs.Caused.{no_keeper}
+use Rattle.reverse_runner.proofs.Touched.{are_ok, are_err, are_then, are_wider}
 use Rattle.reverse_queries.proofs.finding.find_last.Goals as goal
 
 -- the action at a place of the list
@@ -45,11 +46,10 @@ pub loop-action-init : goal.loop-action-init
 loop-action-init g c =
     let old = c.args.session.now in
     let finder = c.new-finder.ensures in
-    let at = c.requires.start in
+    let at = c.requires.awaits.start in
     let all = left_at_start old.unit old.situation.steps old.situation.slots old.situation.at at in
     record {
-      rooms = λ k. refl;
-      way = way_start _ _ _ _ _ _ _ c.args.list.now c.args.session.now c.args.keepers.now.items c.args.steps.now at c.requires.lasts;
+      way = way_start _ c.args.list.now c.args.session.now c.args.keepers.now.items c.args.steps.now at c.requires.awaits.lasts;
       asked = record {
         question_is = finder.question;
         word_is = finder.word;
@@ -57,7 +57,7 @@ loop-action-init g c =
         unanswered = finder.answer;
       };
       going = record {
-        gone = gone_start old.unit old.situation.steps old.journal c.args.list.now (holdings_of old (told_by g.K.Keeper.told c.args.keepers.now.items)) old.situation.at;
+        gone = gone_start old.unit old.situation.steps old.journal c.args.list.now (holdings_of old (told_by g.K.Storage c.args.keepers.now.items)) old.situation.at;
         unfound = λ states have. record {
           none = λ m from lt does. absurd (omega (arith, from, lt, all));
           later = λ le. absurd (omega (arith, le, all));
@@ -77,7 +77,7 @@ perform-requires-clause-allowed g c lasts =
     let a = slice_index_or list i (Forward 0 0 Nothing) in
     let within : i < length list = omega arith in
     let at = at_place list i within in
-    may_perform _ _ _ _ _ _ _ list i old mid _ _ _ _ a c.requires.start c.requires.valid at so_far.way
+    may_perform _ list i old mid _ _ _ _ a c.requires.awaits.start c.requires.awaits.valid at so_far.way
 
 pub perform-requires-clause-room : goal.perform-requires-clause-room
 perform-requires-clause-room g c lasts =
@@ -89,7 +89,7 @@ perform-requires-clause-room g c lasts =
     let a = slice_index_or list i (Forward 0 0 Nothing) in
     let within : i < length list = omega arith in
     let at = at_place list i within in
-    has_room _ _ _ _ _ _ _ list i old mid _ _ _ _ c.requires.room so_far.way
+    has_room _ list i old mid _ _ _ _ c.requires.room so_far.way
 
 pub returns-in_err-perform-clause-refused : goal.returns-in_err-perform-clause-refused
 returns-in_err-perform-clause-refused g c =
@@ -104,18 +104,18 @@ returns-in_err-perform-clause-refused g c =
     let p = err_from_is_err_and c.from_residual.result c.from_residual.ensures.1 in
     let is = same_fault c.perform.result c.from_residual.result _ _ p.0 c.in_err-perform.was p.1 p.2 p.1 in
     let fits = fault_fits (λ action held. ⊥) a _ c.perform.result p.0 is c.perform.ensures.caused.named c.perform.ensures.caused.damaged c.perform.ensures.caused.wants
-    (λ e. (let rose = c.perform.ensures.seen.cause e in absurd (omega (arith, rose))))
+    (λ e. (let rose = c.perform.ensures.seen.faults.cause e in absurd (omega (arith, rose))))
     (λ e. true≢false (sym (c.perform.ensures.ended.0 e) ∙ so_far.way.performs.lasts)) in
-    let leaves = c.in_err-perform.ensures.leaves so_far.way.performs.lasts in
+    let leaves = (c.in_err-perform.ensures.does so_far.way.performs.lasts).leaves in
     if_err_at _ c.from_residual.result p.0 p.1
-    (refused_in _ _ _ _ _ _ _ list list i old mid c.perform.new.self _ _ c.perform.new.keepers.items _ _ _ a (λ action held. ⊥) p.0 at refl refl within so_far.way so_far.going.gone
-    c.in_err-perform.ensures.refused leaves.uncounted leaves.called_at_most fits)
+    (refused_in _ list list i old mid c.perform.new.self _ _ c.perform.new.keepers.items _ _ _ a (λ action held. ⊥) p.0 at refl refl within so_far.way so_far.going.gone
+    c.in_err-perform.ensures.session.refused leaves.uncounted leaves.called_at_most fits)
 
 pub returns-in_err-perform-clause-not_visitor : goal.returns-in_err-perform-clause-not_visitor
 returns-in_err-perform-clause-not_visitor g c e =
     let p = err_from_is_err_and c.from_residual.result c.from_residual.ensures.1 in
     let same = same_fault c.perform.result c.from_residual.result _ _ Visitor c.in_err-perform.was p.1 p.2 e in
-    let rose = c.perform.ensures.seen.cause same in
+    let rose = c.perform.ensures.seen.faults.cause same in
     absurd (omega (arith, rose))
 
 pub returns-in_err-perform-clause-spared : goal.returns-in_err-perform-clause-spared
@@ -123,14 +123,14 @@ returns-in_err-perform-clause-spared g c =
     let way = c.loop-action.invariant.way in
     let old = c.args.session.now in
     let mid = c.loop-action.session in
-    let rooms = rooms_by g.K.Keeper.room_bytes in
+    let rooms = rooms_by g.K.Storage in
     let p = err_from_is_err_and c.from_residual.result c.from_residual.ensures.1 in
     let same : (f : RunFault) → c.from_residual.result ≡ Err f → c.perform.result ≡ Err f = λ f e. same_fault c.perform.result c.from_residual.result _ _ f c.in_err-perform.was p.1 p.2 e in
     record {
       not_ended = λ e. true≢false (sym (c.perform.ensures.ended.0 (same Ended e)) ∙ way.performs.lasts);
       roomy = λ roomy e.
           c.perform.ensures.spared.roomy
-          (still_roomy old.work mid.work old.situation.slots mid.situation.slots (rooms c.args.keepers.now.items) (rooms c.loop-action.keepers.items) way.pages way.performs.slots c.loop-action.invariant.rooms roomy) (same Memory e);
+          (still_roomy old.work mid.work old.situation.slots mid.situation.slots (rooms c.args.keepers.now.items) (rooms c.loop-action.keepers.items) way.pages way.performs.slots way.are.rooms roomy) (same Memory e);
       undamaged = λ first is stands k put got e. c.perform.ensures.spared.undamaged first is (way.stands first is stands) k put got (same (Damaged k put got) e);
     }
 
@@ -144,20 +144,11 @@ returns-in_err-perform-clause-kept g c =
     let a = slice_index_or list i (Forward 0 0 Nothing) in
     let within : i < length list = omega arith in
     let at = at_place list i within in
-    let rule_is = may_perform _ _ _ _ _ _ _ list i old mid _ _ _ _ a c.requires.start c.requires.valid at so_far.way in
+    let rule_is = may_perform _ list i old mid _ _ _ _ a c.requires.awaits.start c.requires.awaits.valid at so_far.way in
     let p = err_from_is_err_and c.from_residual.result c.from_residual.ensures.1 in
-    record {
-      keeper_cause = λ k e.
-          (let same = same_fault c.perform.result c.from_residual.result _ _ (Keeper k) c.in_err-perform.was p.1 p.2 e in
-          let Q : ℕ → Type 0 = λ n. Rose n (by_number 0 g.K.Keeper.fault_count c.perform.new.keepers.items k) in
-          subst Q (so_far.way.quiet k) (c.perform.ensures.kept.keeper_cause k same));
-      keepers_quiet = λ j never.
-          c.perform.ensures.kept.keepers_quiet j (λ e. never (same_fault c.from_residual.result c.perform.result _ _ (Keeper j) p.1 c.in_err-perform.was (sym p.2) e)) ∙ so_far.way.quiet j;
-      keepers_later = λ k. (let quiet = so_far.way.quiet k in let later = c.perform.ensures.kept.keepers_later k in omega (arith, quiet, later));
-      slots = c.perform.ensures.kept.slots ∙ so_far.way.room;
-      places = c.perform.ensures.kept.places ∙ so_far.way.places_same;
-      others = λ k past. c.perform.ensures.kept.others k (past_levels old mid (take i list) a k so_far.way.performs rule_is past) ∙ so_far.way.others k past;
-    }
+    let T : ℕ → Type 0 = λ k. k < length old.situation.slots in
+    let wide = are_wider g.K.Storage _ T c.perform.result _ _ (below_levels old mid (take i list) a so_far.way.performs rule_is) c.perform.ensures.kept in
+    are_err g.K.Storage T c.perform.result c.from_residual.result _ _ _ _ c.in_err-perform.was p.1 p.2 (are_then g.K.Storage T (Ok tt) c.perform.result _ _ _ (λ k. no_keeper (Ok tt) tt k refl) so_far.way.are wide)
 
 pub returns-in-Some-clause-answer : goal.returns-in-Some-clause-answer
 returns-in-Some-clause-answer g c first is stands =
@@ -174,13 +165,13 @@ returns-in-Some-clause-answer g c first is stands =
     let unit = old.unit in
     let steps = old.situation.steps in
     let slots = old.situation.slots in
-    let goes = goes_from old mid new (take i list) a so_far.way.performs done.performs in
-    let held = holdings_of mid (told_by g.K.Keeper.told c.loop-action.keepers.items) in
-    let gets = gets_there Got old mid (take i list) a (states_out a mid.work mid.tape.states) c.loop-action.finder c.perform.new.visitor so_far.way.performs done.gets in
+    let goes = goes_from old mid new (take i list) a so_far.way.performs done.session.performs in
+    let held = holdings_of mid (told_by g.K.Storage c.loop-action.keepers.items) in
+    let gets = gets_there Got old mid (take i list) a (states_out a mid.work mid.tape.states) c.loop-action.finder c.perform.new.visitor so_far.way.performs done.hands.gets in
     let ran = ran_at c.args.question c.args.word unit steps slots old.journal mid.situation.at a new.situation.at held c.loop-action.finder c.perform.new.visitor goes so_far.way.turns so_far.asked gets in
     let ends = ran.answered c.in-Some.place c.in-Some.is in
     let states = state_number first old.journal in
-    let has = run_has first old mid (told_by g.K.Keeper.told c.loop-action.keepers.items) (take i list) a new.situation.at c.requires.start so_far.way.performs goes (so_far.way.stands first is stands) in
+    let has = run_has first old mid (told_by g.K.Storage c.loop-action.keepers.items) (take i list) a new.situation.at c.requires.awaits.start so_far.way.performs goes (so_far.way.stands first is stands) in
     ends.2 states has (so_far.going.unfound states (so_far.going.of_run first (is, stands)))
 
 pub returns-in-Some-clause-found : goal.returns-in-Some-clause-found
@@ -198,14 +189,14 @@ returns-in-Some-clause-found g c =
     let unit = old.unit in
     let steps = old.situation.steps in
     let slots = old.situation.slots in
-    let goes = goes_from old mid new (take i list) a so_far.way.performs done.performs in
-    let held = holdings_of mid (told_by g.K.Keeper.told c.loop-action.keepers.items) in
-    let gets = gets_there Got old mid (take i list) a (states_out a mid.work mid.tape.states) c.loop-action.finder c.perform.new.visitor so_far.way.performs done.gets in
+    let goes = goes_from old mid new (take i list) a so_far.way.performs done.session.performs in
+    let held = holdings_of mid (told_by g.K.Storage c.loop-action.keepers.items) in
+    let gets = gets_there Got old mid (take i list) a (states_out a mid.work mid.tape.states) c.loop-action.finder c.perform.new.visitor so_far.way.performs done.hands.gets in
     let ran = ran_at c.args.question c.args.word unit steps slots old.journal mid.situation.at a new.situation.at held c.loop-action.finder c.perform.new.visitor goes so_far.way.turns so_far.asked gets in
     let ends = ran.answered c.in-Some.place c.in-Some.is in
     let front = front_ends unit steps c.in-Some.place list i a at ends.0 (so_far.front c.in-Some.place ends.1) in
-    let told = told_by g.K.Keeper.told in
-    let acts = acts_there old mid (take i list) a _ _ so_far.way.performs done.acted.acts in
+    let told = told_by g.K.Storage in
+    let acts = acts_there old mid (take i list) a _ _ so_far.way.performs (done.does so_far.way.performs.lasts).acted.acts in
     let even = got_even Got old.journal unit steps a held c.loop-action.finder c.perform.new.visitor gets in
     found_on (λ states. IsLast (DoesWhatIsAsked c.args.question old.journal c.args.word states) (unit * steps) (Some c.in-Some.place)) unit steps slots old.journal list (up_to unit steps (Some c.in-Some.place) list) i
     (holdings_of old (told c.args.keepers.now.items)) held (holdings_of new (told c.perform.new.keepers.items)) mid.situation.at a new.situation.at (omega (arith, within)) front goes so_far.way.turns at acts even so_far.going.gone
@@ -226,25 +217,22 @@ returns-in-Some-clause-performed g c =
     let unit = old.unit in
     let steps = old.situation.steps in
     let slots = old.situation.slots in
-    let goes = goes_from old mid new (take i list) a so_far.way.performs done.performs in
-    let held = holdings_of mid (told_by g.K.Keeper.told c.loop-action.keepers.items) in
-    let gets = gets_there Got old mid (take i list) a (states_out a mid.work mid.tape.states) c.loop-action.finder c.perform.new.visitor so_far.way.performs done.gets in
+    let goes = goes_from old mid new (take i list) a so_far.way.performs done.session.performs in
+    let held = holdings_of mid (told_by g.K.Storage c.loop-action.keepers.items) in
+    let gets = gets_there Got old mid (take i list) a (states_out a mid.work mid.tape.states) c.loop-action.finder c.perform.new.visitor so_far.way.performs done.hands.gets in
     let ran = ran_at c.args.question c.args.word unit steps slots old.journal mid.situation.at a new.situation.at held c.loop-action.finder c.perform.new.visitor goes so_far.way.turns so_far.asked gets in
     let ends = ran.answered c.in-Some.place c.in-Some.is in
     let front = front_ends unit steps c.in-Some.place list i a at ends.0 (so_far.front c.in-Some.place ends.1) in
-    let on = way_on _ _ _ _ _ _ _ list i old mid new _ _ c.perform.new.keepers.items _ _ _ a c.requires.start at so_far.way (record {
-      performs = done.performs;
-      acts = done.acted.acts;
-      counted = done.acted.counted;
-      called = done.acted.called;
-      room = c.perform.ensures.kept.slots;
-      places_same = c.perform.ensures.kept.places;
-      quiet = λ j. c.perform.ensures.kept.keepers_quiet j (λ e. not_both c.perform.result _ (Keeper j) c.in_ok-perform.was e);
-      others = c.perform.ensures.kept.others;
+    let on = way_on _ list i old mid new _ _ c.perform.new.keepers.items _ _ _ a c.requires.awaits.start at so_far.way (record {
+      performs = done.session.performs;
+      acts = (done.does so_far.way.performs.lasts).acted.acts;
+      counted = (done.does so_far.way.performs.lasts).acted.counted;
+      called = (done.does so_far.way.performs.lasts).acted.called;
+      are = are_ok g.K.Storage _ c.perform.result _ tt _ _ c.in_ok-perform.was c.perform.ensures.kept;
       stands = done.stays.stands;
       alone = done.stays.alone;
     }) in
-    let calls = calls_to g.K.Keeper.put_count g.K.Keeper.get_count g.K.Keeper.free_count in
+    let calls = calls_to g.K.Storage in
     let P : List Action → Type 0 = λ l. Performed old l new c.args.steps.now c.perform.new.steps (calls c.args.keepers.now.items) (calls c.perform.new.keepers.items) in
     subst P (sym front) (record { performs = on.performs; counted = on.counted; called = on.called })
 
@@ -267,10 +255,10 @@ returns-in-Some-clause-kept g c =
     let a = slice_index_or list i (Forward 0 0 Nothing) in
     let within : i < length list = omega arith in
     let at = at_place list i within in
-    let rule_is = may_perform _ _ _ _ _ _ _ list i old mid _ _ _ _ a c.requires.start c.requires.valid at so_far.way in
-    let quiet = λ (j : ℕ). c.perform.ensures.kept.keepers_quiet j (λ e. not_both c.perform.result _ (Keeper j) c.in_ok-perform.was e) in
-    ok_kept _ _ _ _ _ _ _ (λ j. quiet j ∙ so_far.way.quiet j) (c.perform.ensures.kept.slots ∙ so_far.way.room) (c.perform.ensures.kept.places ∙ so_far.way.places_same)
-    (λ k past. c.perform.ensures.kept.others k (past_levels old mid (take i list) a k so_far.way.performs rule_is past) ∙ so_far.way.others k past)
+    let rule_is = may_perform _ list i old mid _ _ _ _ a c.requires.awaits.start c.requires.awaits.valid at so_far.way in
+    let T : ℕ → Type 0 = λ k. k < length old.situation.slots in
+    let wide = are_wider g.K.Storage _ T c.perform.result _ _ (below_levels old mid (take i list) a so_far.way.performs rule_is) c.perform.ensures.kept in
+    are_ok g.K.Storage T c.perform.result _ _ _ _ c.in_ok-perform.was (are_then g.K.Storage T (Ok tt) c.perform.result _ _ _ (λ k. no_keeper (Ok tt) tt k refl) so_far.way.are wide)
 
 pub loop-action-preserved : goal.loop-action-preserved
 loop-action-preserved g c =
@@ -287,34 +275,30 @@ loop-action-preserved g c =
     let unit = old.unit in
     let steps = old.situation.steps in
     let slots = old.situation.slots in
-    let goes = goes_from old mid new (take i list) a so_far.way.performs done.performs in
-    let held = holdings_of mid (told_by g.K.Keeper.told c.loop-action.keepers.items) in
-    let gets = gets_there Got old mid (take i list) a (states_out a mid.work mid.tape.states) c.loop-action.finder c.perform.new.visitor so_far.way.performs done.gets in
+    let goes = goes_from old mid new (take i list) a so_far.way.performs done.session.performs in
+    let held = holdings_of mid (told_by g.K.Storage c.loop-action.keepers.items) in
+    let gets = gets_there Got old mid (take i list) a (states_out a mid.work mid.tape.states) c.loop-action.finder c.perform.new.visitor so_far.way.performs done.hands.gets in
     let ran = ran_at c.args.question c.args.word unit steps slots old.journal mid.situation.at a new.situation.at held c.loop-action.finder c.perform.new.visitor goes so_far.way.turns so_far.asked gets in
-    let on = way_on _ _ _ _ _ _ _ list i old mid new _ _ c.perform.new.keepers.items _ _ _ a c.requires.start at so_far.way (record {
-      performs = done.performs;
-      acts = done.acted.acts;
-      counted = done.acted.counted;
-      called = done.acted.called;
-      room = c.perform.ensures.kept.slots;
-      places_same = c.perform.ensures.kept.places;
-      quiet = λ j. c.perform.ensures.kept.keepers_quiet j (λ e. not_both c.perform.result _ (Keeper j) c.in_ok-perform.was e);
-      others = c.perform.ensures.kept.others;
+    let on = way_on _ list i old mid new _ _ c.perform.new.keepers.items _ _ _ a c.requires.awaits.start at so_far.way (record {
+      performs = done.session.performs;
+      acts = (done.does so_far.way.performs.lasts).acted.acts;
+      counted = (done.does so_far.way.performs.lasts).acted.counted;
+      called = (done.does so_far.way.performs.lasts).acted.called;
+      are = are_ok g.K.Storage _ c.perform.result _ tt _ _ c.in_ok-perform.was c.perform.ensures.kept;
       stands = done.stays.stands;
       alone = done.stays.alone;
     }) in
     let next = ran.unanswered c.in_default.is in
-    let told = told_by g.K.Keeper.told in
-    let acts = acts_there old mid (take i list) a _ _ so_far.way.performs done.acted.acts in
+    let told = told_by g.K.Storage in
+    let acts = acts_there old mid (take i list) a _ _ so_far.way.performs (done.does so_far.way.performs.lasts).acted.acts in
     let even = got_even Got old.journal unit steps a held c.loop-action.finder c.perform.new.visitor gets in
     record {
-      rooms = λ k. c.perform.ensures.rooms k ∙ so_far.rooms k;
       way = on;
       asked = next.0;
       going =
           going_on c.args.question c.args.word unit steps slots old.journal list i (holdings_of old (told c.args.keepers.now.items)) held (holdings_of new (told c.perform.new.keepers.items))
           mid.situation.at a new.situation.at c.loop-action.finder c.perform.new.visitor _ goes so_far.way.turns at acts even next.1
-          (λ first is. run_has first old mid (told c.loop-action.keepers.items) (take i list) a new.situation.at c.requires.start so_far.way.performs goes (so_far.way.stands first is.0 is.1))
+          (λ first is. run_has first old mid (told c.loop-action.keepers.items) (take i list) a new.situation.at c.requires.awaits.start so_far.way.performs goes (so_far.way.stands first is.0 is.1))
           so_far.going;
       front = λ n lt.
           (let before = left_before unit steps mid.situation.at a new.situation.at n (hands_of unit steps slots mid.situation.at a new.situation.at goes so_far.way.turns) lt in
@@ -326,7 +310,7 @@ returns-clause-answer g c first is stands =
     let so_far = c.loop-action.invariant in
     let old = c.args.session.now in
     let list = c.args.list.now in
-    let over = at_end _ _ _ _ _ _ _ list c.loop-action.action-index old c.loop-action.session _ _ _ _ c.requires.start c.requires.valid (omega arith) so_far.way in
+    let over = at_end _ list c.loop-action.action-index old c.loop-action.session _ _ _ _ c.requires.awaits.start c.requires.awaits.valid (omega arith) so_far.way in
     let states = state_number first old.journal in
     found_none c.args.question states old.journal c.args.word (old.unit * old.situation.steps) _ c.loop-action.finder (left_at_end old.unit old.situation.steps c.loop-action.session.situation.at so_far.way.turns over)
     (so_far.going.unfound states (so_far.going.of_run first (is, stands)))
@@ -338,7 +322,7 @@ returns-clause-found g c =
     let list = c.args.list.now in
     let i = c.loop-action.action-index in
     let gone = so_far.going.gone in
-    let over = at_end _ _ _ _ _ _ _ list i old c.loop-action.session _ _ _ _ c.requires.start c.requires.valid (omega arith) so_far.way in
+    let over = at_end _ list i old c.loop-action.session _ _ _ _ c.requires.awaits.start c.requires.awaits.valid (omega arith) so_far.way in
     record {
       states = gone.states;
       through = through old.unit old.situation.steps old.journal list list i _ _ c.loop-action.session.situation.at (omega arith) (sym (take_all i list (omega arith))) gone;
@@ -353,7 +337,7 @@ returns-clause-performed g c =
     let old = c.args.session.now in
     let list = c.args.list.now in
     let whole : take c.loop-action.action-index list ≡ list = take_all c.loop-action.action-index list (omega arith) in
-    let calls = calls_to g.K.Keeper.put_count g.K.Keeper.get_count g.K.Keeper.free_count in
+    let calls = calls_to g.K.Storage in
     let P : List Action → Type 0 = λ l. Performed old l c.loop-action.session c.args.steps.now c.loop-action.steps (calls c.args.keepers.now.items) (calls c.loop-action.keepers.items) in
     subst P whole (record { performs = so_far.way.performs; counted = so_far.way.counted; called = so_far.way.called })
 
@@ -364,4 +348,4 @@ pub returns-clause-spared : goal.returns-clause-spared
 returns-clause-spared g c = ok_spared _ _ _ _
 
 pub returns-clause-kept : goal.returns-clause-kept
-returns-clause-kept g c = let way = c.loop-action.invariant.way in ok_kept _ _ _ _ _ _ _ way.quiet way.room way.places_same way.others
+returns-clause-kept g c = let way = c.loop-action.invariant.way in are_ok g.K.Storage _ (Ok tt) tt _ _ _ refl way.are

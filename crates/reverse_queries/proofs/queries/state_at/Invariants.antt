@@ -1,6 +1,5 @@
 use Rattle.std.proofs.Common.{◌≡◌, ◌<◌, ◌++◌, false, take, drop}
 use Rattle.reverse_runner.specs.KeepersSeen.{told_by}
-use Rattle.reverse_runner.specs.Rooms.{rooms_by, SameRooms}
 use Rattle.reverse_runner.specs.SessionState.{holdings_of}
 use Rattle.reverse_queries.specs.Queries.{front_to}
 use Rattle.reverse_queries.proofs.Going.{Gone}
@@ -11,11 +10,10 @@ use Rattle.reverse_queries.proofs.queries.state_at.Given as goal
 -- The actions so far were gone through, and none of them handed out the state; the visitor got nothing.
 abbrev pub invariant-loop-action : goal.invariant-loop-action
 invariant-loop-action g l = record {
-  rooms : SameRooms (rooms_by g.K.Keeper.room_bytes l.fn.keepers.items) (rooms_by g.K.Keeper.room_bytes l.keepers.items);
-  way : Way g.K.Keeper.told g.K.Keeper.put_count g.K.Keeper.get_count g.K.Keeper.free_count g.K.Keeper.slot_count g.K.Keeper.place g.K.Keeper.fault_count l.list l.action-index l.fn.session l.session l.fn.keepers.items l.keepers.items l.fn.steps l.steps;
+  way : Way g.K.Storage l.list l.action-index l.fn.session l.session l.fn.keepers.items l.keepers.items l.fn.steps l.steps;
   gone :
-      Gone l.fn.session.unit l.fn.session.situation.steps l.fn.session.journal l.list l.action-index (holdings_of l.fn.session (told_by g.K.Keeper.told l.fn.keepers.items))
-      (holdings_of l.session (told_by g.K.Keeper.told l.keepers.items)) l.session.situation.at;
+      Gone l.fn.session.unit l.fn.session.situation.steps l.fn.session.journal l.list l.action-index (holdings_of l.fn.session (told_by g.K.Storage l.fn.keepers.items))
+      (holdings_of l.session (told_by g.K.Storage l.keepers.items)) l.session.situation.at;
   still : l.place < left l.fn.session.unit l.fn.session.situation.steps l.session.situation.at;
   front : front_to l.fn.session.unit l.fn.session.situation.steps l.place l.list ≡ take l.action-index l.list ++ front_to l.fn.session.unit l.fn.session.situation.steps l.place (drop l.action-index l.list);
   place : l.picked.place ≡ l.place;

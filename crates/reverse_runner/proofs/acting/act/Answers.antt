@@ -1,7 +1,9 @@
-use Rattle.std.proofs.Common.{[], subst}
+use Rattle.std.proofs.Common.{[], Contains, sym, subst}
 use Rattle.std.proofs.lemmas.Result.{on_ok_weaker}
 use Rattle.plan_types.specs.declared.action.Action.{Action}
 use Rattle.level_book.specs.Moves.{Goes}
+use Rattle.level_book.specs.Rules.{levels_named}
+use Rattle.reverse_runner.specs.Desks.{KeepersAre}
 use Rattle.reverse_runner.proofs.Taping.{units_kept, copy_tape, move_tape}
 use Rattle.reverse_runner.proofs.acting.act.Goals as goal
 
@@ -10,6 +12,11 @@ returns-in-Forward-clause-units g c d goes =
     let now = c.args.config.now in
     let G : Action → Type 0 = λ a. Goes now.steps now.slots now.at a d in
     c.forward.ensures.units d (subst G c.in-Forward.is goes)
+
+pub returns-in-Forward-clause-kept : goal.returns-in-Forward-clause-kept
+returns-in-Forward-clause-kept g c =
+    let P : Action → Type 0 = λ a. KeepersAre g.K.Storage (λ k. Contains (levels_named a) k) c.forward.result c.args.keepers.now.items c.forward.new.keepers.items in
+    subst P (sym c.in-Forward.is) c.forward.ensures.kept
 
 pub returns-in-Copy-clause-units : goal.returns-in-Copy-clause-units
 returns-in-Copy-clause-units g c d goes =

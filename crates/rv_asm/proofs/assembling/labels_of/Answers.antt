@@ -2,7 +2,8 @@ use Rattle.std.proofs.Common.{ap, length, ◌∙◌, arith}
 use Rattle.rv_asm.specs.Tokens.{tokens}
 use Rattle.rv_asm.specs.Named.{names_at}
 use Rattle.rv_asm.proofs.FirstPass.{start_labels, end_labels, label_step, line_labels}
-use Rattle.rv_asm.proofs.Passes.{lines_few, at_most_one}
+use Rattle.rv_asm.proofs.Passes.{at_most_one}
+use Rattle.line_texts.proofs.Seen.{lines_few}
 use Rattle.rv_asm.proofs.assembling.labels_of.Goals as goal
 
 pub lines-init : goal.lines-init

@@ -1,5 +1,5 @@
 use Rattle.std.proofs.Common.{sym, ◌∙◌}
-use Rattle.rv_asm.specs.Bytes.{token_of}
+use Rattle.line_texts.specs.Cursors.{token_of}
 use Rattle.rv_asm.specs.Named.{names_at}
 use Rattle.rv_asm.proofs.CanonicalLines.{coded_base}
 use Rattle.rv_asm.proofs.Instructions.{with_code, unnamed}

@@ -1,7 +1,8 @@
 use Rattle.std.proofs.Common.{◌++◌, List, ℕ, sym, ap, subst, ◌∙◌, length, arith, length-append}
 use Rattle.std.specs.Prelude.{codes}
 use Rattle.rv_asm.specs.Table.{wants}
-use Rattle.rv_asm.specs.Canonical.{IsCanonical, hex_word, unpacked}
+use Rattle.rv_asm.specs.Canonical.{IsCanonical, unpacked}
+use Rattle.line_texts.specs.Numbers.{hex_word}
 use Rattle.rv_asm.proofs.CanonicalLines.{canonical_row, canonical_word, short_name, printed_whole}
 use Rattle.rv_asm.proofs.printing.disassemble.Goals as goal
 

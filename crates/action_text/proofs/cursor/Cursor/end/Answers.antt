@@ -5,19 +5,19 @@ use Rattle.action_text.proofs.cursor.Cursor.end.Goals.{then-ends_line, else-ends
 
 pub column_of-requires : goal.column_of-requires
 column_of-requires c =
-    let at = at_token c.self.inside.start c.self.inside.rest.now c.after_blanks-self-inside.result.now c.args.self.now c.self.invariant.0 c.after_blanks-self-inside.ensures c.self.view_is in
+    let at = at_token c.self.inside.start c.self.inside.rest.now c.after_blanks-self-inside.result.now c.args.self.now c.self.invariant.0 c.after_blanks-self-inside.ensures.value c.self.view_is in
     (at.within, c.self.invariant.1)
 
 pub invariant_of-self : goal.invariant_of-self
 invariant_of-self c =
-    let at = at_token c.self.inside.start c.self.inside.rest.now c.after_blanks-self-inside.result.now c.args.self.now c.self.invariant.0 c.after_blanks-self-inside.ensures c.self.view_is in
+    let at = at_token c.self.inside.start c.self.inside.rest.now c.after_blanks-self-inside.result.now c.args.self.now c.self.invariant.0 c.after_blanks-self-inside.ensures.value c.self.view_is in
     (at.within, c.self.invariant.1)
 
 pub returns-clause-value : goal.returns-clause-value
 returns-clause-value c =
     let old = c.args.self.now in
     let w = c.after_blanks-self-inside.result.now in
-    let at = at_token c.self.inside.start c.self.inside.rest.now w old c.self.invariant.0 c.after_blanks-self-inside.ensures c.self.view_is in
+    let at = at_token c.self.inside.start c.self.inside.rest.now w old c.self.invariant.0 c.after_blanks-self-inside.ensures.value c.self.view_is in
     let is = sym (c.ends_line.ensures ∙ end_there c.self.inside.start w old at) in
     elim c.if-ends_line.branch [
       | then-ends_line b ↦ rw b.result-is (end_is old (is ∙ b.if-ends_line.true))
@@ -26,4 +26,4 @@ returns-clause-value c =
 
 pub returns-clause-stays : goal.returns-clause-stays
 returns-clause-stays c =
-    (at_token c.self.inside.start c.self.inside.rest.now c.after_blanks-self-inside.result.now c.args.self.now c.self.invariant.0 c.after_blanks-self-inside.ensures c.self.view_is).sees
+    (at_token c.self.inside.start c.self.inside.rest.now c.after_blanks-self-inside.result.now c.args.self.now c.self.invariant.0 c.after_blanks-self-inside.ensures.value c.self.view_is).sees

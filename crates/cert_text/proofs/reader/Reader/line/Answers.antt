@@ -1,5 +1,5 @@
 use Rattle.std.proofs.Common.{ℕ, ◌+◌, ap, sym, ◌∙◌}
-use Rattle.cert_text.specs.declared.fault.CertFault.TheVariants.{At}
+use Rattle.line_texts.specs.declared.fault.Fault.TheVariants.{At}
 use Rattle.cert_text.specs.Left.{Unread, unread}
 use Rattle.cert_text.proofs.reader.Reader.line.Goals as goal
 

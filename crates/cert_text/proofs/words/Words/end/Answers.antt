@@ -1,7 +1,6 @@
 use Rattle.std.proofs.Common.{ap}
-use Rattle.cert_text.specs.Left.{Left, left}
+use Rattle.cert_text.specs.Left.{Left}
 use Rattle.cert_text.proofs.words.Words.end.Goals as goal
 
 pub returns : goal.returns
-unfolding left
 returns c = ap (λ (l : Left). l.end) c.self.view_is

@@ -8,10 +8,10 @@ use Rattle.image_store.specs.Sharing.{SharesOut, IsShelf, pairs_in}
 use Rattle.image_store.specs.Shelves.{ShelfState}
 use Rattle.image_store.specs.Standing.{LevelStands, LevelAlone, KeepsAs, Alone, IsToldAnd}
 use Rattle.sha2.specs.Sha256.{sha256}
-use Rattle.image_store.specs.Calls.{kept_in, with_pair, IsNotKept}
-use Rattle.keepers.specs.Told.{Images, Tells, SameButAt}
+use Rattle.image_store.specs.Calls.{kept_in, with_pair}
 use Rattle.image_store.proofs.Sharing.{shares_more, last_free}
 use Rattle.image_store.proofs.Places.{pairs_more}
+use Rattle.image_store.proofs.Remaining.{remains_as}
 use Rattle.image_store.proofs.Stands.{level_more, level_alone_more}
 use Rattle.image_store.proofs.shelf.Shelf.keep.Goals as goal
 
@@ -64,60 +64,39 @@ shelf_more prints places free count n slot image digest shelf t is = record {
 pub invariant_of-self : goal.invariant_of-self
 invariant_of-self g c =
     let t = taken _ _ _ _ c.args.n c.index-slot.result.now c.args.self.now c.self.invariant c.self.view_is c.requires.number c.requires.new c.requires.room c.index-slot.ensures in
-    shelf_more _ _ _ _ c.args.n c.index-slot.result.now c.args.image.now c.args.digest.now c.self.invariant t c.requires.digest
+    shelf_more _ _ _ _ c.args.n c.index-slot.result.now c.args.image.now c.args.digest.now c.self.invariant t c.requires.sum
 
-pub returns-clause-ok : goal.returns-clause-ok
-returns-clause-ok g c =
+pub returns : goal.returns
+returns g c =
     let slot = c.index-slot.result.now in
-    let t = taken _ _ _ _ c.args.n slot c.args.self.now c.self.invariant c.self.view_is c.requires.number c.requires.new c.requires.room c.index-slot.ensures in
-    let e = more _ _ _ _ c.args.n slot c.args.image.now c.args.digest.now c.self.invariant t c.requires.digest in
+    let t = taken _ _ _ _ c.args.n c.index-slot.result.now c.args.self.now c.self.invariant c.self.view_is c.requires.number c.requires.new c.requires.room c.index-slot.ensures in
+    let e = more _ _ _ _ c.args.n slot c.args.image.now c.args.digest.now c.self.invariant t c.requires.sum in
     let changed : ◌≡◌ {A = ShelfState} (record { pairs = pairs_in (set c.self.inside.fingerprints.items slot (record { length = length c.args.image.now; digest = c.args.digest.now })) (set c.self.inside.places.items c.args.n (slot + 1)); room = length c.self.inside.free.items }) (with_pair (record { pairs = pairs_in c.self.inside.fingerprints.items c.self.inside.places.items; room = length c.self.inside.free.items }) c.args.n (kept_in slot c.args.image.now)) =
     λ i. record { pairs = e i; room = length c.self.inside.free.items } in
     record {
-      slot = slot;
-      within = subst (λ (s : ShelfState). slot < s.room) c.self.view_is t.low;
-      unused = subst (λ (s : ShelfState). IsFreeSlot s.pairs slot) c.self.view_is t.unused;
-      pairs = changed ∙ ap (λ (s : ShelfState). with_pair s c.args.n (kept_in slot c.args.image.now)) c.self.view_is;
-      told = c.in-Ok.ensures.ok;
+      ok = record {
+        slot = slot;
+        within = subst (λ (s : ShelfState). slot < s.room) c.self.view_is t.low;
+        unused = subst (λ (s : ShelfState). IsFreeSlot s.pairs slot) c.self.view_is t.unused;
+        pairs = changed ∙ ap (λ (s : ShelfState). with_pair s c.args.n (kept_in slot c.args.image.now)) c.self.view_is;
+        told = c.in-Ok.ensures.puts.ok;
+      };
+      stands = λ bytes stands.
+          let before = subst (λ (s : ShelfState). LevelStands s (g.K.Storage.told c.args.keeper.now) bytes) (sym c.self.view_is) stands in
+          let after = level_more (pairs_in c.self.inside.fingerprints.items c.self.inside.places.items) bytes (g.K.Storage.told c.args.keeper.now) (g.K.Storage.told c.put.new.self) c.args.n slot c.args.image.now t.within t.unused c.in-Ok.ensures.puts.ok before in
+          subst (λ (ps : List (Option Kept)). IsToldAnd (g.K.Storage.told c.put.new.self) (KeepsAs ps (finmap.insert bytes c.args.n c.args.image.now))) (sym e) after;
+      alone = λ alone.
+          let before = subst (λ (s : ShelfState). LevelAlone s (g.K.Storage.told c.args.keeper.now)) (sym c.self.view_is) alone in
+          let after = level_alone_more (pairs_in c.self.inside.fingerprints.items c.self.inside.places.items) (g.K.Storage.told c.args.keeper.now) (g.K.Storage.told c.put.new.self) c.args.n slot c.args.image.now t.within t.none c.in-Ok.ensures.puts.ok before in
+          subst (λ (ps : List (Option Kept)). IsToldAnd (g.K.Storage.told c.put.new.self) (Alone ps)) (sym e) after;
+      refused = tt;
+      still = λ bytes stands. tt;
+      left = tt;
+      whole = λ put got is. absurd cc;
+      counted = c.in-Ok.ensures.puts.counted;
+      rest = remains_as g.K.Storage c.args.keeper.now c.put.new.self (λ e. absurd cc) (λ e. absurd cc) c.in-Ok.ensures.puts.rest;
+      roomy = λ room has few is. absurd cc;
     }
-
-pub returns-clause-stands : goal.returns-clause-stands
-returns-clause-stands g c = λ bytes stands.
-    let slot = c.index-slot.result.now in
-    let t = taken _ _ _ _ c.args.n slot c.args.self.now c.self.invariant c.self.view_is c.requires.number c.requires.new c.requires.room c.index-slot.ensures in
-    let e = more _ _ _ _ c.args.n slot c.args.image.now c.args.digest.now c.self.invariant t c.requires.digest in
-    let before = subst (λ (s : ShelfState). LevelStands s (g.K.Keeper.told c.args.keeper.now) bytes) (sym c.self.view_is) stands in
-    let after = level_more (pairs_in c.self.inside.fingerprints.items c.self.inside.places.items) bytes (g.K.Keeper.told c.args.keeper.now) (g.K.Keeper.told c.put.new.self) c.args.n slot c.args.image.now t.within t.unused c.in-Ok.ensures.ok before in
-    subst (λ (ps : List (Option Kept)). IsToldAnd (g.K.Keeper.told c.put.new.self) (KeepsAs ps (finmap.insert bytes c.args.n c.args.image.now))) (sym e) after
-
-pub returns-clause-alone : goal.returns-clause-alone
-returns-clause-alone g c = λ alone.
-    let slot = c.index-slot.result.now in
-    let t = taken _ _ _ _ c.args.n slot c.args.self.now c.self.invariant c.self.view_is c.requires.number c.requires.new c.requires.room c.index-slot.ensures in
-    let e = more _ _ _ _ c.args.n slot c.args.image.now c.args.digest.now c.self.invariant t c.requires.digest in
-    let before = subst (λ (s : ShelfState). LevelAlone s (g.K.Keeper.told c.args.keeper.now)) (sym c.self.view_is) alone in
-    let after = level_alone_more (pairs_in c.self.inside.fingerprints.items c.self.inside.places.items) (g.K.Keeper.told c.args.keeper.now) (g.K.Keeper.told c.put.new.self) c.args.n slot c.args.image.now t.within t.none c.in-Ok.ensures.ok before in
-    subst (λ (ps : List (Option Kept)). IsToldAnd (g.K.Keeper.told c.put.new.self) (Alone ps)) (sym e) after
-
--- the slot that was tried, where the keeper refused
-not_kept : (prints : List Fingerprint) (places free : List ℕ) (count n slot : ℕ) (s : ShelfState) (before after : Option Images) → Taken prints places free count n slot →
-    (record { pairs = pairs_in prints places; room = length free }) ≡ s → Tells before after (SameButAt slot) → IsNotKept s before after
-not_kept prints places free count n slot s before after t is told = record {
-  slot = slot;
-  within = subst (λ (s : ShelfState). slot < s.room) is t.low;
-  unused = subst (λ (s : ShelfState). IsFreeSlot s.pairs slot) is t.unused;
-  told = told;
-}
-
-pub returns-in-Err-Failed-clause-left : goal.returns-in-Err-Failed-clause-left
-returns-in-Err-Failed-clause-left g c =
-    let t = taken _ _ _ _ c.args.n c.index-slot.result.now c.args.self.now c.self.invariant c.self.view_is c.requires.number c.requires.new c.requires.room c.index-slot.ensures in
-    not_kept _ _ _ _ c.args.n c.index-slot.result.now c.args.self.now _ _ t c.self.view_is c.in-Err-Failed.ensures.refused
-
-pub returns-in-Err-Memory-clause-left : goal.returns-in-Err-Memory-clause-left
-returns-in-Err-Memory-clause-left g c =
-    let t = taken _ _ _ _ c.args.n c.index-slot.result.now c.args.self.now c.self.invariant c.self.view_is c.requires.number c.requires.new c.requires.room c.index-slot.ensures in
-    not_kept _ _ _ _ c.args.n c.index-slot.result.now c.args.self.now _ _ t c.self.view_is c.in-Err-Memory.ensures.refused
 
 pub overflow_add-slot : goal.overflow_add-slot
 overflow_add-slot g c =

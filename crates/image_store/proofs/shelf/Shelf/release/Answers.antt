@@ -10,6 +10,7 @@ use Rattle.image_store.specs.Shelves.{ShelfState}
 use Rattle.image_store.specs.Standing.{LevelStands, LevelAlone, KeepsAs, Alone, IsToldAnd}
 use Rattle.image_store.proofs.Sharing.{shares_less}
 use Rattle.image_store.proofs.Places.{pairs_less}
+use Rattle.image_store.proofs.Remaining.{remains_as}
 use Rattle.image_store.proofs.Stands.{level_less, level_alone_less}
 use Rattle.image_store.proofs.shelf.Shelf.release.Goals as goal
 
@@ -28,31 +29,33 @@ invariant_of-self g c =
     let is = ap (λ (s : ShelfState). pair_at s.pairs c.args.n) c.self.view_is ∙ c.kept-kept.ensures.value in
     shelf_less _ _ _ _ c.args.n c.kept-kept.result c.self.invariant is
 
-pub returns-clause-ok : goal.returns-clause-ok
-returns-clause-ok g c =
+pub returns : goal.returns
+returns g c =
     let prints = c.self.inside.fingerprints.items in
     let places = c.self.inside.places.items in
     let less = pairs_less prints places c.args.n in
     let long = length-set c.self.inside.free.items c.self.inside.count c.kept-kept.result.slot in
     let changed : ◌≡◌ {A = ShelfState} (record { pairs = pairs_in prints (set places c.args.n 0); room = length (set c.self.inside.free.items c.self.inside.count c.kept-kept.result.slot) }) (without_pair (record { pairs = pairs_in prints places; room = length c.self.inside.free.items }) c.args.n) =
     λ i. record { pairs = less i; room = long i } in
-    changed ∙ ap (λ (s : ShelfState). without_pair s c.args.n) c.self.view_is
-
-pub returns-clause-freed : goal.returns-clause-freed
-returns-clause-freed g c = λ kept at.
-    let same : c.kept-kept.result ≡ kept = cc (c.kept-kept.ensures.value, at) in
-    subst (λ (k : Kept). IsFreed k (g.K.Keeper.told c.args.keeper.now) (g.K.Keeper.told c.free.new.self)) same c.in-Ok.ensures.ok
-
-pub returns-clause-stands : goal.returns-clause-stands
-returns-clause-stands g c = λ bytes stands.
-    let is = ap (λ (s : ShelfState). pair_at s.pairs c.args.n) c.self.view_is ∙ c.kept-kept.ensures.value in
-    let before = subst (λ (s : ShelfState). LevelStands s (g.K.Keeper.told c.args.keeper.now) bytes) (sym c.self.view_is) stands in
-    let after = level_less (pairs_in c.self.inside.fingerprints.items c.self.inside.places.items) bytes (g.K.Keeper.told c.args.keeper.now) (g.K.Keeper.told c.free.new.self) c.args.n c.kept-kept.result is c.in-Ok.ensures.ok before in
-    subst (λ (ps : List (Option Kept)). IsToldAnd (g.K.Keeper.told c.free.new.self) (KeepsAs ps (finmap.remove bytes c.args.n))) (sym (pairs_less c.self.inside.fingerprints.items c.self.inside.places.items c.args.n)) after
-
-pub returns-clause-alone : goal.returns-clause-alone
-returns-clause-alone g c = λ alone.
-    let is = ap (λ (s : ShelfState). pair_at s.pairs c.args.n) c.self.view_is ∙ c.kept-kept.ensures.value in
-    let before = subst (λ (s : ShelfState). LevelAlone s (g.K.Keeper.told c.args.keeper.now)) (sym c.self.view_is) alone in
-    let after = level_alone_less (pairs_in c.self.inside.fingerprints.items c.self.inside.places.items) (g.K.Keeper.told c.args.keeper.now) (g.K.Keeper.told c.free.new.self) c.args.n c.kept-kept.result is c.in-Ok.ensures.ok before in
-    subst (λ (ps : List (Option Kept)). IsToldAnd (g.K.Keeper.told c.free.new.self) (Alone ps)) (sym (pairs_less c.self.inside.fingerprints.items c.self.inside.places.items c.args.n)) after
+    record {
+      ok = changed ∙ ap (λ (s : ShelfState). without_pair s c.args.n) c.self.view_is;
+      freed = λ kept at.
+          let same : c.kept-kept.result ≡ kept = cc (c.kept-kept.ensures.value, at) in
+          subst (λ (k : Kept). IsFreed k (g.K.Storage.told c.args.keeper.now) (g.K.Storage.told c.free.new.self)) same c.in-Ok.ensures.frees.ok;
+      stands = λ bytes stands.
+          let is = ap (λ (s : ShelfState). pair_at s.pairs c.args.n) c.self.view_is ∙ c.kept-kept.ensures.value in
+          let before = subst (λ (s : ShelfState). LevelStands s (g.K.Storage.told c.args.keeper.now) bytes) (sym c.self.view_is) stands in
+          let after = level_less (pairs_in c.self.inside.fingerprints.items c.self.inside.places.items) bytes (g.K.Storage.told c.args.keeper.now) (g.K.Storage.told c.free.new.self) c.args.n c.kept-kept.result is c.in-Ok.ensures.frees.ok before in
+          subst (λ (ps : List (Option Kept)). IsToldAnd (g.K.Storage.told c.free.new.self) (KeepsAs ps (finmap.remove bytes c.args.n))) (sym (pairs_less c.self.inside.fingerprints.items c.self.inside.places.items c.args.n)) after;
+      alone = λ alone.
+          let is = ap (λ (s : ShelfState). pair_at s.pairs c.args.n) c.self.view_is ∙ c.kept-kept.ensures.value in
+          let before = subst (λ (s : ShelfState). LevelAlone s (g.K.Storage.told c.args.keeper.now)) (sym c.self.view_is) alone in
+          let after = level_alone_less (pairs_in c.self.inside.fingerprints.items c.self.inside.places.items) (g.K.Storage.told c.args.keeper.now) (g.K.Storage.told c.free.new.self) c.args.n c.kept-kept.result is c.in-Ok.ensures.frees.ok before in
+          subst (λ (ps : List (Option Kept)). IsToldAnd (g.K.Storage.told c.free.new.self) (Alone ps)) (sym (pairs_less c.self.inside.fingerprints.items c.self.inside.places.items c.args.n)) after;
+      refused = tt;
+      left = tt;
+      whole = λ put got is. absurd cc;
+      counted = c.in-Ok.ensures.frees.counted;
+      rest = remains_as g.K.Storage c.args.keeper.now c.free.new.self (λ e. absurd cc) (λ e. absurd cc) c.in-Ok.ensures.frees.rest;
+      roomy = λ room has is. absurd cc;
+    }

@@ -23,14 +23,14 @@ show_state-requires-clause-stands g c told tells =
 
 pub show_state-requires-clause-room : goal.show_state-requires-clause-room
 show_state-requires-clause-room g c =
-    let P : SessionState → Type 0 = λ s. HaveRoom s.situation.steps s.situation.slots (map g.K.Keeper.slot_count c.args.keepers.now.items) in
+    let P : SessionState → Type 0 = λ s. HaveRoom s.situation.steps s.situation.slots (map g.K.Storage.slot_count c.args.keepers.now.items) in
     subst P (sym c.in-Ok.ensures.begun) c.requires.room
 
 pub returns-in-State-clause-works : goal.returns-in-State-clause-works
 returns-in-State-clause-works g c =
     let o = c.args.self.over in
-    let old = moment g.O.Sink.told g.O.Sink.call_count g.O.Sink.fault_count g.K.Keeper.told g.K.Keeper.put_count g.K.Keeper.get_count g.K.Keeper.free_count g.K.Keeper.fault_count c.args.out.now c.args.keepers.now.items c.args.counter.now in
-    let new = moment g.O.Sink.told g.O.Sink.call_count g.O.Sink.fault_count g.K.Keeper.told g.K.Keeper.put_count g.K.Keeper.get_count g.K.Keeper.free_count g.K.Keeper.fault_count c.show_state.new.out c.show_state.new.keepers.items c.show_state.new.counter in
+    let old = moment g.O.Sink.told g.O.Sink.call_count g.O.Sink.fault_count g.K.Storage.told g.K.Storage.put_count g.K.Storage.get_count g.K.Storage.free_count g.K.Storage.fault_count c.args.out.now c.args.keepers.now.items c.args.counter.now in
+    let new = moment g.O.Sink.told g.O.Sink.call_count g.O.Sink.fault_count g.K.Storage.told g.K.Storage.put_count g.K.Storage.get_count g.K.Storage.free_count g.K.Storage.fault_count c.show_state.new.out c.show_state.new.keepers.items c.show_state.new.counter in
     let P : SessionState → Type 0 = λ s. Works (ask (State c.in-State.place) (run_from s c.deref.result.now)) c.show_state.result old new in
     let L : List Action → Type 0 = λ l. Works (ask (State c.in-State.place) (in_units o.unit o.start o.journal o.steps (slots_of o.book) l)) c.show_state.result old new in
     let Q : Question → Type 0 = λ q. Works (ask q (run_over o)) c.show_state.result old new in
@@ -50,14 +50,14 @@ tell_last_write-requires-clause-stands g c told tells =
 
 pub tell_last_write-requires-clause-room : goal.tell_last_write-requires-clause-room
 tell_last_write-requires-clause-room g c =
-    let P : SessionState → Type 0 = λ s. HaveRoom s.situation.steps s.situation.slots (map g.K.Keeper.slot_count c.args.keepers.now.items) in
+    let P : SessionState → Type 0 = λ s. HaveRoom s.situation.steps s.situation.slots (map g.K.Storage.slot_count c.args.keepers.now.items) in
     subst P (sym c.in-Ok.ensures.begun) c.requires.room
 
 pub returns-in-LastWrite-clause-works : goal.returns-in-LastWrite-clause-works
 returns-in-LastWrite-clause-works g c =
     let o = c.args.self.over in
-    let old = moment g.O.Sink.told g.O.Sink.call_count g.O.Sink.fault_count g.K.Keeper.told g.K.Keeper.put_count g.K.Keeper.get_count g.K.Keeper.free_count g.K.Keeper.fault_count c.args.out.now c.args.keepers.now.items c.args.counter.now in
-    let new = moment g.O.Sink.told g.O.Sink.call_count g.O.Sink.fault_count g.K.Keeper.told g.K.Keeper.put_count g.K.Keeper.get_count g.K.Keeper.free_count g.K.Keeper.fault_count c.tell_last_write.new.out c.tell_last_write.new.keepers.items c.tell_last_write.new.counter in
+    let old = moment g.O.Sink.told g.O.Sink.call_count g.O.Sink.fault_count g.K.Storage.told g.K.Storage.put_count g.K.Storage.get_count g.K.Storage.free_count g.K.Storage.fault_count c.args.out.now c.args.keepers.now.items c.args.counter.now in
+    let new = moment g.O.Sink.told g.O.Sink.call_count g.O.Sink.fault_count g.K.Storage.told g.K.Storage.put_count g.K.Storage.get_count g.K.Storage.free_count g.K.Storage.fault_count c.tell_last_write.new.out c.tell_last_write.new.keepers.items c.tell_last_write.new.counter in
     let P : SessionState → Type 0 = λ s. Works (ask (LastWrite c.in-LastWrite.address) (run_from s c.deref-in-LastWrite.result.now)) c.tell_last_write.result old new in
     let L : List Action → Type 0 = λ l. Works (ask (LastWrite c.in-LastWrite.address) (in_units o.unit o.start o.journal o.steps (slots_of o.book) l)) c.tell_last_write.result old new in
     let Q : Question → Type 0 = λ q. Works (ask q (run_over o)) c.tell_last_write.result old new in
@@ -77,14 +77,14 @@ tell_last_change-requires-clause-stands g c told tells =
 
 pub tell_last_change-requires-clause-room : goal.tell_last_change-requires-clause-room
 tell_last_change-requires-clause-room g c =
-    let P : SessionState → Type 0 = λ s. HaveRoom s.situation.steps s.situation.slots (map g.K.Keeper.slot_count c.args.keepers.now.items) in
+    let P : SessionState → Type 0 = λ s. HaveRoom s.situation.steps s.situation.slots (map g.K.Storage.slot_count c.args.keepers.now.items) in
     subst P (sym c.in-Ok.ensures.begun) c.requires.room
 
 pub returns-clause-works : goal.returns-clause-works
 returns-clause-works g c =
     let o = c.args.self.over in
-    let old = moment g.O.Sink.told g.O.Sink.call_count g.O.Sink.fault_count g.K.Keeper.told g.K.Keeper.put_count g.K.Keeper.get_count g.K.Keeper.free_count g.K.Keeper.fault_count c.args.out.now c.args.keepers.now.items c.args.counter.now in
-    let new = moment g.O.Sink.told g.O.Sink.call_count g.O.Sink.fault_count g.K.Keeper.told g.K.Keeper.put_count g.K.Keeper.get_count g.K.Keeper.free_count g.K.Keeper.fault_count c.tell_last_change.new.out c.tell_last_change.new.keepers.items c.tell_last_change.new.counter in
+    let old = moment g.O.Sink.told g.O.Sink.call_count g.O.Sink.fault_count g.K.Storage.told g.K.Storage.put_count g.K.Storage.get_count g.K.Storage.free_count g.K.Storage.fault_count c.args.out.now c.args.keepers.now.items c.args.counter.now in
+    let new = moment g.O.Sink.told g.O.Sink.call_count g.O.Sink.fault_count g.K.Storage.told g.K.Storage.put_count g.K.Storage.get_count g.K.Storage.free_count g.K.Storage.fault_count c.tell_last_change.new.out c.tell_last_change.new.keepers.items c.tell_last_change.new.counter in
     let P : SessionState → Type 0 = λ s. Works (ask (LastChange c.in-LastChange.address) (run_from s c.deref-in-LastChange.result.now)) c.tell_last_change.result old new in
     let L : List Action → Type 0 = λ l. Works (ask (LastChange c.in-LastChange.address) (in_units o.unit o.start o.journal o.steps (slots_of o.book) l)) c.tell_last_change.result old new in
     let Q : Question → Type 0 = λ q. Works (ask q (run_over o)) c.tell_last_change.result old new in
@@ -98,15 +98,15 @@ returns-clause-others g c =
 
 pub returns-in-State-clause-roomy : goal.returns-in-State-clause-roomy
 returns-in-State-clause-roomy g c roomy e =
-    let P : SessionState → Type 0 = λ s. AreRoomy (image_room s.work) (length s.situation.slots) (rooms_by g.K.Keeper.room_bytes c.args.keepers.now.items) in
+    let P : SessionState → Type 0 = λ s. AreRoomy (image_room s.work) (length s.situation.slots) (rooms_by g.K.Storage c.args.keepers.now.items) in
     absurd (c.show_state.ensures.roomy (subst P (sym c.in-Ok.ensures.begun) roomy) e)
 
 pub returns-in-LastWrite-clause-roomy : goal.returns-in-LastWrite-clause-roomy
 returns-in-LastWrite-clause-roomy g c roomy e =
-    let P : SessionState → Type 0 = λ s. AreRoomy (image_room s.work) (length s.situation.slots) (rooms_by g.K.Keeper.room_bytes c.args.keepers.now.items) in
+    let P : SessionState → Type 0 = λ s. AreRoomy (image_room s.work) (length s.situation.slots) (rooms_by g.K.Storage c.args.keepers.now.items) in
     absurd (c.tell_last_write.ensures.roomy (subst P (sym c.in-Ok.ensures.begun) roomy) e)
 
 pub returns-clause-roomy : goal.returns-clause-roomy
 returns-clause-roomy g c roomy e =
-    let P : SessionState → Type 0 = λ s. AreRoomy (image_room s.work) (length s.situation.slots) (rooms_by g.K.Keeper.room_bytes c.args.keepers.now.items) in
+    let P : SessionState → Type 0 = λ s. AreRoomy (image_room s.work) (length s.situation.slots) (rooms_by g.K.Storage c.args.keepers.now.items) in
     absurd (c.tell_last_change.ensures.roomy (subst P (sym c.in-Ok.ensures.begun) roomy) e)

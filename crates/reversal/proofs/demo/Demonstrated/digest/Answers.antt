@@ -16,9 +16,9 @@ loop-action-preserved g c =
     let ok = c.in_ok-ok.ensures.value in
     let r = c.perform.result in
     one_more_done c.args.self.now c.loop-action.self _ c.loop-action.hasher c.perform.new.visitor c.args.counter.now c.loop-action.counter c.perform.new.steps c.in-Some.action c.loop-action.invariant c.in-Some.ensures
-    (where_ok r _ ok c.perform.ensures.performs) c.perform.ensures.kept.slots
+    (where_ok r _ ok c.perform.ensures.session.performs) c.perform.ensures.kept.slots
     ((where_ok r _ ok c.perform.ensures.stays).stands c.args.self.now.session.work c.requires.state c.loop-action.invariant.stands)
-    (where_ok r _ ok c.perform.ensures.gets) (where_ok r _ ok c.perform.ensures.acted).counted
+    (where_ok r _ ok c.perform.ensures.hands.gets) (where_ok r _ ok (c.perform.ensures.does c.loop-action.invariant.lasts).acted).counted
 
 pub returns-in_err-ok : goal.returns-in_err-ok
 returns-in_err-ok g c =
@@ -27,7 +27,7 @@ returns-in_err-ok g c =
     (digest ≡ sha256 (lines_down (state_number d.session.work d.session.journal) d.session.situation.steps)) × (c.perform.new.steps ≡ c.args.counter.now + forward d.actions)) in
     subst P (sym c.from_residual.ensures)
     (broken d c.loop-action.self c.loop-action.hasher c.args.counter.now c.loop-action.counter c.perform.new.steps c.in-Some.action _ c.loop-action.invariant c.in-Some.ensures
-    (where_err c.perform.result c.in_err-ok.ensures.value (c.perform.ensures.leaves c.loop-action.invariant.lasts)).uncounted)
+    (where_err c.perform.result c.in_err-ok.ensures.value (c.perform.ensures.does c.loop-action.invariant.lasts).leaves).uncounted)
 
 pub returns : goal.returns
 returns g c =

@@ -25,14 +25,14 @@ perform_all-requires-clause-alone g c κs inside told empty =
 
 pub perform_all-requires-clause-room : goal.perform_all-requires-clause-room
 perform_all-requires-clause-room g c κs inside =
-    let P : SessionState → Type 0 = λ s. HaveRoom s.situation.steps s.situation.slots (map g.K.Keeper.slot_count c.args.keepers.now.items) in
+    let P : SessionState → Type 0 = λ s. HaveRoom s.situation.steps s.situation.slots (map g.K.Storage.slot_count c.args.keepers.now.items) in
     subst P (sym c.in-Ok-begin.ensures.begun) c.requires.room
 
 pub returns-clause-works : goal.returns-clause-works
 returns-clause-works g c =
     let P : SessionState → Type 0 = λ s. Works (perform (run_from s (left_of c.args.self.actions))) c.perform_all.result
-    (moment g.O.Sink.told g.O.Sink.call_count g.O.Sink.fault_count g.K.Keeper.told g.K.Keeper.put_count g.K.Keeper.get_count g.K.Keeper.free_count g.K.Keeper.fault_count c.args.out.now c.args.keepers.now.items c.args.counter.now)
-    (moment g.O.Sink.told g.O.Sink.call_count g.O.Sink.fault_count g.K.Keeper.told g.K.Keeper.put_count g.K.Keeper.get_count g.K.Keeper.free_count g.K.Keeper.fault_count c.perform_all.new.out c.perform_all.new.keepers.items c.perform_all.new.counter) in
+    (moment g.O.Sink.told g.O.Sink.call_count g.O.Sink.fault_count g.K.Storage.told g.K.Storage.put_count g.K.Storage.get_count g.K.Storage.free_count g.K.Storage.fault_count c.args.out.now c.args.keepers.now.items c.args.counter.now)
+    (moment g.O.Sink.told g.O.Sink.call_count g.O.Sink.fault_count g.K.Storage.told g.K.Storage.put_count g.K.Storage.get_count g.K.Storage.free_count g.K.Storage.fault_count c.perform_all.new.out c.perform_all.new.keepers.items c.perform_all.new.counter) in
     inr (subst P c.in-Ok-begin.ensures.begun c.perform_all.ensures.works)
 
 pub returns-clause-others : goal.returns-clause-others
@@ -42,5 +42,5 @@ returns-clause-others g c =
 
 pub returns-clause-roomy : goal.returns-clause-roomy
 returns-clause-roomy g c roomy e =
-    let P : SessionState → Type 0 = λ s. AreRoomy (image_room s.work) (length s.situation.slots) (rooms_by g.K.Keeper.room_bytes c.args.keepers.now.items) in
+    let P : SessionState → Type 0 = λ s. AreRoomy (image_room s.work) (length s.situation.slots) (rooms_by g.K.Storage c.args.keepers.now.items) in
     absurd (c.perform_all.ensures.roomy (subst P (sym c.in-Ok-begin.ensures.begun) roomy) e)

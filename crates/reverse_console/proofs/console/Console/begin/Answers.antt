@@ -1,23 +1,23 @@
-use Rattle.std.proofs.Common.{ℕ, ◌≤◌, List, length, map, Err, IfErr, refl, sym, ◌∙◌, ap, subst, arith}
-use Rattle.std.proofs.lemmas.Result.{IfErr-at_err, err_from_is_err_and}
+use Rattle.std.proofs.Common.{ℕ, ◌<◌, List, length, map, Ok, refl, sym, ◌∙◌, ap, subst, arith}
+use Rattle.std.proofs.lemmas.Result.{err_from_is_err_and}
 use Rattle.level_book.specs.declared.book.Slots.{Slots}
 use Rattle.rv_pages.specs.Memory.{page_numbers}
 use Rattle.rv_machine.specs.MachineState.{MachineState}
 use Rattle.image_store.specs.Shelves.{ShelfState, no_pairs_on}
+use Rattle.reverse_runner.specs.Desks.{KeepersAre}
 use Rattle.reverse_runner.specs.KeepersSeen.{told_by, calls_to, HaveRoom}
 use Rattle.reverse_console.specs.Marks.{MarkPlan, span, mark_count}
 use Rattle.level_book.specs.BookCosts.{slots_of}
-use Rattle.reverse_runner.specs.declared.fault.RunFault.TheVariants.{Keeper, Memory}
+use Rattle.reverse_runner.specs.declared.fault.RunFault.TheVariants.{Memory}
 use Rattle.reverse_runner.specs.Rooms.{image_room, rooms_by, AreShort}
 use Rattle.reverse_runner.proofs.Rooms.{begun_short, same_room, still_roomy}
+use Rattle.reverse_runner.proofs.Touched.{are_ok, are_err}
 use Rattle.reverse_queries.proofs.Ways.{same_fault}
-use Rattle.reverse_console.specs.Causes.{HasCause}
-use Rattle.reverse_console.specs.Costs.{StopsPutting}
+use Rattle.reverse_console.specs.Costs.{PutsMarks}
 use Rattle.reverse_console.specs.Handling.{AreSet, StandAt}
-use Rattle.reverse_console.specs.Refusals.{IsOfPutting}
 use Rattle.reverse_console.specs.Standing.{MarksTell, IsMarkKept}
-use Rattle.reverse_console.proofs.Calling.{quiet_else}
-use Rattle.reverse_console.proofs.Getting.{at_ok, err_at}
+use Rattle.reverse_console.proofs.Getting.{at_ok}
+use Rattle.reverse_console.proofs.Putting.{puts_marks_err, puts_marks_ok}
 use Rattle.reverse_console.proofs.Setting.{none_set, none_stand}
 use Rattle.reverse_console.proofs.console.Console.begin.Goals as goal
 
@@ -28,26 +28,31 @@ set_marks-requires-clause-set g c =
     subst (AreSet p 0) (sym e) (none_set p)
 
 pub set_marks-requires-clause-room : goal.set_marks-requires-clause-room
-set_marks-requires-clause-room g c = subst (λ (q : MarkPlan). HaveRoom (span q) q.slots (map g.K.Keeper.slot_count c.args.keepers.now.items)) (sym c.new-marks.ensures) c.requires.room
+set_marks-requires-clause-room g c = subst (λ (q : MarkPlan). HaveRoom (span q) q.slots (map g.K.Storage.slot_count c.args.keepers.now.items)) (sym c.new-marks.ensures) c.requires.room
 
-pub returns-in_err-set_marks-clause-keepers_quiet : goal.returns-in_err-set_marks-clause-keepers_quiet
-returns-in_err-set_marks-clause-keepers_quiet g c j never =
+pub returns-in_err-set_marks-clause-puts : goal.returns-in_err-set_marks-clause-puts
+returns-in_err-set_marks-clause-puts g c =
     let q = err_from_is_err_and c.from_residual.result c.from_residual.ensures.1 in
-    let H = HasCause g.K.Keeper.fault_count c.new-marks.result c.args.keepers.now.items c.set_marks.new.keepers.items in
-    quiet_else g.K.Keeper.fault_count c.new-marks.result c.args.keepers.now.items c.set_marks.new.keepers.items q.0 (subst H (sym q.2) (IfErr-at_err H c.in_err-set_marks.was c.set_marks.ensures.cause)) j (λ e. never (q.1 ∙ ap Err e))
+    let calls = calls_to g.K.Storage in
+    let P : MarkPlan → Type 0 = λ p. PutsMarks p c.from_residual.result c.args.steps.now c.set_marks.new.steps (calls c.args.keepers.now.items) (calls c.set_marks.new.keepers.items) in
+    subst P c.new-marks.ensures (puts_marks_err c.new-marks.result c.set_marks.result c.from_residual.result _ _ _ _ _ _ c.in_err-set_marks.was q.1 q.2 c.set_marks.ensures.puts)
 
-pub returns-in_err-set_marks-clause-putting : goal.returns-in_err-set_marks-clause-putting
-returns-in_err-set_marks-clause-putting g c =
+pub returns-in_err-set_marks-clause-kept : goal.returns-in_err-set_marks-clause-kept
+returns-in_err-set_marks-clause-kept g c =
     let q = err_from_is_err_and c.from_residual.result c.from_residual.ensures.1 in
-    let P = IsOfPutting c.new-marks.result in
-    subst (λ (p : MarkPlan). IfErr c.from_residual.result (IsOfPutting p)) c.new-marks.ensures
-    (err_at P c.from_residual.result q.0 q.1 (subst P (sym q.2) (IfErr-at_err P c.in_err-set_marks.was c.set_marks.ensures.putting)))
+    let P : MarkPlan → Type 0 = λ p. KeepersAre g.K.Storage (λ k. k < length p.slots) c.from_residual.result c.args.keepers.now.items c.set_marks.new.keepers.items in
+    subst P c.new-marks.ensures (are_err g.K.Storage _ c.set_marks.result c.from_residual.result _ _ _ _ c.in_err-set_marks.was q.1 q.2 c.set_marks.ensures.are)
 
-pub returns-in_err-set_marks-clause-others : goal.returns-in_err-set_marks-clause-others
-returns-in_err-set_marks-clause-others g c k past = c.set_marks.ensures.stay.others k (subst (λ (q : MarkPlan). length q.slots ≤ k) (sym c.new-marks.ensures) past)
+pub returns-clause-kept : goal.returns-clause-kept
+returns-clause-kept g c =
+    let P : MarkPlan → Type 0 = λ p. KeepersAre {A = Unit} g.K.Storage (λ k. k < length p.slots) (Ok tt) c.args.keepers.now.items c.set_marks.new.keepers.items in
+    are_ok g.K.Storage _ (Ok tt) tt _ _ _ refl (subst P c.new-marks.ensures (are_ok g.K.Storage _ c.set_marks.result _ tt _ _ c.in_ok-set_marks.was c.set_marks.ensures.are))
 
-pub returns-clause-others : goal.returns-clause-others
-returns-clause-others g c k past = c.set_marks.ensures.stay.others k (subst (λ (q : MarkPlan). length q.slots ≤ k) (sym c.new-marks.ensures) past)
+pub returns-clause-puts : goal.returns-clause-puts
+returns-clause-puts g c =
+    let calls = calls_to g.K.Storage in
+    let P : MarkPlan → Type 0 = λ p. PutsMarks {T = Unit} p (Ok tt) c.args.steps.now c.set_marks.new.steps (calls c.args.keepers.now.items) (calls c.set_marks.new.keepers.items) in
+    puts_marks_ok _ (Ok tt) tt _ _ _ _ _ refl (subst P c.new-marks.ensures (puts_marks_ok c.new-marks.result c.set_marks.result _ tt _ _ _ _ c.in_ok-set_marks.was c.set_marks.ensures.puts))
 
 pub returns-clause-marks : goal.returns-clause-marks
 returns-clause-marks g c =
@@ -61,8 +66,8 @@ pub returns-clause-stands : goal.returns-clause-stands
 returns-clause-stands g c tells =
     let p = c.new-marks.result in
     let j = c.args.journal in
-    let told = told_by g.K.Keeper.told c.args.keepers.now.items in
-    let told' = told_by g.K.Keeper.told c.set_marks.new.keepers.items in
+    let told = told_by g.K.Storage c.args.keepers.now.items in
+    let told' = told_by g.K.Storage c.set_marks.new.keepers.items in
     let desk = c.in-Ok.desk in
     let e = c.in-Ok.ensures.store ∙ ap (λ (s : List Slots). no_pairs_on s c.span.result) c.book.ensures ∙ ap (no_pairs_on p.slots) c.span.ensures.value in
     let tells_here = subst (λ (q : MarkPlan). MarksTell q told) (sym c.new-marks.ensures) tells in
@@ -78,7 +83,7 @@ pub returns-in_err-set_marks-clause-roomy : goal.returns-in_err-set_marks-clause
 returns-in_err-set_marks-clause-roomy g c has e =
     let q = err_from_is_err_and c.from_residual.result c.from_residual.ensures.1 in
     let p = c.new-marks.result in
-    let rooms = rooms_by g.K.Keeper.room_bytes c.args.keepers.now.items in
+    let rooms = rooms_by g.K.Storage c.args.keepers.now.items in
     let pages = ap (λ (s : MachineState). page_numbers s.memory) c.in-Ok.ensures.work in
     let slots = ap (λ (m : MarkPlan). m.slots) c.new-marks.ensures in
     let here = still_roomy c.args.start c.in-Ok.desk.work (slots_of c.args.book) p.slots rooms rooms pages slots (λ k. refl) has in
@@ -97,10 +102,3 @@ invariant_of-result g c =
       within = omega arith;
       short = subst (λ (m : ℕ). AreShort m new.store) (sym (same_room new.work desk.work c.set_marks.ensures.machine)) short;
     }
-
-pub returns-in_err-set_marks-clause-put_until : goal.returns-in_err-set_marks-clause-put_until
-returns-in_err-set_marks-clause-put_until g c k e =
-    let q = err_from_is_err_and c.from_residual.result c.from_residual.ensures.1 in
-    let calls = calls_to g.K.Keeper.put_count g.K.Keeper.get_count g.K.Keeper.free_count in
-    let P : MarkPlan → Type 0 = λ p. StopsPutting p k c.args.steps.now c.set_marks.new.steps (calls c.args.keepers.now.items) (calls c.set_marks.new.keepers.items) in
-    subst P c.new-marks.ensures (c.set_marks.ensures.put_until k (same_fault c.set_marks.result c.from_residual.result _ _ (Keeper k) c.in_err-set_marks.was q.1 q.2 e))

@@ -16,19 +16,19 @@ pub invariant_of-self : goal.invariant_of-self
 invariant_of-self g c =
     let before = c.self.inside.config in
     let after = c.take.new.self in
-    let told = g.K.Keeper.told in
+    let told = g.K.Storage in
     let old = holdings_in c.self.inside.space (told_by told c.args.keepers.now.items) in
     let new = holdings_in c.act-outcome.new.space (told_by told c.act-outcome.new.keepers.items) in
-    let laid = laid_out_after c.self.inside.journal c.self.inside.unit before.steps before.slots before.at c.args.action.now after.at old new c.is_sound.ensures.sound c.take.ensures.goes c.in-Ok.ensures.acted.acts
+    let laid = laid_out_after c.self.inside.journal c.self.inside.unit before.steps before.slots before.at c.args.action.now after.at old new c.is_sound.ensures.sound c.take.ensures.goes c.in-Ok.ensures.does.acted.acts
     (c.self.invariant.laid c.if-self.false) in
-    let N : ℕ → Type 0 = λ n. IsLaidOut n before.slots after.at c.act-outcome.new.space.store in
-    let S : List Slots → Type 0 = λ s. IsLaidOut after.steps s after.at c.act-outcome.new.space.store in
+    let N : ℕ → Type 0 = λ n. IsLaidOut n before.slots after.at c.act-outcome.new.space.desk.store in
+    let S : List Slots → Type 0 = λ s. IsLaidOut after.steps s after.at c.act-outcome.new.space.desk.store in
     let U : ℕ → Type 0 = λ n. HasUnits c.self.inside.unit c.self.inside.journal n after.at c.act-outcome.new.space in
     record {
       fits = c.act-outcome.ensures.order.fits;
       laid = λ _. subst S (sym c.take.ensures.slots) (subst N (sym c.take.ensures.steps) laid);
       units = λ _. subst U (sym c.take.ensures.steps) (c.in-Ok.ensures.units after.at c.take.ensures.goes);
-      short = λ _. subst (λ most. AreShort most c.act-outcome.new.space.store) (same_room c.self.inside.space.work c.act-outcome.new.space.work c.act-outcome.ensures.order.pages)
+      short = λ _. subst (λ most. AreShort most c.act-outcome.new.space.desk.store) (same_room c.self.inside.space.desk.work c.act-outcome.new.space.desk.work c.act-outcome.ensures.order.pages)
           (c.act-outcome.ensures.order.short (c.self.invariant.short c.if-self.false));
     }
 
@@ -36,9 +36,9 @@ pub returns-in-Ok-clause-stays : goal.returns-in-Ok-clause-stays
 returns-in-Ok-clause-stays g c =
     let before = c.self.inside.config in
     let after = c.take.new.self.at in
-    let tells = told_by g.K.Keeper.told c.args.keepers.now.items in
+    let tells = told_by g.K.Storage c.args.keepers.now.items in
     let old = holdings_in c.self.inside.space tells in
-    let new = holdings_in c.act-outcome.new.space (told_by g.K.Keeper.told c.act-outcome.new.keepers.items) in
+    let new = holdings_in c.act-outcome.new.space (told_by g.K.Storage c.act-outcome.new.keepers.items) in
     let journal = c.self.inside.journal in
     let unit = c.self.inside.unit in
     let laid = c.self.invariant.laid c.if-self.false in
@@ -50,16 +50,16 @@ returns-in-Ok-clause-stays g c =
           (let Q : SessionState → Type 0 = λ s. AreAlone (levels_of s tells) in
           alone_after journal unit before.steps before.slots before.at c.args.action.now after old new c.is_sound.ensures.sound c.take.ensures.goes done.acts laid (subst Q (sym c.self.view_is) alone));
     })
-    c.act-outcome.ensures.acted
+    c.act-outcome.ensures.does.acted
 
 pub returns-in-Ok-clause-spared : goal.returns-in-Ok-clause-spared
 returns-in-Ok-clause-spared g c =
-    let tells = told_by g.K.Keeper.told c.args.keepers.now.items in
-    let Q : SessionState → Type 0 = λ s. IsSafe c.act-outcome.result s.journal s.unit s.situation.at (holdings_of s tells) (length s.situation.slots) (rooms_by g.K.Keeper.room_bytes c.args.keepers.now.items) in
+    let tells = told_by g.K.Storage c.args.keepers.now.items in
+    let Q : SessionState → Type 0 = λ s. IsSafe c.act-outcome.result s.journal s.unit s.situation.at (holdings_of s tells) (length s.situation.slots) (rooms_by g.K.Storage c.args.keepers.now.items) in
     subst Q c.self.view_is (c.act-outcome.ensures.spared c.is_recorded.ensures (c.self.invariant.short c.if-self.false))
 
 pub returns-in-Err-clause-spared : goal.returns-in-Err-clause-spared
 returns-in-Err-clause-spared g c =
-    let tells = told_by g.K.Keeper.told c.args.keepers.now.items in
-    let Q : SessionState → Type 0 = λ s. IsSafe c.act-outcome.result s.journal s.unit s.situation.at (holdings_of s tells) (length s.situation.slots) (rooms_by g.K.Keeper.room_bytes c.args.keepers.now.items) in
+    let tells = told_by g.K.Storage c.args.keepers.now.items in
+    let Q : SessionState → Type 0 = λ s. IsSafe c.act-outcome.result s.journal s.unit s.situation.at (holdings_of s tells) (length s.situation.slots) (rooms_by g.K.Storage c.args.keepers.now.items) in
     subst Q c.self.view_is (c.act-outcome.ensures.spared c.is_recorded.ensures (c.self.invariant.short c.if-self.false))

@@ -1,5 +1,5 @@
 -- The undo list is cleared, and then watches the steps.
-use Rattle.std.proofs.Common.{◌∙◌, ap, sym, subst, arith, List, Option, ℕ}
+use Rattle.std.proofs.Common.{◌∙◌, ap, sym, refl, subst, arith, List, Option, ℕ}
 use Rattle.rv_machine.specs.MachineState.{MachineState}
 use Rattle.unit_undo.specs.UndoState.{UndoState}
 use Rattle.unit_undo.specs.Leading.{LeadsBack, states_below, IsMadeFor}
@@ -13,23 +13,23 @@ advance_watched-requires g c =
     let unit = ap (λ (u : UndoState). u.unit) c.clear.ensures in
     let room = ap (λ (u : UndoState). u.room) c.clear.ensures in
     let made : IsMadeFor c.args.journal.now c.clear.new.self = omega (arith, unit, room, c.requires.made) in
-    can_note c.args.self.now.work c.args.journal.now c.args.count c.clear.new.self made (ap (λ (u : UndoState). u.entries) c.clear.ensures) (omega (arith, unit, c.requires.few))
+    can_note c.args.self.now.desk.work c.args.journal.now c.args.count c.clear.new.self made (ap (λ (u : UndoState). u.entries) c.clear.ensures) (omega (arith, unit, c.requires.few))
 
 pub returns-clause-back : goal.returns-clause-back
 returns-clause-back g c =
-    let so = noted c.args.self.now.work c.args.journal.now c.args.count c.clear.new.self c.advance_watched.new.watch (ap (λ (u : UndoState). u.entries) c.clear.ensures) c.advance_watched.ensures.noted in
+    let so = noted c.args.self.now.desk.work c.args.journal.now c.args.count c.clear.new.self c.advance_watched.new.watch (ap (λ (u : UndoState). u.entries) c.clear.ensures) c.advance_watched.ensures.noted in
     let there = sym (c.copy_from.ensures ∙ c.advance_watched.ensures.states) in
-    subst (λ (s : MachineState). LeadsBack c.advance_watched.new.watch.entries s (states_below c.args.self.now.work c.args.journal.now c.args.count)) there so.has.back
+    subst (λ (s : MachineState). LeadsBack c.advance_watched.new.watch.entries s (states_below c.args.self.now.desk.work c.args.journal.now c.args.count)) there so.has.back
 
-pub returns-clause-undo : goal.returns-clause-undo
-returns-clause-undo g c =
-    let so = noted c.args.self.now.work c.args.journal.now c.args.count c.clear.new.self c.advance_watched.new.watch (ap (λ (u : UndoState). u.entries) c.clear.ensures) c.advance_watched.ensures.noted in
-    (so.unit ∙ ap (λ (u : UndoState). u.unit) c.clear.ensures, so.room ∙ ap (λ (u : UndoState). u.room) c.clear.ensures)
+pub returns-clause-stays : goal.returns-clause-stays
+returns-clause-stays g c =
+    let so = noted c.args.self.now.desk.work c.args.journal.now c.args.count c.clear.new.self c.advance_watched.new.watch (ap (λ (u : UndoState). u.entries) c.clear.ensures) c.advance_watched.ensures.noted in
+    (so.unit ∙ ap (λ (u : UndoState). u.unit) c.clear.ensures, so.room ∙ ap (λ (u : UndoState). u.room) c.clear.ensures, refl, refl)
 
 pub returns-clause-known : goal.returns-clause-known
 returns-clause-known g c =
-    let so = noted c.args.self.now.work c.args.journal.now c.args.count c.clear.new.self c.advance_watched.new.watch (ap (λ (u : UndoState). u.entries) c.clear.ensures) c.advance_watched.ensures.noted in
+    let so = noted c.args.self.now.desk.work c.args.journal.now c.args.count c.clear.new.self c.advance_watched.new.watch (ap (λ (u : UndoState). u.entries) c.clear.ensures) c.advance_watched.ensures.noted in
     let there = sym (c.copy_from.ensures ∙ c.advance_watched.ensures.states) in
-    let back = subst (λ (s : MachineState). LeadsBack c.advance_watched.new.watch.entries s (states_below c.args.self.now.work c.args.journal.now c.args.count)) there so.has.back in
+    let back = subst (λ (s : MachineState). LeadsBack c.advance_watched.new.watch.entries s (states_below c.args.self.now.desk.work c.args.journal.now c.args.count)) there so.has.back in
     subst (λ (known : List (Option (List ℕ))). AreDigests known (states_of c.advance_watched.new.watch.entries c.copy_from.new.self)) (sym c.know_first.ensures.known)
-    (known_on_tape c.known.result c.args.self.now.work c.args.journal.now c.args.count _ (led c.advance_watched.new.watch.entries c.copy_from.new.self _ back) c.known.ensures)
+    (known_on_tape c.known.result c.args.self.now.desk.work c.args.journal.now c.args.count _ (led c.advance_watched.new.watch.entries c.copy_from.new.self _ back) c.known.ensures)

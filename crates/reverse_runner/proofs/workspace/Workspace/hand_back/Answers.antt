@@ -1,4 +1,4 @@
-use Rattle.std.proofs.Common.{◌≡◌, ℕ, suc, ◌+◌, List, [], ◌∷◌, ◌++◌, length, sym, ap, subst, ◌∙◌, append_assoc, arith, Option, Result, Ok, Err, OnErr}
+use Rattle.std.proofs.Common.{◌≡◌, ℕ, suc, ◌+◌, List, [], ◌∷◌, ◌++◌, length, sym, ap, subst, ◌∙◌, append_assoc, arith, rules, Option}
 use Rattle.unit_undo.specs.UndoState.{UndoState}
 use Rattle.unit_undo.specs.Leading.{led_back}
 use Rattle.unit_undo.proofs.Leading.{gone, gone_states}
@@ -50,12 +50,8 @@ loop-self-preserved g c =
       quiet = c.in_ok-hand_out.ensures.quiet ∙ h.quiet;
     }
 
-on_err : {A E : Type 0} (X : Type 0) (r : Result A E) → X → OnErr r X
-on_err X (Ok a) x = tt
-on_err X (Err e) x = x
-
-pub returns-in_err-hand_out-clause-misses : goal.returns-in_err-hand_out-clause-misses
-returns-in_err-hand_out-clause-misses g c =
+pub returns-in_err-hand_out-clause-hands : goal.returns-in_err-hand_out-clause-hands
+returns-in_err-hand_out-clause-hands g c =
     let h = c.loop-self.invariant in
     let p = c.back.ensures.back in
     let one : length c.loop-self.self.undo.entries ≡ suc (length c.back.new.undo.entries) = ap (λ (u : UndoState). length u.entries) p.1.0 in
@@ -65,15 +61,21 @@ returns-in_err-hand_out-clause-misses g c =
     let numbers_left = fewer h.got.0 c.args.first (length c.loop-self.self.undo.entries) (length c.back.new.undo.entries) _ h.got.3 one in
     let states_left = ap (λ xs. h.got.1 ++ xs) (sym states) ∙ h.got.4 in
     let misses = misses_next g.V.Visitor.got g.V.Visitor.missed c.args.journal.now h.got.0 (numbers_from c.args.first (length c.back.new.undo.entries)) h.got.1 (led_back c.back.new.undo.entries c.back.new.self) n c.back.new.self _ _ _ h.got.2 c.in_err-hand_out.ensures.missed in
-    on_err _ c.from_residual.result
-    (subst (λ ms. MissesOne g.V.Visitor.got g.V.Visitor.missed c.args.journal.now ms (led_back c.args.self.now.undo.entries c.args.self.now.tape) c.args.visitor.now c.hand_out.new.visitor)
-    (ap (λ m. h.got.0 ++ m ∷ numbers_from c.args.first (length c.back.new.undo.entries)) number ∙ numbers_left)
-    (subst (λ ts. MissesOne g.V.Visitor.got g.V.Visitor.missed c.args.journal.now (h.got.0 ++ n ∷ numbers_from c.args.first (length c.back.new.undo.entries)) ts c.args.visitor.now c.hand_out.new.visitor) states_left misses))
+    record {
+      gets = search rules;
+      misses = λ _.
+          (subst (λ ms. MissesOne g.V.Visitor.got g.V.Visitor.missed c.args.journal.now ms (led_back c.args.self.now.undo.entries c.args.self.now.tape) c.args.visitor.now c.hand_out.new.visitor)
+          (ap (λ m. h.got.0 ++ m ∷ numbers_from c.args.first (length c.back.new.undo.entries)) number ∙ numbers_left)
+          (subst (λ ts. MissesOne g.V.Visitor.got g.V.Visitor.missed c.args.journal.now (h.got.0 ++ n ∷ numbers_from c.args.first (length c.back.new.undo.entries)) ts c.args.visitor.now c.hand_out.new.visitor) states_left misses));
+    }
 
 pub back-requires-clause-known : goal.back-requires-clause-known
 back-requires-clause-known g c = subst (λ (known : List (Option (List ℕ))). AreDigests known (states_of c.loop-self.self.undo.entries c.loop-self.self.tape)) (sym c.as_slice.ensures.value) c.loop-self.invariant.known
 
-pub returns-in_err-hand_out-clause-known : goal.returns-in_err-hand_out-clause-known
-returns-in_err-hand_out-clause-known g c =
+pub returns-in_err-hand_out-clause-tape : goal.returns-in_err-hand_out-clause-tape
+returns-in_err-hand_out-clause-tape g c =
     let p = c.back.ensures.back in
-    known_behind c.loop-self.self.known.items c.loop-self.self.undo c.back.new.undo p.0 c.loop-self.self.tape c.back.new.self p.1.0 p.1.1 c.loop-self.invariant.known
+    record {
+      back = gone c.loop-self.self.undo c.back.new.undo p.0 c.loop-self.self.tape c.back.new.self p.1.0 p.1.1 c.loop-self.invariant.leads;
+      known = known_behind c.loop-self.self.known.items c.loop-self.self.undo c.back.new.undo p.0 c.loop-self.self.tape c.back.new.self p.1.0 p.1.1 c.loop-self.invariant.known;
+    }

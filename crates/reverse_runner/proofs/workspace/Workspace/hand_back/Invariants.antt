@@ -20,9 +20,9 @@ invariant-loop-self g l = record {
   unit : l.self.undo.unit ≡ l.initial.self.undo.unit;
   room : l.self.undo.room ≡ l.initial.self.undo.room;
   pages : SamePages l.self.tape l.initial.self.tape;
-  work : l.self.work ≡ l.initial.self.work;
-  store : l.self.store ≡ l.initial.self.store;
-  buffer : l.self.buffer ≡ l.initial.self.buffer;
+  work : l.self.desk.work ≡ l.initial.self.desk.work;
+  store : l.self.desk.store ≡ l.initial.self.desk.store;
+  buffer : l.self.desk.buffer ≡ l.initial.self.desk.buffer;
   quiet : g.V.Visitor.fault_count l.visitor ≡ g.V.Visitor.fault_count l.initial.visitor;
 }
 

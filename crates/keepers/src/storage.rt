@@ -1,0 +1,23 @@
+// What is seen of storage.
+ghost use Rattle.std.specs.Prelude.{ℕ, Option};
+ghost use Rattle.keepers.specs.Told.{Images, Location};
+
+/// What is seen of slots of storage. Contracts take all of it as one, as `K.Storage`.
+pub trait Storage {
+    /// The images by their slots, for storage that claims to know them.
+    ghost told: { Self → Option Images };
+    /// The number of its slots.
+    ghost slot_count: { Self → ℕ };
+    /// The calls of each kind, including refused ones.
+    ghost put_count: { Self → ℕ };
+
+    ghost get_count: { Self → ℕ };
+
+    ghost free_count: { Self → ℕ };
+
+    ghost fault_count: { Self → ℕ };
+    /// Images of at most this many bytes never need memory, if it has a room.
+    ghost room_bytes: { Self → Option ℕ };
+    /// Where its images are.
+    ghost place: { Self → Location };
+}

@@ -1,8 +1,0 @@
-use Rattle.std.proofs.Common.{refl, sym}
-use Rattle.reverse_console.proofs.ScriptSeen.{line_next}
-use Rattle.reverse_console.proofs.text.Lines.next.Goals as goal
-
-pub returns-clause-value : goal.returns-clause-value
-returns-clause-value c =
-    line_next c.self.inside.rest.now _ _ _ c.line_length.result _ c.self.inside.is_over c.args.self.now c.self.view_is c.if-self.false (sym c.line_length.ensures.value)
-    c.split_at.ensures.front c.split_at.ensures.back refl c.without_first-self-inside.ensures

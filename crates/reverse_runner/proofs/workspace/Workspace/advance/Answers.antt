@@ -1,5 +1,0 @@
-use Rattle.std.proofs.Common.{sym}
-use Rattle.reverse_runner.proofs.workspace.Workspace.advance.Goals as goal
-
-pub returns-clause-pages : goal.returns-clause-pages
-returns-clause-pages g c = sym c.advance.ensures.mapped
