@@ -5,7 +5,7 @@ use Rattle.std.specs.List.{AllByRecursion}
 use Rattle.std.proofs.lemmas.Bool.Decides.{nat_tests}
 use Rattle.std.proofs.lemmas.Fmt.{decimal_by_steps}
 use Rattle.line_texts.proofs.Decimal.{number_is as number_up_to, decimal_is, digits_are}
-use Rattle.action_text.specs.Reading.{number_of}
+use Rattle.action_text.specs.Parser.{number_of}
 use Rattle.action_text.specs.Tokens.{is_run_byte, starts_run}
 
 -- a text that is a number is its decimal digits

@@ -13,7 +13,7 @@ use Rattle.action_text.specs.Bytes.{IsWord}
 use Rattle.level_book.specs.BookCosts.{BookCosts, names_of}
 use Rattle.level_book.specs.Names.{is_name, is_spelled, is_name_byte, AreNames}
 use Rattle.action_text.specs.Tokens.{is_run_byte, starts_run}
-use Rattle.action_text.specs.Reading.{level_of}
+use Rattle.action_text.specs.Parser.{level_of}
 use Rattle.line_texts.proofs.Steps.{which, both}
 use Rattle.action_text.proofs.Decimal.{IsRun}
 

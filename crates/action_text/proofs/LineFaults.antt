@@ -15,14 +15,14 @@ use Rattle.action_text.specs.Shapes.{Want, exactly, opening, shapes, TakesToken,
 use Rattle.action_text.specs.Meaning.{Says, SayNothing, IsPassed}
 use Rattle.action_text.specs.ScheduleText.{texts}
 use Rattle.action_text.specs.Faults.{rule_at, IsTooMany, FaultIn, first_column}
-use Rattle.action_text.specs.Rest.{Rest}
-use Rattle.action_text.specs.Reading.{kind_of, text_in, column_in, text_at, column_at, behind, next, end_next, is_nothing, all_of, wants_of, said, arguments_of, profiled, action_of, says_nothing, line_of, number_of_rule, not_action, whole_line}
-use Rattle.line_texts.specs.Reading.{◌>>=◌}
+use Rattle.action_text.specs.CursorState.{Rest}
+use Rattle.action_text.specs.Parser.{kind_of, text_in, column_in, text_at, column_at, behind, next, end_next, is_nothing, all_of, wants_of, said, arguments_of, profiled, action_of, says_nothing, line_of, number_of_rule, not_action, whole_line}
+use Rattle.line_texts.specs.Parsers.{◌>>=◌}
 use Rattle.line_texts.proofs.Steps.{which, chosen, bind_ok, bind_err, done, ok_is, err_is, not_both}
 use Rattle.action_text.proofs.LevelWords.{same_bytes, bytes_same}
-use Rattle.action_text.proofs.Wants.{IsReal, IsLeft, next_ok, next_err, passes_fits}
-use Rattle.action_text.proofs.LineOf.{line_named, line_unnamed}
-use Rattle.action_text.proofs.Sayings.{AllPass, AllFit, name_of_kind, said_says, says_read, kind_named}
+use Rattle.action_text.proofs.ExpectedTokens.{IsReal, IsLeft, next_ok, next_err, passes_fits}
+use Rattle.action_text.proofs.LineCases.{line_named, line_unnamed}
+use Rattle.action_text.proofs.ArgumentMeaning.{AllPass, AllFit, name_of_kind, said_says, says_read, kind_named}
 
 abbrev texts_of : List Token → List (List ℕ)
 texts_of ts = map (λ (t : Token). t.text) ts

@@ -5,10 +5,10 @@ use Rattle.plan_types.specs.declared.action.Action.{Action}
 use Rattle.action_text.specs.declared.fault.LineFault.{LineFault}
 use Rattle.line_texts.specs.declared.fault.Fault.{Fault}
 use Rattle.line_texts.specs.Lines.{lines}
-use Rattle.action_text.specs.Rest.{Rest}
-use Rattle.action_text.specs.Reading.{line_of, fault_at, in_line, has_line, next_line, lines_of, here_of, reading}
-use Rattle.line_texts.specs.Reading.{◌>>=◌}
-use Rattle.action_text.proofs.Seen.{lines_are}
+use Rattle.action_text.specs.CursorState.{Rest}
+use Rattle.action_text.specs.Parser.{line_of, fault_at, in_line, has_line, next_line, lines_of, here_of, reading}
+use Rattle.line_texts.specs.Parsers.{◌>>=◌}
+use Rattle.action_text.proofs.NextToken.{lines_are}
 
 -- how a line goes on that was read, or that has a fault
 abbrev go_on : List (List ℕ) → List Action → ℕ → List (List ℕ) → Result (Option Action) LineFault → Result (List Action) Fault

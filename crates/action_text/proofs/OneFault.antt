@@ -9,10 +9,10 @@ use Rattle.action_text.specs.Shapes.{Want, FitFront, Expects, Begin}
 use Rattle.action_text.specs.Meaning.{Says, SayNothing, IsPassed}
 use Rattle.action_text.specs.ScheduleText.{texts}
 use Rattle.action_text.specs.Faults.{rule_at, IsUnexpected, IsTooMany, FaultIn}
-use Rattle.action_text.proofs.Sayings.{IsRead, says_read, name_of_kind, kind_named}
+use Rattle.action_text.proofs.ArgumentMeaning.{IsRead, says_read, name_of_kind, kind_named}
 use Rattle.action_text.proofs.LineFaults.{begins_as, expects_as, shape_of, shape_is, fit_whole}
 use Rattle.action_text.specs.declared.words.Kind.{Kind}
-use Rattle.action_text.specs.Reading.{kind_of, wants_of}
+use Rattle.action_text.specs.Parser.{kind_of, wants_of}
 
 -- what fits a row goes on in one way
 front_one : (names : List (List ℕ)) (ts : List Token) (ws : List Want) (a b : Option Want) → FitFront names ts ws a → FitFront names ts ws b → a ≡ b

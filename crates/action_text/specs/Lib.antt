@@ -5,7 +5,7 @@ pub mod ScheduleText
 pub mod Faults
 pub mod Canonical
 pub mod Laws
-pub mod Rest
+pub mod CursorState
 pub mod Bytes
-pub mod Reading
-pub mod Written
+pub mod Parser
+pub mod CanonicalPrefix

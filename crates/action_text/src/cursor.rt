@@ -6,8 +6,8 @@ ghost use Rattle.action_text.specs.Tokens.{is_run_byte, starts_run};
 ghost use Rattle.line_texts.specs.Tokens.{is_blank};
 ghost use Rattle.line_texts.specs.Lines.{lines};
 ghost use Rattle.action_text.specs.Bytes.{behind_line, ends_line, begins_nothing, run_length, IsWord, behind_word, behind_front};
-ghost use Rattle.line_texts.specs.Reading.{GivesSome};
-ghost use Rattle.action_text.specs.Reading.{text_at, column_at, says_nothing, not_action, number_of, mark_next, end_next, has_line, next_line, Takes, TakesWord, line_of};
+ghost use Rattle.line_texts.specs.Parsers.{GivesSome};
+ghost use Rattle.action_text.specs.Parser.{text_at, column_at, says_nothing, not_action, number_of, mark_next, end_next, has_line, next_line, Takes, TakesWord, line_of};
 
 use crate::canonical::action_at;
 use crate::fault::{LineFault, Rule};
@@ -26,7 +26,7 @@ pub(crate) struct Cursor<'a> {
 
 impl<'a> Model for Cursor<'a> {
     ghost use Rattle.std.specs.Prelude.{◌≤◌, ◌<◌, ◌^◌, length};
-    ghost use Rattle.action_text.specs.Rest.{Rest, seen};
+    ghost use Rattle.action_text.specs.CursorState.{Rest, seen};
 
     ghost Value = { Rest };
 

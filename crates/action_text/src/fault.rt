@@ -1,6 +1,6 @@
 // A fault within a line of a schedule.
 ghost use Rattle.std.specs.Prelude.{◌≡◌};
-ghost use Rattle.action_text.specs.Reading.{fault_at};
+ghost use Rattle.action_text.specs.Parser.{fault_at};
 
 use line_texts::Fault;
 

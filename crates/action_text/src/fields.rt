@@ -2,7 +2,7 @@
 ghost use Rattle.std.specs.Prelude.{◌≡◌, ◌≤◌, Some, Ok, Err, MatchResult, IfOk, OnOk};
 ghost use Rattle.plan_types.specs.declared.limits.TheConstants.{MOST_STEPS};
 ghost use Rattle.level_book.specs.BookCosts.{names_of};
-ghost use Rattle.action_text.specs.Reading.{text_at, number_of, truth_of, level_of, target_of, place_of, number_next, truth_next, level_next, target_next, place_next, number_rule, not_action};
+ghost use Rattle.action_text.specs.Parser.{text_at, number_of, truth_of, level_of, target_of, place_of, number_next, truth_next, level_next, target_next, place_next, number_rule, not_action};
 
 use crate::cursor::{Cursor, Word};
 use crate::fault::{LineFault, Rule};
@@ -11,7 +11,7 @@ use level_book::Book;
 use plan_types::Dest;
 
 // Reads a number.
-#[tactic(auto, unfolding(crate::specs::Reading::number_next))]
+#[tactic(auto, unfolding(crate::specs::Parser::number_next))]
 #[inline(always)]
 pub(crate) fn next_number(cursor: &mut Cursor) -> Result<u32, LineFault>
     ensures value { MatchResult result
@@ -28,7 +28,7 @@ pub(crate) fn next_number(cursor: &mut Cursor) -> Result<u32, LineFault>
 }
 
 // Reads a truth value.
-#[tactic(auto, unfolding(crate::specs::Reading::truth_next))]
+#[tactic(auto, unfolding(crate::specs::Parser::truth_next))]
 #[inline(always)]
 pub(crate) fn next_truth(cursor: &mut Cursor) -> Result<bool, LineFault>
     ensures value { MatchResult result
@@ -44,7 +44,7 @@ pub(crate) fn next_truth(cursor: &mut Cursor) -> Result<bool, LineFault>
 }
 
 // Reads the name of a level.
-#[tactic(auto, unfolding(crate::specs::Reading::level_next))]
+#[tactic(auto, unfolding(crate::specs::Parser::level_next))]
 #[inline(always)]
 pub(crate) fn next_level(cursor: &mut Cursor, book: &Book) -> Result<u8, LineFault>
     ensures value { MatchResult result
@@ -60,7 +60,7 @@ pub(crate) fn next_level(cursor: &mut Cursor, book: &Book) -> Result<u8, LineFau
 }
 
 // Reads the name of a level or the work state.
-#[tactic(auto, unfolding(crate::specs::Reading::target_next))]
+#[tactic(auto, unfolding(crate::specs::Parser::target_next))]
 #[inline(always)]
 pub(crate) fn next_target(cursor: &mut Cursor, book: &Book) -> Result<Dest, LineFault>
     ensures value { MatchResult result
@@ -76,7 +76,7 @@ pub(crate) fn next_target(cursor: &mut Cursor, book: &Book) -> Result<Dest, Line
 }
 
 // Reads the name of a level, the work state or none.
-#[tactic(auto, unfolding(crate::specs::Reading::place_next))]
+#[tactic(auto, unfolding(crate::specs::Parser::place_next))]
 #[inline(always)]
 pub(crate) fn next_place(cursor: &mut Cursor, book: &Book) -> Result<Place, LineFault>
     ensures value { MatchResult result

@@ -6,8 +6,8 @@ ghost use Rattle.level_book.specs.BookCosts.{names_of};
 ghost use Rattle.line_texts.specs.declared.fault.Fault.{Fault};
 ghost use Rattle.action_text.specs.ScheduleText.{IsSchedule};
 ghost use Rattle.action_text.specs.Faults.{HasFirstFault};
-ghost use Rattle.action_text.specs.Reading.{reading};
-ghost use Rattle.line_texts.specs.Reading.{GivesUnlessMemory};
+ghost use Rattle.action_text.specs.Parser.{reading};
+ghost use Rattle.line_texts.specs.Parsers.{GivesUnlessMemory};
 
 use crate::cursor::Cursor;
 use crate::line::line;
@@ -37,7 +37,7 @@ pub fn read_actions(alloc: Global, bytes: &[u8], book: &Book) -> Result<Vec<Acti
     read_lines(alloc, bytes, book)
 }
 
-#[tactic(auto, unfolding(crate::specs::Reading::reading))]
+#[tactic(auto, unfolding(crate::specs::Parser::reading))]
 fn read_lines(alloc: Global, bytes: &[u8], book: &Book) -> Result<Vec<Action>, Fault>
     requires { length bytes.now < 2 ^ 31 }
     ensures { GivesUnlessMemory (λ list. list.items) result (reading (names_of book.now) bytes.now) }

@@ -1,6 +1,6 @@
 // The words of a line, and their meanings.
 ghost use Rattle.level_book.specs.BookCosts.{names_of};
-ghost use Rattle.action_text.specs.Reading.{text_at, truth_of, level_of, target_of, place_of, kind_of, Takes};
+ghost use Rattle.action_text.specs.Parser.{text_at, truth_of, level_of, target_of, place_of, kind_of, Takes};
 
 use crate::cursor::Cursor;
 use level_book::Book;
@@ -26,7 +26,7 @@ pub(crate) enum Place {
 }
 
 // Reads the next token, if it is the name of a kind of action.
-#[tactic(auto, unfolding(crate::specs::Reading::kind_of))]
+#[tactic(auto, unfolding(crate::specs::Parser::kind_of))]
 #[inline(always)]
 pub(crate) fn take_kind(cursor: &mut Cursor) -> Option<Kind>
     ensures { Takes result (kind_of (text_at cursor.old)) cursor.old cursor.new }
@@ -77,7 +77,7 @@ pub(crate) fn take_level(cursor: &mut Cursor, book: &Book) -> Option<u8>
 }
 
 // Reads the next token, if it is the name of a level or the work state.
-#[tactic(auto, unfolding(crate::specs::Reading::target_of))]
+#[tactic(auto, unfolding(crate::specs::Parser::target_of))]
 #[inline(always)]
 pub(crate) fn take_target(cursor: &mut Cursor, book: &Book) -> Option<Dest>
     ensures { Takes result (target_of (names_of book.now) (text_at cursor.old)) cursor.old cursor.new }
@@ -92,7 +92,7 @@ pub(crate) fn take_target(cursor: &mut Cursor, book: &Book) -> Option<Dest>
 }
 
 // Reads the next token, if it is the name of a level, the work state or none.
-#[tactic(auto, unfolding(crate::specs::Reading::place_of))]
+#[tactic(auto, unfolding(crate::specs::Parser::place_of))]
 #[inline(always)]
 pub(crate) fn take_place(cursor: &mut Cursor, book: &Book) -> Option<Place>
     ensures { Takes result (place_of (names_of book.now) (text_at cursor.old)) cursor.old cursor.new }

@@ -5,8 +5,8 @@ use lib.Signed.{lt_z}
 use Rattle.std.proofs.Math.Nat.{mul-div_cancel}
 use Rattle.binomials.specs.Binomials.{beta, beta_of, beta_before, factorial}
 use Rattle.binomials.specs.Laws.{BetaIsBinomial}
-use Rattle.binomials.specs.Climbed.{IsClimb}
-use Rattle.binomials.proofs.Counting.{beta_zero, beta_one, beta_above, beta_before_law, beta_before_up}
+use Rattle.binomials.specs.ClimbState.{IsClimb}
+use Rattle.binomials.proofs.Monotonicity.{beta_zero, beta_one, beta_above, beta_before_law, beta_before_up}
 
 up_next : (x y z c k : ℕ) → x * suc k ≡ z * (c + suc k) → y * suc c ≡ z * (c + suc k) → (x + y) * suc c ≡ x * (c + suc (suc k))
 up_next x y z c k a b = omega arith

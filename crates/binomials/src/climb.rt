@@ -1,7 +1,7 @@
 // The binomial numbers round the number of repeats of a stretch.
 ghost use Rattle.std.specs.Prelude.{◌≤◌};
 ghost use Rattle.plan_types.specs.declared.limits.TheConstants.{MOST_STEPS};
-ghost use Rattle.binomials.specs.Climbed.{IsClimb};
+ghost use Rattle.binomials.specs.ClimbState.{IsClimb};
 
 // For the number r of repeats of a stretch with c slots.
 #[derive(Clone, Copy)]

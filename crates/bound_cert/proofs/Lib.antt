@@ -1,8 +1,8 @@
-pub mod Fitting
+pub mod ThresholdFit
 pub mod Numbers
-pub mod Tallied
-pub mod Tested
-pub mod Accepting
-pub mod Certified
+pub mod CountableLists
+pub mod TestOutcomes
+pub mod VerdictUniqueness
+pub mod PlanCertificates
 pub mod Texts
-pub mod Deciding
+pub mod Decidability

@@ -5,10 +5,10 @@ use Rattle.std.proofs.lemmas.Bool.{cases_lt}
 use Rattle.std.proofs.Math.Nat.{mul-le-mul_left}
 use Rattle.binomials.specs.Binomials.{beta_before}
 use Rattle.binomials.specs.Advances.{repeats, least_advances}
-use Rattle.binomials.proofs.Counting.{beta_before_slots}
+use Rattle.binomials.proofs.Monotonicity.{beta_before_slots}
 use Rattle.binomials.proofs.Ratio.{beta_before_one, beta_before_two}
-use Rattle.binomials.proofs.Advancing.{with_slot, repeats_found, advances_greatest}
-use Rattle.bound_cert.specs.Accepted.{IsNumberOf, IsNegative}
+use Rattle.binomials.proofs.LeastAdvances.{with_slot, repeats_found, advances_greatest}
+use Rattle.bound_cert.specs.Acceptance.{IsNumberOf, IsNegative}
 use Rattle.bound_cert.specs.Verdicts.{FindsNumber}
 
 -- the number is a difference, or it is negative

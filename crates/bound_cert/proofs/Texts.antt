@@ -5,12 +5,12 @@ use Rattle.level_book.specs.UnderTable.{Entry, number, never, IsGreatest}
 use Rattle.level_book.specs.DiskUnderTable.{IsGreatestDisk}
 use Rattle.cost_tables.specs.TableRows.{TableRows, AreFor, TablesFit, FastestTablesFit, fastest, tables_in}
 use Rattle.cost_tables.specs.Shapes.{AreShaped}
-use Rattle.cost_tables.proofs.Least.{greatest_low}
-use Rattle.cost_tables.proofs.Fastest.{first_only}
+use Rattle.cost_tables.proofs.Recurrences.{greatest_low}
+use Rattle.cost_tables.proofs.FastestLevel.{first_only}
 use Rattle.hrevolve_gen.proofs.PartReads.{few_steps}
 use Rattle.disk_gen.specs.DiskRows.{DiskRows, AreDiskFor, disk_tables_in}
 use Rattle.disk_gen.specs.DiskShapes.{AreDiskShaped}
-use Rattle.disk_gen.proofs.DiskLow.{fast_low, disk_low}
+use Rattle.disk_gen.proofs.DiskEntryBounds.{fast_low, disk_low}
 use Rattle.cert_text.specs.declared.certificate.Certificate.TheVariants.{Nested, Disk}
 use Rattle.cert_text.specs.Meaning.{HasWord, HaveWords, HasText}
 

@@ -3,10 +3,10 @@ use Rattle.std.specs.Prelude.{◌⊎◌, ℕ, List}
 use Rattle.plan_types.specs.declared.action.Action.{Action}
 use Rattle.level_book.specs.BookCosts.{BookCosts, slots_of}
 use Rattle.level_book.specs.Valid.{Valid}
-use Rattle.multistage_gen.specs.Planned.{IsMultistageList}
+use Rattle.multistage_gen.specs.MultistageList.{IsMultistageList}
 use Rattle.cert_text.specs.declared.certificate.Certificate.{Certificate}
 use Rattle.bound_cert.specs.declared.verdict.Reason.{Reason}
-use Rattle.bound_cert.specs.Accepted.{IsAccepted, IsFirstReason}
+use Rattle.bound_cert.specs.Acceptance.{IsAccepted, IsFirstReason}
 use Rattle.bound_cert.specs.Thresholds.{IsThresholdOf}
 
 -- for a valid list a certificate is accepted, or there is a first reason why it isn't

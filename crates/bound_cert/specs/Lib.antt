@@ -1,5 +1,5 @@
 pub mod Thresholds
 pub mod TableTests
-pub mod Accepted
+pub mod Acceptance
 pub mod Verdicts
 pub mod Laws

@@ -11,7 +11,7 @@ use Rattle.level_book.specs.DiskUnderTable.{IsDiskUnderTable, disk_top_entry}
 use Rattle.cost_tables.specs.TableRows.{TableRows, AreFor, TablesFit, FastestTablesFit, tables_in}
 use Rattle.disk_gen.specs.DiskRows.{DiskRows, AreDiskSized, disk_tables_in}
 use Rattle.table_clauses.specs.declared.entry.Entry.{Entry as Place}
-use Rattle.table_clauses.specs.Broken.{Breaks, DiskBreaks, IsFirst}
+use Rattle.table_clauses.specs.ClauseFailures.{Breaks, DiskBreaks, IsFirst}
 use Rattle.bound_cert.specs.declared.verdict.Reason.{Reason}
 use Rattle.bound_cert.specs.declared.verdict.Reason.TheVariants.{Invalid, WrongShape, OutsideClass, Inequality, ValueDiffers}
 

@@ -13,7 +13,7 @@ use Rattle.bound_cert.specs.declared.verdict.Class.TheVariants as class
 use Rattle.level_book.specs.UnderTable.{Entry as TableEntry, number}
 use Rattle.bound_cert.specs.TableTests.{entry_value}
 use Rattle.bound_cert.specs.declared.verdict.Reason.TheVariants.{Invalid, WrongShape, OutsideClass, Inequality, ValueDiffers}
-use Rattle.bound_cert.specs.Accepted.{class_of, IsAccepted, IsFirstReason, IsNumberOf, IsNegative, Differs}
+use Rattle.bound_cert.specs.Acceptance.{class_of, IsAccepted, IsFirstReason, IsNumberOf, IsNegative, Differs}
 
 -- the certificate is accepted, or isn't, for this reason first
 abbrev pub IsVerdict : List Action → ℕ → BookCosts → Certificate → CertVerdict → Type 0

@@ -11,7 +11,7 @@ ghost use Rattle.revolve_gen.specs.Multistage.{IsMultistage};
 ghost use Rattle.cert_text.specs.declared.certificate.Certificate.{Certificate};
 ghost use Rattle.bound_cert.specs.declared.verdict.Class.{Class};
 ghost use Rattle.bound_cert.specs.declared.verdict.Reason.{Reason};
-ghost use Rattle.bound_cert.specs.Accepted.{class_of, IsAccepted, IsFirstReason};
+ghost use Rattle.bound_cert.specs.Acceptance.{class_of, IsAccepted, IsFirstReason};
 ghost use Rattle.bound_cert.specs.Verdicts.{IsVerdict, FindsNumber, IsComparison};
 
 use crate::bound::bound;

@@ -3,11 +3,12 @@
 use crate::fault::CaseFault;
 use crate::members::text_of;
 use base64::engine::general_purpose::STANDARD;
-use elf_load::{load, load_raw};
+use elf_load::load_start;
 use input_journal::{Journal, read_journal};
 use rv_machine::State;
 use serde_json::Value;
 use std::alloc::Global;
+use std::{fs, io};
 
 // How many pages the stack of a program has.
 const STACK: u32 = 16;
@@ -24,8 +25,20 @@ struct Input {
     bytes: Vec<u8>,
 }
 
-/// The inputs of a file. A line has a `name`, and the bytes in `base64`.
-pub fn inputs_of(alloc: Global, text: &str) -> Result<Inputs, CaseFault> {
+/// The inputs of the file with this name, if it has any. It prints that there are none.
+pub fn read_inputs(rt: &HostRuntime, name: &str) -> io::Result<Option<Inputs>> {
+    let text = fs::read_to_string(rt, name)?;
+    match inputs_of(rt.alloc(), text.as_str()) {
+        Ok(inputs) => Ok(Some(inputs)),
+        Err(_) => {
+            println!(rt; "{name} has no inputs")?;
+            Ok(None)
+        }
+    }
+}
+
+// The inputs of a text. A line has a `name`, and the bytes in `base64`.
+fn inputs_of(alloc: Global, text: &str) -> Result<Inputs, CaseFault> {
     let mut list = Vec::new(alloc);
     for line in text.lines() {
         if list.push(input_of(alloc, line)?).is_err() {
@@ -74,10 +87,5 @@ impl Inputs {
 
 /// The first state of a program. It is an ELF file if its name ends in `.elf`, and raw words otherwise.
 pub fn program_of(alloc: Global, name: &str, bytes: &[u8]) -> Result<State, CaseFault> {
-    let loaded = if name.ends_with(".elf") {
-        load(alloc, bytes, STACK)
-    } else {
-        load_raw(alloc, bytes, STACK)
-    };
-    loaded.map_err(|_| CaseFault::Form)
+    load_start(alloc, !name.ends_with(".elf"), bytes, STACK).map_err(|_| CaseFault::Form)
 }

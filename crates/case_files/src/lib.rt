@@ -1,4 +1,4 @@
-//! Runs cases from files, for the test programs `timeline_walks`, `gdb_cases` and `machine_rows`. It uses `elf_load`,
+//! Runs cases from files, for the test programs `timeline_walks`, `gdb_cases`, `machine_rows` and `reversal_calls`. It uses `elf_load`,
 //! `run_timeline` and crates below them. A file has a JSON text a line.
 #![tactic(auto)]
 
@@ -6,8 +6,10 @@ mod fault;
 mod inputs;
 mod lines;
 mod members;
+mod outcome;
 
 pub use fault::CaseFault;
-pub use inputs::{Inputs, inputs_of, program_of};
+pub use inputs::{Inputs, program_of, read_inputs};
 pub use lines::{Cases, run_files};
 pub use members::{number_of, text_of, timeline_of};
+pub use outcome::all_came;

@@ -14,12 +14,12 @@ use Rattle.cert_text.specs.MarkedLines.{CertificateLine}
 use Rattle.cert_text.specs.Words.{words_of, texts_of}
 use Rattle.cert_text.specs.WordLines.{entry_word, row_line, level_lines, column_lines}
 use Rattle.cert_text.specs.Meaning.{HasWord, HaveDiskText}
-use Rattle.cert_text.specs.Wanted.{Want, level_wants, column_wants, later_wants}
-use Rattle.cert_text.proofs.Fitting.{FitLines}
+use Rattle.cert_text.specs.Grammar.{Want, level_wants, column_wants, later_wants}
+use Rattle.cert_text.proofs.LineOutcomes.{FitLines}
 use Rattle.cert_text.proofs.Ranges.{map_same, mapped_same}
-use Rattle.cert_text.proofs.Shaping.{same_by}
-use Rattle.cert_text.proofs.Tabled.{some_wants, some_lines, one_entry, line_said, line_fits, one_word, levels_said, FitRows, fit_joined, levels_fit}
-use Rattle.cert_text.proofs.Nesting.{all_levels_said, wants_are, made, made_said, made_text, fresh_words, held_words, same_tables}
+use Rattle.cert_text.proofs.TableEquality.{same_by}
+use Rattle.cert_text.proofs.EntryLines.{some_wants, some_lines, one_entry, line_said, line_fits, one_word, levels_said, FitRows, fit_joined, levels_fit}
+use Rattle.cert_text.proofs.NestedTables.{all_levels_said, wants_are, made, made_said, made_text, fresh_words, held_words, same_tables}
 
 pub disk_fits_or_not : (steps : ℕ) (book : BookCosts) → FastestTablesFit steps book ⊎ (FastestTablesFit steps book → ⊥)
 disk_fits_or_not steps book = elim (cases_lt 8192 steps) [

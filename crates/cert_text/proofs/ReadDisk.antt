@@ -15,11 +15,11 @@ use Rattle.cert_text.specs.declared.kind.Kind.TheVariants as kind
 use Rattle.cert_text.specs.Words.{texts_of}
 use Rattle.cert_text.specs.WordLines.{row_line, level_lines, column_lines}
 use Rattle.cert_text.specs.Meaning.{HasWord, HaveWords, HaveDiskText}
-use Rattle.cert_text.specs.Wanted.{Want, this_word, row_wants, column_wants, later_wants}
+use Rattle.cert_text.specs.Grammar.{Want, this_word, row_wants, column_wants, later_wants}
 use Rattle.cert_text.specs.Faults.{IsLineFault}
-use Rattle.cert_text.specs.Left.{Unread, IsAt, IsAmong}
+use Rattle.cert_text.specs.ReaderState.{Unread, IsAt, IsAmong}
 use Rattle.cert_text.specs.Rows.{Reads, wants_for, cost_word}
-use Rattle.cert_text.proofs.Filling.{listed_costs}
+use Rattle.cert_text.proofs.ReadRows.{listed_costs}
 use Rattle.cert_text.proofs.ReadTables.{fault_behind, fault_at_end}
 
 abbrev fresh_head : List (List ℕ)

@@ -6,9 +6,9 @@ use Rattle.level_book.specs.BookCosts.{BookCosts}
 use Rattle.cost_tables.specs.TableRows.{TableRows, AreFor}
 use Rattle.line_texts.specs.declared.fault.Fault.{Fault}
 use Rattle.line_texts.specs.declared.fault.Fault.TheVariants.{At, Memory}
-use Rattle.cert_text.specs.Wanted.{Want, rows_wants, level_wants}
+use Rattle.cert_text.specs.Grammar.{Want, rows_wants, level_wants}
 use Rattle.cert_text.specs.Faults.{IsLineFault}
-use Rattle.cert_text.specs.Left.{Unread, IsAt, IsAmong}
+use Rattle.cert_text.specs.ReaderState.{Unread, IsAt, IsAmong}
 use Rattle.cert_text.specs.Rows.{Reads, wants_for}
 use Rattle.cert_text.proofs.Ranges.{flat_same}
 

@@ -13,13 +13,13 @@ use Rattle.cert_text.specs.MarkedLines.{CertificateLine, certificate_lines, line
 use Rattle.cert_text.specs.Words.{words_of, texts_of, end_of}
 use Rattle.cert_text.specs.WordLines.{word_lines}
 use Rattle.cert_text.specs.Meaning.{HasText, IsCertificateText}
-use Rattle.cert_text.specs.Wanted.{kind_word, IsTooLarge, wants_of}
+use Rattle.cert_text.specs.Grammar.{kind_word, IsTooLarge, wants_of}
 use Rattle.cert_text.specs.Faults.{first_column, Names, IsKindFault, IsFault, HasFirstFault}
 use Rattle.cert_text.specs.Laws.{OneCertificate, OneFault, CertificatesHaveNoFault, CertificateOrFault}
-use Rattle.cert_text.proofs.Fitting.{same_or_other, no_line_fault, one_line_fault, line_outcome}
-use Rattle.cert_text.proofs.Nesting.{fits_or_not}
+use Rattle.cert_text.proofs.LineOutcomes.{same_or_other, no_line_fault, one_line_fault, line_outcome}
+use Rattle.cert_text.proofs.NestedTables.{fits_or_not}
 use Rattle.cert_text.proofs.DiskText.{disk_fits_or_not}
-use Rattle.cert_text.proofs.OfKind.{kind_of, one_name, narrow, fits_say, says_fit, says_small, says_kind, says_some, one_said}
+use Rattle.cert_text.proofs.CertificateKinds.{kind_of, one_name, narrow, fits_say, says_fit, says_small, says_kind, says_some, one_said}
 
 pub one_certificate : OneCertificate
 one_certificate steps book bytes a b x y = one_said steps book a b x.has_text y.has_text (sym x.says ∙ y.says)

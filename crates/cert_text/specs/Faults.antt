@@ -8,7 +8,7 @@ use Rattle.line_texts.specs.declared.fault.Fault.{Fault}
 use Rattle.line_texts.specs.declared.fault.Fault.TheVariants.{At, Memory}
 use Rattle.cert_text.specs.MarkedLines.{CertificateLine, certificate_lines, line_count}
 use Rattle.cert_text.specs.Words.{words_of, end_of}
-use Rattle.cert_text.specs.Wanted.{Want, this_word, number_to, an_entry, TakesWord, kind_word, IsTooLarge, wants_of}
+use Rattle.cert_text.specs.Grammar.{Want, this_word, number_to, an_entry, TakesWord, kind_word, IsTooLarge, wants_of}
 
 -- ---- in one line
 

@@ -2,10 +2,10 @@ pub mod MarkedLines
 pub mod Words
 pub mod WordLines
 pub mod Meaning
-pub mod Wanted
+pub mod Grammar
 pub mod Faults
 pub mod Canonical
 pub mod Laws
-pub mod Left
+pub mod ReaderState
 pub mod Rows
-pub mod Printing
+pub mod LineWrites

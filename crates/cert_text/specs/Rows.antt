@@ -4,8 +4,8 @@ use Rattle.cost_tables.specs.declared.cost.Cost.{Cost}
 use Rattle.cost_tables.specs.TableRows.{TableRows, tables_in, value_of}
 use Rattle.cert_text.specs.Words.{texts_of}
 use Rattle.cert_text.specs.WordLines.{entry_word}
-use Rattle.cert_text.specs.Wanted.{Want, rows_wants}
-use Rattle.cert_text.specs.Left.{Unread, Passes}
+use Rattle.cert_text.specs.Grammar.{Want, rows_wants}
+use Rattle.cert_text.specs.ReaderState.{Unread, Passes}
 
 -- the word of a cost
 abbrev pub cost_word : Cost → List ℕ

@@ -7,9 +7,9 @@ ghost use Rattle.cert_text.specs.declared.kind.Kind.TheVariants as kind;
 ghost use Rattle.cert_text.specs.Words.{texts_of};
 ghost use Rattle.cert_text.specs.WordLines.{level_lines, column_lines};
 ghost use Rattle.cert_text.specs.Meaning.{HaveDiskText};
-ghost use Rattle.cert_text.specs.Wanted.{later_wants};
+ghost use Rattle.cert_text.specs.Grammar.{later_wants};
 ghost use Rattle.cert_text.specs.Faults.{IsLineFault};
-ghost use Rattle.cert_text.specs.Left.{IsAt};
+ghost use Rattle.cert_text.specs.ReaderState.{IsAt};
 
 use crate::nested::{empty_row, read_end, read_levels};
 use crate::reader::Reader;

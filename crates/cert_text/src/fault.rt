@@ -1,6 +1,6 @@
 // A fault within a line of a certificate.
 ghost use Rattle.std.specs.Prelude.{◌≡◌};
-ghost use Rattle.cert_text.specs.Left.{number_of_rule};
+ghost use Rattle.cert_text.specs.ReaderState.{number_of_rule};
 
 use line_texts::Fault;
 

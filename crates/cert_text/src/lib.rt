@@ -8,7 +8,7 @@
 //! - `MarkedLines`, `Words`: the lines and words of a text.
 //! - `WordLines`: the words of a certificate.
 //! - `Meaning`: which certificate a text means.
-//! - `Wanted`, `Faults`: the first fault of another text.
+//! - `Grammar`, `Faults`: the first fault of another text.
 //! - `Canonical`: the printed text.
 //! - `Laws`: what the definitions imply.
 #![tactic(auto)]

@@ -1,5 +1,5 @@
 // The certificate lines of a text.
-ghost use Rattle.std.specs.Prelude.{◌≡◌, ◌<◌, ◌≤◌, ◌+◌, ◌-◌, ◌^◌, ◌==◌, ℕ, [], ◌∷◌, length, MatchResult};
+ghost use Rattle.std.specs.Prelude.{◌≡◌, ◌<◌, ◌≤◌, ◌+◌, ◌-◌, ◌^◌, ℕ, [], ◌∷◌, length, MatchResult};
 ghost use Rattle.line_texts.specs.Lines.{lines};
 ghost use Rattle.cert_text.specs.MarkedLines.{is_marked, marked, line_count};
 

@@ -1,5 +1,5 @@
 // Texts of tables over the levels of a book.
-ghost use Rattle.std.specs.Prelude.{◌≡◌, ◌⊎◌, ◌<◌, ◌≤◌, ◌+◌, ℕ, [], ◌∷◌, ◌++◌, All, length, map, codes, slice_index_or, MatchResult, IfOk};
+ghost use Rattle.std.specs.Prelude.{◌≡◌, ◌⊎◌, ◌<◌, ◌≤◌, ◌+◌, ℕ, [], ◌∷◌, ◌++◌, length, map, codes, slice_index_or, MatchResult, IfOk};
 ghost use Rattle.std.specs.List.{range_with_len, flat_map};
 ghost use Rattle.cost_tables.specs.TableRows.{TablesFit, tables_in};
 ghost use Rattle.line_texts.specs.declared.fault.Fault.{Fault};
@@ -7,9 +7,9 @@ ghost use Rattle.cert_text.specs.declared.kind.Kind.TheVariants as kind;
 ghost use Rattle.cert_text.specs.Words.{texts_of};
 ghost use Rattle.cert_text.specs.WordLines.{row_lines, level_lines};
 ghost use Rattle.cert_text.specs.Meaning.{HasWord, HaveWords, HaveText};
-ghost use Rattle.cert_text.specs.Wanted.{this_word, rows_wants, later_wants};
+ghost use Rattle.cert_text.specs.Grammar.{this_word, rows_wants, later_wants};
 ghost use Rattle.cert_text.specs.Faults.{IsWordFault, IsLineFault};
-ghost use Rattle.cert_text.specs.Left.{IsAt, IsAmong, number_of_rule, texts};
+ghost use Rattle.cert_text.specs.ReaderState.{IsAt, IsAmong, number_of_rule, texts};
 ghost use Rattle.cert_text.specs.Rows.{Reads, KeepsFresh, KeepsHeld, KeepsLevels, wants_for};
 
 use crate::fault::LineFault;

@@ -1,8 +1,8 @@
 // Words of a line, written some at a time.
 ghost use Rattle.std.specs.Prelude.{◌≡◌, ◌+◌, ◌*◌, ◌≤◌, [], ◌∷◌, ◌++◌, length, codes, decimal, OnOk, OnErr};
-ghost use Rattle.keepers.specs.Writing.{seen, AddsLines, StopsIn};
+ghost use Rattle.keepers.specs.LineWrites.{seen, AddsLines, StopsIn};
 ghost use Rattle.cert_text.specs.Canonical.{pieces_from};
-ghost use Rattle.cert_text.specs.Printing.{Puts, StopsAt};
+ghost use Rattle.cert_text.specs.LineWrites.{Puts, StopsAt};
 
 use keepers::{Sink, SinkFault};
 use plan_types::Line;

@@ -1,11 +1,11 @@
 // The canonical text of disk tables.
 ghost use Rattle.std.specs.Prelude.{◌∷◌, [], codes, OnOk, OnErr};
 ghost use Rattle.disk_gen.specs.DiskRows.{disk_tables_in};
-ghost use Rattle.keepers.specs.Writing.{seen, AddsLines, StopsIn};
+ghost use Rattle.keepers.specs.LineWrites.{seen, AddsLines, StopsIn};
 ghost use Rattle.cert_text.specs.declared.certificate.Certificate.TheVariants as certificate;
 ghost use Rattle.cert_text.specs.WordLines.{row_line};
 ghost use Rattle.cert_text.specs.Canonical.{pieces};
-ghost use Rattle.cert_text.specs.Printing.{writes};
+ghost use Rattle.cert_text.specs.LineWrites.{writes};
 
 use crate::piece::Piece;
 use crate::printing_rows::{print_levels, print_word, put_cost};

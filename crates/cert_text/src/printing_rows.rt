@@ -1,12 +1,12 @@
 // The canonical text of tables.
-ghost use Rattle.std.specs.Prelude.{◌≡◌, ◌+◌, ◌<◌, ◌≤◌, ◌∷◌, [], codes, decimal, length, slice_index_or, OnOk, OnErr};
+ghost use Rattle.std.specs.Prelude.{◌+◌, ◌<◌, ◌≤◌, ◌∷◌, [], codes, decimal, length, slice_index_or, OnOk, OnErr};
 ghost use Rattle.std.specs.List.{range_with_len, flat_map};
-ghost use Rattle.cost_tables.specs.TableRows.{tables_in, value_of};
-ghost use Rattle.keepers.specs.Writing.{seen, AddsLines, StopsIn};
+ghost use Rattle.cost_tables.specs.TableRows.{tables_in};
+ghost use Rattle.keepers.specs.LineWrites.{seen, AddsLines, StopsIn};
 ghost use Rattle.cert_text.specs.declared.certificate.Certificate.TheVariants as certificate;
 ghost use Rattle.cert_text.specs.WordLines.{row_line, row_lines, level_lines};
-ghost use Rattle.cert_text.specs.Canonical.{pieces_from, pieces};
-ghost use Rattle.cert_text.specs.Printing.{Puts, StopsAt, writes};
+ghost use Rattle.cert_text.specs.Canonical.{pieces};
+ghost use Rattle.cert_text.specs.LineWrites.{Puts, StopsAt, writes};
 ghost use Rattle.cert_text.specs.Rows.{cost_word};
 
 use crate::piece::Piece;

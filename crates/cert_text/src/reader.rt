@@ -1,7 +1,7 @@
 // The certificate lines of a text, one after the other.
 ghost use Rattle.std.specs.Prelude.{◌≡◌, ◌<◌, ◌+◌, ◌^◌, [], ◌∷◌, length, MatchResult};
 ghost use Rattle.cert_text.specs.Faults.{IsLineFault};
-ghost use Rattle.cert_text.specs.Left.{IsAt, unread};
+ghost use Rattle.cert_text.specs.ReaderState.{IsAt, unread};
 
 use crate::lines::{MarkedLine, next_marked};
 use crate::words::Words;
@@ -17,7 +17,7 @@ pub(crate) struct Reader<'a> {
 
 impl<'a> Model for Reader<'a> {
     ghost use Rattle.std.specs.Prelude.{◌+◌, ◌<◌, ◌^◌, length};
-    ghost use Rattle.cert_text.specs.Left.{Unread, unread};
+    ghost use Rattle.cert_text.specs.ReaderState.{Unread, unread};
 
     ghost Value = { Unread };
 

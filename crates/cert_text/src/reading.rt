@@ -1,15 +1,15 @@
 // Texts that are read as certificates.
-ghost use Rattle.std.specs.Prelude.{◌≡◌, ◌⊎◌, ◌<◌, ◌≤◌, ◌+◌, ◌^◌, ℕ, [], ◌∷◌, length, decimal, MatchResult, IfOk, IfErr, Ok, Err};
+ghost use Rattle.std.specs.Prelude.{◌≡◌, ◌⊎◌, ◌<◌, ◌≤◌, ◌^◌, ℕ, [], ◌∷◌, length, decimal, MatchResult, IfOk, IfErr, Ok, Err};
 ghost use Rattle.plan_types.specs.declared.limits.TheConstants.{MOST_STEPS};
 ghost use Rattle.cert_text.specs.declared.reading.TheConstants.{MOST_REPEATS};
 ghost use Rattle.level_book.specs.BookCosts.{BookCosts};
 ghost use Rattle.cert_text.specs.declared.certificate.Certificate.{Certificate};
 ghost use Rattle.line_texts.specs.declared.fault.Fault.{Fault};
-ghost use Rattle.cert_text.specs.Wanted.{first_wants};
+ghost use Rattle.cert_text.specs.Grammar.{first_wants};
 ghost use Rattle.cert_text.specs.Meaning.{IsCertificateText};
 ghost use Rattle.cert_text.specs.Words.{words_of, end_of};
 ghost use Rattle.cert_text.specs.Faults.{IsWordFault, HasFirstFault, first_column};
-ghost use Rattle.cert_text.specs.Left.{IsAt, IsSizedFault, IsRestFault, SaysRest, number_of_rule, texts};
+ghost use Rattle.cert_text.specs.ReaderState.{IsAt, IsSizedFault, IsRestFault, SaysRest, number_of_rule, texts};
 
 use crate::certificate::Certificate;
 use crate::disk::read_disk;

@@ -1,12 +1,11 @@
 // Lines of entries of tables.
-ghost use Rattle.std.specs.Prelude.{◌≡◌, ◌<◌, ◌≤◌, ◌+◌, ◌^◌, ℕ, [], ◌∷◌, ◌++◌, length, map, replicate, decimal, slice_index_or, MatchResult};
+ghost use Rattle.std.specs.Prelude.{◌≡◌, ◌<◌, ◌≤◌, ◌+◌, ℕ, [], ◌∷◌, ◌++◌, length, map, replicate, decimal, slice_index_or, MatchResult};
 ghost use Rattle.cost_tables.specs.declared.cost.Cost.{Cost};
 ghost use Rattle.cost_tables.specs.TableRows.{tables_in, value_of};
-ghost use Rattle.cert_text.specs.WordLines.{row_line};
 ghost use Rattle.cert_text.specs.Meaning.{HasWord};
-ghost use Rattle.cert_text.specs.Wanted.{an_entry, row_wants};
+ghost use Rattle.cert_text.specs.Grammar.{an_entry, row_wants};
 ghost use Rattle.cert_text.specs.Faults.{FitAll, IsWordFault};
-ghost use Rattle.cert_text.specs.Left.{IsAmong, number_of_rule, texts};
+ghost use Rattle.cert_text.specs.ReaderState.{IsAmong, number_of_rule, texts};
 ghost use Rattle.cert_text.specs.Rows.{Reads, KeepsFresh, KeepsHeld, cost_word};
 
 use crate::fault::LineFault;

@@ -1,12 +1,12 @@
 // The words of a line, one after the other.
-ghost use Rattle.std.specs.Prelude.{◌≡◌, ◌<◌, ◌≤◌, ◌+◌, ◌^◌, List, [], ◌∷◌, not, length, decimal, MatchOption, MatchResult};
+ghost use Rattle.std.specs.Prelude.{◌≡◌, ◌<◌, ◌≤◌, ◌+◌, ◌^◌, List, [], ◌∷◌, length, decimal, MatchOption, MatchResult};
 ghost use Rattle.cert_text.specs.declared.kind.Kind.{Kind};
-ghost use Rattle.cert_text.specs.Wanted.{Want, this_word, number_to, an_entry, TakesWord, kind_word};
+ghost use Rattle.cert_text.specs.Grammar.{Want, this_word, number_to, an_entry, TakesWord, kind_word};
 ghost use Rattle.cost_tables.specs.TableRows.{value_of};
 ghost use Rattle.cert_text.specs.WordLines.{entry_word};
 ghost use Rattle.cert_text.specs.Meaning.{HasWord};
 ghost use Rattle.cert_text.specs.Faults.{IsWordFault, Names, first_column};
-ghost use Rattle.cert_text.specs.Left.{left, Takes, number_of_rule};
+ghost use Rattle.cert_text.specs.ReaderState.{left, Takes, number_of_rule};
 
 use crate::fault::{LineFault, Rule};
 use crate::kind::Kind;
@@ -23,7 +23,7 @@ pub(crate) struct Words<'a> {
 }
 
 impl<'a> Model for Words<'a> {
-    ghost use Rattle.cert_text.specs.Left.{Left, left_with};
+    ghost use Rattle.cert_text.specs.ReaderState.{Left, left_with};
 
     ghost Value = { Left };
 
@@ -32,7 +32,7 @@ impl<'a> Model for Words<'a> {
 
 impl<'a> Words<'a> {
     // The words of bytes that begin in this column.
-    #[tactic(auto, unfolding(crate::specs::Left::left))]
+    #[tactic(auto, unfolding(crate::specs::ReaderState::left))]
     pub(crate) fn new(rest: &'a [u8], column: u32) -> Words<'a>
         requires { column + length rest.now < 2 ^ 32 }
         ensures { result ≡ left column rest.now }

@@ -11,7 +11,7 @@ use Rattle.level_book.specs.DiskUnderTable.{DiskTables, disk_top_entry}
 use Rattle.class_bounds.specs.Laws.{DiskCostsAtLeast, LeastOfTheDisk}
 use Rattle.class_bounds.proofs.Bounds.{Within, least_from_bound, same_row}
 use Rattle.class_bounds.proofs.DiskRates.{disk_rates, disk_bound}
-use Rattle.class_bounds.proofs.Paying.{IsAllowed, list_pays}
+use Rattle.class_bounds.proofs.LowerBounds.{IsAllowed, list_pays}
 
 module _ (steps : ℕ) (book : BookCosts) (t : DiskTables) where
   -- behind EndForward nothing is stored on level 1

@@ -3,7 +3,7 @@ pub mod NestedRates
 pub mod DiskRates
 pub mod Potential
 pub mod Costs
-pub mod Standing
-pub mod Paying
+pub mod HeldImages
+pub mod LowerBounds
 pub mod NestedCosts
 pub mod DiskCosts

@@ -9,7 +9,7 @@ use Rattle.level_book.specs.UnderTable.{Tables, top_entry}
 use Rattle.class_bounds.specs.Laws.{NestedCostsAtLeast, LeastOfTheNested}
 use Rattle.class_bounds.proofs.Bounds.{least_from_bound}
 use Rattle.class_bounds.proofs.NestedRates.{nested_rates, nested_bound}
-use Rattle.class_bounds.proofs.Paying.{IsAllowed, list_pays}
+use Rattle.class_bounds.proofs.LowerBounds.{IsAllowed, list_pays}
 
 -- every action is allowed
 all_allowed : (t : Tables) (e : Bool) (list : List Action) → IsAllowed (nested_rates t) e list

@@ -1,5 +1,5 @@
-pub mod Walking
-pub mod Classing
-pub mod Stacking
-pub mod Levelling
-pub mod Deciding
+pub mod RevolveComparison
+pub mod ClassByLevels
+pub mod StackOperations
+pub mod MultistageMembership
+pub mod Decidability

@@ -1,4 +1,4 @@
 pub mod PlaceLevels
-pub mod Walked
+pub mod LevelInference
 pub mod Stacks
 pub mod Laws

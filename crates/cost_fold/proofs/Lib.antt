@@ -1,2 +1,2 @@
-pub mod Tallying
-pub mod Pricing
+pub mod CountBounds
+pub mod LevelCosts

@@ -7,7 +7,7 @@ use Rattle.level_book.specs.BookCosts.{BookCosts}
 use Rattle.level_book.specs.CostFold.{forward, taped, reversed, writes, reads}
 use Rattle.cost_fold.specs.declared.counts.Counts.{Counts}
 use Rattle.cost_fold.specs.declared.counting.SoFar.{SoFar}
-use Rattle.cost_fold.specs.AllCounted.{all_counted}
+use Rattle.cost_fold.specs.TotalCount.{all_counted}
 
 -- these are the counts of the list
 pub record AreCountsOf (list : List Action) (counts : Counts) : Type 0 where

@@ -1,3 +1,3 @@
-pub mod AllCounted
-pub mod CanBeTallied
+pub mod TotalCount
+pub mod CountableActions
 pub mod CountsOf

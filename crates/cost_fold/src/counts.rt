@@ -1,7 +1,7 @@
 // The counts of a list, and how large they may be.
 ghost use Rattle.std.specs.Prelude.{◌*◌, ◌^◌, ◌<◌};
 ghost use Rattle.plan_types.specs.declared.limits.TheConstants.{MOST_COST};
-ghost use Rattle.cost_fold.specs.AllCounted.{all_counted};
+ghost use Rattle.cost_fold.specs.TotalCount.{all_counted};
 
 /// How often a list does each thing that a book prices. Writes and reads are counted for each level. At the greatest
 /// cost for each count, the sum fits in 64 bits.

@@ -7,7 +7,7 @@ use Rattle.level_book.specs.UnderTable.{Tables, IsUnderTable, IsGreatest, IsAtMo
 use Rattle.cost_tables.specs.Entries.{never_in_memory, entry}
 use Rattle.cost_tables.specs.Levels.{AreLevels, base_of, IsModest, tables_of}
 use Rattle.cost_tables.proofs.Splits.{entry_number, at_most_trans, entry_mono, entry_at_most, IsSmall, first_fresh, held_small}
-use Rattle.cost_tables.proofs.Greatest.{reach, more_of, below_base, fresh_split, held_split, fresh_stored, held_base, Above, above}
+use Rattle.cost_tables.proofs.GreatestTable.{reach, more_of, below_base, fresh_split, held_split, fresh_stored, held_base, Above, above}
 
 pub room_le : (steps : ℕ) (slots : Slots) → least slots steps ≤ steps
 room_le steps (Count n) = omega arith

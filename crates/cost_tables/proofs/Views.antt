@@ -7,8 +7,8 @@ use Rattle.cost_tables.specs.declared.tables.Tables.TheInside.{Inside}
 use Rattle.cost_tables.specs.TableRows.{entry_at, tables_in}
 use Rattle.cost_tables.specs.Entries.{entry}
 use Rattle.cost_tables.specs.Levels.{tables_of}
-use Rattle.cost_tables.specs.Built.{rows_at, fresh_at, held_at, fresh_entries, held_entries, AreLevelsOf, view_of}
-use Rattle.cost_tables.proofs.Keeping.{level_seen}
+use Rattle.cost_tables.specs.TableInvariant.{rows_at, fresh_at, held_at, fresh_entries, held_entries, AreLevelsOf, view_of}
+use Rattle.cost_tables.proofs.CellEntries.{level_seen}
 
 -- what is read in a list that is seen by a function, where nothing is seen as the default
 seen : {X Y : Type 0} (f : X → Y) (xs : List X) (k : ℕ) (d : X) (e : Y) → f d ≡ e → get_or (map f xs) k e ≡ f (get_or xs k d)

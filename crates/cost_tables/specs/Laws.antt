@@ -2,7 +2,7 @@
 use Rattle.std.specs.Prelude.{ℕ, ◌≤◌}
 use Rattle.level_book.specs.BookCosts.{BookCosts, IsWithinLimits}
 use Rattle.level_book.specs.UnderTable.{Tables, IsGreatest}
-use Rattle.cost_tables.specs.Exact.{IsExact}
+use Rattle.cost_tables.specs.ExactTables.{IsExact}
 use Rattle.cost_tables.specs.Shapes.{AreShaped}
 use Rattle.cost_tables.specs.TableRows.{TableRows, AreFor, tables_in}
 

@@ -1,9 +1,9 @@
 pub mod TableRows
 pub mod Shapes
-pub mod Filling
-pub mod Exact
+pub mod TableUpdates
+pub mod ExactTables
 pub mod Laws
 pub mod Entries
 pub mod Levels
 pub mod Rows
-pub mod Built
+pub mod TableInvariant

@@ -2,7 +2,7 @@
 ghost use Rattle.std.specs.Prelude.{◌≡◌, ◌+◌, length, map, All, IfOk};
 ghost use Rattle.cost_tables.specs.TableRows.{value_of};
 ghost use Rattle.cost_tables.specs.Entries.{entry};
-ghost use Rattle.cost_tables.specs.Built.{AreCellsOf, AreLevelsOf, IsNeverCells, AreShortCells};
+ghost use Rattle.cost_tables.specs.TableInvariant.{AreCellsOf, AreLevelsOf, IsNeverCells, AreShortCells};
 
 use crate::cost::{Cost, are_short};
 use crate::rows::{NEVER, Row};

@@ -1,5 +1,5 @@
 // The filled rows at one number of free slots. Their numbers are consecutive, so that splits scan them quickly.
-ghost use Rattle.std.specs.Prelude.{◌≡◌, ℕ, ◌+◌, ◌-◌, ◌*◌, ◌^◌, ◌<◌, ◌≤◌, length, All, IfOk, slice_index};
+ghost use Rattle.std.specs.Prelude.{◌≡◌, ◌+◌, ◌-◌, ◌*◌, ◌^◌, ◌<◌, ◌≤◌, length, All, IfOk, slice_index};
 ghost use Rattle.cost_tables.specs.Entries.{fresh_in, held_in, least_of};
 ghost use Rattle.cost_tables.specs.Rows.{partial_in, IsRow, IsColumn};
 

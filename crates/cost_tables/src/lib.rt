@@ -3,7 +3,7 @@
 //! are the greatest under-table, which `specs/UnderTable.antt` of `level_book` defines. `specs/TableRows.antt` models
 //! them. `specs/Laws.antt` says that each entry is attained. Any number of workers fills the rows, in pieces that are
 //! returned by value. So the entries don't depend on that number. A table of the fastest level alone allows more steps.
-//! Tables can also be filled with any costs, entry by entry: see `specs/Filling.antt`.
+//! Tables can also be filled with any costs, entry by entry: see `specs/TableUpdates.antt`.
 #![tactic(auto)]
 
 mod cells;

@@ -1,5 +1,5 @@
 // The rows of one level's tables.
-ghost use Rattle.std.specs.Prelude.{◌≡◌, ℕ, suc, ◌+◌, ◌-◌, ◌*◌, ◌/◌, ◌^◌, ◌<◌, ◌≤◌, min, length, All, IfOk, OnOk, slice_index, slice_index_or};
+ghost use Rattle.std.specs.Prelude.{◌≡◌, ℕ, ◌+◌, ◌-◌, ◌*◌, ◌/◌, ◌^◌, ◌<◌, ◌≤◌, min, length, All, IfOk, OnOk, slice_index, slice_index_or};
 ghost use Rattle.cost_tables.specs.declared.rows.TheConstants.{MOST_ROWS, FILLED_ROWS};
 ghost use Rattle.cost_tables.specs.Entries.{fresh_in, held_in, least_after};
 ghost use Rattle.cost_tables.specs.Rows.{split_in, partial_in, cut_of, IsRow, IsNextRow, IsMore, IsPiece, AreRows, AreStarted, AreFew, IsMostlyStarted};

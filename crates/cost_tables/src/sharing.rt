@@ -1,5 +1,5 @@
 // What the splits of the next rows cost, shared by workers.
-ghost use Rattle.std.specs.Prelude.{◌≡◌, ℕ, ◌+◌, ◌-◌, ◌*◌, ◌/◌, ◌^◌, ◌<◌, ◌≤◌, ◌++◌, length, All, IfOk, OnOk, slice_index, slice_index_or};
+ghost use Rattle.std.specs.Prelude.{◌≡◌, ℕ, ◌+◌, ◌-◌, ◌*◌, ◌/◌, ◌^◌, ◌<◌, ◌≤◌, ◌++◌, length, All, IfOk, OnOk, slice_index_or};
 ghost use Rattle.cost_tables.specs.Rows.{IsRow, cut_of, row_in, IsPiece, AreStarted, ArePieces, AreFew};
 
 use crate::columns::slot_piece;

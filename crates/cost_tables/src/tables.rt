@@ -3,10 +3,10 @@ ghost use Rattle.std.specs.Prelude.{◌≡◌, ◌↔◌, ℕ, ◌+◌, ◌^◌,
 ghost use Rattle.level_book.specs.UnderTable.{IsGreatest};
 ghost use Rattle.cost_tables.specs.TableRows.{AreFor, TablesFit, FastestTablesFit, fastest, tables_in, value_of};
 ghost use Rattle.cost_tables.specs.Shapes.{AreShaped, AreShort};
-ghost use Rattle.cost_tables.specs.Filling.{AreAllNever, IsOther};
+ghost use Rattle.cost_tables.specs.TableUpdates.{AreAllNever, IsOther};
 ghost use Rattle.cost_tables.specs.Entries.{fresh_in};
 ghost use Rattle.cost_tables.specs.Rows.{IsRow};
-ghost use Rattle.cost_tables.specs.Built.{first_in};
+ghost use Rattle.cost_tables.specs.TableInvariant.{first_in};
 
 use crate::cells::{Cells, levels_of, never_cells, short_levels};
 use crate::cost::Cost;
@@ -37,7 +37,7 @@ impl Model for Tables {
 
     ghost Value = { TableRows };
 
-    ghost use Rattle.cost_tables.specs.Built.{view_of, AreWhole};
+    ghost use Rattle.cost_tables.specs.TableInvariant.{view_of, AreWhole};
 
     ghost view = { view_of };
 

@@ -1,6 +1,6 @@
 // That two workers fill the entries of a row together, and what each returns. A contract says what the entries are, and
 // cases of whole calls show it.
-ghost use Rattle.std.specs.Prelude.{◌≡◌, ◌<◌, ◌≤◌, length, slice_index};
+ghost use Rattle.std.specs.Prelude.{◌<◌};
 
 use crate::rows::{Costs, level_rows};
 use crate::sharing::{Pieces, start_rows};

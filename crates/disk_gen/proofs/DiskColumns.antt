@@ -4,7 +4,7 @@ use Rattle.std.proofs.lemmas.Bool.{cases_lt}
 use Rattle.level_book.specs.UnderTable.{Entry, number, IsAtMost, sum_of}
 use Rattle.cost_tables.specs.Entries.{never_in_memory, entry, least_split}
 use Rattle.cost_tables.proofs.Splits.{min_cases, entry_number, at_most_trans, sum_at_most, entry_mono, entry_sum, split_least, split_attained, step_costs}
-use Rattle.cost_tables.proofs.Greatest.{reach, from_entry, more_of, at_split}
+use Rattle.cost_tables.proofs.GreatestTable.{reach, from_entry, more_of, at_split}
 
 -- the columns, over what the stretches cost with level 0 alone; row r is for r + 1 steps
 pub record AreColumns (steps forward write read : ℕ) (fast fresh held : ℕ → ℕ) : Type 0 where

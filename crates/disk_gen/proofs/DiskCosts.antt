@@ -7,12 +7,12 @@ use Rattle.level_book.specs.BookCosts.{BookCosts, room}
 use Rattle.level_book.specs.CostFold.{cost}
 use Rattle.level_book.specs.UnderTable.{sum_of, write_cost, read_cost, number}
 use Rattle.level_book.specs.DiskUnderTable.{DiskTables, disk_top_entry}
-use Rattle.hrevolve_gen.specs.Written.{Part, actions}
+use Rattle.hrevolve_gen.specs.HRevolveList.{Part, actions}
 use Rattle.hrevolve_gen.proofs.Costs.{cost_forward, cost_store, cost_copy, cost_move, cost_end_forward, cost_end_reverse, cost_nothing}
 use Rattle.hrevolve_gen.proofs.PartCosts.{IsSum, sum_some, part_cost}
 use Rattle.hrevolve_gen.proofs.PartReads.{some_of}
-use Rattle.disk_gen.specs.DiskReading.{IsDiskExact}
-use Rattle.disk_gen.specs.DiskWritten.{HeldPart, finally, again, DiskPart, alone, parted, held_actions, disk_actions, fast_tables, ReadsHeld, ReadsDisk, IsDiskWritten}
+use Rattle.disk_gen.specs.ReadableDiskTables.{IsDiskExact}
+use Rattle.disk_gen.specs.DiskRevolveList.{HeldPart, finally, again, DiskPart, alone, parted, held_actions, disk_actions, fast_tables, ReadsHeld, ReadsDisk, IsDiskWritten}
 
 steps_on : (b j u n x y v c : ℕ) → v ≡ n + j * u + x + y → n + (b + j - b) * u + (x + (y + c)) ≡ v + c
 steps_on b j u n x y v c e = let on : b + j - b ≡ j = omega arith in ap (λ i. n + i * u + (x + (y + c))) on ∙ omega arith

@@ -4,10 +4,10 @@ use Rattle.plan_types.specs.declared.action.Action.{Action}
 use Rattle.plan_types.specs.declared.action.Action.TheVariants.{EndReverse}
 use Rattle.level_book.specs.BookCosts.{BookCosts, room}
 use Rattle.level_book.specs.DiskUnderTable.{DiskTables}
-use Rattle.hrevolve_gen.specs.Written.{actions}
+use Rattle.hrevolve_gen.specs.HRevolveList.{actions}
 use Rattle.hrevolve_gen.specs.Laws.{HasNoEndForward, EndsForwardAtTape}
 use Rattle.hrevolve_gen.proofs.EndForwards.{none_before, at_tape}
-use Rattle.disk_gen.specs.DiskWritten.{HeldPart, finally, again, DiskPart, alone, parted, held_actions, disk_actions, fast_tables, ReadsHeld, ReadsDisk, IsDiskWritten}
+use Rattle.disk_gen.specs.DiskRevolveList.{HeldPart, finally, again, DiskPart, alone, parted, held_actions, disk_actions, fast_tables, ReadsHeld, ReadsDisk, IsDiskWritten}
 
 module _ (steps : ℕ) (book : BookCosts) (t : DiskTables) where
   none_held : (p : HeldPart) (b l : ℕ) (rest : List Action) → ReadsHeld steps book t l p → b + l < steps → HasNoEndForward rest → HasNoEndForward (held_actions steps b p ++ rest)

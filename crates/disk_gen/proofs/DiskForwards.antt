@@ -8,8 +8,8 @@ use Rattle.level_book.specs.BookCosts.{BookCosts, room}
 use Rattle.level_book.specs.UnderTable.{Tables}
 use Rattle.level_book.specs.DiskClass.{NeverStores, ForwardsFirst}
 use Rattle.level_book.specs.DiskUnderTable.{DiskTables}
-use Rattle.hrevolve_gen.specs.Written.{Part, one, faster, split, actions, Reads}
-use Rattle.disk_gen.specs.DiskWritten.{HeldPart, finally, again, DiskPart, alone, parted, held_actions, disk_actions, fast_tables, ReadsHeld, ReadsDisk}
+use Rattle.hrevolve_gen.specs.HRevolveList.{Part, one, faster, split, actions, Reads}
+use Rattle.disk_gen.specs.DiskRevolveList.{HeldPart, finally, again, DiskPart, alone, parted, held_actions, disk_actions, fast_tables, ReadsHeld, ReadsDisk}
 
 -- two lists, one after the other
 never_both : (xs ys rest : List Action) → NeverStores 1 (xs ++ (ys ++ rest)) → NeverStores 1 ((xs ++ ys) ++ rest)

@@ -11,12 +11,12 @@ use Rattle.level_book.specs.Valid.{Leads}
 use Rattle.level_book.specs.NestedClass.{Image, IsNestedFrom}
 use Rattle.level_book.specs.UnderTable.{Tables}
 use Rattle.level_book.specs.DiskUnderTable.{DiskTables}
-use Rattle.hrevolve_gen.specs.Written.{actions}
+use Rattle.hrevolve_gen.specs.HRevolveList.{actions}
 use Rattle.hrevolve_gen.proofs.Images.{Below, below_later, top_of_below, on_level, among, none_faster, one_more}
 use Rattle.hrevolve_gen.proofs.PartNested.{image, keeps, part_nested}
-use Rattle.hrevolve_gen.proofs.Standing.{leads_on, At, works, moved, stored}
+use Rattle.hrevolve_gen.proofs.HeldImages.{leads_on, At, works, moved, stored}
 use Rattle.hrevolve_gen.proofs.PartLeads.{part_leads}
-use Rattle.disk_gen.specs.DiskWritten.{HeldPart, finally, again, DiskPart, alone, parted, held_actions, disk_actions, fast_tables, ReadsHeld, ReadsDisk}
+use Rattle.disk_gen.specs.DiskRevolveList.{HeldPart, finally, again, DiskPart, alone, parted, held_actions, disk_actions, fast_tables, ReadsHeld, ReadsDisk}
 
 -- two lists, one after the other
 nested_both : (xs ys rest : List Action) (b i l : ℕ) (images : List Image) → i < l → IsNestedFrom (b + i + (l - i)) images (xs ++ (ys ++ rest)) → IsNestedFrom (b + l) images ((xs ++ ys) ++ rest)

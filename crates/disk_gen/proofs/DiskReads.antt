@@ -10,13 +10,13 @@ use Rattle.level_book.specs.BookCosts.{BookCosts, room}
 use Rattle.level_book.specs.UnderTable.{Tables, sum_of, write_cost, read_cost, number}
 use Rattle.level_book.specs.DiskUnderTable.{DiskTables}
 use Rattle.cost_tables.specs.TableRows.{fastest, tables_in}
-use Rattle.cost_tables.specs.Exact.{IsExact, IsExactTo}
-use Rattle.cost_tables.proofs.Fastest.{same_room, first_exact}
-use Rattle.hrevolve_gen.specs.Written.{Part, one, faster, split, actions, Reads}
-use Rattle.hrevolve_gen.specs.Reading.{IsMore}
+use Rattle.cost_tables.specs.ExactTables.{IsExact, IsExactTo}
+use Rattle.cost_tables.proofs.FastestLevel.{same_room, first_exact}
+use Rattle.hrevolve_gen.specs.HRevolveList.{Part, one, faster, split, actions, Reads}
+use Rattle.hrevolve_gen.specs.ReadableTables.{IsMore}
 use Rattle.disk_gen.specs.DiskRows.{DiskRows, AreDiskFor, disk_tables_in}
-use Rattle.disk_gen.specs.DiskWritten.{finally, again, DiskPart, alone, parted, held_actions, disk_actions, fast_tables, ReadsDisk, IsDiskWritten}
-use Rattle.disk_gen.specs.DiskReading.{IsDiskExact, CanReadDisk, IsHeldMore, IsDiskMore}
+use Rattle.disk_gen.specs.DiskRevolveList.{finally, again, DiskPart, alone, parted, held_actions, disk_actions, fast_tables, ReadsDisk, IsDiskWritten}
+use Rattle.disk_gen.specs.ReadableDiskTables.{IsDiskExact, CanReadDisk, IsHeldMore, IsDiskMore}
 
 -- what is read of level 0 depends on its entries alone
 pub part_first : (steps : ℕ) (book : BookCosts) (t : Tables) (p : Part) (held : Bool) (l m : ℕ) → Reads steps book t held 0 l m p → Reads steps book (record { fresh = λ _. t.fresh 0; held = λ _. t.held 0 }) held 0 l m p

@@ -6,11 +6,11 @@ use Rattle.plan_types.specs.declared.action.Action.TheVariants.{EndReverse}
 use Rattle.level_book.specs.BookCosts.{BookCosts, room}
 use Rattle.binomials.specs.Advances.{split}
 use Rattle.binomials.specs.Laws.{IsStretch}
-use Rattle.revolve_gen.specs.Written.{one_step, fresh, held}
-use Rattle.revolve_gen.proofs.Written.{fresh_one, held_one, fresh_next, held_next, planned, split_of}
+use Rattle.revolve_gen.specs.RevolveList.{one_step, fresh, held}
+use Rattle.revolve_gen.proofs.RevolveRules.{fresh_one, held_one, fresh_next, held_next, planned, split_of}
 use Rattle.disk_gen.specs.Laws.{PeriodicIsCounted}
-use Rattle.disk_gen.specs.Periodic.{images, ahead, back, last_steps}
-use Rattle.disk_gen.proofs.Counting.{images_fit, last_some, last_planned, each_planned}
+use Rattle.disk_gen.specs.PeriodicList.{images, ahead, back, last_steps}
+use Rattle.disk_gen.proofs.StretchCounts.{images_fit, last_some, last_planned, each_planned}
 
 one_long : (first : Bool) (b : ℕ) → length (one_step first b) ≡ 2 + cond first 1 0
 one_long true b = refl

@@ -5,15 +5,15 @@ use Rattle.level_book.specs.BookCosts.{BookCosts, slots_of, IsWithinLimits}
 use Rattle.level_book.specs.Valid.{Valid}
 use Rattle.level_book.specs.DiskUnderTable.{DiskTables, IsGreatestDisk}
 use Rattle.hrevolve_gen.specs.Laws.{EndsForwardAtTape}
-use Rattle.disk_gen.specs.Periodic.{stretches, periodic_list}
-use Rattle.cost_tables.specs.Exact.{IsExact}
+use Rattle.disk_gen.specs.PeriodicList.{stretches, periodic_list}
+use Rattle.cost_tables.specs.ExactTables.{IsExact}
 use Rattle.cost_tables.specs.TableRows.{fastest}
 use Rattle.disk_gen.specs.Plans.{HasPeriodicPlan}
 use Rattle.disk_gen.specs.DiskPlans.{HasDiskPlan}
-use Rattle.disk_gen.specs.DiskReading.{IsDiskExact}
+use Rattle.disk_gen.specs.ReadableDiskTables.{IsDiskExact}
 use Rattle.disk_gen.specs.DiskRows.{DiskRows, AreDiskSized, disk_tables_in}
 use Rattle.disk_gen.specs.DiskShapes.{AreDiskShaped}
-use Rattle.disk_gen.specs.DiskWritten.{IsDiskWritten, fast_tables}
+use Rattle.disk_gen.specs.DiskRevolveList.{IsDiskWritten, fast_tables}
 
 -- the number of stretches is the least whole n with steps ≤ n · period
 pub record AreLeast (steps period q : ℕ) : Type 0 where

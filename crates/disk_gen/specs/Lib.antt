@@ -1,10 +1,10 @@
-pub mod Periodic
+pub mod PeriodicList
 pub mod Plans
 pub mod Laws
-pub mod Owed
+pub mod Remainder
 pub mod DiskPlans
 pub mod DiskRows
 pub mod DiskShapes
-pub mod DiskBuilt
-pub mod DiskWritten
-pub mod DiskReading
+pub mod DiskInvariant
+pub mod DiskRevolveList
+pub mod ReadableDiskTables

@@ -5,7 +5,7 @@ use Rattle.level_book.specs.declared.book.Slots.TheVariants.{Count, Unlimited}
 use Rattle.level_book.specs.BookCosts.{BookCosts, slots_of, room}
 use Rattle.revolve_gen.specs.declared.fault.GenFault.{GenFault}
 use Rattle.revolve_gen.specs.declared.fault.GenFault.TheVariants.{NoPlan, Memory}
-use Rattle.disk_gen.specs.Periodic.{images}
+use Rattle.disk_gen.specs.PeriodicList.{images}
 
 -- the slots of a level of a book
 abbrev pub slots_at : BookCosts → ℕ → Slots

@@ -7,12 +7,12 @@ ghost use Rattle.level_book.specs.DiskUnderTable.{IsGreatestDisk, disk_top_entry
 ghost use Rattle.level_book.specs.UnderTable.{number, sum_of};
 ghost use Rattle.cost_tables.specs.TableRows.{FastestTablesFit, value_of};
 ghost use Rattle.disk_gen.specs.DiskRows.{AreDiskFor, disk_tables_in};
-ghost use Rattle.disk_gen.specs.DiskWritten.{IsDiskWritten};
-ghost use Rattle.disk_gen.specs.DiskReading.{CanReadDisk, IsHeldMore, IsDiskMore};
+ghost use Rattle.disk_gen.specs.DiskRevolveList.{IsDiskWritten};
+ghost use Rattle.disk_gen.specs.ReadableDiskTables.{CanReadDisk, IsHeldMore, IsDiskMore};
 
 use crate::disk_tables::DiskTables;
 use cost_tables::Cost;
-use hrevolve_gen::{is_sum, write_fresh};
+use hrevolve_gen::{Stretch, is_sum, write_fresh};
 use level_book::Book;
 use plan_types::{Action, Dest, Keep};
 use std::alloc::{AllocError, Global};
@@ -147,14 +147,19 @@ fn write_disk_held(
 {
     let own = tables.disk_held(l);
     let read = book.level(1).read as u64;
-    let room = tables.room();
+    let whole = Stretch {
+        level: 0,
+        first: b,
+        steps: l,
+        free: tables.room(),
+    };
     if is_fast_held(tables, own, read, l) {
         list.push(Action::Move {
             n: b,
             from: 1,
             dest: Dest::Work,
         })?;
-        return write_fresh(list, tables.fast(), book, 0, b, l, room);
+        return write_fresh(list, tables.fast(), book, whole);
     }
     let i = held_split(tables, own, read, book.forward() as u64, l);
     list.extend_from_slice(&[
@@ -169,7 +174,12 @@ fn write_disk_held(
             keep: Keep::Nothing,
         },
     ])?;
-    write_fresh(list, tables.fast(), book, 0, b + i, l - i, room)?;
+    let later = Stretch {
+        first: b + i,
+        steps: l - i,
+        ..whole
+    };
+    write_fresh(list, tables.fast(), book, later)?;
     write_disk_held(list, tables, book, b, i)
 }
 
@@ -187,9 +197,14 @@ fn write_disk_fresh(
     ensures { IfOk result (λ _. IsDiskMore book.now tables.now b l list.old.items list.new.items) }
 {
     let own = tables.disk_fresh(l);
-    let room = tables.room();
     if is_fast_fresh(tables, own, l) {
-        return write_fresh(list, tables.fast(), book, 0, b, l, room);
+        let whole = Stretch {
+            level: 0,
+            first: b,
+            steps: l,
+            free: tables.room(),
+        };
+        return write_fresh(list, tables.fast(), book, whole);
     }
     let write = book.level(1).write as u64;
     let j = fresh_split(tables, own, write, book.forward() as u64, l);

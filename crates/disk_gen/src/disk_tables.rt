@@ -4,11 +4,11 @@ ghost use Rattle.level_book.specs.UnderTable.{number};
 ghost use Rattle.level_book.specs.DiskUnderTable.{IsGreatestDisk};
 ghost use Rattle.cost_tables.specs.Entries.{entry, least_split};
 ghost use Rattle.cost_tables.specs.TableRows.{FastestTablesFit, tables_in, value_of};
-ghost use Rattle.cost_tables.specs.Filling.{IsOther};
+ghost use Rattle.cost_tables.specs.TableUpdates.{IsOther};
 ghost use Rattle.disk_gen.specs.DiskPlans.{HasDiskPlan, IsDiskFault};
 ghost use Rattle.disk_gen.specs.DiskRows.{AreDiskSized, AreDiskFor, AreAllNeverDisk, disk_tables_in};
 ghost use Rattle.disk_gen.specs.DiskShapes.{AreDiskShaped, AreDiskShort};
-ghost use Rattle.disk_gen.specs.DiskBuilt.{IsHeldColumn, IsFreshColumn};
+ghost use Rattle.disk_gen.specs.DiskInvariant.{IsHeldColumn, IsFreshColumn};
 
 use cost_tables::{Cost, Tables, are_short};
 use level_book::{Book, Slots};
@@ -33,7 +33,7 @@ impl Model for DiskTables {
 
     ghost Value = { DiskRows };
 
-    ghost use Rattle.disk_gen.specs.DiskBuilt.{view_of, AreWholeDisk};
+    ghost use Rattle.disk_gen.specs.DiskInvariant.{view_of, AreWholeDisk};
 
     ghost view = { view_of };
 

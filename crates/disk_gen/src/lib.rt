@@ -4,11 +4,11 @@
 //!
 //! In `specs/`:
 //!
-//! - `Periodic`: which periodic list is written.
+//! - `PeriodicList`: which periodic list is written.
 //! - `Plans`: where there is no periodic list.
 //! - `DiskRows`: the model of the disk tables.
 //! - `DiskPlans`: where there are no disk tables.
-//! - `DiskWritten`: which list is read from disk tables.
+//! - `DiskRevolveList`: which list is read from disk tables.
 //! - `Laws`: periodic lists are valid, and a list read from disk tables is the only one.
 #![tactic(auto)]
 

@@ -1,7 +1,7 @@
 // The periodic list, one action at a time and as a whole.
 ghost use Rattle.std.specs.Prelude.{◌≡◌, ◌≤◌, [], ◌∷◌, MatchOption, IfOk, IfErr, OnOk};
 ghost use Rattle.plan_types.specs.declared.limits.TheConstants.{MOST_STEPS};
-ghost use Rattle.disk_gen.specs.Periodic.{periodic_list};
+ghost use Rattle.disk_gen.specs.PeriodicList.{periodic_list};
 ghost use Rattle.disk_gen.specs.Plans.{HasPeriodicPlan, IsFault};
 
 use crate::phase::{Phase, next_behind};
@@ -25,7 +25,7 @@ pub struct Periodic {
 impl Model for Periodic {
     ghost use Rattle.std.specs.Prelude.{List, ◌++◌};
     ghost use Rattle.plan_types.specs.declared.action.Action.{Action};
-    ghost use Rattle.disk_gen.specs.Owed.{owed_behind, IsOwing};
+    ghost use Rattle.disk_gen.specs.Remainder.{owed_behind, IsOwing};
 
     ghost Value = { List Action };
 
@@ -74,7 +74,7 @@ impl Periodic {
     }
 
     /// The next action, and None after the last. It takes no memory.
-    #[tactic(auto, using(crate::proofs::Owing::owed_next, crate::proofs::Owing::owing_same))]
+    #[tactic(auto, using(crate::proofs::RemainderSteps::owed_next, crate::proofs::RemainderSteps::owing_same))]
     pub fn next(&mut self) -> Option<Action>
         ensures { MatchOption result ((self.old ≡ []) × (self.new ≡ [])) (λ action. self.old ≡ action ∷ self.new) }
     {

@@ -1,6 +1,6 @@
 // How far a periodic list is written, and what comes after the current stretch.
 ghost use Rattle.std.specs.Prelude.{◌≡◌, ◌+◌, ◌*◌, ◌≤◌, [], ◌∷◌, ◌++◌, MatchOption, IfSome};
-ghost use Rattle.disk_gen.specs.Owed.{owed_behind, IsOwing};
+ghost use Rattle.disk_gen.specs.Remainder.{owed_behind, IsOwing};
 
 use plan_types::{Action, Dest, Keep};
 use revolve_gen::StretchStream;
@@ -17,7 +17,7 @@ pub(crate) enum Phase {
 }
 
 // The way over a stretch whose image is held on level 1. After the last of them the last stretch begins.
-#[tactic(auto, using(crate::proofs::Owing::store_fits, crate::proofs::Owing::held_small))]
+#[tactic(auto, using(crate::proofs::RemainderSteps::store_fits, crate::proofs::RemainderSteps::held_small))]
 fn store_next(
     period: u32,
     last: u32,
@@ -47,7 +47,7 @@ fn store_next(
 }
 
 // The stretch of the newest of so many images begins.
-#[tactic(auto, using(crate::proofs::Owing::load_fits))]
+#[tactic(auto, using(crate::proofs::RemainderSteps::load_fits))]
 fn load_newest(period: u32, last: u32, stretch: &mut StretchStream, held: u32) -> (Action, Phase)
     requires owing { IsOwing period last stretch.old.levels stretch.old.slots (Phase.Back held) }
     requires done { stretch.old.actions ≡ [] }

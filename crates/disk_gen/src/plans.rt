@@ -1,7 +1,7 @@
 // Where there is a plan.
 ghost use Rattle.std.specs.Prelude.{◌≡◌, ◌≤◌, IfOk, IfErr, OnOk};
 ghost use Rattle.plan_types.specs.declared.limits.TheConstants.{MOST_STEPS};
-ghost use Rattle.disk_gen.specs.Periodic.{images};
+ghost use Rattle.disk_gen.specs.PeriodicList.{images};
 ghost use Rattle.disk_gen.specs.Plans.{HasPeriodicPlan, IsFault};
 
 use level_book::{Book, Slots};

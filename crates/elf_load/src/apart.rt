@@ -1,7 +1,7 @@
 // Whether load segments share an address.
-ghost use Rattle.std.specs.Prelude.{◌≡◌, ◌↔◌, ◌+◌, ◌<◌, ◌≤◌, ℕ, length, IsTrue, MatchOption, IfOk};
+ghost use Rattle.std.specs.Prelude.{◌↔◌, ◌+◌, ◌<◌, ◌≤◌, ℕ, length, IsTrue, MatchOption, IfOk};
 ghost use Rattle.std.specs.List.Sorted.{IsPermutation, IsNonDecreasingBy};
-ghost use Rattle.elf_load.specs.Reading.{segment_at, Cross, AreApart, AreFirstToCross};
+ghost use Rattle.elf_load.specs.HeaderFields.{segment_at, Cross, AreApart, AreFirstToCross};
 
 use crate::segment::Segment;
 use std::alloc::{AllocError, Global};

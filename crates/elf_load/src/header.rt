@@ -2,7 +2,7 @@
 ghost use Rattle.std.specs.Prelude.{ℕ, ◌↔◌, ◌≤◌, length, IfOk, IfErr, IsTrue};
 ghost use Rattle.elf_load.specs.Elf.{HasMagic, HasClass, HasHeaders};
 ghost use Rattle.elf_load.specs.Faults.{FirstFault};
-ghost use Rattle.elf_load.specs.Reading.{IsHeaderOf};
+ghost use Rattle.elf_load.specs.HeaderFields.{IsHeaderOf};
 
 use crate::fault::ElfFault;
 use crate::file::{half, word};

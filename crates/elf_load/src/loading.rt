@@ -7,7 +7,8 @@ ghost use Rattle.elf_load.specs.Program.{stack_start, AreMapped, with_pieces, st
 ghost use Rattle.elf_load.specs.Raw.{IsRawProgram};
 ghost use Rattle.elf_load.specs.Elf.{IsProgram};
 ghost use Rattle.elf_load.specs.Faults.{FirstFault, FirstRawFault};
-ghost use Rattle.elf_load.specs.Reading.{segment_at, piece_in, AreApart, IsPagesFault};
+ghost use Rattle.elf_load.specs.Start.{IsStartOf, HasProgramFault};
+ghost use Rattle.elf_load.specs.HeaderFields.{segment_at, piece_in, AreApart, IsPagesFault};
 ghost use Rattle.elf_load.specs.Spans.{pages_from};
 
 use crate::apart::{by_address, first_overlap};
@@ -66,6 +67,20 @@ pub fn load_raw(alloc: Global, bytes: &[u8], stack: u32) -> Result<State, ElfFau
         MatchResult result (λ _. ⊥) (λ answer. (answer ≡ fault) ⊎ (answer ≡ ElfFault.Memory)) }
 {
     load_words(alloc, bytes, stack)
+}
+
+/// The start state of a program, which is raw words or an ELF file.
+pub fn load_start(alloc: Global, is_raw: bool, bytes: &[u8], stack: u32) -> Result<State, ElfFault>
+    requires some { 1 ≤ stack }
+    requires few { stack ≤ 1024 }
+    ensures found { IfOk result (IsStartOf is_raw stack bytes.now) }
+    ensures refused { IfErr result (λ fault. fault ≢ ElfFault.Memory → HasProgramFault is_raw stack bytes.now fault) }
+{
+    if is_raw {
+        load_raw(alloc, bytes, stack)
+    } else {
+        load(alloc, bytes, stack)
+    }
 }
 
 fn load_file(alloc: Global, file: &[u8], stack: u32) -> Result<State, ElfFault>

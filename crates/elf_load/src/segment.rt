@@ -3,7 +3,7 @@ ghost use Rattle.std.specs.Prelude.{◌≡◌, ◌↔◌, ◌⊎◌, ◌+◌, �
 ghost use Rattle.elf_load.specs.Program.{stack_start};
 ghost use Rattle.elf_load.specs.Elf.{header_from, is_load, loads, AllFit};
 ghost use Rattle.elf_load.specs.Faults.{FirstFault};
-ghost use Rattle.elf_load.specs.Reading.{IsHeaderOf, segment_of, segments_of};
+ghost use Rattle.elf_load.specs.HeaderFields.{IsHeaderOf, segment_of, segments_of};
 
 use crate::fault::ElfFault;
 use crate::file::word;

@@ -16,14 +16,14 @@ mod case;
 mod reply;
 
 use case::{Case, case_of};
-use case_files::{CaseFault, Cases, Inputs, inputs_of, run_files};
+use case_files::{CaseFault, Cases, Inputs, read_inputs, run_files};
 use rv_machine::Steps;
 use serde_json::Value;
 use std::alloc::{AllocError, Global};
 use std::marker::Brand;
 use std::process::ExitCode;
 use std::sync::ledger::{Blank, Ledger};
-use std::{env, fs, io};
+use std::{env, io};
 
 fn main(rt: HostRuntime) -> ExitCode {
     match run(&rt) {
@@ -56,12 +56,10 @@ impl Cases for Sessions {
 
 // Whether all cases of these files passed.
 fn run_cases(rt: &HostRuntime, name: &str, files: &[String]) -> io::Result<bool> {
-    let text = fs::read_to_string(rt, name)?;
-    let Ok(inputs) = inputs_of(rt.alloc(), text.as_str()) else {
-        println!(rt; "{name} has no inputs")?;
-        return Ok(false);
-    };
-    run_files(rt, &Sessions { inputs }, files)
+    match read_inputs(rt, name)? {
+        Some(inputs) => run_files(rt, &Sessions { inputs }, files),
+        None => Ok(false),
+    }
 }
 
 // The difference in a case, if there is one.

@@ -1,5 +1,5 @@
 // A line in memory.
-ghost use Rattle.std.specs.Prelude.{◌≡◌, ◌≤◌, ◌<◌, ℕ, ◌+◌, ◌↔◌, [], ◌++◌, length, take, Contains, IfOk, IsOk, OnOk, OnErr};
+ghost use Rattle.std.specs.Prelude.{◌≡◌, ◌≤◌, ◌<◌, ◌+◌, ◌↔◌, [], length, take, Contains, IfOk, IsOk, OnOk, OnErr};
 ghost use Rattle.keepers.specs.Counts.{raised};
 ghost use Rattle.gdb_line.specs.Talk.{Comes};
 

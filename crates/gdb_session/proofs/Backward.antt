@@ -1,7 +1,7 @@
 -- A server's move backward, part by part.
 use Rattle.std.proofs.Common.{◌≡◌, ℕ, ◌≤◌, ◌<◌, true, List, [], Option, None, Some, IfSome, MatchOption, refl, sym, ap, subst, ◌∙◌, arith}
 use Rattle.keepers.specs.Counts.{Rose}
-use Rattle.keepers.specs.Told.{Tells}
+use Rattle.keepers.specs.Claims.{Tells}
 use Rattle.gdb_line.specs.Talk.{Talk}
 use Rattle.gdb_wire.specs.declared.request.Motion.TheVariants as motion
 use Rattle.run_timeline.specs.declared.stops.Hit.{Hit}
@@ -12,9 +12,9 @@ use Rattle.gdb_session.specs.Debugger.{Debugger}
 use Rattle.gdb_session.specs.Moves.{hit_halt}
 use Rattle.gdb_session.specs.Answers.{GoesTo}
 use Rattle.gdb_session.specs.Conversation.{Talker, Passes, interrupts}
-use Rattle.gdb_session.specs.Serving.{BreaksOff, Does, Holds, IsMoved, MayCome, OnlyHolds}
-use Rattle.gdb_session.proofs.Telling.{tells_here, tells_so, comes_passes, does_none, does_hold}
-use Rattle.gdb_session.proofs.Ways.{back_none, first_behind}
+use Rattle.gdb_session.specs.ServerState.{BreaksOff, Does, Holds, IsMoved, MayCome, OnlyHolds}
+use Rattle.gdb_session.proofs.LineClaims.{tells_here, tells_so, comes_passes, does_none, does_hold}
+use Rattle.gdb_session.proofs.MoveEnds.{back_none, first_behind}
 use Rattle.gdb_session.proofs.Motions.{BackWay, ended_back, interrupted_back, back_goes_on, breaks_back}
 
 -- ---- places

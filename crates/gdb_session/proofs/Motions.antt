@@ -2,7 +2,7 @@
 use Rattle.std.proofs.Common.{◌≡◌, ℕ, zero, suc, ◌+◌, ◌-◌, ◌≤◌, ◌<◌, Bool, true, List, [], ◌∷◌, ◌++◌, length, take, Option, None, Some, refl, sym, ap, subst, ◌∙◌, arith, append-nil, append_assoc, length-append}
 use Rattle.std.proofs.Math.Seq.{take-append-add}
 use Rattle.std.specs.List.{flat_map}
-use Rattle.keepers.specs.Told.{Tells}
+use Rattle.keepers.specs.Claims.{Tells}
 use Rattle.gdb_line.specs.Talk.{Talk, Goes, GoesPartly}
 use Rattle.gdb_wire.specs.Replies.{reply_packet}
 use Rattle.gdb_wire.specs.declared.request.Motion.{Motion}
@@ -13,7 +13,7 @@ use Rattle.run_timeline.specs.declared.stops.Part.{Part}
 use Rattle.run_timeline.specs.declared.stops.Step.{Step}
 use Rattle.run_timeline.specs.declared.stops.Step.TheVariants.{Went, Watched, End}
 use Rattle.run_timeline.specs.Moves.{Run, StopList, EndsForward, EndsBackward, CameOn, CameBack, step_ahead, step_behind, steps_of}
-use Rattle.run_timeline.specs.Parts.{MatchPart}
+use Rattle.run_timeline.specs.MoveParts.{MatchPart}
 use Rattle.gdb_session.specs.declared.halt.Halt.{Halt}
 use Rattle.gdb_session.specs.declared.halt.Halt.TheVariants.{AtPlace, AtWrite, AtBeginning, AtEnd, Interrupted}
 use Rattle.gdb_session.specs.declared.server.Server.{Server}
@@ -22,10 +22,10 @@ use Rattle.gdb_session.specs.SessionFields.{CameHere}
 use Rattle.gdb_session.specs.Moves.{Leads, Shows, hit_halt, step_halt, ending_texts, halt_text}
 use Rattle.gdb_session.specs.Answers.{Moves}
 use Rattle.gdb_session.specs.Conversation.{Talker, Passes, interrupts, last_packet}
-use Rattle.gdb_session.specs.Serving.{talker, stop_texts, BreaksOff, Does, GoesSome, IsMoved, IsShown, OnlySends, SaysReply}
-use Rattle.gdb_session.proofs.Telling.{tells_here, tells_so, tells_then, passes_then, passes_goes, none_goes, front_taken, does_adds, does_none, does_then, does_send, goes_after}
-use Rattle.gdb_session.proofs.Ways.{ends_on, came_none, ends_back, back_joined, back_then}
-use Rattle.gdb_session.proofs.Written.{flat_joined, some_shows, shows_back, shows_joined}
+use Rattle.gdb_session.specs.ServerState.{talker, stop_texts, BreaksOff, Does, GoesSome, IsMoved, IsShown, OnlySends, SaysReply}
+use Rattle.gdb_session.proofs.LineClaims.{tells_here, tells_so, tells_then, passes_then, passes_goes, none_goes, front_taken, does_adds, does_none, does_then, does_send, goes_after}
+use Rattle.gdb_session.proofs.MoveEnds.{ends_on, came_none, ends_back, back_joined, back_then}
+use Rattle.gdb_session.proofs.ProgramOutput.{flat_joined, some_shows, shows_back, shows_joined}
 
 -- ---- why a move stops
 

@@ -7,8 +7,8 @@ use Rattle.gdb_wire.specs.Replies.{reply_packet}
 use Rattle.gdb_session.specs.declared.server.Server.{Server}
 use Rattle.gdb_session.specs.Moves.{ArePieces, console_text}
 use Rattle.gdb_session.specs.Conversation.{last_packet}
-use Rattle.gdb_session.specs.Serving.{SaysReply}
-use Rattle.gdb_session.proofs.Written.{flat_joined, map_joined, no_pieces, one_piece, pieces_joined}
+use Rattle.gdb_session.specs.ServerState.{SaysReply}
+use Rattle.gdb_session.proofs.ProgramOutput.{flat_joined, map_joined, no_pieces, one_piece, pieces_joined}
 use Rattle.gdb_session.proofs.Motions.{last_joined}
 
 pub says_none : (s : Server) → SaysReply s s

@@ -3,5 +3,5 @@ pub mod Moves
 pub mod Answers
 pub mod Conversation
 pub mod SessionFields
-pub mod Serving
+pub mod ServerState
 pub mod Turns

@@ -6,7 +6,7 @@ use Rattle.gdb_wire.specs.Items.{Said}
 use Rattle.run_timeline.specs.Moves.{Run}
 use Rattle.gdb_session.specs.declared.server.Server.{Server}
 use Rattle.gdb_session.specs.Conversation.{Talker, new_talker, IsLast, AreAnswered, Passes, Serves, ServesPartly, IsTooLong}
-use Rattle.gdb_session.specs.Serving.{talker}
+use Rattle.gdb_session.specs.ServerState.{talker}
 
 -- none of these is gdb's last word
 abbrev pub NoneLast : List Said → Type 0

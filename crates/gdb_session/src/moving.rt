@@ -2,11 +2,11 @@
 ghost use Rattle.std.specs.Prelude.{◌≡◌, ◌<◌, ◌≤◌, ◌++◌, ℕ, ⊤, List, [], map, take, true, Err, IfOk, OnErr, OnOk};
 ghost use Rattle.std.specs.List.{flat_map};
 ghost use Rattle.keepers.specs.Counts.{Rose};
-ghost use Rattle.keepers.specs.Told.{Tells};
+ghost use Rattle.keepers.specs.Claims.{Tells};
 ghost use Rattle.gdb_wire.specs.Replies.{reply_packet};
 ghost use Rattle.gdb_wire.specs.declared.request.Motion.TheVariants as motion;
 ghost use Rattle.run_timeline.specs.Moves.{state, CameOn, EndsForward};
-ghost use Rattle.run_timeline.specs.Parts.{MatchPart};
+ghost use Rattle.run_timeline.specs.MoveParts.{MatchPart};
 ghost use Rattle.gdb_session.specs.declared.halt.Halt.TheVariants as halt;
 ghost use Rattle.gdb_session.specs.declared.server.TalkFault.TheVariants as talk;
 ghost use Rattle.gdb_session.specs.Debugger.{Debugger};
@@ -14,7 +14,7 @@ ghost use Rattle.gdb_session.specs.Answers.{Moves};
 ghost use Rattle.gdb_session.specs.Moves.{hit_halt, step_halt, halt_text, ending_texts, console_text, ArePieces, Shows};
 ghost use Rattle.gdb_session.specs.Conversation.{interrupts, last_packet, Passes};
 ghost use Rattle.gdb_session.specs.SessionFields.{CameHere};
-ghost use Rattle.gdb_session.specs.Serving.{stop_texts, talker, BreaksOff, Does, GoesSome, IsMoved, IsShown, SaysReply};
+ghost use Rattle.gdb_session.specs.ServerState.{stop_texts, talker, BreaksOff, Does, GoesSome, IsMoved, IsShown, SaysReply};
 
 use crate::halt::Halt;
 use crate::server::{Server, TalkFault};

@@ -7,7 +7,7 @@ ghost use Rattle.gdb_replies.specs.Commands.{IsCommand};
 ghost use Rattle.gdb_replies.specs.declared.command.Command.{Command};
 ghost use Rattle.gdb_replies.specs.StateWords.{ending_line, hexadecimal, place_line};
 ghost use Rattle.run_timeline.specs.Moves.{CameBack, CameOn, EndsBackward, EndsForward, step_ahead, step_behind, steps_of};
-ghost use Rattle.run_timeline.specs.Parts.{MatchPart};
+ghost use Rattle.run_timeline.specs.MoveParts.{MatchPart};
 ghost use Rattle.gdb_session.specs.Answers.{Answers, GoesTo, Obeys, piece_text, shown_text};
 ghost use Rattle.gdb_session.specs.Debugger.{new_debugger, shown as shown_state, inserted, removed, same_address, same_range, with_one, without_one};
 ghost use Rattle.gdb_session.specs.declared.halt.Halt.TheVariants.{AtWrite};

@@ -1,8 +1,8 @@
-pub mod Asking
+pub mod ParserCorrectness
 pub mod Digits
 pub mod Frames
 pub mod Items
 pub mod Numbers
-pub mod Readings
-pub mod Replying
-pub mod Unescaping
+pub mod ItemDecomposition
+pub mod ReplyPackets
+pub mod UnescapedBodies

@@ -11,7 +11,7 @@ use Rattle.std.proofs.lemmas.List.{take-append-drop}
 use Rattle.std.proofs.lemmas.Option.{none-some, same_Some, option_and_then_some, some_pair_parts}
 use Rattle.hex.specs.Hex.{hex_digit_value, is_hex_digit}
 use Rattle.gdb_wire.specs.Numbers.{hex_value, IsNumber, AreNumbers}
-use Rattle.gdb_wire.specs.RequestReading.{number_behind, number_of, fields_of, numbers_of, ◌>>=◌}
+use Rattle.gdb_wire.specs.RequestParser.{number_behind, number_of, fields_of, numbers_of, ◌>>=◌}
 
 -- ---- digits
 

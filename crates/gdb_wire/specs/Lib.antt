@@ -3,5 +3,5 @@ pub mod Items
 pub mod Laws
 pub mod Numbers
 pub mod Replies
-pub mod RequestReading
+pub mod RequestParser
 pub mod Requests

@@ -1,7 +1,7 @@
 // Numbers in the text of a packet.
 ghost use Rattle.std.specs.Prelude.{◌≡◌};
 ghost use Rattle.hex.specs.Hex.{hex_digit_value};
-ghost use Rattle.gdb_wire.specs.RequestReading.{number_of, numbers_of};
+ghost use Rattle.gdb_wire.specs.RequestParser.{number_of, numbers_of};
 
 use crate::finding::first_index;
 
@@ -9,7 +9,7 @@ use crate::finding::first_index;
 const MOST_DIGITS: usize = 8;
 
 // The number of all these digits.
-#[tactic(auto, unfolding(crate::specs::RequestReading::number_of))]
+#[tactic(auto, unfolding(crate::specs::RequestParser::number_of))]
 pub(crate) fn number(digits: &[u8]) -> Option<u32>
     ensures { result ≡ number_of digits.now }
 {

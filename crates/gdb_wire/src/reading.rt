@@ -1,7 +1,7 @@
 // What the text of a packet asks for.
 ghost use Rattle.std.specs.Prelude.{◌≡◌, codes, IfOk, OnErr};
 ghost use Rattle.gdb_wire.specs.Requests.{IsRequest, Begins};
-ghost use Rattle.gdb_wire.specs.RequestReading.{request_of, plain_of, query_of, features_of, memory_of, register_of, kind_of, stop_of, insert_of, remove_of, whole_of, command_of};
+ghost use Rattle.gdb_wire.specs.RequestParser.{request_of, plain_of, query_of, features_of, memory_of, register_of, kind_of, stop_of, insert_of, remove_of, whole_of, command_of};
 
 use crate::number::{number, numbers};
 use crate::request::{Command, Motion, Request, StopKind};
@@ -17,7 +17,7 @@ pub fn read_request(alloc: Global, text: &[u8]) -> Result<Request, AllocError>
 }
 
 // The request of a packet's text, read from left to right.
-#[tactic(auto, unfolding(crate::specs::RequestReading::request_of))]
+#[tactic(auto, unfolding(crate::specs::RequestParser::request_of))]
 fn read(alloc: Global, text: &[u8]) -> Result<Request, AllocError>
     ensures read { IfOk result (λ request. request ≡ request_of text.now) }
     ensures memory { OnErr result (Begins text.now (codes "qRcmd,")) }
@@ -29,7 +29,7 @@ fn read(alloc: Global, text: &[u8]) -> Result<Request, AllocError>
 }
 
 // The command that is spelled in hexadecimal digits.
-#[tactic(auto, unfolding(crate::specs::RequestReading::command_of))]
+#[tactic(auto, unfolding(crate::specs::RequestParser::command_of))]
 fn command(alloc: Global, digits: &[u8]) -> Result<Request, AllocError>
     ensures { IfOk result (λ request. request ≡ command_of digits.now) }
 {
@@ -41,7 +41,7 @@ fn command(alloc: Global, digits: &[u8]) -> Result<Request, AllocError>
 }
 
 // A request without a command.
-#[tactic(auto, unfolding(crate::specs::RequestReading::plain_of))]
+#[tactic(auto, unfolding(crate::specs::RequestParser::plain_of))]
 fn plain_request(text: &[u8]) -> Request
     ensures { result ≡ plain_of text.now }
 {
@@ -61,7 +61,7 @@ fn plain_request(text: &[u8]) -> Request
 }
 
 // A request that begins with `q`, without a command.
-#[tactic(auto, unfolding(crate::specs::RequestReading::query_of))]
+#[tactic(auto, unfolding(crate::specs::RequestParser::query_of))]
 fn query(text: &[u8]) -> Request
     ensures { result ≡ query_of text.now }
 {
@@ -120,7 +120,7 @@ fn remove(rest: &[u8]) -> Request
 }
 
 // The kind, the address and the length after `Z` or `z`.
-#[tactic(auto, unfolding(crate::specs::RequestReading::stop_of))]
+#[tactic(auto, unfolding(crate::specs::RequestParser::stop_of))]
 fn stop(rest: &[u8]) -> Option<(StopKind, u32, u32)>
     ensures { result ≡ stop_of rest.now }
 {
@@ -143,7 +143,7 @@ fn stop_kind(letter: u8) -> Option<StopKind>
 }
 
 // A request that is spelled in one way.
-#[tactic(auto, unfolding(crate::specs::RequestReading::whole_of))]
+#[tactic(auto, unfolding(crate::specs::RequestParser::whole_of))]
 fn whole(text: &[u8]) -> Request
     ensures { result ≡ whole_of text.now }
 {

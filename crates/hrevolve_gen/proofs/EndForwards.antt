@@ -6,7 +6,7 @@ use Rattle.plan_types.specs.declared.action.Action.{Action}
 use Rattle.plan_types.specs.declared.action.Action.TheVariants.{Forward, Reverse, EndForward, EndReverse}
 use Rattle.level_book.specs.BookCosts.{BookCosts, room}
 use Rattle.level_book.specs.UnderTable.{Tables}
-use Rattle.hrevolve_gen.specs.Written.{Part, one, faster, split, actions, Reads, IsWritten}
+use Rattle.hrevolve_gen.specs.HRevolveList.{Part, one, faster, split, actions, Reads, IsWritten}
 use Rattle.hrevolve_gen.specs.Laws.{HasNoEndForward, EndsForwardAtTape}
 
 module _ (steps : ℕ) (book : BookCosts) (t : Tables) where

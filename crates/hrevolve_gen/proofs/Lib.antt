@@ -2,12 +2,12 @@ pub mod Costs
 pub mod PartCosts
 pub mod Images
 pub mod PartNested
-pub mod Standing
+pub mod HeldImages
 pub mod PartLeads
-pub mod Whole
+pub mod NestedLists
 pub mod PartReads
 pub mod NoPlans
 pub mod OnePart
-pub mod Greatest
-pub mod Existing
+pub mod PlanUniqueness
+pub mod ListExistence
 pub mod EndForwards

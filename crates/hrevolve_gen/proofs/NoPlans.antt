@@ -3,11 +3,11 @@ use Rattle.std.proofs.Common.{◌≡◌, ◌≢◌, ℕ, zero, suc, ◌-◌, ◌
 use Rattle.std.proofs.lemmas.Bool.{cases_lt}
 use Rattle.level_book.specs.BookCosts.{BookCosts, room}
 use Rattle.level_book.specs.UnderTable.{Entry, number, never, Tables, top_entry}
-use Rattle.cost_tables.specs.Exact.{IsExact}
+use Rattle.cost_tables.specs.ExactTables.{IsExact}
 use Rattle.plan_types.specs.declared.action.Action.{Action}
 use Rattle.plan_types.specs.declared.action.Action.TheVariants.{EndReverse}
 use Rattle.hrevolve_gen.specs.Plans.{HasNoNestedPlan}
-use Rattle.hrevolve_gen.specs.Written.{Part, actions, Reads, whole, IsWritten}
+use Rattle.hrevolve_gen.specs.HRevolveList.{Part, actions, Reads, whole, IsWritten}
 
 -- an entry that can't but be Never
 pub never_of : (e : Entry) → (e ≢ never → ⊥) → e ≡ never

@@ -4,7 +4,7 @@ use Rattle.std.proofs.lemmas.Bool.{cases_lt}
 use Rattle.plan_types.specs.declared.action.Action.{Action}
 use Rattle.level_book.specs.BookCosts.{BookCosts, room}
 use Rattle.level_book.specs.UnderTable.{Entry, Tables}
-use Rattle.hrevolve_gen.specs.Written.{Part, one, faster, split, IsFirst, Reads, whole, IsWritten}
+use Rattle.hrevolve_gen.specs.HRevolveList.{Part, one, faster, split, IsFirst, Reads, whole, IsWritten}
 
 -- the first split at which the entry is attained is one
 same_split : (k i j : ℕ) (own : Entry) (without after : ℕ → Entry) → 1 ≤ i → 1 ≤ j → own ≡ after i → own ≡ after j → IsFirst k i own without after → IsFirst k j own without after → i ≡ j

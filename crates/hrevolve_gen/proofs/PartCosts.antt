@@ -7,7 +7,7 @@ use Rattle.plan_types.specs.declared.action.Action.TheVariants.{Forward, Reverse
 use Rattle.level_book.specs.BookCosts.{BookCosts, room}
 use Rattle.level_book.specs.CostFold.{cost}
 use Rattle.level_book.specs.UnderTable.{Tables, sum_of, write_cost, read_cost, Entry, number, never}
-use Rattle.hrevolve_gen.specs.Written.{Part, one, faster, split, actions, Reads}
+use Rattle.hrevolve_gen.specs.HRevolveList.{Part, one, faster, split, actions, Reads}
 use Rattle.hrevolve_gen.proofs.Costs.{cost_forward, cost_tape, cost_store, cost_reverse, cost_copy, cost_move, cost_end_forward}
 
 -- a sum that is a is_number is one of numbers

@@ -11,10 +11,10 @@ use Rattle.level_book.specs.Moves.{Goes, IsHeld}
 use Rattle.level_book.specs.Valid.{Leads}
 use Rattle.level_book.specs.NestedClass.{Image}
 use Rattle.level_book.specs.UnderTable.{Tables}
-use Rattle.hrevolve_gen.specs.Written.{Part, one, faster, split, actions, Reads}
+use Rattle.hrevolve_gen.specs.HRevolveList.{Part, one, faster, split, actions, Reads}
 use Rattle.hrevolve_gen.proofs.Images.{Below, below_later, on_level, among, none_faster, one_more}
 use Rattle.hrevolve_gen.proofs.PartNested.{image, stack}
-use Rattle.hrevolve_gen.proofs.Standing.{leads_on, At, works, one_reversed, last_reversed, moved, stored}
+use Rattle.hrevolve_gen.proofs.HeldImages.{leads_on, At, works, one_reversed, last_reversed, moved, stored}
 
 -- The stretch ends before the last step where its first state is held, and the state is in work where it isn't.
 abbrev pub Ready : Bool → ℕ → Configuration → ℕ → ℕ → Type 0

@@ -7,7 +7,7 @@ use Rattle.plan_types.specs.declared.action.Action.TheVariants.{Forward, Reverse
 use Rattle.level_book.specs.BookCosts.{BookCosts, room}
 use Rattle.level_book.specs.NestedClass.{Image, IsNestedFrom, KeepsFaster}
 use Rattle.level_book.specs.UnderTable.{Tables}
-use Rattle.hrevolve_gen.specs.Written.{Part, one, faster, split, actions, Reads}
+use Rattle.hrevolve_gen.specs.HRevolveList.{Part, one, faster, split, actions, Reads}
 use Rattle.hrevolve_gen.proofs.Images.{Below, below_later, top_of_below}
 
 abbrev pub image : ℕ → ℕ → Image

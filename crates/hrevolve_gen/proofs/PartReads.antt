@@ -8,9 +8,9 @@ use Rattle.plan_types.specs.declared.action.Action.TheVariants.{Forward, Reverse
 use Rattle.level_book.specs.BookCosts.{BookCosts, room}
 use Rattle.level_book.specs.UnderTable.{Tables, sum_of, write_cost, read_cost, Entry, number, never}
 use Rattle.cost_tables.specs.TableRows.{TableRows, AreFor, tables_in}
-use Rattle.cost_tables.specs.Exact.{IsExact, IsExactTo}
-use Rattle.hrevolve_gen.specs.Written.{one, faster, split, actions, IsFirst, Reads}
-use Rattle.hrevolve_gen.specs.Reading.{CanRead, IsReadable, IsMore, split_cost}
+use Rattle.cost_tables.specs.ExactTables.{IsExact, IsExactTo}
+use Rattle.hrevolve_gen.specs.HRevolveList.{one, faster, split, actions, IsFirst, Reads}
+use Rattle.hrevolve_gen.specs.ReadableTables.{CanRead, IsReadable, IsMore, split_cost}
 
 pub few_steps : (steps : ℕ) → steps ≤ 2048 → steps ≤ 8192
 few_steps steps few = omega arith

@@ -5,9 +5,9 @@ use Rattle.plan_types.specs.declared.action.Action.{Action}
 use Rattle.plan_types.specs.declared.action.Action.TheVariants.{Forward, EndForward}
 use Rattle.level_book.specs.BookCosts.{BookCosts}
 use Rattle.level_book.specs.UnderTable.{Tables, IsGreatest}
-use Rattle.cost_tables.specs.Exact.{IsExact}
+use Rattle.cost_tables.specs.ExactTables.{IsExact}
 use Rattle.hrevolve_gen.specs.Plans.{HasNestedPlan}
-use Rattle.hrevolve_gen.specs.Written.{IsWritten}
+use Rattle.hrevolve_gen.specs.HRevolveList.{IsWritten}
 
 -- tables give at most one list
 abbrev pub ListIsUnique : ℕ → BookCosts → Tables → List Action → List Action → Type 0

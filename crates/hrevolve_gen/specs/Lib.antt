@@ -1,4 +1,4 @@
-pub mod Written
+pub mod HRevolveList
 pub mod Plans
 pub mod Laws
-pub mod Reading
+pub mod ReadableTables

@@ -2,7 +2,7 @@
 ghost use Rattle.std.specs.Prelude.{◌≡◌, ◌≢◌, ◌↔◌, ℕ, suc, ◌+◌, ◌-◌, ◌*◌, ◌^◌, ◌<◌, ◌≤◌, true, false, length, slice_index};
 ghost use Rattle.level_book.specs.UnderTable.{number, sum_of};
 ghost use Rattle.cost_tables.specs.TableRows.{tables_in, value_of};
-ghost use Rattle.hrevolve_gen.specs.Reading.{split_cost};
+ghost use Rattle.hrevolve_gen.specs.ReadableTables.{split_cost};
 
 use cost_tables::{Cost, Tables};
 

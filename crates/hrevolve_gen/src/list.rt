@@ -5,10 +5,11 @@ ghost use Rattle.level_book.specs.CostFold.{cost};
 ghost use Rattle.level_book.specs.NestedClass.{Nested};
 ghost use Rattle.level_book.specs.UnderTable.{IsGreatest, number, never, top_entry};
 ghost use Rattle.cost_tables.specs.TableRows.{AreFor, TablesFit, tables_in};
-ghost use Rattle.hrevolve_gen.specs.Written.{IsWritten};
+ghost use Rattle.hrevolve_gen.specs.HRevolveList.{IsWritten};
 ghost use Rattle.hrevolve_gen.specs.Plans.{HasNestedPlan, IsFault};
-ghost use Rattle.hrevolve_gen.specs.Reading.{CanRead};
+ghost use Rattle.hrevolve_gen.specs.ReadableTables.{CanRead};
 
+use crate::stretch::Stretch;
 use crate::writing::write_fresh;
 use cost_tables::laws::greatest_is_exact;
 use cost_tables::{Cost, Tables};
@@ -68,7 +69,13 @@ fn whole_list(alloc: Global, tables: &Tables, book: &Book) -> Result<Vec<Action>
         list.extend_from_slice(&[Action::EndForward, Action::EndReverse])?;
         return Ok(list);
     }
-    write_fresh(&mut list, tables, book, last, 0, steps, tables.room(last))?;
+    let all = Stretch {
+        level: last,
+        first: 0,
+        steps,
+        free: tables.room(last),
+    };
+    write_fresh(&mut list, tables, book, all)?;
     list.push(Action::EndReverse)?;
     Ok(list)
 }

@@ -2,10 +2,11 @@
 ghost use Rattle.std.specs.Prelude.{◌≡◌, ◌≢◌, ◌+◌, ◌*◌, ◌<◌, ◌≤◌, true, false, ◌++◌, length, IfOk, slice_index};
 ghost use Rattle.level_book.specs.UnderTable.{never};
 ghost use Rattle.cost_tables.specs.TableRows.{tables_in};
-ghost use Rattle.hrevolve_gen.specs.Written.{actions, one};
-ghost use Rattle.hrevolve_gen.specs.Reading.{IsReadable, IsMore};
+ghost use Rattle.hrevolve_gen.specs.HRevolveList.{actions, one};
+ghost use Rattle.hrevolve_gen.specs.ReadableTables.{IsReadable, IsMore};
 
 use crate::entries::{is_faster_fresh, is_faster_held, split};
+use crate::stretch::Stretch;
 use cost_tables::Tables;
 use level_book::Book;
 use plan_types::{Action, Dest, Keep};
@@ -29,102 +30,148 @@ fn write_one(list: &mut Vec<Action>, steps: u32, b: u32) -> Result<(), AllocErro
     }
 }
 
-/// Writes the actions of l steps from b, read from tables of the book's first levels. Its first state is in work, and m
-/// slots of level k are free. Only a lack of memory refuses it.
+/// Writes the actions of a stretch, read from tables of the book's first levels. Its first state is in work. Only a lack
+/// of memory refuses it.
 #[cycle(writing)]
 pub fn write_fresh(
     list: &mut Vec<Action>,
     tables: &Tables,
     book: &Book,
-    k: u8,
-    b: u32,
-    l: u32,
-    m: u32,
+    stretch: Stretch,
 ) -> Result<(), AllocError>
     requires ready { IsReadable book.now tables.now }
-    requires k { k < length tables.now.rooms }
-    requires l { 1 ≤ l }
-    requires end { b + l ≤ tables.now.steps }
-    requires m { m ≤ slice_index tables.now.rooms k }
-    requires number { (tables_in tables.now).fresh k l m ≢ never }
-    ensures { IfOk result (λ _. IsMore book.now tables.now false k b l m list.old.items list.new.items) }
+    requires level { stretch.level < length tables.now.rooms }
+    requires steps { 1 ≤ stretch.steps }
+    requires end { stretch.first + stretch.steps ≤ tables.now.steps }
+    requires free { stretch.free ≤ slice_index tables.now.rooms stretch.level }
+    requires number { (tables_in tables.now).fresh stretch.level stretch.steps stretch.free ≢ never }
+    ensures { IfOk result (λ _.
+        IsMore book.now tables.now false stretch.level stretch.first stretch.steps stretch.free list.old.items list.new.items) }
 {
-    if l == 1 {
-        return write_one(list, tables.steps(), b);
+    if stretch.steps == 1 {
+        return write_one(list, tables.steps(), stretch.first);
     }
-    let own = tables.fresh(k, l, m);
-    if is_faster_fresh(tables, own, k, l) {
-        return write_fresh(list, tables, book, k - 1, b, l, tables.room(k - 1));
+    let own = tables.fresh(stretch.level, stretch.steps, stretch.free);
+    if is_faster_fresh(tables, own, stretch.level, stretch.steps) {
+        let faster = Stretch {
+            level: stretch.level - 1,
+            free: tables.room(stretch.level - 1),
+            ..stretch
+        };
+        return write_fresh(list, tables, book, faster);
     }
-    let some_free = 1 <= m;
+    let some_free = 1 <= stretch.free;
     prove!(some_free);
-    let write = book.level(k).write as u64;
-    let j = split(tables, own, write, book.forward() as u64, k, l, m - 1);
+    let write = book.level(stretch.level).write as u64;
+    let free = stretch.free - 1;
+    let j = split(
+        tables,
+        own,
+        write,
+        book.forward() as u64,
+        stretch.level,
+        stretch.steps,
+        free,
+    );
     list.push(Action::Forward {
-        from: b,
-        to: b + j,
-        keep: Keep::Store(k),
+        from: stretch.first,
+        to: stretch.first + j,
+        keep: Keep::Store(stretch.level),
     })?;
-    write_fresh(list, tables, book, k, b + j, l - j, m - 1)?;
-    write_held(list, tables, book, k, b, j, m - 1)
+    let later = Stretch {
+        first: stretch.first + j,
+        steps: stretch.steps - j,
+        free,
+        ..stretch
+    };
+    write_fresh(list, tables, book, later)?;
+    let earlier = Stretch {
+        steps: j,
+        free,
+        ..stretch
+    };
+    write_held(list, tables, book, earlier)
 }
 
-// Writes the actions of a stretch whose first state is held on level k, beside the free slots.
+// Writes the actions of a stretch whose first state is held on its level, beside the free slots.
 #[cycle(writing)]
 fn write_held(
     list: &mut Vec<Action>,
     tables: &Tables,
     book: &Book,
-    k: u8,
-    b: u32,
-    l: u32,
-    m: u32,
+    stretch: Stretch,
 ) -> Result<(), AllocError>
     requires ready { IsReadable book.now tables.now }
-    requires k { k < length tables.now.rooms }
-    requires l { 1 ≤ l }
-    requires end { b + l ≤ tables.now.steps }
-    requires m { m < slice_index tables.now.rooms k }
-    ensures { IfOk result (λ _. IsMore book.now tables.now true k b l m list.old.items list.new.items) }
+    requires level { stretch.level < length tables.now.rooms }
+    requires steps { 1 ≤ stretch.steps }
+    requires end { stretch.first + stretch.steps ≤ tables.now.steps }
+    requires free { stretch.free < slice_index tables.now.rooms stretch.level }
+    ensures { IfOk result (λ _.
+        IsMore book.now tables.now true stretch.level stretch.first stretch.steps stretch.free list.old.items list.new.items) }
 {
-    if l == 1 {
+    if stretch.steps == 1 {
         return list.extend_from_slice(&[
             Action::Move {
-                n: b,
-                from: k,
+                n: stretch.first,
+                from: stretch.level,
                 dest: Dest::Work,
             },
             Action::Forward {
-                from: b,
-                to: b + 1,
+                from: stretch.first,
+                to: stretch.first + 1,
                 keep: Keep::Tape,
             },
-            Action::Reverse { from: b + 1, to: b },
+            Action::Reverse {
+                from: stretch.first + 1,
+                to: stretch.first,
+            },
         ]);
     }
-    let own = tables.held(k, l, m);
-    let read = book.level(k).read as u64;
-    if is_faster_held(tables, own, read, k, l) {
+    let own = tables.held(stretch.level, stretch.steps, stretch.free);
+    let read = book.level(stretch.level).read as u64;
+    if is_faster_held(tables, own, read, stretch.level, stretch.steps) {
         list.push(Action::Move {
-            n: b,
-            from: k,
+            n: stretch.first,
+            from: stretch.level,
             dest: Dest::Work,
         })?;
-        return write_fresh(list, tables, book, k - 1, b, l, tables.room(k - 1));
+        let faster = Stretch {
+            level: stretch.level - 1,
+            free: tables.room(stretch.level - 1),
+            ..stretch
+        };
+        return write_fresh(list, tables, book, faster);
     }
-    let j = split(tables, own, read, book.forward() as u64, k, l, m);
+    let j = split(
+        tables,
+        own,
+        read,
+        book.forward() as u64,
+        stretch.level,
+        stretch.steps,
+        stretch.free,
+    );
     list.extend_from_slice(&[
         Action::Copy {
-            n: b,
-            from: k,
+            n: stretch.first,
+            from: stretch.level,
             dest: Dest::Work,
         },
         Action::Forward {
-            from: b,
-            to: b + j,
+            from: stretch.first,
+            to: stretch.first + j,
             keep: Keep::Nothing,
         },
     ])?;
-    write_fresh(list, tables, book, k, b + j, l - j, m)?;
-    write_held(list, tables, book, k, b, j, m)
+    let later = Stretch {
+        first: stretch.first + j,
+        steps: stretch.steps - j,
+        ..stretch
+    };
+    write_fresh(list, tables, book, later)?;
+    let earlier = Stretch {
+        steps: j,
+        ..stretch
+    };
+    write_held(list, tables, book, earlier)
 }

@@ -3,15 +3,15 @@ use Rattle.std.proofs.Common.{◌≡◌, ℕ, ◌<◌, ◌≤◌, ◌+◌, zero,
 use Rattle.std.proofs.lemmas.List.{get_or-set_same, get_or_default, take_more, take_all, get_or-map, length-map}
 use Rattle.std.specs.FinMap as finmap
 use Rattle.std.specs.Ordering.{nat_cmp}
-use Rattle.keepers.specs.Told.{Images}
+use Rattle.keepers.specs.Claims.{Images}
 use Rattle.level_book.specs.BookCosts.{BookCosts, slots_of, least, room}
 use Rattle.level_book.specs.declared.book.Slots.{Slots}
 use Rattle.level_book.specs.declared.book.Slots.TheVariants.{Count}
 use Rattle.level_book.specs.declared.book.Level.{Level}
 use Rattle.image_store.specs.declared.shelf.Kept.{Kept}
 use Rattle.image_store.specs.Pairs.{pair_at}
-use Rattle.image_store.specs.Standing.{IsKeptAs, LevelStands, LevelAlone}
-use Rattle.image_store.proofs.Sharing.{no_pair}
+use Rattle.image_store.specs.StoredImages.{IsKeptAs, LevelStands, LevelAlone}
+use Rattle.image_store.proofs.SlotAllocation.{no_pair}
 use Rattle.image_store.specs.Shelves.{ShelfState, level_of, no_pairs, no_pairs_on}
 
 pub level_is : (items s : List ShelfState) (x : ShelfState) (k : ℕ) → items ≡ s → k < length s → x ≡ get_or items k x → level_of s k ≡ x

@@ -1,5 +1,5 @@
 pub mod Levels
 pub mod Places
-pub mod Remaining
-pub mod Sharing
-pub mod Stands
+pub mod KeeperEffects
+pub mod SlotAllocation
+pub mod LevelImages

@@ -5,7 +5,7 @@ use Rattle.sha2.specs.Sha256.{sha256}
 use Rattle.image_store.specs.declared.shelf.Fingerprint.{Fingerprint}
 use Rattle.image_store.specs.declared.shelf.Kept.{Kept}
 use Rattle.image_store.specs.Pairs.{pair_at, IsFreeSlot}
-use Rattle.image_store.specs.Sharing.{fingerprint_at, pair_in, pairs_in}
+use Rattle.image_store.specs.SlotAllocation.{fingerprint_at, pair_in, pairs_in}
 use Rattle.image_store.specs.Calls.{kept_in}
 
 -- a pair is the one in its place

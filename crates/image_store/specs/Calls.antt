@@ -2,7 +2,7 @@
 use Rattle.std.specs.Prelude.{◌≡◌, ◌⊎◌, ℕ, ◌<◌, List, length, slice_set, take, Option, None, Some}
 use Rattle.std.specs.FinMap as finmap
 use Rattle.sha2.specs.Sha256.{sha256}
-use Rattle.keepers.specs.Told.{Images, Tells, WhereTold, SameButAt, image_in}
+use Rattle.keepers.specs.Claims.{Images, Tells, WhereTold, SameButAt, image_in}
 use Rattle.image_store.specs.declared.shelf.Kept.{Kept}
 use Rattle.image_store.specs.Pairs.{IsFreeSlot}
 use Rattle.image_store.specs.Shelves.{ShelfState}

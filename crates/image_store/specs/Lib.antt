@@ -1,6 +1,6 @@
 pub mod Calls
 pub mod Pairs
-pub mod Sharing
+pub mod SlotAllocation
 pub mod Shelves
-pub mod Standing
+pub mod StoredImages
 pub mod StoreCalls

@@ -4,7 +4,7 @@ use Rattle.std.specs.Vec.{vec_len, vec_capacity}
 use Rattle.std.specs.FinMap as finmap
 use Rattle.sha2.specs.Sha256.{sha256}
 use Rattle.keepers.specs.Calls.{OnePut, OneGet, OneFree, Remains}
-use Rattle.keepers.specs.Told.{Images}
+use Rattle.keepers.specs.Claims.{Images}
 use Rattle.keepers.specs.declared.storage.Storage.{Ghosts}
 use Rattle.image_store.specs.declared.shelf.Kept.{Kept}
 use Rattle.image_store.specs.declared.shelf.StoreFault.{StoreFault}
@@ -12,7 +12,7 @@ use Rattle.image_store.specs.declared.shelf.StoreFault.TheVariants.{Keeper, Dama
 use Rattle.image_store.specs.Calls.{IsKept, IsNotKept, IsGot, IsFreed, IsNotFreed, without_pair}
 use Rattle.image_store.specs.Pairs.{pair_at, held}
 use Rattle.image_store.specs.Shelves.{ShelfState}
-use Rattle.image_store.specs.Standing.{LevelStands, LevelAlone}
+use Rattle.image_store.specs.StoredImages.{LevelStands, LevelAlone}
 
 -- An image and its digest can be kept as a new pair of a level, over a keeper of so many slots.
 pub record CanKeep (level : ShelfState) (count n : ℕ) (image digest : List ℕ) : Type 0 where

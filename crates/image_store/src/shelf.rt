@@ -56,7 +56,7 @@ pub(crate) struct Shelf {
 
 impl Model for Shelf {
     ghost use Rattle.std.specs.Prelude.{length};
-    ghost use Rattle.image_store.specs.Sharing.{IsShelf, pairs_in};
+    ghost use Rattle.image_store.specs.SlotAllocation.{IsShelf, pairs_in};
     ghost use Rattle.image_store.specs.Shelves.{ShelfState};
 
     ghost Value = { ShelfState };

@@ -7,7 +7,7 @@ use Rattle.std.proofs.lemmas.Nat.{le_bytes_4, from_le_bytes-to_le_bytes_4}
 use Rattle.input_journal.specs.declared.fault.JournalFault.{JournalFault}
 use Rattle.input_journal.specs.declared.fault.JournalFault.TheVariants.{Truncated, TooLong}
 use Rattle.input_journal.specs.Form.{number, item_bytes, IsShort}
-use Rattle.input_journal.specs.Reading.{◌>>=◌, number_at, item_at}
+use Rattle.input_journal.specs.Parser.{◌>>=◌, number_at, item_at}
 
 abbrev pub IsBytes : List ℕ → Type 0
 IsBytes bytes = (i : ℕ) → get_or bytes i 0 < 256

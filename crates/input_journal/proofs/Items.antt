@@ -8,7 +8,7 @@ use Rattle.input_journal.specs.declared.fault.JournalFault.{JournalFault}
 use Rattle.input_journal.specs.declared.fault.JournalFault.TheVariants.{Magic, Version, Truncated, TooLong, Trailing, Memory}
 use Rattle.input_journal.specs.Form.{letters, number, item_bytes, beginning, IsShort}
 use Rattle.input_journal.specs.Faults.{HasMore, IsDue, IsTooLarge, FirstFault}
-use Rattle.input_journal.specs.Reading.{◌>>=◌, Fails, item_at, items_at}
+use Rattle.input_journal.specs.Parser.{◌>>=◌, Fails, item_at, items_at}
 use Rattle.input_journal.proofs.Fields.{IsBytes, IsBytes-drop, bind_ok, bind_err, ok_is, err_is, not_both, item_again, item_takes, ItemFault, item_faults}
 
 -- what was read before, and what is still read

@@ -1,5 +1,5 @@
 pub mod Fields
 pub mod Items
-pub mod Whole
-pub mod Unique
+pub mod WholeJournals
+pub mod JournalUniqueness
 pub mod Views

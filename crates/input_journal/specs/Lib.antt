@@ -1,5 +1,6 @@
 pub mod Form
 pub mod Faults
-pub mod Reading
+pub mod RecordedInput
+pub mod Parser
 pub mod Laws
 pub mod Parts

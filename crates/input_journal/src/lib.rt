@@ -11,5 +11,5 @@ mod writing;
 
 pub use crate::fault::JournalFault;
 pub use crate::journal::Journal;
-pub use crate::reading::read_journal;
+pub use crate::reading::{read_journal, read_recorded};
 pub use crate::writing::write_journal;

@@ -2,9 +2,10 @@
 ghost use Rattle.std.specs.Prelude.{◌≡◌, ◌≢◌, ◌⊎◌, ◌+◌, ◌≤◌, ℕ, List, length, take, drop, MatchResult, IfOk, IfErr, OnOk};
 ghost use Rattle.input_journal.specs.Form.{IsJournal, IsShort};
 ghost use Rattle.input_journal.specs.Faults.{FirstFault};
+ghost use Rattle.input_journal.specs.RecordedInput.{text_of, AreItemsOf, HasJournalFault};
 ghost use Rattle.std.specs.Vec.{vec_len};
 ghost use Rattle.input_journal.specs.Parts.{items_in, AreParts};
-ghost use Rattle.input_journal.specs.Reading.{Gives, number_at, item_at, count_of, reading};
+ghost use Rattle.input_journal.specs.Parser.{Gives, number_at, item_at, count_of, reading};
 
 use crate::fault::JournalFault;
 use crate::journal::{Journal, Part};
@@ -33,6 +34,17 @@ pub fn read_journal(alloc: Global, bytes: Vec<u8>) -> Result<Journal, JournalFau
     Ok(Journal { bytes, parts })
 }
 
+/// The recorded input of a run, read from its journal; none where there is no journal.
+pub fn read_recorded(alloc: Global, bytes: Option<Vec<u8>>) -> Result<Journal, JournalFault>
+    ensures found { IfOk result (AreItemsOf (text_of bytes)) }
+    ensures refused { IfErr result (λ fault. fault ≢ JournalFault.Memory → HasJournalFault (text_of bytes) fault) }
+{
+    match bytes {
+        Some(bytes) => read_journal(alloc, bytes),
+        None => Ok(Journal::none(alloc)),
+    }
+}
+
 // Where the items of the journal are that all the bytes are.
 fn read_parts(alloc: Global, bytes: &[u8]) -> Result<Vec<Part>, JournalFault>
     ensures found { IfOk result (λ parts. IsJournal bytes.now (items_in bytes.now parts.items)) }
@@ -48,7 +60,7 @@ fn read_parts(alloc: Global, bytes: &[u8]) -> Result<Vec<Part>, JournalFault>
 }
 
 // The parts of the bytes that are items, read from left to right.
-#[tactic(auto, unfolding(crate::specs::Reading::reading))]
+#[tactic(auto, unfolding(crate::specs::Parser::reading))]
 fn find_parts(alloc: Global, bytes: &[u8]) -> Result<Vec<Part>, JournalFault>
     ensures value { Gives (λ parts. items_in bytes.now parts.items) result (reading bytes.now) }
     ensures few { IfOk result (λ parts. vec_len parts ≤ 65536) }
@@ -71,7 +83,7 @@ fn find_parts(alloc: Global, bytes: &[u8]) -> Result<Vec<Part>, JournalFault>
 }
 
 // The number of items, after the letters and the version.
-#[tactic(auto, unfolding(crate::specs::Reading::count_of))]
+#[tactic(auto, unfolding(crate::specs::Parser::count_of))]
 fn read_count(bytes: &[u8]) -> Result<u32, JournalFault>
     ensures value { Gives (λ n. n) result (count_of bytes.now) }
     ensures few { IfOk result (λ n. n ≤ 65536) }
@@ -91,7 +103,7 @@ fn read_count(bytes: &[u8]) -> Result<u32, JournalFault>
 }
 
 // The bytes of the item whose length is at this place.
-#[tactic(auto, unfolding(crate::specs::Reading::item_at))]
+#[tactic(auto, unfolding(crate::specs::Parser::item_at))]
 fn read_item(bytes: &[u8], at: usize) -> Result<&[u8], JournalFault>
     requires { at ≤ length bytes.now }
     ensures value { Gives (λ item. item.now) result (item_at at (drop at bytes.now)) }

@@ -12,7 +12,7 @@ use Rattle.std.proofs.lemmas.Map.Views.{tells_apart}
 use Rattle.std.proofs.lemmas.Bool.{false≢true}
 use Rattle.std.specs.FinMap as finmap
 use Rattle.std.specs.FinMap.{find, get-from_entries, get-insert, get-remove, len-insert, len-empty, same_map, nat_cmp-IsAntisymmetric}
-use Rattle.keepers.specs.Told.{Images, SameButAt}
+use Rattle.keepers.specs.Claims.{Images, SameButAt}
 use Rattle.keepers.specs.Places.{filled_from, images_of, HaveRoom}
 use Rattle.keepers.specs.declared.place.Place.{Place}
 

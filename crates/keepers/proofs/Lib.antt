@@ -1,8 +1,8 @@
-pub mod Files
+pub mod InputSearch
 pub mod Images
-pub mod Known
-pub mod Listed
-pub mod Adding
-pub mod Begun
+pub mod ReadsAndWrites
+pub mod ListedCalls
+pub mod LineSequences
+pub mod EmptyPrefix
 pub mod SlotImages
 pub mod Paths

@@ -13,7 +13,7 @@ use Rattle.std.proofs.lemmas.Map.Lookups.{exact_unsigned}
 use Rattle.std.proofs.lemmas.Map.Views.{tells_apart}
 use Rattle.std.specs.FinMap as finmap
 use Rattle.std.specs.FinMap.{find, get-from_entries, get-insert, get-remove, get-empty, same_map, nat_cmp-IsAntisymmetric, slice_cmp-IsAntisymmetric}
-use Rattle.keepers.specs.Told.{Images, Files, Tells, WhereTold, SameButAt, SameButNamed, image_in, bytes_in}
+use Rattle.keepers.specs.Claims.{Images, Files, Tells, WhereTold, SameButAt, SameButNamed, image_in, bytes_in}
 use Rattle.keepers.specs.SlotFiles.{slot_path, path_of, folder_of, level_of, images_told, with_image, images_in_files, level_images}
 use Rattle.keepers.specs.declared.file_keeper.FileKeeper.{FileKeeper}
 use Rattle.keepers.proofs.Images.{not_at}

@@ -1,8 +1,8 @@
 -- What a keeper in memory or over files claims and counts: that of the part in use.
 use Rattle.std.specs.Prelude.{ℕ, List, Option, Some, None}
-use Rattle.keepers.specs.Parts.{Answer, IsPut, IsGet, IsFree}
+use Rattle.keepers.specs.CallEffects.{Answer, IsPut, IsGet, IsFree}
 use Rattle.keepers.specs.SlotFiles.{folder_of, level_of, images_told, IsFilePut, IsFileGet, IsFileFree}
-use Rattle.keepers.specs.Told.{Images, Files, Location}
+use Rattle.keepers.specs.Claims.{Images, Files, Location}
 use Rattle.keepers.specs.declared.any_keeper.AnyKeeper.{AnyKeeper}
 use Rattle.keepers.specs.declared.any_keeper.AnyKeeper.TheVariants.{Memory, File}
 

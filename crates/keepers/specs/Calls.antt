@@ -3,8 +3,8 @@ use Rattle.std.specs.Prelude.{◌≡◌, ◌≢◌, ◌⊎◌, ℕ, ◌≤◌, L
 use Rattle.std.specs.Vec.{vec_len, vec_capacity}
 use Rattle.std.specs.FinMap as finmap
 use Rattle.keepers.specs.Counts.{Rose, raised}
-use Rattle.keepers.specs.Parts.{Answer}
-use Rattle.keepers.specs.Told.{Tells, WhereTold, image_in, SameButAt}
+use Rattle.keepers.specs.CallEffects.{Answer}
+use Rattle.keepers.specs.Claims.{Tells, WhereTold, image_in, SameButAt}
 use Rattle.keepers.specs.declared.keeper.KeepFault.TheVariants.{Failed, Memory}
 use Rattle.keepers.specs.declared.storage.Storage.{Ghosts}
 

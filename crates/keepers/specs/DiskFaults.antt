@@ -6,7 +6,7 @@ use Rattle.std.specs.FinMap as finmap
 use Rattle.std.specs.IoError.{error_kind}
 use Rattle.std.specs.declared.io.Error.{Error}
 use Rattle.std.specs.declared.io.ErrorKind.TheVariants.{OutOfMemory}
-use Rattle.keepers.specs.Told.{Files}
+use Rattle.keepers.specs.Claims.{Files}
 
 -- an answer is an error other than lack of memory only where this holds
 abbrev pub FailsOnlyWhere : {A : Type 0} → Result A Error → Type 0 → Type 0

@@ -3,7 +3,7 @@ use Rattle.std.specs.Prelude.{◌≡◌, ◌≢◌, ◌⊎◌, ℕ, ◌≤◌, L
 use Rattle.std.specs.Coded.{Coded, code_by, coded×, coded_ℕ, coded_list}
 use Rattle.std.specs.FinMap as finmap
 use Rattle.keepers.specs.Counts.{raised}
-use Rattle.keepers.specs.Told.{Files}
+use Rattle.keepers.specs.Claims.{Files}
 use Rattle.keepers.specs.declared.inputs.InputFault.{InputFault}
 use Rattle.keepers.specs.declared.inputs.InputFault.TheVariants.{Failed, Memory}
 

@@ -2,7 +2,7 @@
 use Rattle.std.specs.Prelude.{ℕ, zero, suc, List, Option, refl, ◌≡◌}
 use Rattle.std.specs.Coded.{Coded, code_by, coded×, coded_ℕ, coded_list, coded_option}
 use Rattle.std.specs.FinMap as finmap
-use Rattle.keepers.specs.Told.{Images}
+use Rattle.keepers.specs.Claims.{Images}
 use Rattle.keepers.specs.declared.memory_keeper.Op.{Op}
 use Rattle.keepers.specs.declared.memory_keeper.Op.TheVariants.{Put, Get, Free}
 

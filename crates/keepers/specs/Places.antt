@@ -3,7 +3,7 @@ use Rattle.std.specs.Prelude.{ℕ, suc, ◌≤◌, List, [], ◌∷◌, cond}
 use Rattle.std.specs.FinMap as finmap
 use Rattle.std.specs.List.{AllByRecursion}
 use Rattle.std.specs.Vec.{vec_capacity}
-use Rattle.keepers.specs.Told.{Images}
+use Rattle.keepers.specs.Claims.{Images}
 use Rattle.keepers.specs.declared.place.Place.{Place}
 
 -- the images of these places by their slots, from this slot on

@@ -4,8 +4,8 @@ use Rattle.std.specs.Option.{option_map}
 use Rattle.std.specs.FinMap as finmap
 use Rattle.keepers.specs.Counts.{raised}
 use Rattle.keepers.specs.DiskFaults.{NamesNoFolder}
-use Rattle.keepers.specs.Parts.{Answer}
-use Rattle.keepers.specs.Told.{Images, Files, Tells, WhereTold, SameButNamed, bytes_in}
+use Rattle.keepers.specs.CallEffects.{Answer}
+use Rattle.keepers.specs.Claims.{Images, Files, Tells, WhereTold, SameButNamed, bytes_in}
 use Rattle.keepers.specs.declared.file_keeper.FileKeeper.{FileKeeper}
 use Rattle.keepers.specs.declared.keeper.KeepFault.TheVariants.{Failed}
 

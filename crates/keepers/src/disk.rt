@@ -3,7 +3,7 @@ ghost use Rattle.std.specs.Prelude.{◌≡◌, ◌⊎◌, ℕ, ◌<◌, ◌≤�
 ghost use Rattle.std.specs.Vec.{vec_len, vec_capacity};
 ghost use Rattle.std.specs.FinMap as finmap;
 ghost use Rattle.keepers.specs.DiskFaults.{FailsOnlyWhere, IsAbsent};
-ghost use Rattle.keepers.specs.Told.{Files, Tells, WhereTold, SameButNamed, Begins, bytes_in};
+ghost use Rattle.keepers.specs.Claims.{Files, Tells, WhereTold, SameButNamed, Begins, bytes_in};
 
 use crate::inputs::Whole;
 use crate::transfer::{read_first, read_whole, write_whole};

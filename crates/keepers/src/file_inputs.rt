@@ -1,11 +1,11 @@
 // Inputs that are files.
-ghost use Rattle.std.specs.Prelude.{◌≡◌, ◌≢◌, ◌⊎◌, ℕ, ◌<◌, ◌≤◌, [], ◌∷◌, ◌++◌, length, Ok, Some, Err, IsSomeAnd, OnOk};
+ghost use Rattle.std.specs.Prelude.{◌≡◌, ◌≢◌, ◌⊎◌, ◌<◌, ◌≤◌, [], ◌∷◌, ◌++◌, length, Ok, Some, Err, IsSomeAnd, OnOk};
 ghost use Rattle.std.specs.Vec.{vec_len, vec_capacity};
 ghost use Rattle.std.specs.FinMap as finmap;
 ghost use Rattle.keepers.specs.Counts.{raised};
 ghost use Rattle.keepers.specs.DiskFaults.{FailsOnlyWhere};
-ghost use Rattle.keepers.specs.Outside.{MayFailAt};
-ghost use Rattle.keepers.specs.Told.{WhereTold, Begins, bytes_in};
+ghost use Rattle.keepers.specs.ExternalState.{MayFailAt};
+ghost use Rattle.keepers.specs.Claims.{WhereTold, Begins, bytes_in};
 
 use crate::disk::Disk;
 use crate::faults::input_fault;

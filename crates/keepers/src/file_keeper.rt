@@ -1,12 +1,12 @@
 // A keeper whose images are files.
-ghost use Rattle.std.specs.Prelude.{◌≡◌, ◌≢◌, ◌⊎◌, ℕ, ◌<◌, ◌≤◌, take, length, IfOk, Err, OnOk, OnErr, string_bytes};
+ghost use Rattle.std.specs.Prelude.{◌≡◌, ◌≢◌, ◌⊎◌, ◌<◌, ◌≤◌, take, IfOk, Err, OnOk, OnErr, string_bytes};
 ghost use Rattle.std.specs.Vec.{vec_len, vec_capacity};
 ghost use Rattle.std.specs.Option.{option_map};
 ghost use Rattle.std.specs.FinMap as finmap;
 ghost use Rattle.keepers.specs.Counts.{raised};
 ghost use Rattle.keepers.specs.DiskFaults.{FailsOnlyWhere, NamesNoFolder};
 ghost use Rattle.keepers.specs.SlotFiles.{folder_of, level_of, disk_of, path_of, level_images, images_told, MayFail};
-ghost use Rattle.keepers.specs.Told.{Tells, WhereTold, SameButAt, SameButNamed, image_in, bytes_in};
+ghost use Rattle.keepers.specs.Claims.{Tells, WhereTold, SameButAt, SameButNamed, image_in, bytes_in};
 
 use crate::disk::Disk;
 use crate::faults::keep_fault;

@@ -4,7 +4,7 @@ ghost use Rattle.std.specs.Vec.{vec_len, vec_capacity};
 ghost use Rattle.std.specs.FinMap as finmap;
 ghost use Rattle.keepers.specs.Counts.{raised};
 ghost use Rattle.keepers.specs.FlipState.{flipped, given};
-ghost use Rattle.keepers.specs.Told.{image_in, SameButAt};
+ghost use Rattle.keepers.specs.Claims.{image_in, SameButAt};
 
 use crate::keeper::{KeepFault, Keeper};
 use crate::memory_keeper::MemoryKeeper;
@@ -100,7 +100,7 @@ impl Storage for FlipKeeper {
 }
 
 impl Keeper for FlipKeeper {
-    ghost use Rattle.keepers.specs.Parts.{IsFlipPut, IsFlipGet, IsFlipFree};
+    ghost use Rattle.keepers.specs.CallEffects.{IsFlipPut, IsFlipGet, IsFlipFree};
 
     ghost put_does = { λ old slot image answer new. IsFlipPut slot image answer old new };
 

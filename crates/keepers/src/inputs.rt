@@ -3,7 +3,7 @@ ghost use Rattle.std.specs.Prelude.{◌≡◌, ◌≢◌, ◌⊎◌, ℕ, ◌<�
 ghost use Rattle.std.specs.Vec.{vec_len, vec_capacity};
 ghost use Rattle.std.specs.FinMap as finmap;
 ghost use Rattle.keepers.specs.Counts.{Rose};
-ghost use Rattle.keepers.specs.Told.{Files, WhereTold, Begins, bytes_in};
+ghost use Rattle.keepers.specs.Claims.{Files, WhereTold, Begins, bytes_in};
 
 use thiserror::Error;
 

@@ -18,7 +18,7 @@ pub enum KeepFault {
 /// Slots of storage, each with an image or empty.
 pub trait Keeper: Storage {
     ghost use Rattle.keepers.specs.Calls.{Puts, Gets, Frees};
-    ghost use Rattle.keepers.specs.Parts.{Answer};
+    ghost use Rattle.keepers.specs.CallEffects.{Answer};
 
     /// Further facts of a call, where a keeper claims more than the trait. They relate the keeper before it, the slot,
     /// the bytes, the answer, and the keeper after it.

@@ -2,7 +2,7 @@
 ghost use Rattle.std.specs.Prelude.{◌≡◌, ◌≢◌, ℕ, ◌^◌, ◌<◌, ◌≤◌, List, None};
 ghost use Rattle.std.specs.FinMap as finmap;
 ghost use Rattle.keepers.specs.SlotFiles.{slot_path, level_images};
-ghost use Rattle.keepers.specs.Told.{Files, SameButNamed};
+ghost use Rattle.keepers.specs.Claims.{Files, SameButNamed};
 
 /// Keepers of several levels may share a disk, in one folder or in several. A path gives its folder, its level and its
 /// slot. So a change to one level's file leaves the images of all other levels.

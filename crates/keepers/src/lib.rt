@@ -1,7 +1,7 @@
 //! Storage, output and input as traits, with objects in memory for tests, and objects over files and standard output.
 //! It uses no other crate. The runner, the console, certificates and the programs use it. Each trait says what a call
 //! does to the content, for objects that claim to know it. It counts the calls and the faults, so a fault is returned
-//! only where the outside failed. `Told`, `Counts` and `Calls` in `specs/` define this.
+//! only where the outside failed. `Claims`, `Counts` and `Calls` in `specs/` define this.
 #![tactic(auto)]
 
 mod any_keeper;

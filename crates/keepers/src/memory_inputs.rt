@@ -1,9 +1,9 @@
 // Inputs in memory.
-ghost use Rattle.std.specs.Prelude.{◌≡◌, ◌≢◌, ℕ, ◌<◌, ◌≤◌, [], length, map, None, Some, Ok, IsSomeAnd, MatchOption};
+ghost use Rattle.std.specs.Prelude.{◌≡◌, ◌≢◌, ◌<◌, ◌≤◌, [], length, map, None, Some, Ok, IsSomeAnd, MatchOption};
 ghost use Rattle.std.specs.Vec.{vec_len, vec_capacity};
 ghost use Rattle.std.specs.FinMap as finmap;
 ghost use Rattle.keepers.specs.InputsState.{Notes, FailsIfListed};
-ghost use Rattle.keepers.specs.Told.{Begins, bytes_in};
+ghost use Rattle.keepers.specs.Claims.{Begins, bytes_in};
 
 use crate::inputs::{InputFault, Inputs, Whole};
 use crate::names::Names;

@@ -3,8 +3,8 @@ ghost use Rattle.std.specs.Prelude.{◌≡◌, ◌≢◌, ◌↔◌, ◌<◌, �
 ghost use Rattle.std.specs.Vec.{vec_len, vec_capacity};
 ghost use Rattle.std.specs.FinMap as finmap;
 ghost use Rattle.keepers.specs.Counts.{raised};
-ghost use Rattle.keepers.specs.Failing.{IsListed};
-ghost use Rattle.keepers.specs.Told.{image_in, SameButAt};
+ghost use Rattle.keepers.specs.FailureList.{IsListed};
+ghost use Rattle.keepers.specs.Claims.{image_in, SameButAt};
 
 use crate::keeper::{KeepFault, Keeper};
 use crate::place::{Place, image_at, with_place, with_rooms};
@@ -174,7 +174,7 @@ impl Storage for MemoryKeeper {
 }
 
 impl Keeper for MemoryKeeper {
-    ghost use Rattle.keepers.specs.Parts.{IsPut, IsGet, IsFree};
+    ghost use Rattle.keepers.specs.CallEffects.{IsPut, IsGet, IsFree};
 
     ghost put_does = { λ old slot image answer new. IsPut slot image answer old new };
 

@@ -1,5 +1,5 @@
 // Output that is taken in memory.
-ghost use Rattle.std.specs.Prelude.{◌≡◌, ℕ, ◌+◌, ◌≤◌, ◌↔◌, [], ◌++◌, length, Contains, IfOk, IsOk, OnOk, OnErr};
+ghost use Rattle.std.specs.Prelude.{◌≡◌, ◌+◌, ◌≤◌, ◌↔◌, [], ◌++◌, length, Contains, IfOk, IsOk, OnOk, OnErr};
 ghost use Rattle.keepers.specs.Counts.{raised};
 
 use crate::sink::{Sink, SinkFault};

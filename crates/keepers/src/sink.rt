@@ -1,7 +1,7 @@
 // Where output is written.
-ghost use Rattle.std.specs.Prelude.{◌≡◌, ℕ, ◌≤◌, List, ◌++◌, take, Option, OnOk, OnErr};
+ghost use Rattle.std.specs.Prelude.{◌≡◌, ℕ, ◌≤◌, List, ◌++◌, Option, OnOk, OnErr};
 ghost use Rattle.keepers.specs.Counts.{Rose, raised};
-ghost use Rattle.keepers.specs.Told.{Tells, AddsPrefix};
+ghost use Rattle.keepers.specs.Claims.{Tells, AddsPrefix};
 
 use thiserror::Error;
 

@@ -2,7 +2,7 @@
 ghost use Rattle.std.specs.Prelude.{◌≡◌, ℕ, ◌≤◌, take, OnOk, OnErr};
 ghost use Rattle.std.specs.Io.KnownBytes.{Appends};
 ghost use Rattle.keepers.specs.Counts.{raised};
-ghost use Rattle.keepers.specs.Outside.{fresh, writer_of};
+ghost use Rattle.keepers.specs.ExternalState.{fresh, writer_of};
 
 use crate::output::Output;
 use crate::sink::{Sink, SinkFault};

@@ -1,6 +1,6 @@
 // What is seen of storage.
 ghost use Rattle.std.specs.Prelude.{ℕ, Option};
-ghost use Rattle.keepers.specs.Told.{Images, Location};
+ghost use Rattle.keepers.specs.Claims.{Images, Location};
 
 /// What is seen of slots of storage. Contracts take all of it as one, as `K.Storage`.
 pub trait Storage {

@@ -2,7 +2,7 @@
 ghost use Rattle.std.specs.Prelude.{◌≡◌, ℕ, ◌+◌, ◌<◌, ◌≤◌, length, take, Ok, IfOk, IfSome, OnOk, OnErr};
 ghost use Rattle.std.specs.Vec.{vec_len, vec_capacity};
 ghost use Rattle.std.specs.Io.KnownBytes.{Appends};
-ghost use Rattle.keepers.specs.Told.{WhereTold, Begins, TakesAtMost};
+ghost use Rattle.keepers.specs.Claims.{WhereTold, Begins, TakesAtMost};
 
 use crate::inputs::Whole;
 use std::io;

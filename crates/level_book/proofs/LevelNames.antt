@@ -10,7 +10,7 @@ use Rattle.level_book.specs.declared.fault.BookFault.TheVariants.{Name}
 use Rattle.level_book.specs.Names.{is_name, AreNames}
 use Rattle.level_book.specs.BookText.{SayLevels, text_in}
 use Rattle.level_book.specs.BookFaults.{first_of, each, name_of, name_fault}
-use Rattle.level_book.proofs.Faultless.{holds_unless, both_hold, none_of_both, from}
+use Rattle.level_book.proofs.FaultlessEntries.{holds_unless, both_hold, none_of_both, from}
 
 -- RAM is a name
 pub ram_alone : (name : List ℕ) → name ≡ 82 ∷ 65 ∷ 77 ∷ [] → AreNames (name ∷ [])

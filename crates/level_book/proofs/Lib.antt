@@ -2,10 +2,10 @@ pub mod BookLists
 pub mod FirstFault
 pub mod Rooms
 pub mod ReadLevels
-pub mod Faultless
-pub mod Refusing
+pub mod FaultlessEntries
+pub mod TextRefusals
 pub mod OneBook
 pub mod LevelNames
-pub mod Rising
-pub mod Deciding
-pub mod NestedOn
+pub mod CostOrder
+pub mod Decidability
+pub mod NestedPrefixes

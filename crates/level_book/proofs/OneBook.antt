@@ -11,7 +11,7 @@ use Rattle.level_book.specs.BookCosts.{BookCosts, names_of}
 use Rattle.level_book.specs.Names.{AreNames}
 use Rattle.level_book.specs.BookText.{IsTextOf, SaysLevel, SayLevels, SaysBook}
 use Rattle.level_book.specs.BookFaults.{fault_in, faults_in, first_of, each, name_fault, IsBookText, IsRefused}
-use Rattle.level_book.proofs.Faultless.{none_of_both}
+use Rattle.level_book.proofs.FaultlessEntries.{none_of_both}
 use Rattle.level_book.proofs.LevelNames.{levels_named}
 
 -- an entry says one level

@@ -1,5 +1,5 @@
 // The tests of the entries of a book's list. Each goes over all entries; the first that fails it is the fault.
-ghost use Rattle.std.specs.Prelude.{◌≡◌, ◌<◌, ◌≤◌, nat_le, not, ◌&&◌, map, codes, length, slice_get, slice_index, Some, None, MatchResult};
+ghost use Rattle.std.specs.Prelude.{◌≡◌, ◌<◌, ◌≤◌, nat_le, ◌&&◌, map, codes, length, slice_get, slice_index, Some, None, MatchResult};
 ghost use Rattle.std.specs.List.{list_any, list_all};
 ghost use Rattle.std.specs.Char.{is_ascii_uppercase};
 ghost use Rattle.std.specs.Str.{bytes_eq};

@@ -3,7 +3,7 @@ ghost use Rattle.std.specs.Prelude.{◌≡◌, ◌≤◌, nat_lt, nat_le, ◌&&�
 ghost use Rattle.std.specs.List.{AllByRecursion};
 ghost use Rattle.serde_json.specs.View.{view};
 ghost use Rattle.level_book.specs.BookCosts.{IsLevelWithinLimits};
-ghost use Rattle.level_book.specs.BookText.{IsTextOf, SaysLevel, SayLevels, SaysBook};
+ghost use Rattle.level_book.specs.BookText.{SaysLevel, SayLevels, SaysBook};
 ghost use Rattle.level_book.specs.BookFaults.{unless, fault_in, IsBookText, IsRefused};
 ghost use Rattle.level_book.specs.EntryTests.{IsFaultless};
 

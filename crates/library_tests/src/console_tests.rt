@@ -8,8 +8,8 @@ use input_journal::{Journal, read_journal};
 use keepers::{Keeper, MemoryKeeper, MemorySink};
 use level_book::{Book, read_book};
 use line_texts::Fault;
-use reverse_console::{Console, answer_all, read_orders};
-use rv_machine::{State, Steps};
+use reverse_console::{Console, MarkedRun, answer_all, read_orders};
+use rv_machine::Steps;
 use std::alloc::{AllocError, Global};
 use std::marker::Brand;
 use std::process::Abort;
@@ -29,20 +29,11 @@ const ADDER: [u32; 13] = [
 const TWO_LEVELS: &[u8] =
     br#"{"forward":1,"reverse":1,"levels":[{"name":"RAM","slots":4,"write":0,"read":0},{"name":"DISK","slots":8,"write":2,"read":1}]}"#;
 
-// What a console is built from.
-#[derive(Drop)]
-struct Over {
-    start: State,
-    journal: Journal,
-    count: u32,
-    book: Book,
-}
-
 // Answers a script, and writes the answers to a sink. It returns the last place.
 fn answered<K: Keeper, L: Ledger>(
     rt: &impl Abort,
     alloc: Global,
-    over: Over,
+    over: MarkedRun,
     script: &[u8],
     keepers: &mut Vec<K>,
     out: &mut MemorySink,
@@ -65,15 +56,7 @@ fn answered<K: Keeper, L: Ledger>(
     );
     let orders = read_orders(alloc, script, count)?;
     let mut steps = Steps::<L>::new(blank);
-    let mut console = Console::begin(
-        alloc,
-        over.start,
-        over.journal,
-        count,
-        over.book,
-        keepers,
-        &mut steps,
-    )?;
+    let mut console = Console::begin(alloc, over, keepers, &mut steps)?;
     answer_all(&mut console, orders.as_slice(), keepers, out, &mut steps)?;
     Ok(console.place())
 }
@@ -82,7 +65,7 @@ fn answered<K: Keeper, L: Ledger>(
 fn answered_in_memory(
     rt: &impl Abort,
     alloc: Global,
-    over: Over,
+    over: MarkedRun,
     script: &[u8],
     keepers: &mut Vec<MemoryKeeper>,
     out: &mut MemorySink,
@@ -137,7 +120,7 @@ fn is_gone_through(rt: &impl Abort, alloc: Global, slots: u32) -> Result<bool, F
     requires { slots ≤ MOST_SLOTS }
 {
     let mut keepers = vec![in alloc; MemoryKeeper::new(alloc, slots)]?;
-    let over = Over {
+    let over = MarkedRun {
         start: first_state(rt, alloc, &[0x10, 0xbffff], &TWO_STORES, STACK)?,
         journal: Journal::none(alloc),
         count: 7,
@@ -190,7 +173,7 @@ fn a_program_that_adds_up_is_gone_through(rt: HostRuntime) -> Result<(), Fail> {
     let alloc = rt.alloc();
     let mut keepers = vec![in alloc; MemoryKeeper::new(alloc, 4), MemoryKeeper::new(alloc, 8)]?;
     let items = three_items(alloc)?;
-    let over = Over {
+    let over = MarkedRun {
         start: first_state(&rt, alloc, &[0x10, 0x11, 0xbffff], &ADDER, STACK)?,
         journal: read_journal(alloc, items)?,
         count: 1000,

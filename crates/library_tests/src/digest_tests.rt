@@ -2,7 +2,7 @@
 ghost use Rattle.std.specs.Prelude.{◌≡◌, ◌<◌, IfOk};
 ghost use Rattle.std.specs.List.{AllByRecursion};
 ghost use Rattle.unit_digests.specs.Digests.{states_of, AreDigests, HasPages};
-ghost use Rattle.unit_undo.specs.Leading.{LeadsBack, led_back};
+ghost use Rattle.unit_undo.specs.UndoTrail.{LeadsBack, led_back};
 
 use crate::meeting::Meeting;
 use crate::states::first_state;

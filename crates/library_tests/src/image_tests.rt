@@ -1,7 +1,7 @@
 // Truncated images.
 use crate::sessions::STACK;
 use crate::states::first_state;
-use state_image::{ImageFault, decode_image, encode_image, max_image};
+use state_image::{ImageFault, PAGES, decode_image, encode_image, max_image};
 use std::test::Fail;
 
 // addi x10, x0, 7; addi x17, x0, 93; ecall.
@@ -10,7 +10,7 @@ const WORDS: [u32; 3] = [0x00700513, 0x05d00893, 0x00000073];
 // Where the fields of an image with one page begin. They are the letters, the version, pc, the registers, the status,
 // and its code. Then come the item, the offset, the number of bytes written, and the number of pages. The last is the
 // page with its number.
-const FIELDS: [usize; 11] = [0, 4, 8, 12, 136, 140, 144, 148, 152, 160, 164];
+const FIELDS: [usize; 11] = [0, 4, 8, 12, 136, 140, 144, 148, 152, 160, PAGES];
 
 #[test]
 fn an_image_that_is_cut_is_wrong_from_the_field_on_that_is_not_all_there(

@@ -1,7 +1,7 @@
 // What steps of the machine don't show: which pages of the memory are touched, and how memory is copied. Also that
 // recorded input is written as it was read, and that a state is cloned. The rows and cases of machine_rows show what
 // steps do.
-ghost use Rattle.std.specs.Prelude.{◌≡◌, ◌^◌, ◌<◌, ◌≤◌, length, vec_len, IfOk};
+ghost use Rattle.std.specs.Prelude.{◌≡◌, ◌^◌, ◌<◌, ◌≤◌, vec_len, IfOk};
 ghost use Rattle.std.specs.List.{All};
 ghost use Rattle.std.specs.List.Sorted.{IsStrictlyIncreasing};
 ghost use Rattle.rv_pages.specs.Memory.{page_numbers};

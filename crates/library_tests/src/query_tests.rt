@@ -1,10 +1,9 @@
 // Questions on a program that stores a word twice, over a list of four steps.
-ghost use Rattle.std.specs.Prelude.{◌≡◌, ◌<◌, ◌≤◌, false, map, IfOk};
+ghost use Rattle.std.specs.Prelude.{◌≡◌, ◌<◌, ◌≤◌, map, IfOk};
 ghost use Rattle.std.specs.Bool.{OnTrue};
 ghost use Rattle.level_book.specs.BookCosts.{slots_of};
 ghost use Rattle.level_book.specs.Valid.{Valid};
-ghost use Rattle.reverse_runner.specs.KeepersSeen.{HaveRoom};
-ghost use Rattle.reverse_queries.specs.Performing.{AwaitsList};
+ghost use Rattle.reverse_queries.specs.ListPerformance.{AwaitsList};
 
 use crate::sessions::{LIST, STACK, have_room};
 use crate::states::first_state;
@@ -15,6 +14,7 @@ use plan_types::Action;
 use reverse_queries::{last_change, last_write, state_at};
 use reverse_runner::{LineWriter, RunFault, Session};
 use rv_machine::Steps;
+use rv_pages::LAST_WORD;
 use schedule_rules::{Verdict, check};
 use std::alloc::{AllocError, Global};
 use std::marker::Brand;
@@ -61,8 +61,7 @@ fn ask_session<K: Keeper, L: Ledger>(
     steps: &mut Steps<L>,
 ) -> Result<Option<u32>, RunFault>
     requires four { session.old.situation.steps ≡ 4 }
-    requires awaits { AwaitsList session.old list.now }
-    requires room { HaveRoom session.old.situation.steps session.old.situation.slots (map K.slot_count keepers.old.items) }
+    requires awaits { AwaitsList session.old list.now (map K.slot_count keepers.old.items) }
 {
     match ask {
         Ask::State(place) if place <= session.unit() * 4 => {
@@ -70,10 +69,10 @@ fn ask_session<K: Keeper, L: Ledger>(
             state_at(session, list, keepers, place, &mut writer, steps)?;
             Ok(None)
         }
-        Ask::LastWrite(word) if word <= 0xfffffffc => {
+        Ask::LastWrite(word) if word <= LAST_WORD => {
             last_write(session, list, keepers, word, steps)
         }
-        Ask::LastChange(word) if word <= 0xfffffffc => {
+        Ask::LastChange(word) if word <= LAST_WORD => {
             last_change(session, list, keepers, word, steps)
         }
         _ => Ok(None),

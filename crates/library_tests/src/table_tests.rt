@@ -1,6 +1,6 @@
 // That workers fill entries of tables in parallel, each its own piece, and one worker fills them equally. A contract
 // says what the entries are, and cases of whole calls show it.
-ghost use Rattle.std.specs.Prelude.{◌≡◌, ◌<◌, ◌≤◌, length, slice_index};
+ghost use Rattle.std.specs.Prelude.{◌<◌, ◌≤◌};
 
 use crate::meeting::Meeting;
 use cost_tables::{Cost, Tables};

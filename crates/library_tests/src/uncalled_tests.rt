@@ -1,5 +1,4 @@
 // Public functions of the crates below that allocate and that nothing calls, with ample memory.
-ghost use Rattle.std.specs.Prelude.{◌≡◌, ◌≤◌};
 
 use cost_tables::Cost;
 use disk_gen::DiskTables;

@@ -12,7 +12,7 @@ use Rattle.hex.specs.Hex.{IsBytes, decode_sized}
 use Rattle.hex.specs.declared.FromHexError.{FromHexError}
 use Rattle.hex.proofs.HexLemmas.{decode_sized-encode_lower, decode_sized-ok, decode_sized-twice, decode_of-ok}
 use Rattle.line_texts.specs.Numbers.{hex_word, address_word, IsAddress}
-use Rattle.line_texts.specs.Reading.{spelled, address_of}
+use Rattle.line_texts.specs.Parsers.{spelled, address_of}
 use Rattle.line_texts.proofs.Steps.{which, both, same_bytes, itself}
 
 are_bytes : (n : ℕ) → IsBytes (to_be_bytes w32 n)

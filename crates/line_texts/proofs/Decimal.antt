@@ -9,7 +9,7 @@ use Rattle.std.proofs.lemmas.Option.{some_pair_parts, none-some, same_Some}
 use Rattle.std.proofs.lemmas.Fmt.{decimal_digit, decimal_step, decimal_by_steps, length-decimal-le}
 use Rattle.std.proofs.lemmas.Bool.Decides.{nat_tests}
 use Rattle.line_texts.specs.Numbers.{starts_with_digit, IsNumberAt}
-use Rattle.line_texts.specs.Reading.{GivesSome, digits_at, number_at, whole, number_of}
+use Rattle.line_texts.specs.Parsers.{GivesSome, digits_at, number_at, whole, number_of}
 use Rattle.line_texts.proofs.Steps.{chosen, passed, passed_then}
 
 is_digit-range : (c : ℕ) → is_ascii_digit c ≡ true → (48 ≤ c) × (c < 58)

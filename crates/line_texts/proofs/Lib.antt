@@ -1,4 +1,4 @@
 pub mod Steps
-pub mod Seen
+pub mod NextToken
 pub mod Decimal
 pub mod Addresses

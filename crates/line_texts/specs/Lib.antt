@@ -1,5 +1,5 @@
 pub mod Lines
 pub mod Tokens
 pub mod Numbers
-pub mod Reading
+pub mod Parsers
 pub mod Cursors

@@ -1,7 +1,7 @@
 // Words of 32 bits in hexadecimal digits.
 ghost use Rattle.std.specs.Prelude.{◌≡◌, ℕ, MatchOption};
 ghost use Rattle.line_texts.specs.Numbers.{IsAddress};
-ghost use Rattle.line_texts.specs.Reading.{address_of};
+ghost use Rattle.line_texts.specs.Parsers.{address_of};
 
 /// The word that `0x` and eight lower-case hexadecimal digits are.
 pub fn address_of(text: &[u8]) -> Option<u32>
@@ -13,7 +13,7 @@ pub fn address_of(text: &[u8]) -> Option<u32>
     read(text)
 }
 
-#[tactic(auto, unfolding(crate::specs::Reading::address_of))]
+#[tactic(auto, unfolding(crate::specs::Parsers::address_of))]
 fn read(text: &[u8]) -> Option<u32>
     ensures { result ≡ address_of text.now }
 {

@@ -1,11 +1,11 @@
 // Blanks, and a byte at the front.
 ghost use Rattle.std.specs.Prelude.{◌≡◌, ◌<◌, ◌≤◌, length, IfSome};
 ghost use Rattle.line_texts.specs.Tokens.{is_blank};
-ghost use Rattle.line_texts.specs.Reading.{GivesSome, past, without_blanks};
+ghost use Rattle.line_texts.specs.Parsers.{GivesSome, past, without_blanks};
 
 /// The bytes from the first one on that isn't a blank.
 #[inline(always)]
-#[tactic(auto, unfolding(crate::specs::Reading::without_blanks))]
+#[tactic(auto, unfolding(crate::specs::Parsers::without_blanks))]
 pub fn after_blanks(bytes: &[u8]) -> &[u8]
     ensures value { result.now ≡ without_blanks bytes.now }
     ensures within { length result.now ≤ length bytes.now }

@@ -5,7 +5,7 @@
 //!
 //! - `Lines`, `Tokens`: the lines of a text, and the tokens of a line.
 //! - `Numbers`: how numbers are spelled.
-//! - `Reading`: what the functions compute, on lists.
+//! - `Parsers`: what the functions compute, on lists.
 #![tactic(auto)]
 
 mod address;

@@ -1,7 +1,7 @@
 // The lines of a text, one after the other.
 ghost use Rattle.std.specs.Prelude.{◌≡◌, ◌<◌, ◌≤◌, ◌^◌, [], ◌∷◌, length, drop, MatchOption, IfSome};
 ghost use Rattle.line_texts.specs.Lines.{lines};
-ghost use Rattle.line_texts.specs.Reading.{length_before};
+ghost use Rattle.line_texts.specs.Parsers.{length_before};
 
 use std::marker::Model;
 

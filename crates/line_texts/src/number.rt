@@ -1,7 +1,7 @@
 // Numbers in decimal digits.
 ghost use Rattle.std.specs.Prelude.{◌≡◌, ◌≤◌, ℕ, List, IfSome, IfNone, MatchOption, decimal};
 ghost use Rattle.line_texts.specs.Numbers.{IsNumberAt};
-ghost use Rattle.line_texts.specs.Reading.{GivesSome, digits_at, number_at, number_of};
+ghost use Rattle.line_texts.specs.Parsers.{GivesSome, digits_at, number_at, number_of};
 
 /// The number at the front of the bytes, and the bytes after it. It has no sign and no leading zero. It takes the
 /// longest run of digits, and is None above the limit.
@@ -29,7 +29,7 @@ pub fn number_of(text: &[u8], limit: u64) -> Option<u64>
 }
 
 #[inline(always)]
-#[tactic(auto, unfolding(crate::specs::Reading::number_at))]
+#[tactic(auto, unfolding(crate::specs::Parsers::number_at))]
 fn front(bytes: &[u8], limit: u64) -> Option<(u64, &[u8])>
     ensures { GivesSome (λ x. (x.0, x.1.now)) result (number_at limit bytes.now) }
 {
@@ -42,7 +42,7 @@ fn front(bytes: &[u8], limit: u64) -> Option<(u64, &[u8])>
 }
 
 #[inline(always)]
-#[tactic(auto, unfolding(crate::specs::Reading::number_of))]
+#[tactic(auto, unfolding(crate::specs::Parsers::number_of))]
 fn whole(text: &[u8], limit: u64) -> Option<u64>
     ensures { result ≡ number_of limit text.now }
 {
@@ -54,7 +54,7 @@ fn whole(text: &[u8], limit: u64) -> Option<u64>
 
 // The number of the digits at the front of the bytes, and the bytes after them.
 #[inline(always)]
-#[tactic(auto, unfolding(crate::specs::Reading::digits_at))]
+#[tactic(auto, unfolding(crate::specs::Parsers::digits_at))]
 fn digits(bytes: &[u8], limit: u64) -> Option<(u64, &[u8])>
     ensures { GivesSome (λ x. (x.0, x.1.now)) result (digits_at limit 0 bytes.now) }
 {

@@ -1,8 +1,8 @@
 // The tokens of a line, one after the other.
-ghost use Rattle.std.specs.Prelude.{◌≡◌, ◌+◌, ◌<◌, ◌≤◌, ◌^◌, ℕ, Bool, true, false, [], ◌∷◌, length, drop, not, MatchOption, if◌then◌else◌};
+ghost use Rattle.std.specs.Prelude.{◌≡◌, ◌+◌, ◌<◌, ◌≤◌, ◌^◌, ℕ, Bool, true, false, [], ◌∷◌, length, drop, MatchOption, if◌then◌else◌};
 ghost use Rattle.std.specs.Str.{bytes_eq};
 ghost use Rattle.line_texts.specs.Tokens.{is_blank as blank, tokens, in_word};
-ghost use Rattle.line_texts.specs.Reading.{run_length, token_length};
+ghost use Rattle.line_texts.specs.Parsers.{run_length, token_length};
 ghost use Rattle.line_texts.specs.Cursors.{token_of, text_in, column_in, IsMark};
 
 use crate::blank::{after_blanks, is_blank, past};

@@ -1,9 +1,9 @@
 // The outcome of a case.
-ghost use Rattle.std.specs.Prelude.{◌≤◌};
 
 use crate::case::{Case, hexadecimal, register_of};
 use input_journal::Journal;
 use rv_machine::{State, Status, Steps, step, wrote};
+use rv_pages::LAST_WORD;
 use serde_json::{Map, Value, json, put};
 use std::alloc::{AllocError, Global};
 use std::sync::ledger::Ledger;
@@ -58,14 +58,11 @@ fn looked_at(alloc: Global, wanted: &Map<String, Value>) -> Result<Vec<Looked>, 
 // Notes which words the next step writes.
 fn look(words: &mut [Looked], state: &State, journal: &Journal) {
     for word in words.iter_mut() {
-        if word.at <= LAST {
+        if word.at <= LAST_WORD {
             word.wrote |= wrote(state, journal, word.at);
         }
     }
 }
-
-// The address of the last word.
-const LAST: u32 = 0xfffffffc;
 
 /// The outcome, in all that a case may mention.
 pub fn came_of(

@@ -16,6 +16,7 @@ mod row;
 
 use came::{Seen, came_of, run};
 use case::{Case, case_of};
+use case_files::all_came;
 use input_journal::Journal;
 use row::{Row, Stored, row_of};
 use rv_machine::{State, Status, Steps, step};
@@ -91,26 +92,7 @@ fn run_case(rt: &HostRuntime, name: &str, number: u64, line: &str) -> io::Result
     };
     let seen = seen_by::<Brand>(alloc, case, wanted, Blank::new(1))?;
     let came = came_of(alloc, &seen, wanted)?;
-    all_came(rt, name, number, wanted, &came)
-}
-
-// Whether each member is as expected, and prints those that aren't.
-fn all_came(
-    rt: &HostRuntime,
-    name: &str,
-    number: u64,
-    wanted: &Map<String, Value>,
-    came: &Value,
-) -> io::Result<bool> {
-    let mut all = true;
-    for (member, value) in wanted {
-        let found = came.get(member.as_str()).unwrap_or(&Value::Null);
-        if found != value {
-            all = false;
-            println!(rt; "{name}:{number} {member}: wanted {value}, came {found}")?;
-        }
-    }
-    Ok(all)
+    all_came(rt, name, number, wanted, &came, None)
 }
 
 // The outcome of a case.

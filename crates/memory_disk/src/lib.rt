@@ -2,7 +2,7 @@
 //! run over it covers their bytes.
 #![tactic(auto)]
 
-ghost use Rattle.std.specs.Prelude.{◌≡◌, ◌≢◌, ℕ, List, [], ◌∷◌, None, Some, MatchOption, OnOk, OnErr};
+ghost use Rattle.std.specs.Prelude.{◌≡◌, ◌≢◌, ℕ, List, [], None, Some, MatchOption, OnOk, OnErr};
 ghost use Rattle.std.specs.FinMap as finmap;
 ghost use Rattle.keepers.specs.DiskFaults.{FailsOnlyWhere};
 ghost use Rattle.memory_disk.specs.Changes.{after_change, files_after};

@@ -15,9 +15,9 @@ use Rattle.revolve_gen.specs.Places.{places_on}
 use Rattle.revolve_gen.specs.Plans.{HasPlan}
 use Rattle.revolve_gen.specs.Stack.{stack_step, held_after, place, written, read, times, places_used, on_level, placed}
 use Rattle.revolve_gen.specs.Multistage.{HasPlaces, HasLevels, place_cost, saving, sum_below, either}
-use Rattle.revolve_gen.proofs.Stacked.{levels_free, uses_its_slots, written_same, read_same, used_same}
+use Rattle.revolve_gen.proofs.StackPlaces.{levels_free, uses_its_slots, written_same, read_same, used_same}
 use Rattle.revolve_gen.proofs.Costs.{below_same, by_places}
-use Rattle.revolve_gen.proofs.Extending.{on_both}
+use Rattle.revolve_gen.proofs.MultistageValidity.{on_both}
 use Rattle.multistage_gen.specs.Threshold.{LeastOfTheMultistage}
 
 -- a place's number by its level: on level 0 the first, else the second

@@ -1,7 +1,7 @@
 pub mod Traffic
-pub mod Counting
+pub mod TrafficCount
 pub mod Numbers
-pub mod Planned
+pub mod MultistageList
 pub mod Ranks
 pub mod Threshold
 pub mod Plan

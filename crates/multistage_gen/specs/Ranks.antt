@@ -7,7 +7,7 @@ use Rattle.revolve_gen.specs.Places.{places_on}
 use Rattle.revolve_gen.specs.Stack.{places_used}
 use Rattle.multistage_gen.specs.declared.ranking.Rank.{Rank}
 use Rattle.multistage_gen.specs.declared.traffic.PlaceTraffic.{PlaceTraffic}
-use Rattle.multistage_gen.specs.Planned.{ComesBefore}
+use Rattle.multistage_gen.specs.MultistageList.{ComesBefore}
 
 -- one rank comes before another
 abbrev pub is_before : Rank → Rank → Bool

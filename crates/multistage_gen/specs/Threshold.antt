@@ -8,7 +8,7 @@ use Rattle.level_book.specs.CostFold.{cost}
 use Rattle.revolve_gen.specs.Places.{places_on}
 use Rattle.revolve_gen.specs.Stack.{places_used}
 use Rattle.revolve_gen.specs.Multistage.{HasLevels, IsMultistage, saving}
-use Rattle.multistage_gen.specs.Planned.{IsMultistageList}
+use Rattle.multistage_gen.specs.MultistageList.{IsMultistageList}
 
 -- what the places of a list save, each at its number
 pub record AreSavings (list : List Action) (fast slow : Level) (savings : List ℕ) : Type 0 where

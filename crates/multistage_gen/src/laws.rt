@@ -2,7 +2,7 @@
 ghost use Rattle.std.specs.Prelude.{ℕ, List};
 ghost use Rattle.plan_types.specs.declared.action.Action.{Action};
 ghost use Rattle.level_book.specs.BookCosts.{BookCosts};
-ghost use Rattle.multistage_gen.specs.Planned.{PlansAreUnique, PlanExists};
+ghost use Rattle.multistage_gen.specs.MultistageList.{PlansAreUnique, PlanExists};
 ghost use Rattle.multistage_gen.specs.Threshold.{LeastOfTheMultistage, PlannedIsLeast};
 
 /// There is at most one planned list for so many steps and a book.

@@ -6,7 +6,7 @@
 //! In `specs/`:
 //!
 //! - `Traffic`: how often each place is written and read.
-//! - `Planned`: which list is written.
+//! - `MultistageList`: which list is written.
 //! - `Threshold`: which lists of the class cost the least, as a threshold shows.
 #![tactic(auto)]
 

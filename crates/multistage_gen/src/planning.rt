@@ -1,5 +1,5 @@
 // The levels of the places of a list, by what they save.
-ghost use Rattle.std.specs.Prelude.{◌≡◌, ℕ, ◌+◌, ◌-◌, ◌*◌, ◌≤◌, All, List, [], ◌∷◌, length, map, IfOk};
+ghost use Rattle.std.specs.Prelude.{◌≡◌, ◌+◌, ◌-◌, ◌*◌, ◌≤◌, All, List, [], ◌∷◌, length, map, IfOk};
 ghost use Rattle.plan_types.specs.declared.limits.TheConstants.{MOST_ACTIONS};
 ghost use Rattle.level_book.specs.declared.book.Level.{Level};
 ghost use Rattle.level_book.specs.BookCosts.{room};

@@ -3,7 +3,7 @@ ghost use Rattle.std.specs.Prelude.{◌≡◌, ◌≤◌, [], ◌∷◌, length,
 ghost use Rattle.plan_types.specs.declared.limits.TheConstants.{MOST_STEPS};
 ghost use Rattle.revolve_gen.specs.Multistage.{IsMultistage};
 ghost use Rattle.multistage_gen.specs.Plan.{IsPlaced};
-ghost use Rattle.multistage_gen.specs.Planned.{IsMultistageList, IsFault};
+ghost use Rattle.multistage_gen.specs.MultistageList.{IsMultistageList, IsFault};
 
 use crate::numbers::revolve_places;
 use crate::placing::placed_action;

@@ -2,7 +2,7 @@
 ghost use Rattle.std.specs.Prelude.{◌≡◌, ℕ, ◌+◌, ◌-◌, ◌^◌, ◌<◌, ◌≤◌, [], ◌∷◌, ◌++◌, List, length, slice_get, Some, IfOk, OnOk, vec_len};
 ghost use Rattle.plan_types.specs.declared.action.Action.{Action};
 ghost use Rattle.revolve_gen.specs.Stack.{written, read};
-ghost use Rattle.multistage_gen.specs.Counting.{HasCounted};
+ghost use Rattle.multistage_gen.specs.TrafficCount.{HasCounted};
 ghost use Rattle.multistage_gen.specs.Traffic.{IsTraffic};
 
 use plan_types::Action;

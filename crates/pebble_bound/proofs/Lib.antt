@@ -1,7 +1,7 @@
-pub mod Counting
-pub mod Covering
-pub mod Standing
-pub mod Holding
-pub mod Backward
-pub mod Ending
-pub mod Bounding
+pub mod SublevelCounts
+pub mod StepCovers
+pub mod ConfigurationMeasures
+pub mod HeldPositions
+pub mod BackwardCover
+pub mod ListTotals
+pub mod BoundLaws

@@ -1,5 +1,5 @@
 // The least number of forward steps.
-ghost use Rattle.std.specs.Prelude.{◌≡◌, ℕ, ◌+◌, ◌≤◌, ◌↔◌, List, Some, IsNone, IsSomeAnd};
+ghost use Rattle.std.specs.Prelude.{◌≡◌, ◌+◌, ◌≤◌, ◌↔◌, List, Some, IsNone, IsSomeAnd};
 ghost use Rattle.plan_types.specs.declared.limits.TheConstants.{MOST_STEPS};
 ghost use Rattle.plan_types.specs.declared.action.Action.{Action};
 ghost use Rattle.level_book.specs.BookCosts.{BookCosts};

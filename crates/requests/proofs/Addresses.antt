@@ -8,7 +8,7 @@ use Rattle.std.proofs.lemmas.Slice.Eq.{bytes_eq-Decides}
 use Rattle.hex.specs.Hex.{encode_lower, decode_sized}
 use Rattle.hex.proofs.HexLemmas.{decode_sized-encode_lower, decode_sized-ok, decode_sized-twice, decode_of-ok}
 use Rattle.line_texts.proofs.Addresses as texts
-use Rattle.requests.specs.Reading.{◌>>=◌}
+use Rattle.requests.specs.ParserSteps.{◌>>=◌}
 use Rattle.requests.specs.Operands.{IsDigest}
 use Rattle.line_texts.specs.Numbers.{address_word}
 use Rattle.requests.specs.Forms.{address_of, digest_of}

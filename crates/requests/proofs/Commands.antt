@@ -10,11 +10,11 @@ use Rattle.requests.specs.declared.kind.PlanKind.{PlanKind}
 use Rattle.requests.specs.declared.kind.PlanKind.TheVariants.{Revolve, Multistage, Disk, Hrevolve}
 use Rattle.requests.specs.declared.question.Question.{Question}
 use Rattle.requests.specs.declared.question.Question.TheVariants.{State, LastWrite, LastChange}
-use Rattle.requests.specs.Reading.{◌>>=◌}
-use Rattle.requests.specs.Request.{Ask, Command, run, plan, plan_periodic, check, certify, price, ask, find, assemble, disassemble, move_about, demo, command_words, CanBeSpelled}
-use Rattle.requests.specs.Forms.{Place, fixed, named, named_or_none, schedule_named, scheduled, numbered, addressed, digested, Value, word_at, Allows, taken, front_taken, Values, words_at, AllAllowed, all_taken, Form, form_taken, forms, first_of, command_of, run_form, plan_form, periodic_form, check_form, certify_form, price_form, ask_form, find_form, assemble_form, disassemble_form, move_about_form, demo_form}
-use Rattle.requests.proofs.Forming.{with_value}
-use Rattle.requests.proofs.Placed.{taken_again, taken_read}
+use Rattle.requests.specs.ParserSteps.{◌>>=◌}
+use Rattle.requests.specs.Request.{Ask, Command, run, plan, plan_periodic, check, certify, cost, ask, find, asm, disasm, console, demo, command_words, CanBeSpelled}
+use Rattle.requests.specs.Forms.{Place, fixed, named, named_or_none, schedule_named, scheduled, numbered, addressed, digested, Value, word_at, Allows, taken, front_taken, Values, words_at, AllAllowed, all_taken, Form, form_taken, forms, first_of, command_of, run_form, plan_form, periodic_form, check_form, certify_form, cost_form, ask_form, find_form, asm_form, disasm_form, console_form, demo_form}
+use Rattle.requests.proofs.FormValues.{with_value}
+use Rattle.requests.proofs.PlaceWords.{taken_again, taken_read}
 use Rattle.requests.proofs.Steps.{bind_some, and_parts, none_so}
 
 -- ---- forms
@@ -193,10 +193,10 @@ command_again (plan c) h = planned c.kind c.book c.steps h
 command_again (plan_periodic c) h = again (take 5 forms) periodic_form (drop 6 forms) (tt, (tt, (c.book, (c.steps, (c.period, tt))))) h refl
 command_again (check c) h = again (take 6 forms) check_form (drop 7 forms) (tt, (c.book, (c.schedule, (c.steps, tt)))) h refl
 command_again (certify c) h = again (take 7 forms) certify_form (drop 8 forms) (tt, (c.book, (c.schedule, (c.certificate, (c.steps, tt))))) h refl
-command_again (price c) h = again (take 8 forms) price_form (drop 9 forms) (tt, (c.book, (c.schedule, (c.steps, tt)))) h refl
+command_again (cost c) h = again (take 8 forms) cost_form (drop 9 forms) (tt, (c.book, (c.schedule, (c.steps, tt)))) h refl
 command_again (ask c) h = asked c.question c h
 command_again (find c) h = again (take 12 forms) find_form (drop 13 forms) (tt, (tt, (c.program, (c.journal, (c.steps, (c.digest, tt)))))) h refl
-command_again (assemble c) h = again (take 13 forms) assemble_form (drop 14 forms) (tt, (c.source, tt)) h refl
-command_again (disassemble c) h = again (take 14 forms) disassemble_form (drop 15 forms) (tt, (c.program, tt)) h refl
-command_again (move_about c) h = again (take 15 forms) move_about_form (drop 16 forms) (tt, (c.program, (c.journal, (c.book, (c.script, (c.steps, tt)))))) h refl
+command_again (asm c) h = again (take 13 forms) asm_form (drop 14 forms) (tt, (c.source, tt)) h refl
+command_again (disasm c) h = again (take 14 forms) disasm_form (drop 15 forms) (tt, (c.program, tt)) h refl
+command_again (console c) h = again (take 15 forms) console_form (drop 16 forms) (tt, (c.program, (c.journal, (c.book, (c.script, (c.steps, tt)))))) h refl
 command_again (demo c) h = again (take 16 forms) demo_form [] (tt, (c.number, (c.steps, (c.slots, tt)))) h refl

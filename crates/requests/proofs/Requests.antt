@@ -8,17 +8,17 @@ use Rattle.std.proofs.lemmas.Option.{same_Some, none-some, some_pair_parts}
 use Rattle.std.proofs.lemmas.List.Sums.{sum_by-append}
 use Rattle.std.proofs.lemmas.Slice.Eq.{bytes_eq-Decides}
 use Rattle.requests.specs.declared.request.Request as in_memory
-use Rattle.requests.specs.Reading.{◌>>=◌, with_or, after_of}
-use Rattle.line_texts.specs.Reading.{GivesSome, number_at}
-use Rattle.requests.specs.Request.{Choice, raw, stack, workers, units, files, files_front, option_word, is_raw, is_stack, is_workers, is_units, is_files, FitsWord, AreOptions, Command, run, plan, plan_periodic, check, certify, price, ask, find, assemble, disassemble, move_about, demo, command_words, Request, Says}
-use Rattle.requests.specs.ChoiceReading.{number_of, stack_of, workers_of, unit_of, files_of, choice_of, first_choice, options_at, behind_options, is_like, are_single}
+use Rattle.requests.specs.ParserSteps.{◌>>=◌, with_or, after_of}
+use Rattle.line_texts.specs.Parsers.{GivesSome, number_at}
+use Rattle.requests.specs.Request.{Choice, raw, stack, workers, units, files, files_front, option_word, is_raw, is_stack, is_workers, is_units, is_files, FitsWord, AreOptions, Command, run, plan, plan_periodic, check, certify, cost, ask, find, asm, disasm, console, demo, command_words, Request, Says}
+use Rattle.requests.specs.ChoiceParser.{number_of, stack_of, workers_of, unit_of, files_of, choice_of, first_choice, options_at, behind_options, is_like, are_single}
 use Rattle.requests.specs.Forms.{command_of}
-use Rattle.requests.specs.RequestReading.{request_read, request_of}
+use Rattle.requests.specs.RequestModel.{request_read, request_of}
 use Rattle.requests.proofs.Commands.{command_again, command_read}
 use Rattle.line_texts.proofs.Decimal.{number_again, number_taken}
 use Rattle.requests.proofs.Steps.{bind_some, is_not, and_parts, and_both, none_so, empty}
 use Rattle.line_texts.proofs.Steps.{passed, passed_then, chosen}
-use Rattle.requests.proofs.Placed.{number_of_again, number_of_read}
+use Rattle.requests.proofs.PlaceWords.{number_of_again, number_of_read}
 use Rattle.requests.proofs.Texts.{after_again, after_taken}
 
 -- ---- options
@@ -315,14 +315,14 @@ unfolding choice_of after_of
 no_option (run c) = (codes "run", _, refl, refl)
 no_option (check c) = (codes "check", _, refl, refl)
 no_option (certify c) = (codes "certify", _, refl, refl)
-no_option (price c) = (codes "cost", _, refl, refl)
+no_option (cost c) = (codes "cost", _, refl, refl)
 no_option (ask c) = (codes "ask", _, refl, refl)
 no_option (plan c) = (codes "plan", _, refl, refl)
 no_option (plan_periodic c) = (codes "plan", _, refl, refl)
 no_option (find c) = (codes "ask", _, refl, refl)
-no_option (assemble c) = (codes "asm", _, refl, refl)
-no_option (disassemble c) = (codes "disasm", _, refl, refl)
-no_option (move_about c) = (codes "console", _, refl, refl)
+no_option (asm c) = (codes "asm", _, refl, refl)
+no_option (disasm c) = (codes "disasm", _, refl, refl)
+no_option (console c) = (codes "console", _, refl, refl)
 no_option (demo c) = (codes "demo", _, refl, refl)
 
 pub said_is_read : (words : List (List ℕ)) (r : Request) → Says words r → request_read words ≡ Some r

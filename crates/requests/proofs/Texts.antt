@@ -3,8 +3,8 @@ use Rattle.std.proofs.Common.{◌≡◌, ◌≢◌, ℕ, eqb, List, [], ◌∷�
 use Rattle.std.specs.Prelude.{MatchOption}
 use Rattle.std.proofs.lemmas.Bool.{eqb-true, eq-eqb}
 use Rattle.std.proofs.lemmas.Option.{same_Some}
-use Rattle.requests.specs.Reading.{after_of}
-use Rattle.line_texts.specs.Reading.{GivesSome}
+use Rattle.requests.specs.ParserSteps.{after_of}
+use Rattle.line_texts.specs.Parsers.{GivesSome}
 use Rattle.line_texts.proofs.Steps.{passed_then}
 
 pub after_again : (text rest : List ℕ) → after_of text (text ++ rest) ≡ Some rest

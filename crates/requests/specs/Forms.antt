@@ -9,12 +9,12 @@ use Rattle.requests.specs.declared.kind.PlanKind.{PlanKind}
 use Rattle.requests.specs.declared.kind.PlanKind.TheVariants.{Revolve, Multistage, Disk, Hrevolve}
 use Rattle.requests.specs.declared.question.Question.{Question}
 use Rattle.requests.specs.declared.question.Question.TheVariants.{State, LastWrite, LastChange}
-use Rattle.requests.specs.Reading.{◌>>=◌}
-use Rattle.line_texts.specs.Reading as texts
-use Rattle.requests.specs.ChoiceReading.{number_of}
+use Rattle.requests.specs.ParserSteps.{◌>>=◌}
+use Rattle.line_texts.specs.Parsers as texts
+use Rattle.requests.specs.ChoiceParser.{number_of}
 use Rattle.requests.specs.Operands.{Schedule, by_name, made, IsName, IsScheduleName, CanBeGiven, MayBeNamed, IsNumber, IsAddress, IsDigest, word_or_dash, schedule_word}
 use Rattle.line_texts.specs.Numbers.{address_word}
-use Rattle.requests.specs.Request.{Command, run, plan, plan_periodic, check, certify, price, ask, find, assemble, disassemble, move_about, demo, kind_word}
+use Rattle.requests.specs.Request.{Command, run, plan, plan_periodic, check, certify, cost, ask, find, asm, disasm, console, demo, kind_word}
 
 -- ---- places
 
@@ -177,10 +177,10 @@ certify_form = record {
   make = λ v. certify (record { book = v.1.0; schedule = v.1.1.0; certificate = v.1.1.1.0; steps = v.1.1.1.1.0 });
 }
 
-abbrev pub price_form : Form
-price_form = record {
+abbrev pub cost_form : Form
+cost_form = record {
   places = fixed (codes "cost") ∷ named ∷ schedule_named ∷ numbered ∷ [];
-  make = λ v. price (record { book = v.1.0; schedule = v.1.1.0; steps = v.1.1.1.0 });
+  make = λ v. cost (record { book = v.1.0; schedule = v.1.1.0; steps = v.1.1.1.0 });
 }
 
 -- a question by its word, and its last operand
@@ -203,16 +203,16 @@ find_form = record {
   make = λ v. find (record { program = v.1.1.0; journal = v.1.1.1.0; steps = v.1.1.1.1.0; digest = v.1.1.1.1.1.0 });
 }
 
-abbrev pub assemble_form : Form
-assemble_form = record { places = fixed (codes "asm") ∷ named ∷ []; make = λ v. assemble (record { source = v.1.0 }) }
+abbrev pub asm_form : Form
+asm_form = record { places = fixed (codes "asm") ∷ named ∷ []; make = λ v. asm (record { source = v.1.0 }) }
 
-abbrev pub disassemble_form : Form
-disassemble_form = record { places = fixed (codes "disasm") ∷ named ∷ []; make = λ v. disassemble (record { program = v.1.0 }) }
+abbrev pub disasm_form : Form
+disasm_form = record { places = fixed (codes "disasm") ∷ named ∷ []; make = λ v. disasm (record { program = v.1.0 }) }
 
-abbrev pub move_about_form : Form
-move_about_form = record {
+abbrev pub console_form : Form
+console_form = record {
   places = fixed (codes "console") ∷ named ∷ named_or_none ∷ named ∷ named ∷ numbered ∷ [];
-  make = λ v. move_about (record { program = v.1.0; journal = v.1.1.0; book = v.1.1.1.0; script = v.1.1.1.1.0; steps = v.1.1.1.1.1.0 });
+  make = λ v. console (record { program = v.1.0; journal = v.1.1.0; book = v.1.1.1.0; script = v.1.1.1.1.0; steps = v.1.1.1.1.1.0 });
 }
 
 abbrev pub demo_form : Form
@@ -224,8 +224,8 @@ demo_form = record {
 abbrev pub forms : List Form
 forms =
     run_form ∷ plan_form Revolve ∷ plan_form Multistage ∷ plan_form Disk ∷ plan_form Hrevolve ∷ periodic_form
-    ∷ check_form ∷ certify_form ∷ price_form ∷ ask_form (codes "state") numbered State ∷ ask_form (codes "last-write") addressed LastWrite
-    ∷ ask_form (codes "last-change") addressed LastChange ∷ find_form ∷ assemble_form ∷ disassemble_form ∷ move_about_form ∷ demo_form ∷ []
+    ∷ check_form ∷ certify_form ∷ cost_form ∷ ask_form (codes "state") numbered State ∷ ask_form (codes "last-write") addressed LastWrite
+    ∷ ask_form (codes "last-change") addressed LastChange ∷ find_form ∷ asm_form ∷ disasm_form ∷ console_form ∷ demo_form ∷ []
 
 -- the command found before, or that of the first form that takes all words
 abbrev pub first_of : Option Command → List Form → List (List ℕ) → Option Command

@@ -2,7 +2,7 @@
 use Rattle.std.specs.Prelude.{◌≡◌, ℕ, ◌+◌, ◌-◌, ◌<◌, ◌≤◌, ◌++◌, List, [], ◌∷◌, length, map, take, nat_le, if◌then◌else◌, Option, Some, IsSomeAnd}
 use Rattle.std.specs.List.{AllByRecursion, flat_map}
 use Rattle.std.specs.FinMap as finmap
-use Rattle.keepers.specs.Told.{Files, WhereTold}
+use Rattle.keepers.specs.Claims.{Files, WhereTold}
 use Rattle.requests.specs.declared.ended.Ended.{Ended}
 pub use Rattle.requests.specs.Operands.{Input}
 use Rattle.requests.specs.Operands.{inputs_named}

@@ -4,8 +4,8 @@ pub mod Bounds
 pub mod Places
 pub mod Inputs
 pub mod Ending
-pub mod Reading
-pub mod ChoiceReading
+pub mod ParserSteps
+pub mod ChoiceParser
 pub mod Forms
-pub mod RequestReading
-pub mod InputReading
+pub mod RequestModel
+pub mod InputOutcome

@@ -98,7 +98,7 @@ pub record Run : Type 0 where
   pub steps : ℕ
 
 -- to run a program backward by a schedule
-pub record Backward : Type 0 where
+pub record RunBackward : Type 0 where
   pub run : Run
   pub schedule : Schedule
 
@@ -128,7 +128,7 @@ pub record Certify : Type 0 where
   pub steps : ℕ
 
 -- to print what a schedule costs, for a book and a number of steps
-pub record Price : Type 0 where
+pub record Cost : Type 0 where
   pub book : List ℕ
   pub schedule : List ℕ
   pub steps : ℕ
@@ -147,15 +147,15 @@ pub record Find : Type 0 where
   pub digest : List ℕ
 
 -- to write the instruction words that a source means
-pub record Assemble : Type 0 where
+pub record Asm : Type 0 where
   pub source : List ℕ
 
 -- to write the line of each word of a raw program
-pub record Disassemble : Type 0 where
+pub record Disasm : Type 0 where
   pub program : List ℕ
 
 -- to move about in a run of so many instructions by the orders of a script
-pub record MoveAbout : Type 0 where
+pub record Console : Type 0 where
   pub program : List ℕ
   pub journal : Option (List ℕ)
   pub book : List ℕ
@@ -170,17 +170,17 @@ pub record Demo : Type 0 where
 
 -- A new command is a case here, and a row in `operands`.
 pub data Command : Type 0 where
-  run : Backward → Command
+  run : RunBackward → Command
   plan : PlanFor → Command
   plan_periodic : PlanPeriodic → Command
   check : Check → Command
   certify : Certify → Command
-  price : Price → Command
+  cost : Cost → Command
   ask : Ask → Command
   find : Find → Command
-  assemble : Assemble → Command
-  disassemble : Disassemble → Command
-  move_about : MoveAbout → Command
+  asm : Asm → Command
+  disasm : Disasm → Command
+  console : Console → Command
   demo : Demo → Command
 
 -- the word of a kind of plans
@@ -226,16 +226,16 @@ operands (plan_periodic c) =
 operands (check c) = the_word (codes "check") ∷ a_book c.book ∷ a_schedule (by_name c.schedule) ∷ a_number steps_limit c.steps ∷ []
 operands (certify c) =
     the_word (codes "certify") ∷ a_book c.book ∷ a_schedule (by_name c.schedule) ∷ a_certificate c.certificate ∷ a_number steps_limit c.steps ∷ []
-operands (price c) = the_word (codes "cost") ∷ a_book c.book ∷ a_schedule (by_name c.schedule) ∷ a_number steps_limit c.steps ∷ []
+operands (cost c) = the_word (codes "cost") ∷ a_book c.book ∷ a_schedule (by_name c.schedule) ∷ a_number steps_limit c.steps ∷ []
 operands (ask c) =
     the_word (codes "ask") ∷ the_word (question_word c.question) ∷ a_program c.run.program ∷ a_journal c.run.journal ∷ a_book c.run.book
     ∷ a_schedule (by_name c.schedule) ∷ run_steps c.run.steps ∷ a_question c.run.steps c.question ∷ []
 operands (find c) =
     the_word (codes "ask") ∷ the_word (codes "find") ∷ a_program c.program ∷ a_journal c.journal ∷ a_number steps_limit c.steps
     ∷ a_digest c.digest ∷ []
-operands (assemble c) = the_word (codes "asm") ∷ a_source c.source ∷ []
-operands (disassemble c) = the_word (codes "disasm") ∷ some_words c.program ∷ []
-operands (move_about c) =
+operands (asm c) = the_word (codes "asm") ∷ a_source c.source ∷ []
+operands (disasm c) = the_word (codes "disasm") ∷ some_words c.program ∷ []
+operands (console c) =
     the_word (codes "console") ∷ a_program c.program ∷ a_journal c.journal ∷ a_book c.book ∷ a_script c.script
     ∷ a_number steps_limit c.steps ∷ []
 operands (demo c) = the_word (codes "demo") ∷ a_number seed_limit c.number ∷ a_number steps_limit c.steps ∷ a_number slots_limit c.slots ∷ []

@@ -1,7 +1,7 @@
 // How a call ended.
 ghost use Rattle.std.specs.Prelude.{◌≡◌, ◌+◌, ◌≤◌, ◌++◌, length, codes, decimal};
 ghost use Rattle.hex.specs.Hex.{encode_lower};
-ghost use Rattle.requests.specs.Ending.{broken_text, bad_text, bad_certificate, bad_source, bad_script, ended_with, ended_by, ended_at, done, no_request, unreadable, invalid, out_of_range, too_long, no_plan, keeper_failed, damaged, stopped, not_least, few_keepers, small_keeper, no_memory, text_of_ended, entry_text, digests_text, status_name, table_name};
+ghost use Rattle.requests.specs.Ending.{broken_text, bad_text, bad_certificate, bad_source, bad_script, ended_by, ended_at, done, no_request, unreadable, invalid, out_of_range, too_long, no_plan, keeper_failed, damaged, stopped, not_least, few_keepers, small_keeper, no_memory, text_of_ended, entry_text, digests_text, status_name, table_name};
 
 use bound_cert::Reason;
 use elf_load::ElfFault;

@@ -1,16 +1,13 @@
 // The inputs of a request, read in the order of the words.
-ghost use Rattle.std.specs.Prelude.{◌≡◌, ◌≢◌, ℕ, ◌+◌, ◌<◌, ◌≤◌, List, [], ◌∷◌, ◌++◌, length, map, take, Some, Err, IfOk, IfErr, IsErrOf, MatchResult};
-ghost use Rattle.std.specs.FinMap as finmap;
-ghost use Rattle.keepers.specs.Counts.{Rose};
-ghost use Rattle.keepers.specs.Told.{WhereTold};
+ghost use Rattle.std.specs.Prelude.{◌≡◌, map};
 ghost use Rattle.requests.specs.Operands.{program_input, journal_input, book_input, schedule_input, certificate_input, source_input, words_input, script_input};
-ghost use Rattle.requests.specs.Inputs.{inputs_of, names};
-ghost use Rattle.requests.specs.InputReading.{input_of, all, Reads, Stops};
-ghost use Rattle.requests.specs.Request.{Backward, run as run_command, find as find_command, move_about as move_about_command};
-ghost use Rattle.requests.specs.RequestReading.{as_schedule, as_run, as_find, as_move_about, as_command};
+ghost use Rattle.requests.specs.Inputs.{inputs_of};
+ghost use Rattle.requests.specs.InputOutcome.{input_of, ReadsInput, ReadsInputs};
+ghost use Rattle.requests.specs.Request.{run as run_command, find as find_command, console as console_command};
+ghost use Rattle.requests.specs.RequestModel.{as_schedule, as_run, as_find, as_console, as_command};
 
 use crate::ended::Ended;
-use crate::request::{Command, Find, MoveAbout, Run};
+use crate::request::{Command, Console, Find, Run};
 use crate::schedule::Schedule;
 use keepers::{InputFault, Inputs, Whole};
 use std::alloc::Global;
@@ -39,15 +36,8 @@ pub struct Input<'a> {
     pub limit: u32,
 }
 
-// Why an input wasn't read.
-enum Refusal {
-    Failed,
-    TooLong,
-    Memory,
-}
-
-// The inputs of each kind.
-fn program_input(name: &[u8]) -> Input<'_>
+/// The input that a program is read from.
+pub fn program_input(name: &[u8]) -> Input<'_>
     ensures { input_of result ≡ program_input name.now }
 {
     Input {
@@ -56,7 +46,8 @@ fn program_input(name: &[u8]) -> Input<'_>
     }
 }
 
-fn journal_input(name: &[u8]) -> Input<'_>
+/// The input that recorded input is read from.
+pub fn journal_input(name: &[u8]) -> Input<'_>
     ensures { input_of result ≡ journal_input name.now }
 {
     Input {
@@ -126,13 +117,7 @@ pub fn read_inputs<I: Inputs>(
     command: &Command<'_>,
     inputs: &mut I,
 ) -> Result<Vec<Vec<u8>>, Ended>
-    ensures read { IfOk result (λ v. Reads (inputs_of (as_command command.now)) (I.told inputs.old) (I.asked inputs.old) (I.asked inputs.new)
-        (all (map (λ bytes. bytes.items) v.items))) }
-    ensures stops { IfErr result (λ e. Stops (inputs_of (as_command command.now)) (I.told inputs.old) e (I.asked inputs.old) (I.asked inputs.new)) }
-    ensures asked { (k : ℕ) × (I.asked inputs.new ≡ I.asked inputs.old ++ take k (names (inputs_of (as_command command.now)))) }
-    ensures quiet { IfOk result (λ _. I.fault_count inputs.new ≡ I.fault_count inputs.old) }
-    ensures cause { IfErr result (λ e. e.status ≡ 3 → Rose (I.fault_count inputs.old) (I.fault_count inputs.new)) }
-    ensures no_cause { IfErr result (λ e. e.status ≢ 3 → I.fault_count inputs.new ≡ I.fault_count inputs.old) }
+    ensures { ReadsInputs I.Inputs (inputs_of (as_command command.now)) result inputs.old inputs.new }
 {
     match command {
         Command::Run(backward) => read_run_inputs(alloc, &backward.run, backward.schedule, inputs),
@@ -150,8 +135,8 @@ pub fn read_inputs<I: Inputs>(
             ];
             read_all(alloc, &wanted, inputs)
         }
-        Command::Price(price) => {
-            let wanted = [book_input(price.book), schedule_input(price.schedule)];
+        Command::Cost(cost) => {
+            let wanted = [book_input(cost.book), schedule_input(cost.schedule)];
             read_all(alloc, &wanted, inputs)
         }
         Command::Ask(ask) => {
@@ -159,11 +144,9 @@ pub fn read_inputs<I: Inputs>(
             read_run_inputs(alloc, &ask.run, schedule, inputs)
         }
         Command::Find(find) => read_find_inputs(alloc, find, inputs),
-        Command::Assemble(assemble) => read_all(alloc, &[source_input(assemble.source)], inputs),
-        Command::Disassemble(disassemble) => {
-            read_all(alloc, &[words_input(disassemble.program)], inputs)
-        }
-        Command::MoveAbout(about) => read_move_about_inputs(alloc, about, inputs),
+        Command::Asm(asm) => read_all(alloc, &[source_input(asm.source)], inputs),
+        Command::Disasm(disasm) => read_all(alloc, &[words_input(disasm.program)], inputs),
+        Command::Console(console) => read_console_inputs(alloc, console, inputs),
         Command::Demo(_) => read_all(alloc, &[], inputs),
     }
 }
@@ -175,15 +158,8 @@ fn read_run_inputs<I: Inputs>(
     schedule: Schedule<'_>,
     inputs: &mut I,
 ) -> Result<Vec<Vec<u8>>, Ended>
-    ensures read { let command = run_command (record { run = as_run run.now; schedule = as_schedule schedule.entry }) in
-        IfOk result (λ v. Reads (inputs_of command) (I.told inputs.old) (I.asked inputs.old) (I.asked inputs.new) (all (map (λ bytes. bytes.items) v.items))) }
-    ensures stops { let command = run_command (record { run = as_run run.now; schedule = as_schedule schedule.entry }) in
-        IfErr result (λ e. Stops (inputs_of command) (I.told inputs.old) e (I.asked inputs.old) (I.asked inputs.new)) }
-    ensures asked { let command = run_command (record { run = as_run run.now; schedule = as_schedule schedule.entry }) in
-        (k : ℕ) × (I.asked inputs.new ≡ I.asked inputs.old ++ take k (names (inputs_of command))) }
-    ensures quiet { IfOk result (λ _. I.fault_count inputs.new ≡ I.fault_count inputs.old) }
-    ensures cause { IfErr result (λ e. e.status ≡ 3 → Rose (I.fault_count inputs.old) (I.fault_count inputs.new)) }
-    ensures no_cause { IfErr result (λ e. e.status ≢ 3 → I.fault_count inputs.new ≡ I.fault_count inputs.old) }
+    ensures { ReadsInputs I.Inputs (inputs_of (run_command (record { run = as_run run.now; schedule = as_schedule schedule.entry })))
+        result inputs.old inputs.new }
 {
     let program = program_input(run.program);
     let book = book_input(run.book);
@@ -208,13 +184,7 @@ fn read_find_inputs<I: Inputs>(
     find: &Find<'_>,
     inputs: &mut I,
 ) -> Result<Vec<Vec<u8>>, Ended>
-    ensures read { IfOk result (λ v. Reads (inputs_of (find_command (as_find find.now))) (I.told inputs.old) (I.asked inputs.old) (I.asked inputs.new)
-        (all (map (λ bytes. bytes.items) v.items))) }
-    ensures stops { IfErr result (λ e. Stops (inputs_of (find_command (as_find find.now))) (I.told inputs.old) e (I.asked inputs.old) (I.asked inputs.new)) }
-    ensures asked { (k : ℕ) × (I.asked inputs.new ≡ I.asked inputs.old ++ take k (names (inputs_of (find_command (as_find find.now))))) }
-    ensures quiet { IfOk result (λ _. I.fault_count inputs.new ≡ I.fault_count inputs.old) }
-    ensures cause { IfErr result (λ e. e.status ≡ 3 → Rose (I.fault_count inputs.old) (I.fault_count inputs.new)) }
-    ensures no_cause { IfErr result (λ e. e.status ≢ 3 → I.fault_count inputs.new ≡ I.fault_count inputs.old) }
+    ensures { ReadsInputs I.Inputs (inputs_of (find_command (as_find find.now))) result inputs.old inputs.new }
 {
     let program = program_input(find.program);
     match find.journal {
@@ -224,25 +194,17 @@ fn read_find_inputs<I: Inputs>(
 }
 
 // Reads the inputs of a console over a run.
-fn read_move_about_inputs<I: Inputs>(
+fn read_console_inputs<I: Inputs>(
     alloc: Global,
-    about: &MoveAbout<'_>,
+    console: &Console<'_>,
     inputs: &mut I,
 ) -> Result<Vec<Vec<u8>>, Ended>
-    ensures read { IfOk result (λ v. Reads (inputs_of (move_about_command (as_move_about about.now))) (I.told inputs.old) (I.asked inputs.old)
-        (I.asked inputs.new)
-        (all (map (λ bytes. bytes.items) v.items))) }
-    ensures stops { IfErr result (λ e. Stops (inputs_of (move_about_command (as_move_about about.now))) (I.told inputs.old) e (I.asked inputs.old)
-        (I.asked inputs.new)) }
-    ensures asked { (k : ℕ) × (I.asked inputs.new ≡ I.asked inputs.old ++ take k (names (inputs_of (move_about_command (as_move_about about.now))))) }
-    ensures quiet { IfOk result (λ _. I.fault_count inputs.new ≡ I.fault_count inputs.old) }
-    ensures cause { IfErr result (λ e. e.status ≡ 3 → Rose (I.fault_count inputs.old) (I.fault_count inputs.new)) }
-    ensures no_cause { IfErr result (λ e. e.status ≢ 3 → I.fault_count inputs.new ≡ I.fault_count inputs.old) }
+    ensures { ReadsInputs I.Inputs (inputs_of (console_command (as_console console.now))) result inputs.old inputs.new }
 {
-    let program = program_input(about.program);
-    let book = book_input(about.book);
-    let script = script_input(about.script);
-    match about.journal {
+    let program = program_input(console.program);
+    let book = book_input(console.book);
+    let script = script_input(console.script);
+    match console.journal {
         Some(name) => {
             let wanted = [program, journal_input(name), book, script];
             read_all(alloc, &wanted, inputs)
@@ -257,46 +219,29 @@ fn read_all<I: Inputs>(
     wanted: &[Input<'_>],
     inputs: &mut I,
 ) -> Result<Vec<Vec<u8>>, Ended>
-    ensures read { IfOk result (λ v. Reads (map input_of wanted.now) (I.told inputs.old) (I.asked inputs.old) (I.asked inputs.new)
-        (all (map (λ bytes. bytes.items) v.items))) }
-    ensures stops { IfErr result (λ e. Stops (map input_of wanted.now) (I.told inputs.old) e (I.asked inputs.old) (I.asked inputs.new)) }
-    ensures asked { (k : ℕ) × (I.asked inputs.new ≡ I.asked inputs.old ++ take k (names (map input_of wanted.now))) }
-    ensures quiet { IfOk result (λ _. I.fault_count inputs.new ≡ I.fault_count inputs.old) }
-    ensures cause { IfErr result (λ e. e.status ≡ 3 → Rose (I.fault_count inputs.old) (I.fault_count inputs.new)) }
-    ensures no_cause { IfErr result (λ e. e.status ≢ 3 → I.fault_count inputs.new ≡ I.fault_count inputs.old) }
+    ensures { ReadsInputs I.Inputs (map input_of wanted.now) result inputs.old inputs.new }
 {
     let mut read = Vec::with_capacity(alloc, wanted.len())?;
     for (i, input) in wanted.iter().enumerate() {
-        match read_input(alloc, input, inputs) {
-            Ok(bytes) => read.push(bytes)?,
-            Err(Refusal::Failed) => return Err(Ended::unreadable(i as u64 + 1)),
-            Err(Refusal::TooLong) => return Err(Ended::too_long(i as u64 + 1, input.limit)),
-            Err(Refusal::Memory) => return Err(Ended::no_memory()),
-        }
+        read.push(read_input(alloc, i as u64 + 1, input, inputs)?)?;
     }
     Ok(read)
 }
 
-fn read_input<I: Inputs>(
+/// Reads an input. A refusal names it by its place among those that are wanted.
+pub fn read_input<I: Inputs>(
     alloc: Global,
+    place: u64,
     input: &Input<'_>,
     inputs: &mut I,
-) -> Result<Vec<u8>, Refusal>
-    ensures there { IfOk result (λ bytes. (length bytes.items ≤ input.now.limit)
-        × WhereTold (I.told inputs.old) (λ files. finmap.get files input.now.name.now ≡ Some bytes.items)) }
-    ensures longer { IsErrOf result Refusal.TooLong → (bytes : List ℕ) × (input.now.limit < length bytes)
-        × WhereTold (I.told inputs.old) (λ files. finmap.get files input.now.name.now ≡ Some bytes) }
-    ensures same { I.told inputs.new ≡ I.told inputs.old }
-    ensures asks { result ≢ Err Refusal.Memory → I.asked inputs.new ≡ I.asked inputs.old ++ input.now.name.now ∷ [] }
-    ensures may_ask { (k : ℕ) × (I.asked inputs.new ≡ I.asked inputs.old ++ take k (input.now.name.now ∷ [])) }
-    ensures quiet { result ≢ Err Refusal.Failed → I.fault_count inputs.new ≡ I.fault_count inputs.old }
-    ensures cause { result ≡ Err Refusal.Failed → Rose (I.fault_count inputs.old) (I.fault_count inputs.new) }
+) -> Result<Vec<u8>, Ended>
+    ensures { ReadsInput I.Inputs place (input_of input.now) result inputs.old inputs.new }
 {
     let mut bytes = Vec::new(alloc);
     match inputs.read(input.name, input.limit, &mut bytes) {
         Ok(Whole::All) => Ok(bytes),
-        Ok(Whole::Longer) => Err(Refusal::TooLong),
-        Err(InputFault::Failed) => Err(Refusal::Failed),
-        Err(InputFault::Memory) => Err(Refusal::Memory),
+        Ok(Whole::Longer) => Err(Ended::too_long(place, input.limit)),
+        Err(InputFault::Failed) => Err(Ended::unreadable(place)),
+        Err(InputFault::Memory) => Err(Ended::no_memory()),
     }
 }

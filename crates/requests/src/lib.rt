@@ -28,14 +28,14 @@ mod words;
 
 pub use crate::bounds::Bounded;
 pub use crate::ended::{Ended, ended_text, push_digest};
-pub use crate::inputs::read_inputs;
+pub use crate::inputs::{Input, journal_input, program_input, read_input, read_inputs};
 pub use crate::kind::PlanKind;
 pub use crate::options::Options;
 pub use crate::places::{KeepAt, keeper_places};
 pub use crate::question::Question;
 pub use crate::request::{
-    Ask, Assemble, Backward, Certify, Check, Command, Demo, Disassemble, Find, MoveAbout, PlanFor,
-    PlanPeriodic, Price, Request, Run, read_request,
+    Ask, Asm, Certify, Check, Command, Console, Cost, Demo, Disasm, Find, PlanFor, PlanPeriodic,
+    Request, Run, RunBackward, read_request,
 };
 pub use crate::schedule::Schedule;
 pub use crate::words::Words;

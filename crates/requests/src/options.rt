@@ -2,8 +2,8 @@
 ghost use Rattle.std.specs.Prelude.{◌≡◌, map};
 ghost use Rattle.std.specs.List.{list_any};
 ghost use Rattle.requests.specs.Request.{is_files, says_raw, stack_pages, worker_count, unit_count};
-ghost use Rattle.line_texts.specs.Reading.{GivesSome};
-ghost use Rattle.requests.specs.ChoiceReading.{number_of, stack_of, workers_of, unit_of, files_of, choice_of, first_choice, options_at, behind_options, is_like, are_single, as_choice};
+ghost use Rattle.line_texts.specs.Parsers.{GivesSome};
+ghost use Rattle.requests.specs.ChoiceParser.{number_of, stack_of, workers_of, unit_of, files_of, choice_of, first_choice, options_at, behind_options, is_like, are_single, as_choice};
 
 use crate::text::after;
 use line_texts::number_at;
@@ -67,7 +67,7 @@ pub struct Options<'a> {
 impl<'a> Model for Options<'a> {
     ghost use Rattle.std.specs.Prelude.{List, map};
     ghost use Rattle.requests.specs.Request.{Choice};
-    ghost use Rattle.requests.specs.ChoiceReading.{options_at};
+    ghost use Rattle.requests.specs.ChoiceParser.{options_at};
 
     ghost Value = { List Choice };
 
@@ -208,7 +208,7 @@ fn files_in(text: &[u8]) -> Option<Choice<'_>>
 }
 
 // The option that a word is.
-#[tactic(auto, unfolding(crate::specs::ChoiceReading::choice_of))]
+#[tactic(auto, unfolding(crate::specs::ChoiceParser::choice_of))]
 fn choice_in(word: &[u8]) -> Option<Choice<'_>>
     ensures { GivesSome as_choice result (choice_of word.now) }
 {

@@ -4,7 +4,7 @@ ghost use Rattle.std.specs.Option.{option_copied};
 ghost use Rattle.requests.specs.declared.ended.Ended.{Ended};
 ghost use Rattle.requests.specs.Request.{Request as ARequest, words_of};
 ghost use Rattle.requests.specs.Bounds.{RefusesWords, Asks};
-ghost use Rattle.requests.specs.ChoiceReading.{options_at};
+ghost use Rattle.requests.specs.ChoiceParser.{options_at};
 ghost use Rattle.requests.specs.Places.{levels, place_from, places_of, all_in_memory, folder_said, folder_at};
 
 use crate::options::next_option;

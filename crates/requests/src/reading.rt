@@ -1,17 +1,17 @@
 // A command is read by its form: a line for each of its words and operands, in their order.
 ghost use Rattle.std.specs.Prelude.{◌≡◌, ℕ, List, Option, map, codes, option_map};
-ghost use Rattle.line_texts.specs.Reading.{GivesSome};
+ghost use Rattle.line_texts.specs.Parsers.{GivesSome};
 ghost use Rattle.requests.specs.Request.{kind_word};
 ghost use Rattle.requests.specs.declared.question.Question.TheVariants as about;
-ghost use Rattle.requests.specs.Forms.{Place, Value, Takes, TakesAll, ask_places, numbered, addressed, run_form, plan_form, periodic_form, check_form, certify_form, price_form, ask_form, find_form, assemble_form, disassemble_form, move_about_form, demo_form, form_taken, command_of};
-ghost use Rattle.requests.specs.RequestReading.{as_command};
+ghost use Rattle.requests.specs.Forms.{Place, Value, Takes, TakesAll, ask_places, numbered, addressed, run_form, plan_form, periodic_form, check_form, certify_form, cost_form, ask_form, find_form, asm_form, disasm_form, console_form, demo_form, form_taken, command_of};
+ghost use Rattle.requests.specs.RequestModel.{as_command};
 
 use crate::kind::PlanKind;
 use crate::operands::Operands;
 use crate::question::Question;
 use crate::request::{
-    Ask, Assemble, Backward, Certify, Check, Command, Demo, Disassemble, Find, MoveAbout, PlanFor,
-    PlanPeriodic, Price, Run,
+    Ask, Asm, Certify, Check, Command, Console, Cost, Demo, Disasm, Find, PlanFor, PlanPeriodic,
+    Run, RunBackward,
 };
 
 /// The command that the words after the options are.
@@ -26,14 +26,14 @@ pub fn read_command(words: &[Vec<u8>]) -> Option<Command<'_>>
         .or(read_plan_periodic(words))
         .or(read_check(words))
         .or(read_certify(words))
-        .or(read_price(words))
+        .or(read_cost(words))
         .or(read_ask_state(words))
         .or(read_ask_last_write(words))
         .or(read_ask_last_change(words))
         .or(read_find(words))
-        .or(read_assemble(words))
-        .or(read_disassemble(words))
-        .or(read_move_about(words))
+        .or(read_asm(words))
+        .or(read_disasm(words))
+        .or(read_console(words))
         .or(read_demo(words))
 }
 
@@ -53,7 +53,7 @@ fn read_run(words: &[Vec<u8>]) -> Option<Command<'_>>
         book,
         steps,
     };
-    words.finish(Command::Run(Backward { run, schedule }))
+    words.finish(Command::Run(RunBackward { run, schedule }))
 }
 
 fn kind_word(kind: PlanKind) -> &'static [u8]
@@ -126,15 +126,15 @@ fn read_certify(words: &[Vec<u8>]) -> Option<Command<'_>>
     }))
 }
 
-fn read_price(words: &[Vec<u8>]) -> Option<Command<'_>>
-    ensures { GivesSome as_command result (form_taken price_form (map (λ w. w.items) words.now)) }
+fn read_cost(words: &[Vec<u8>]) -> Option<Command<'_>>
+    ensures { GivesSome as_command result (form_taken cost_form (map (λ w. w.items) words.now)) }
 {
     let mut words = Operands::of(words);
     words.word(b"cost");
     let book = words.name();
     let schedule = words.schedule_name();
     let steps = words.number();
-    words.finish(Command::Price(Price {
+    words.finish(Command::Cost(Cost {
         book,
         schedule,
         steps,
@@ -219,26 +219,26 @@ fn read_find(words: &[Vec<u8>]) -> Option<Command<'_>>
     }))
 }
 
-fn read_assemble(words: &[Vec<u8>]) -> Option<Command<'_>>
-    ensures { GivesSome as_command result (form_taken assemble_form (map (λ w. w.items) words.now)) }
+fn read_asm(words: &[Vec<u8>]) -> Option<Command<'_>>
+    ensures { GivesSome as_command result (form_taken asm_form (map (λ w. w.items) words.now)) }
 {
     let mut words = Operands::of(words);
     words.word(b"asm");
     let source = words.name();
-    words.finish(Command::Assemble(Assemble { source }))
+    words.finish(Command::Asm(Asm { source }))
 }
 
-fn read_disassemble(words: &[Vec<u8>]) -> Option<Command<'_>>
-    ensures { GivesSome as_command result (form_taken disassemble_form (map (λ w. w.items) words.now)) }
+fn read_disasm(words: &[Vec<u8>]) -> Option<Command<'_>>
+    ensures { GivesSome as_command result (form_taken disasm_form (map (λ w. w.items) words.now)) }
 {
     let mut words = Operands::of(words);
     words.word(b"disasm");
     let program = words.name();
-    words.finish(Command::Disassemble(Disassemble { program }))
+    words.finish(Command::Disasm(Disasm { program }))
 }
 
-fn read_move_about(words: &[Vec<u8>]) -> Option<Command<'_>>
-    ensures { GivesSome as_command result (form_taken move_about_form (map (λ w. w.items) words.now)) }
+fn read_console(words: &[Vec<u8>]) -> Option<Command<'_>>
+    ensures { GivesSome as_command result (form_taken console_form (map (λ w. w.items) words.now)) }
 {
     let mut words = Operands::of(words);
     words.word(b"console");
@@ -247,7 +247,7 @@ fn read_move_about(words: &[Vec<u8>]) -> Option<Command<'_>>
     let book = words.name();
     let script = words.name();
     let steps = words.number();
-    words.finish(Command::MoveAbout(MoveAbout {
+    words.finish(Command::Console(Console {
         program,
         journal,
         book,

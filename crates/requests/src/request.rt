@@ -4,9 +4,9 @@ ghost use Rattle.std.specs.List.{AllByRecursion, flat_map};
 ghost use Rattle.requests.specs.Operands.{steps_limit, instructions_limit, within, question_bound};
 ghost use Rattle.requests.specs.Request.{Request as ARequest, Says, plan_limit, period_limit, slots_limit, seed_limit};
 ghost use Rattle.requests.specs.Bounds.{stack_limit, workers_limit, unit_limit, level_limit, numbers, option_numbers, command_numbers, IsWithin, RefusesFirst};
-ghost use Rattle.line_texts.specs.Reading.{GivesSome};
-ghost use Rattle.requests.specs.ChoiceReading.{options_at, as_choice};
-ghost use Rattle.requests.specs.RequestReading.{run_numbers, asked_numbers, request_read, as_command, request_of};
+ghost use Rattle.line_texts.specs.Parsers.{GivesSome};
+ghost use Rattle.requests.specs.ChoiceParser.{options_at, as_choice};
+ghost use Rattle.requests.specs.RequestModel.{run_numbers, asked_numbers, request_read, as_command, request_of};
 
 use crate::bounds::{Bounded, first_outside};
 use crate::ended::Ended;
@@ -34,7 +34,7 @@ pub struct Request<'a> {
 #[derive(Clone, Copy, Debug)]
 pub enum Command<'a> {
     /// To run a program backward.
-    Run(Backward<'a>),
+    Run(RunBackward<'a>),
     /// To write a list that is made during the call.
     Plan(PlanFor<'a>),
     /// To write the periodic list.
@@ -44,17 +44,17 @@ pub enum Command<'a> {
     /// To show that no list takes fewer forward steps.
     Certify(Certify<'a>),
     /// To print what a schedule costs.
-    Price(Price<'a>),
+    Cost(Cost<'a>),
     /// To ask something of a run.
     Ask(Ask<'a>),
     /// To find the last state of a run with a digest.
     Find(Find<'a>),
     /// To write the instruction words that a source means.
-    Assemble(Assemble<'a>),
+    Asm(Asm<'a>),
     /// To write the line of each word of a raw program.
-    Disassemble(Disassemble<'a>),
+    Disasm(Disasm<'a>),
     /// To move about in a run by the orders of a script.
-    MoveAbout(MoveAbout<'a>),
+    Console(Console<'a>),
     /// To run a program made from a number.
     Demo(Demo),
 }
@@ -70,7 +70,7 @@ pub struct Run<'a> {
 
 /// To run a program backward by a schedule.
 #[derive(Clone, Copy, Debug)]
-pub struct Backward<'a> {
+pub struct RunBackward<'a> {
     pub run: Run<'a>,
     pub schedule: Schedule<'a>,
 }
@@ -110,7 +110,7 @@ pub struct Certify<'a> {
 
 /// To print what a schedule costs, for a book and so many steps.
 #[derive(Clone, Copy, Debug)]
-pub struct Price<'a> {
+pub struct Cost<'a> {
     pub book: &'a [u8],
     pub schedule: &'a [u8],
     pub steps: u64,
@@ -135,19 +135,19 @@ pub struct Find<'a> {
 
 /// To write the instruction words that a source means.
 #[derive(Clone, Copy, Debug)]
-pub struct Assemble<'a> {
+pub struct Asm<'a> {
     pub source: &'a [u8],
 }
 
 /// To write the line of each word of a raw program.
 #[derive(Clone, Copy, Debug)]
-pub struct Disassemble<'a> {
+pub struct Disasm<'a> {
     pub program: &'a [u8],
 }
 
 /// To move about in a run of so many instructions by the orders of a script. The levels of a book keep images at marks.
 #[derive(Clone, Copy, Debug)]
-pub struct MoveAbout<'a> {
+pub struct Console<'a> {
     pub program: &'a [u8],
     pub journal: Option<&'a [u8]>,
     pub book: &'a [u8],
@@ -366,11 +366,11 @@ impl Command<'_> {
             }
             Command::Check(check) => first_outside(&[steps_bound(check.steps)]),
             Command::Certify(certify) => first_outside(&[steps_bound(certify.steps)]),
-            Command::Price(price) => first_outside(&[steps_bound(price.steps)]),
+            Command::Cost(cost) => first_outside(&[steps_bound(cost.steps)]),
             Command::Ask(ask) => question_refusal(unit, ask.run.steps, ask.question),
             Command::Find(find) => first_outside(&[steps_bound(find.steps)]),
-            Command::Assemble(_) | Command::Disassemble(_) => None,
-            Command::MoveAbout(about) => first_outside(&[steps_bound(about.steps)]),
+            Command::Asm(_) | Command::Disasm(_) => None,
+            Command::Console(console) => first_outside(&[steps_bound(console.steps)]),
             Command::Demo(demo) => first_outside(&[
                 seed_bound(demo.number),
                 steps_bound(demo.steps),
@@ -413,7 +413,7 @@ pub fn read_request(list: &[Vec<u8>]) -> Option<Request<'_>>
     request_in(list)
 }
 
-#[tactic(auto, unfolding(crate::specs::RequestReading::request_read))]
+#[tactic(auto, unfolding(crate::specs::RequestModel::request_read))]
 fn request_in(list: &[Vec<u8>]) -> Option<Request<'_>>
     ensures { GivesSome request_of result (request_read (map (λ w. w.items) list.now)) }
 {

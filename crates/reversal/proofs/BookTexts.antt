@@ -15,7 +15,7 @@ use Rattle.level_book.specs.BookCosts.{BookCosts, slot_count, IsLevelWithinLimit
 use Rattle.level_book.specs.BookText.{SayLevels, slots_of_value, list_in, number_in}
 use Rattle.level_book.specs.BookFaults.{unless, first_of, each, number_of, shape_fault, name_fault, cost_fault, slot_fault, order_fault, faults_in, fault_in, IsBookText}
 use Rattle.level_book.specs.EntryTests.{IsFaultless}
-use Rattle.level_book.proofs.Faultless.{holds_unless, both_hold, none_of_both, faultless}
+use Rattle.level_book.proofs.FaultlessEntries.{holds_unless, both_hold, none_of_both, faultless}
 
 -- where a list of tests has no first fault, none of them has one
 none_at : (faults : List (Option BookFault)) (k : ℕ) (fault : Option BookFault) → first_of faults ≡ None → slice_get faults k ≡ Some fault → fault ≡ None

@@ -7,30 +7,30 @@ use Rattle.level_book.specs.CostFold.{cost}
 use Rattle.level_book.specs.Valid.{Valid}
 use Rattle.level_book.specs.NestedClass.{Nested as IsNested}
 use Rattle.level_book.specs.UnderTable.{Entry, number, Tables, sum_of, write_cost, read_cost, top_entry}
-use Rattle.hrevolve_gen.specs.Written.{Part, one, faster, split, Reads, IsWritten}
-use Rattle.hrevolve_gen.proofs.Whole.{written_costs, written_nested}
+use Rattle.hrevolve_gen.specs.HRevolveList.{Part, one, faster, split, Reads, IsWritten}
+use Rattle.hrevolve_gen.proofs.NestedLists.{written_costs, written_nested}
 use Rattle.revolve_gen.specs.Multistage.{IsMultistage}
-use Rattle.multistage_gen.proofs.Classed.{planned_in_class, revolve_short}
-use Rattle.multistage_gen.proofs.Least.{planned_least}
-use Rattle.revolve_gen.proofs.Extending.{multistage_valid}
+use Rattle.multistage_gen.proofs.ClassMembership.{planned_in_class, revolve_short}
+use Rattle.multistage_gen.proofs.LeastCost.{planned_least}
+use Rattle.revolve_gen.proofs.MultistageValidity.{multistage_valid}
 use Rattle.cert_text.specs.declared.certificate.Certificate.{Certificate}
 use Rattle.cert_text.specs.declared.certificate.Certificate.TheVariants.{Places, Nested, Disk}
 use Rattle.cert_text.specs.Meaning.{HasText}
 use Rattle.cost_tables.specs.TableRows.{TableRows, TablesFit, FastestTablesFit, tables_in}
 use Rattle.disk_gen.specs.DiskRows.{DiskRows, disk_tables_in}
 use Rattle.cert_text.specs.Canonical as certificate_text
-use Rattle.bound_cert.specs.Accepted.{IsAccepted}
-use Rattle.bound_cert.proofs.Deciding.{threshold_low}
-use Rattle.bound_cert.proofs.Fitting.{planned_fits}
+use Rattle.bound_cert.specs.Acceptance.{IsAccepted}
+use Rattle.bound_cert.proofs.Decidability.{threshold_low}
+use Rattle.bound_cert.proofs.ThresholdFit.{planned_fits}
 use Rattle.bound_cert.proofs.Texts.{nested_has_text, disk_has_text}
 use Rattle.class_bounds.proofs.NestedCosts.{nested_least}
 use Rattle.class_bounds.proofs.DiskCosts.{disk_least as disk_list_least}
 use Rattle.level_book.specs.DiskClass.{Disk as IsDisk}
 use Rattle.level_book.specs.DiskUnderTable.{DiskTables, disk_top_entry}
 use Rattle.disk_gen.specs.DiskPlans.{HasDiskPlan}
-use Rattle.disk_gen.specs.DiskWritten.{HeldPart, finally, again, DiskPart, alone, parted, fast_tables, ReadsHeld, ReadsDisk, IsDiskWritten}
+use Rattle.disk_gen.specs.DiskRevolveList.{HeldPart, finally, again, DiskPart, alone, parted, fast_tables, ReadsHeld, ReadsDisk, IsDiskWritten}
 use Rattle.disk_gen.proofs.DiskCosts.{written_disk_costs}
-use Rattle.disk_gen.proofs.DiskWhole.{written_in_class}
+use Rattle.disk_gen.proofs.DiskMembership.{written_in_class}
 use Rattle.reversal.specs.Job.{Job, write}
 use Rattle.reversal.specs.Table.{accept}
 use Rattle.reversal.specs.CommandPlan.{DecidesPlanDisk, DecidesPlanHrevolve, DecidesPlanMultistage}
@@ -38,9 +38,9 @@ use Rattle.requests.specs.Ending.{bad_book}
 use Rattle.reversal.specs.Plans.{list_pieces}
 use Rattle.reversal.specs.WrittenPlans.{SaysAgain}
 use Rattle.reversal.proofs.Lengths.{written_few, disk_written_few}
-use Rattle.reversal.proofs.ReadAgain.{read_again}
+use Rattle.reversal.proofs.PlanRoundTrip.{read_again}
 use Rattle.reversal.proofs.BookTexts.{some_level, costs_rise, within_limits}
-use Rattle.reversal.proofs.Deciding.{read_said, need_met, tabulate_met, job_or}
+use Rattle.reversal.proofs.DecisionLaws.{read_said, need_met, tabulate_met, job_or}
 
 -- the entry of a stretch whose first state is in work, or held
 abbrev entry_of : Tables → Bool → ℕ → ℕ → ℕ → Entry

@@ -5,23 +5,23 @@ use Rattle.std.proofs.lemmas.Bool.{cases_eq, cases_lt}
 use Rattle.std.proofs.lemmas.List.{length-map, take_all}
 use Rattle.std.proofs.lemmas.List.Elements.{Contains-append_cases, Contains-append_left, Contains-append_right}
 use Rattle.std.proofs.lemmas.Option.{same_Some, slice_get-get_or, slice_get-map}
-use Rattle.keepers.specs.Told.{Tells}
+use Rattle.keepers.specs.Claims.{Tells}
 use Rattle.plan_types.specs.declared.action.Action.{Action}
 use Rattle.plan_types.specs.declared.action.Action.TheVariants.{EndReverse}
 use Rattle.level_book.specs.declared.book.Slots.{Slots}
 use Rattle.level_book.specs.Configuration.{Configuration, start}
 use Rattle.level_book.specs.Valid.{Leads, Valid}
-use Rattle.schedule_rules.proofs.Judging.{take_one_more}
-use Rattle.schedule_rules.proofs.Reaching.{leads_apart, leads_unique, sound_on, sound_start}
+use Rattle.schedule_rules.proofs.VerdictReasons.{take_one_more}
+use Rattle.schedule_rules.proofs.Reachability.{leads_apart, leads_unique, sound_on, sound_start}
 use Rattle.input_journal.specs.Form.{IsRecorded}
 use Rattle.rv_machine.specs.MachineState.{MachineState, IsMachineState}
-use Rattle.reverse_runner.specs.Acts.{Holdings}
+use Rattle.reverse_runner.specs.ActionEffects.{Holdings}
 use Rattle.reverse_runner.specs.Collision.{StandsByDigests}
-use Rattle.reverse_runner.specs.Handed.{handed_by, handed, countdown}
-use Rattle.reverse_runner.proofs.Handing.{valid_hands}
+use Rattle.reverse_runner.specs.StateOrder.{handed_by, handed, countdown}
+use Rattle.reverse_runner.proofs.StateOrder.{valid_hands}
 use Rattle.reverse_queries.specs.Collision.{CollidesOn}
-use Rattle.reverse_queries.specs.OnTheWay.{HaveOut}
-use Rattle.reverse_queries.specs.Performing.{IsOut}
+use Rattle.reverse_queries.specs.HoldingsTrace.{HaveOut}
+use Rattle.reverse_queries.specs.ListPerformance.{IsOut}
 use Rattle.reverse_queries.specs.Queries.{WritesIn, ChangesIn, IsLast, front_to, up_to}
 use Rattle.reverse_queries.proofs.Collision.{run_or_collides, out_by_digests, state_or_collides, write_or_collides, change_or_collides}
 use Rattle.requests.specs.declared.question.Question.TheVariants.{State}
@@ -29,11 +29,11 @@ use Rattle.reversal.specs.Job.{Run, last_of, state_of, unit_state}
 use Rattle.reversal.specs.Output.{line_of, lines_down, Adds}
 use Rattle.reversal.specs.Moment.{Moment}
 use Rattle.reversal.specs.Deeds.{States, deed_of}
-use Rattle.reversal.specs.Going.{SameLevels, Went, IsFound, ComesTo}
+use Rattle.reversal.specs.RunTrace.{SameLevels, Went, IsFound, ComesTo}
 use Rattle.reversal.specs.Course.{Shown, Done}
 use Rattle.reversal.specs.CommandRun.{performing}
 use Rattle.reversal.specs.CommandAsk.{asking}
-use Rattle.reversal.proofs.Through.{in_front}
+use Rattle.reversal.proofs.TraceSteps.{in_front}
 
 take_leads : (steps : ℕ) (slots : List Slots) (n : ℕ) (list : List Action) (c d : Configuration) → Leads steps slots c list d → (e : Configuration) × Leads steps slots c (take n list) e
 take_leads steps slots zero list c d leads = (c, refl)

@@ -13,9 +13,9 @@ use Rattle.elf_load.specs.declared.fault.ElfFault.TheVariants as fault
 use Rattle.elf_load.specs.Faults.{FirstRawFault}
 use Rattle.elf_load.specs.Program.{AreMapped, IsMappedPage, HoldsByteOf}
 use Rattle.elf_load.specs.Raw.{raw_pieces, AreWords, IsRawProgram}
-use Rattle.elf_load.proofs.Existing.{raw_start_or_fault}
+use Rattle.elf_load.proofs.StartExistence.{raw_start_or_fault}
 use Rattle.reversal.specs.Demo.{drawn, drawn_from, instructions, program}
-use Rattle.reversal.proofs.Drawing.{bytes_of, all_bytes}
+use Rattle.reversal.proofs.DemoProgram.{bytes_of, all_bytes}
 
 -- ---- how many bytes there are
 

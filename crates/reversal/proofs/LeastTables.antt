@@ -4,10 +4,10 @@ use Rattle.level_book.specs.BookCosts.{BookCosts, room}
 use Rattle.level_book.specs.UnderTable.{number, IsGreatest}
 use Rattle.level_book.specs.DiskUnderTable.{IsGreatestDisk}
 use Rattle.cost_tables.specs.TableRows.{TableRows, AreFor, fastest, tables_in}
-use Rattle.cost_tables.proofs.Fastest.{first_only, same_room}
-use Rattle.hrevolve_gen.proofs.Greatest.{same_entry}
+use Rattle.cost_tables.proofs.FastestLevel.{first_only, same_room}
+use Rattle.hrevolve_gen.proofs.PlanUniqueness.{same_entry}
 use Rattle.disk_gen.specs.DiskRows.{DiskRows, disk_tables_in}
-use Rattle.cert_text.proofs.Shaping.{same_by, one_table}
+use Rattle.cert_text.proofs.TableEquality.{same_by, one_table}
 use Rattle.reversal.specs.Plans.{AreTablesFor, AreDiskTablesFor}
 
 -- tables for the same steps and book have the same rooms

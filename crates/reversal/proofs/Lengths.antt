@@ -7,8 +7,8 @@ use Rattle.plan_types.specs.declared.action.Action.TheVariants.{Forward, Reverse
 use Rattle.level_book.specs.BookCosts.{BookCosts, room}
 use Rattle.level_book.specs.UnderTable.{Tables}
 use Rattle.level_book.specs.DiskUnderTable.{DiskTables}
-use Rattle.hrevolve_gen.specs.Written.{Part, one, faster, split, actions, Reads, IsWritten}
-use Rattle.disk_gen.specs.DiskWritten.{HeldPart, finally, again, DiskPart, alone, parted, held_actions, disk_actions, fast_tables, ReadsHeld, ReadsDisk, IsDiskWritten}
+use Rattle.hrevolve_gen.specs.HRevolveList.{Part, one, faster, split, actions, Reads, IsWritten}
+use Rattle.disk_gen.specs.DiskRevolveList.{HeldPart, finally, again, DiskPart, alone, parted, held_actions, disk_actions, fast_tables, ReadsHeld, ReadsDisk, IsDiskWritten}
 
 -- how many actions a stretch of l steps has at most, whose first state is in work or held
 abbrev most : Bool → ℕ → ℕ

@@ -3,23 +3,23 @@ use Rattle.std.proofs.Common.{◌≡◌, ◌⊎◌, inl, inr, ℕ, zero, suc, �
 use Rattle.std.proofs.lemmas.Grind.{flat_map-append}
 use Rattle.std.proofs.lemmas.List.{take-map, take-append-drop}
 use Rattle.std.proofs.lemmas.List.Elements.{Contains-append_left, Contains-append_right}
-use Rattle.keepers.specs.Told.{Tells}
+use Rattle.keepers.specs.Claims.{Tells}
 use Rattle.plan_types.specs.declared.action.Action.{Action}
 use Rattle.level_book.specs.Valid.{Valid}
-use Rattle.schedule_rules.proofs.Judging.{take_one_more}
+use Rattle.schedule_rules.proofs.VerdictReasons.{take_one_more}
 use Rattle.input_journal.specs.Form.{IsRecorded}
 use Rattle.rv_machine.specs.MachineState.{IsMachineState}
-use Rattle.reverse_runner.specs.Handed.{handed_by, handed}
+use Rattle.reverse_runner.specs.StateOrder.{handed_by, handed}
 use Rattle.reverse_queries.specs.Collision.{CollidesOn}
 use Rattle.reversal.specs.Job.{Run, last_of, state_of, unit_state}
 use Rattle.reversal.specs.Output.{line_of, lines_down, Adds, AddsFrontOf}
 use Rattle.reversal.specs.Moment.{Moment}
 use Rattle.reversal.specs.Deeds.{Deed, States, deed_of, bytes_of, bytes_written}
-use Rattle.reversal.specs.Going.{AllLevels, SameLevels, Went}
+use Rattle.reversal.specs.RunTrace.{AllLevels, SameLevels, Went}
 use Rattle.reversal.specs.Course.{Shown, Stops, AddsAndPart}
 use Rattle.reversal.specs.CommandRun.{performing}
 use Rattle.reversal.proofs.Collision.{shown_or_collides}
-use Rattle.reversal.proofs.Performing.{bytes_performed}
+use Rattle.reversal.proofs.ListDeeds.{bytes_performed}
 
 -- these bytes begin with those
 abbrev IsFront : List ℕ → List ℕ → Type 0

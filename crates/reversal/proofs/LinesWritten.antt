@@ -1,17 +1,17 @@
 -- What a writer of lines wrote, when it got the states of an action.
 use Rattle.std.proofs.Common.{◌≡◌, ℕ, suc, ◌+◌, List, [], ◌∷◌, ◌++◌, length, take, Option, inl, inr, refl, sym, ap, subst, ◌∙◌, arith}
 use Rattle.keepers.specs.Counts.{raised}
-use Rattle.keepers.specs.Told.{Tells, AddsPrefix}
+use Rattle.keepers.specs.Claims.{Tells, AddsPrefix}
 use Rattle.rv_machine.specs.MachineState.{MachineState}
 use Rattle.state_image.specs.Line.{line}
 use Rattle.reverse_runner.specs.declared.line_writer.LineWriter.{LineWriter}
-use Rattle.reverse_runner.specs.Performed.{GetsAll, MissesOne}
-use Rattle.reverse_runner.proofs.Getting.{gets_keeps}
+use Rattle.reverse_runner.specs.VisitorCalls.{GetsAll, MissesOne}
+use Rattle.reverse_runner.proofs.VisitorGets.{gets_keeps}
 use Rattle.reversal.specs.Output.{Adds}
 use Rattle.reversal.specs.Deeds.{bytes_of}
 use Rattle.reversal.specs.Course.{AddsAndPart}
 use Rattle.reversal.specs.LinesWritten.{lines_for, Writes, BreaksLines}
-use Rattle.reversal.proofs.Doing.{tells_nothing, adds_then, part_then, part_first, raised_then, raised_none, get_front, take_front}
+use Rattle.reversal.proofs.DeedSequences.{tells_nothing, adds_then, part_then, part_first, raised_then, raised_none, get_front, take_front}
 
 -- the writer's relation for a state that it gets: it writes to the same sink, and in one call the line was added
 abbrev pub Got : {X : Type 0} → (X → Option (List ℕ)) → (X → ℕ) → LineWriter X → ℕ → MachineState → List (List ℕ) → LineWriter X → Type 0

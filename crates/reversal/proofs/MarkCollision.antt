@@ -7,8 +7,8 @@ use Rattle.reverse_console.specs.Answer.{IsAnswer}
 use Rattle.reverse_console.specs.Costs.{Effort, BreaksAt, IsSeenAt}
 use Rattle.reverse_console.specs.Marks.{MarkPlan}
 use Rattle.reverse_console.specs.ScriptAnswers.{place_after}
-use Rattle.reverse_console.specs.Seen.{Source}
-use Rattle.reverse_console.specs.Standing.{KeepsMarks}
+use Rattle.reverse_console.specs.StateSources.{Source}
+use Rattle.reverse_console.specs.MarksOfRun.{KeepsMarks}
 use Rattle.reverse_console.proofs.Collision.{answer_or_collides, text_or_collides}
 use Rattle.reversal.specs.Collision.{FoundCollides, AnsweredCollides, OrdersCollide}
 use Rattle.reversal.specs.CommandConsole.{IsAnswered, AreOfOrders, by_marks, of_run, WentAbout}

@@ -9,12 +9,12 @@ use Rattle.std.proofs.lemmas.Grind.{flat_map-append}
 use Rattle.std.proofs.lemmas.List.{length-drop, length-append, take_all, take-append-drop}
 use Rattle.plan_types.specs.declared.action.Action.{Action}
 use Rattle.keepers.specs.Counts.{raised}
-use Rattle.keepers.specs.Told.{Tells, AddsPrefix}
+use Rattle.keepers.specs.Claims.{Tells, AddsPrefix}
 use Rattle.rv_machine.specs.declared.status.Status.TheVariants.{Running}
 use Rattle.reverse_runner.specs.KeepersSeen.{Calls, Called}
 use Rattle.requests.specs.declared.ended.Ended.{Ended}
 use Rattle.requests.specs.Ending.{done, stopped}
-use Rattle.schedule_rules.proofs.Judging.{take_one_more}
+use Rattle.schedule_rules.proofs.VerdictReasons.{take_one_more}
 use Rattle.requests.proofs.Lists.{get_map, none_left}
 use Rattle.reversal.specs.Job.{write}
 use Rattle.reversal.specs.Output.{Adds}
@@ -24,7 +24,7 @@ use Rattle.reversal.specs.Course.{Shown, AddsAndPart, DidUntil}
 use Rattle.reversal.specs.Table.{accept}
 use Rattle.reversal.specs.Decision.{EndsBy}
 use Rattle.reversal.specs.Plans.{in_pieces}
-use Rattle.reversal.proofs.Doing.{tells_then, tells_nothing, raised_then, raised_none, did_one}
+use Rattle.reversal.proofs.DeedSequences.{tells_then, tells_nothing, raised_then, raised_none, did_one}
 
 -- a text shows no states
 abbrev pub nothing_shown : Shown

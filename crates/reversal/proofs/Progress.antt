@@ -7,34 +7,34 @@ use Rattle.std.proofs.lemmas.List.{take-map, take_all, length-map}
 use Rattle.plan_types.specs.declared.action.Dest.TheVariants.{Work, Level}
 use Rattle.plan_types.specs.declared.action.Action.{Action}
 use Rattle.plan_types.specs.declared.action.Action.TheVariants.{Forward, Reverse, Copy, Move, EndForward, EndReverse}
-use Rattle.image_store.specs.Standing.{IsToldAnd}
-use Rattle.reverse_runner.specs.Acts.{Holdings, Acts}
-use Rattle.reverse_queries.specs.Performing.{IsOut}
-use Rattle.reverse_runner.specs.HoldsJust.{HoldsJust}
-use Rattle.reverse_runner.specs.Left.{Spares, NotReached, MayLeave, HoldsBesides, HoldsAllBut}
-use Rattle.reverse_runner.specs.LevelsStand.{AreAlone}
-use Rattle.reverse_runner.proofs.HoldingJust.{holds_just}
-use Rattle.reverse_runner.proofs.LeftHolding.{holds_put_to, holds_released}
+use Rattle.image_store.specs.StoredImages.{IsToldAnd}
+use Rattle.reverse_runner.specs.ActionEffects.{Holdings, Acts}
+use Rattle.reverse_queries.specs.ListPerformance.{IsOut}
+use Rattle.reverse_runner.specs.KeeperContents.{HoldsJust}
+use Rattle.reverse_runner.specs.RefusalResidue.{Spares, NotReached, MayLeave, HoldsBesides, HoldsAllBut}
+use Rattle.reverse_runner.specs.HoldingsOfRun.{AreAlone}
+use Rattle.reverse_runner.proofs.ExactContents.{holds_just}
+use Rattle.reverse_runner.proofs.ResidueContents.{holds_put_to, holds_released}
 use Rattle.level_book.specs.declared.book.Slots.{Slots}
 use Rattle.level_book.specs.Configuration.{Configuration, start, held_on}
 use Rattle.level_book.specs.Moves.{Goes}
 use Rattle.level_book.specs.Rules.{levels_named}
 use Rattle.level_book.specs.Valid.{Leads, Valid}
 use Rattle.level_book.specs.CostFold.{steps_of}
-use Rattle.keepers.specs.Told.{Images, Tells}
-use Rattle.schedule_rules.proofs.Judging.{take_one_more, kept_on_the_way}
-use Rattle.schedule_rules.proofs.Reaching.{sound_on, sound_start, leads_unique}
+use Rattle.keepers.specs.Claims.{Images, Tells}
+use Rattle.schedule_rules.proofs.VerdictReasons.{take_one_more, kept_on_the_way}
+use Rattle.schedule_rules.proofs.Reachability.{sound_on, sound_start, leads_unique}
 use Rattle.rv_machine.specs.MachineState.{MachineState}
 use Rattle.rv_machine.specs.States.{state_number}
-use Rattle.reverse_runner.specs.Performed.{states_out, GetsAll, calls_keepers}
+use Rattle.reverse_runner.specs.VisitorCalls.{states_out, GetsAll, calls_keepers}
 use Rattle.reverse_runner.specs.Units.{unit_states}
 use Rattle.reverse_runner.specs.KeepersSeen.{Calls, Called, CalledAtMost, calls_of}
-use Rattle.reverse_runner.specs.Handed.{handed_by, handed}
+use Rattle.reverse_runner.specs.StateOrder.{handed_by, handed}
 use Rattle.reverse_runner.specs.SessionState.{SessionState, levels_of, holdings_of}
-use Rattle.reverse_runner.specs.Standing.{StandsAt, IsDamage, pair_read, begun, Performs}
-use Rattle.reverse_runner.proofs.StandingAfter.{TapeIs}
+use Rattle.reverse_runner.specs.SessionOfRun.{StandsAt, IsDamage, pair_read, begun, Performs}
+use Rattle.reverse_runner.proofs.StatesInvariant.{TapeIs}
 use Rattle.requests.proofs.Lists.{get_map}
-use Rattle.schedule_rules.proofs.Lawful.{rules_moves}
+use Rattle.schedule_rules.proofs.RuleLaws.{rules_moves}
 use Rattle.reverse_runner.specs.declared.fault.RunFault.TheVariants.{Keeper, Damaged, Memory, Visitor, Ended}
 use Rattle.keepers.specs.Counts.{Rose, raised}
 use Rattle.reverse_runner.specs.declared.fault.RunFault.{RunFault}
@@ -43,19 +43,19 @@ use Rattle.reversal.specs.Job.{Run, perform}
 use Rattle.reversal.specs.Output.{line_of, Adds}
 use Rattle.reversal.specs.Moment.{Moment, NothingFails, SinkFails, KeeperFails, AllTell, AllEmpty}
 use Rattle.reversal.specs.Deeds.{Deed, States, deed_of, bytes_of, Did}
-use Rattle.reversal.specs.Going.{AreOfRun, held_at_start, GoesOver, ComesToDamage, LeadTo, SameLevels, AllLevels, SparesNext, UnreachedNext, Went}
+use Rattle.reversal.specs.RunTrace.{AreOfRun, held_at_start, GoesOver, ComesToDamage, LeadTo, SameLevels, AllLevels, SparesNext, UnreachedNext, Went}
 use Rattle.reversal.specs.Course.{AddsAndPart, DidUntil, BreaksOff}
 use Rattle.reversal.specs.LinesWritten.{lines_for, Writes, BreaksLines}
 use Rattle.reversal.specs.Table.{accept}
 use Rattle.reversal.specs.CommandRun.{performing}
 use Rattle.reversal.specs.Decision.{EndsBy}
-use Rattle.reversal.specs.JobReading.{Works, fault_ending}
-use Rattle.reversal.proofs.OnTheWay.{led_on}
-use Rattle.reversal.proofs.Doing.{did_none, did_one_more, is_until, broke_off, failed_at, damaged_at, halted_at}
+use Rattle.reversal.specs.JobModel.{Works, fault_ending}
+use Rattle.reversal.proofs.AllowedActions.{led_on}
+use Rattle.reversal.proofs.DeedSequences.{did_none, did_one_more, is_until, broke_off, failed_at, damaged_at, halted_at}
 use Rattle.reversal.proofs.LinesWritten.{breaks_longer}
-use Rattle.reversal.proofs.Through.{through_none, has_length, through_more, through_still}
-use Rattle.reversal.proofs.Performing.{lines_first, IsAt, did_action, broken_calls_none, bytes_performed, steps_performed, none_named, names_levels, calls_named, calls_one, gets_pair}
-use Rattle.reversal.proofs.Showing.{shown_by, showing, Shows, it_shows, IsAbove, above_after, same_before, shows_of_run, handed_more, above_at_start}
+use Rattle.reversal.proofs.TraceSteps.{through_none, has_length, through_more, through_still}
+use Rattle.reversal.proofs.ListDeeds.{lines_first, IsAt, did_action, broken_calls_none, bytes_performed, steps_performed, none_named, names_levels, calls_named, calls_one, gets_pair}
+use Rattle.reversal.proofs.ShownStates.{shown_by, showing, Shows, it_shows, IsAbove, above_after, same_before, shows_of_run, handed_more, above_at_start}
 
 -- the deeds before an action, with the states that it shows
 before_it : (shown : States) (unit steps : ℕ) (slots : List Slots) (list : List Action) (i : ℕ) (c : Configuration) (a : Action) (d : Configuration) (work : MachineState) (tape : List MachineState) (x y : Moment) →

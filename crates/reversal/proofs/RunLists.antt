@@ -8,14 +8,14 @@ use Rattle.level_book.specs.Valid.{Valid}
 use Rattle.level_book.proofs.OneBook.{text_names}
 use Rattle.action_text.specs.ScheduleText.{IsSchedule}
 use Rattle.action_text.specs.Canonical.{text_of}
-use Rattle.action_text.proofs.Spelled.{canonical_read}
+use Rattle.action_text.proofs.CanonicalRoundTrip.{canonical_read}
 use Rattle.binomials.specs.Advances.{least_advances}
 use Rattle.rv_machine.specs.MachineState.{MachineState}
-use Rattle.revolve_gen.specs.Written.{revolve_list}
+use Rattle.revolve_gen.specs.RevolveList.{revolve_list}
 use Rattle.revolve_gen.proofs.Books.{book_right}
-use Rattle.disk_gen.specs.Periodic.{periodic_list}
+use Rattle.disk_gen.specs.PeriodicList.{periodic_list}
 use Rattle.disk_gen.specs.Plans.{HasPeriodicPlan}
-use Rattle.disk_gen.proofs.Leading.{periodic_valid}
+use Rattle.disk_gen.proofs.PeriodicValidity.{periodic_valid}
 use Rattle.disk_gen.proofs.Lengths.{periodic_counted}
 use Rattle.requests.specs.Request.{Choice, says_raw, stack_pages, unit_count}
 use Rattle.requests.specs.Ending.{bad_book, bad_program, bad_journal}
@@ -23,14 +23,14 @@ use Rattle.reversal.specs.Job.{Job, perform, write}
 use Rattle.reversal.specs.Course.{Shown}
 use Rattle.reversal.specs.Deeds.{bytes_of}
 use Rattle.reversal.specs.Table.{accept}
-use Rattle.reversal.specs.Fronts.{IsStartOf, AreItemsOf, DecidesOver, in_units}
+use Rattle.reversal.specs.InputMeaning.{IsStartOf, AreItemsOf, DecidesOver, in_units}
 use Rattle.reversal.specs.CommandPlan.{DecidesPlanPeriodic}
 use Rattle.reversal.specs.Plans.{list_pieces}
-use Rattle.reversal.proofs.Deciding.{read_said, need_met, job_or}
-use Rattle.reversal.proofs.Keeping.{keep_met}
-use Rattle.reversal.proofs.Planned.{as_many, plan_valid, plan_certified, revolve_least}
-use Rattle.reversal.proofs.ReadAgain.{list_text_is}
-use Rattle.reversal.proofs.Spelled.{valid_spelled}
+use Rattle.reversal.proofs.DecisionLaws.{read_said, need_met, job_or}
+use Rattle.reversal.proofs.KeeperCheck.{keep_met}
+use Rattle.reversal.proofs.RevolvePlan.{as_many, plan_valid, plan_certified, revolve_least}
+use Rattle.reversal.proofs.PlanRoundTrip.{list_text_is}
+use Rattle.reversal.proofs.ActionSpelling.{valid_spelled}
 use Rattle.reversal.specs.Decision.{course_of}
 
 -- what a run by Revolve comes to

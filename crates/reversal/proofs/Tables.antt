@@ -6,7 +6,7 @@ use Rattle.level_book.specs.declared.book.Slots.{Slots}
 use Rattle.level_book.specs.BookCosts.{BookCosts, room}
 use Rattle.level_book.specs.Valid.{Valid}
 use Rattle.rv_machine.specs.MachineState.{MachineState}
-use Rattle.schedule_rules.proofs.Lawful.{one_break}
+use Rattle.schedule_rules.proofs.RuleLaws.{one_break}
 use Rattle.requests.specs.declared.ended.Ended.{Ended}
 use Rattle.requests.specs.declared.question.Question.{Question}
 use Rattle.requests.specs.Operands.{question_bound}
@@ -14,11 +14,11 @@ use Rattle.requests.specs.Bounds.{IsWithin}
 use Rattle.requests.specs.Ending.{invalid, out_of_range}
 use Rattle.reverse_console.specs.declared.order.Order.{Order}
 use Rattle.reverse_console.specs.Marks.{MarkPlan}
-use Rattle.reversal.specs.Job.{Run, last_of, Job, perform, ask as ask_job, seek, write, move_about, demonstrate}
+use Rattle.reversal.specs.Job.{Run, last_of, Job, perform, ask as ask_job, seek, write, console, demonstrate}
 use Rattle.reversal.specs.Table.{Decision, refuse, accept, Judge, IsFirstWide, Tabulate, Table, needs, reads, judges, keeps, tabulates, weighs, grants, ends, Decided}
-use Rattle.reversal.proofs.Refused.{IsRefusing, refusing_at, IsOne, Excludes}
-use Rattle.reversal.proofs.Keeping.{keep_one, keep_comes_to}
-use Rattle.reversal.proofs.Weighing.{weigh_one, weigh_comes_to}
+use Rattle.reversal.proofs.Refusals.{IsRefusing, refusing_at, IsOne, Excludes}
+use Rattle.reversal.proofs.KeeperCheck.{keep_one, keep_comes_to}
+use Rattle.reversal.proofs.CertificateCheck.{weigh_one, weigh_comes_to}
 
 -- ---- what may be accepted
 
@@ -28,7 +28,7 @@ pub data IsMet (job : Job) : Type 0 where
   performs : (run : Run) → Valid run.steps run.slots run.list → job ≡ perform run → IsMet job
   seeks : (first : MachineState) (journal : List (List ℕ)) (steps workers : ℕ) (digest : List ℕ) → job ≡ seek first journal steps workers digest → IsMet job
   writes : (texts : List (List ℕ)) → job ≡ write texts → IsMet job
-  moves : (first : MachineState) (journal : List (List ℕ)) (p : MarkPlan) (orders : List Order) → job ≡ move_about first journal p orders → IsMet job
+  moves : (first : MachineState) (journal : List (List ℕ)) (p : MarkPlan) (orders : List Order) → job ≡ console first journal p orders → IsMet job
   shows : (number : ℕ) (first : MachineState) (steps slots : ℕ) → job ≡ demonstrate number first steps slots → IsMet job
 
 -- a refusal with a status of its own, or a job that may be accepted

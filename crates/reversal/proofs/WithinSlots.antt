@@ -7,19 +7,19 @@ use Rattle.plan_types.specs.declared.action.Action.{Action}
 use Rattle.level_book.specs.declared.book.Slots.{Slots}
 use Rattle.level_book.specs.Configuration.{Configuration, start}
 use Rattle.level_book.specs.Valid.{Leads}
-use Rattle.schedule_rules.specs.Reached.{IsSound}
-use Rattle.schedule_rules.proofs.Reaching.{sound_on, sound_start}
+use Rattle.schedule_rules.specs.Reachability.{IsSound}
+use Rattle.schedule_rules.proofs.Reachability.{sound_on, sound_start}
 use Rattle.input_journal.specs.Form.{IsRecorded}
-use Rattle.keepers.specs.Told.{Images}
+use Rattle.keepers.specs.Claims.{Images}
 use Rattle.rv_machine.specs.MachineState.{MachineState, IsMachineState}
-use Rattle.reverse_runner.specs.Acts.{Holdings, Acts}
-use Rattle.reverse_runner.specs.LevelsStand.{HoldingsStandAt, AreAlone, IsLaidOut}
-use Rattle.reverse_runner.proofs.HoldingsAfter.{laid_out_after, alone_after, stand_after}
-use Rattle.reverse_runner.proofs.HoldingJust.{holds_just}
+use Rattle.reverse_runner.specs.ActionEffects.{Holdings, Acts}
+use Rattle.reverse_runner.specs.HoldingsOfRun.{HoldingsStandAt, AreAlone, IsLaidOut}
+use Rattle.reverse_runner.proofs.HoldingsInvariant.{laid_out_after, alone_after, stand_after}
+use Rattle.reverse_runner.proofs.ExactContents.{holds_just}
 use Rattle.reverse_runner.proofs.RoomLeft.{begun_is_laid_out, begun_stands, begun_is_alone}
-use Rattle.reversal.specs.Beginning.{IsGoneOver}
+use Rattle.reversal.specs.RunStart.{IsGoneOver}
 use Rattle.reversal.specs.Deeds.{States}
-use Rattle.reversal.specs.Going.{GoesOver, IsWithinSlots, held_at_start}
+use Rattle.reversal.specs.RunTrace.{GoesOver, IsWithinSlots, held_at_start}
 use Rattle.reversal.specs.Job.{Run}
 use Rattle.reversal.specs.Moment.{Moment, AllEmpty}
 

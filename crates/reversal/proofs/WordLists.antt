@@ -8,13 +8,13 @@ use Rattle.std.proofs.lemmas.Bool.{cases_lt}
 use Rattle.std.proofs.lemmas.List.{take_all, drop_all, take-map, length-map}
 use Rattle.std.proofs.lemmas.Nat.{le_bytes_4, from_le_bytes-to_le_bytes_4}
 use Rattle.rv_asm.specs.Table.{wants}
-use Rattle.rv_asm.specs.Packing.{takes}
-use Rattle.rv_asm.specs.Coding.{entries}
+use Rattle.rv_asm.specs.PackedWords.{takes}
+use Rattle.rv_asm.specs.Encoder.{entries}
 use Rattle.rv_asm.specs.Canonical.{unpacked, operands_text, IsCanonical}
 use Rattle.line_texts.specs.Numbers.{hex_word}
 use Rattle.rv_asm.specs.Laws.{AreCanonical}
 use Rattle.rv_asm.proofs.CanonicalLines.{canonical_row, canonical_word, one_line}
-use Rattle.reversal.specs.CommandAssemble.{word_bytes, listing}
+use Rattle.reversal.specs.CommandAsm.{word_bytes, listing}
 use Rattle.reversal.specs.Contents.{AreBytes}
 use Rattle.reversal.specs.Plans.{in_pieces}
 use Rattle.reversal.specs.Listing.{made_or, word_line, ended_line, word_pieces, IsWord}

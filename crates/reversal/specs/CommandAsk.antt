@@ -3,13 +3,13 @@ use Rattle.std.specs.Prelude.{◌≡◌, ℕ, ◌++◌, List, [], ◌∷◌, len
 use Rattle.requests.specs.declared.question.Question.{Question}
 use Rattle.level_book.specs.CostFold.{forward}
 use Rattle.reverse_queries.specs.Queries.{WritesIn, ChangesIn, IsLast, front_to, up_to}
-use Rattle.reverse_queries.specs.Performing.{IsOut}
+use Rattle.reverse_queries.specs.ListPerformance.{IsOut}
 use Rattle.requests.specs.declared.question.Question.TheVariants.{State, LastWrite, LastChange}
 use Rattle.reversal.specs.Job.{Run, last_of, state_of}
 use Rattle.reversal.specs.Output.{line_of}
 use Rattle.reversal.specs.Moment.{Moment, AllTell}
 use Rattle.reversal.specs.Deeds.{States, deed_for, unseen_deed, writing, CallsSome}
-use Rattle.reversal.specs.Going.{AreOfRun, IsFound, ComesTo, ComesToDamage}
+use Rattle.reversal.specs.RunTrace.{AreOfRun, IsFound, ComesTo, ComesToDamage}
 use Rattle.reversal.specs.Course.{Course}
 
 -- A question is about a run by a schedule's text. It uses the table of all that is done over such a run.

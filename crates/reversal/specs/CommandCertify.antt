@@ -4,11 +4,11 @@ use Rattle.bound_cert.specs.declared.verdict.Class.{Class}
 use Rattle.bound_cert.specs.declared.verdict.Class.TheVariants as class
 use Rattle.cert_text.specs.Meaning.{IsCertificateText}
 use Rattle.cert_text.specs.Faults.{HasFirstFault as CertificateFirst}
-use Rattle.bound_cert.specs.Accepted.{class_of}
+use Rattle.bound_cert.specs.Acceptance.{class_of}
 use Rattle.requests.specs.Ending.{bad_certificate}
 use Rattle.reversal.specs.Job.{write}
 use Rattle.reversal.specs.Table.{Decision, Table, does, Decided, reads, weighs}
-use Rattle.reversal.specs.Fronts.{over_valid}
+use Rattle.reversal.specs.InputMeaning.{over_valid}
 
 -- the text for a list that is the least of its class
 abbrev pub least_line : Class → List ℕ

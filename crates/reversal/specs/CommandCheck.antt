@@ -2,7 +2,7 @@
 use Rattle.std.specs.Prelude.{ℕ, ◌++◌, List, [], ◌∷◌, length, codes, decimal}
 use Rattle.reversal.specs.Job.{write}
 use Rattle.reversal.specs.Table.{Decision, Table, does, Decided}
-use Rattle.reversal.specs.Fronts.{over_valid}
+use Rattle.reversal.specs.InputMeaning.{over_valid}
 
 -- the judgement of a schedule
 abbrev pub check_table : ℕ → List ℕ → List ℕ → Table

@@ -1,6 +1,6 @@
 -- `console`: the orders of a script move about in a run, using images that are kept at its marks.
 use Rattle.std.specs.Prelude.{◌≡◌, ◌⊎◌, ℕ, ◌+◌, ◌-◌, ◌*◌, ◌/◌, ◌<◌, ◌≤◌, max, List, [], ◌∷◌, length, Option, Some, IsSome}
-use Rattle.keepers.specs.Told.{Images, Tells}
+use Rattle.keepers.specs.Claims.{Images, Tells}
 use Rattle.level_book.specs.BookCosts.{BookCosts, slots_of, total_room}
 use Rattle.rv_machine.specs.MachineState.{MachineState}
 use Rattle.reverse_runner.specs.KeepersSeen.{Called}
@@ -11,17 +11,17 @@ use Rattle.reverse_console.specs.Marks.{MarkPlan, marked, mark_count}
 use Rattle.reverse_console.specs.Script.{IsScript}
 use Rattle.reverse_console.specs.ScriptAnswers.{place_after, IsTextOf, answer_text, AreAnswers, script_text}
 use Rattle.reverse_console.specs.ScriptFaults.{HasFirstFault}
-use Rattle.reverse_console.specs.Seen.{Source, IsAnswerSeen, IsMarkDamaged}
-use Rattle.reverse_console.specs.Standing.{MarksTell, KeepsMarks}
+use Rattle.reverse_console.specs.StateSources.{Source, IsAnswerSeen, IsMarkDamaged}
+use Rattle.reverse_console.specs.MarksOfRun.{MarksTell, KeepsMarks}
 use Rattle.requests.specs.Request.{Choice}
 use Rattle.requests.specs.Ending.{no_plan, bad_script}
-use Rattle.reversal.specs.Job.{move_about}
+use Rattle.reversal.specs.Job.{console}
 use Rattle.reversal.specs.Moment.{Moment}
 use Rattle.reversal.specs.Output.{Adds}
 use Rattle.reversal.specs.Deeds.{Deed, writing, bytes_written, steps_made, calls_made, CallsSome}
 use Rattle.reversal.specs.Course.{Course}
 use Rattle.reversal.specs.Table.{Decision, Table, Decided, needs, reads, keeps, does}
-use Rattle.reversal.specs.Fronts.{over_book, over_program}
+use Rattle.reversal.specs.InputMeaning.{over_book, over_program}
 
 -- State 0 is a mark even without steps, so the keepers need room for one. Some level has a slot.
 abbrev pub console_table : List Choice → (steps : ℕ) → (program : List ℕ) → (journal : Option (List ℕ)) → (book script counts : List ℕ) → Table
@@ -31,7 +31,7 @@ console_table options steps program journal book script counts =
     needs (1 ≤ total_room b (max steps 1)) (no_plan steps (total_room b steps) 1) (
     over_program options program journal (λ start items.
     reads (IsScript steps script) (HasFirstFault steps script) bad_script (λ orders.
-    does (move_about start items (record { slots = slots_of b; count = steps }) orders))))))
+    does (console start items (record { slots = slots_of b; count = steps }) orders))))))
 
 abbrev pub DecidesConsole : List Choice → ℕ → List ℕ → Option (List ℕ) → List ℕ → List ℕ → List ℕ → Decision → Type 0
 DecidesConsole options steps program journal book script counts d = Decided (console_table options steps program journal book script counts) d
@@ -128,8 +128,8 @@ pub record IsDamagedMark (first : MachineState) (items : List (List ℕ)) (p : M
 
 -- First the marks are set, up to one that isn't put. Then each order is two deeds. At an ending the place is the number
 -- of the order, and 0 for the marks.
-abbrev pub moving_about : MachineState → List (List ℕ) → MarkPlan → List Order → Course
-moving_about first journal p orders = record {
+abbrev pub console_course : MachineState → List (List ℕ) → MarkPlan → List Order → Course
+console_course first journal p orders = record {
   levels = length p.slots;
   deeds = λ shown. setting_marks p ∷ shown.orders;
   output = λ shown. bytes_written shown.orders;

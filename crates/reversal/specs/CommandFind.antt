@@ -1,14 +1,14 @@
 -- `ask find`: the last state of a run with a digest, found by workers.
 use Rattle.std.specs.Prelude.{ℕ, List, [], ◌∷◌, Option}
 use Rattle.rv_machine.specs.MachineState.{MachineState}
-use Rattle.segment_sweep.specs.Found.{Quest, Found}
+use Rattle.segment_sweep.specs.LastMatch.{Quest, Found}
 use Rattle.segment_sweep.specs.MarkedRun.{last_start}
 use Rattle.requests.specs.Request.{Choice, worker_count}
 use Rattle.reversal.specs.Job.{seek}
 use Rattle.reversal.specs.Deeds.{Deed, no_calls, writing}
 use Rattle.reversal.specs.Course.{Course}
 use Rattle.reversal.specs.Table.{Table, does}
-use Rattle.reversal.specs.Fronts.{over_program}
+use Rattle.reversal.specs.InputMeaning.{over_program}
 use Rattle.reversal.specs.CommandAsk.{answer_text}
 
 -- the table needs no book, no schedule and no keeper

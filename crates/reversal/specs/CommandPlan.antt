@@ -7,22 +7,22 @@ use Rattle.level_book.specs.UnderTable.{IsGreatest}
 use Rattle.level_book.specs.DiskUnderTable.{IsGreatestDisk}
 use Rattle.cost_tables.specs.TableRows.{TableRows, tables_in}
 use Rattle.disk_gen.specs.DiskRows.{DiskRows, disk_tables_in}
-use Rattle.disk_gen.specs.DiskWritten.{IsDiskWritten}
+use Rattle.disk_gen.specs.DiskRevolveList.{IsDiskWritten}
 use Rattle.cert_text.specs.declared.certificate.Certificate.TheVariants as certified
 use Rattle.cert_text.specs.Canonical as certificate_text
 use Rattle.bound_cert.specs.Thresholds.{IsThresholdOf}
 use Rattle.requests.specs.Ending.{out_of_range, no_plan}
-use Rattle.multistage_gen.specs.Planned.{IsMultistageList}
+use Rattle.multistage_gen.specs.MultistageList.{IsMultistageList}
 use Rattle.hrevolve_gen.specs.Plans as nested
-use Rattle.hrevolve_gen.specs.Written.{IsWritten}
-use Rattle.disk_gen.specs.Periodic.{images, periodic_list}
+use Rattle.hrevolve_gen.specs.HRevolveList.{IsWritten}
+use Rattle.disk_gen.specs.PeriodicList.{images, periodic_list}
 use Rattle.disk_gen.specs.Plans.{slots_at, HasSlots}
 use Rattle.requests.specs.declared.kind.PlanKind.{PlanKind}
 use Rattle.requests.specs.declared.kind.PlanKind.TheVariants.{Revolve, Multistage, Disk, Hrevolve}
 use Rattle.reversal.specs.Job.{write}
 use Rattle.reversal.specs.Table.{Decision, Table, does, plans, Decided, accept, needs, tabulates, ends}
 use Rattle.reversal.specs.Plans.{list_pieces, plan_pieces, AreTablesFor, AreDiskTablesFor}
-use Rattle.reversal.specs.Fronts.{over_book}
+use Rattle.reversal.specs.InputMeaning.{over_book}
 
 -- the text of that list and of its certificate for a book alone
 abbrev pub plan_revolve_table : ℕ → List ℕ → Table

@@ -4,7 +4,7 @@ use Rattle.level_book.specs.CostFold.{forward}
 use Rattle.reversal.specs.Job.{Run, last_of}
 use Rattle.reversal.specs.Output.{lines_down}
 use Rattle.reversal.specs.Deeds.{deed_of, CallsSome}
-use Rattle.reversal.specs.Going.{AreOfRun, ComesToDamage, Went}
+use Rattle.reversal.specs.RunTrace.{AreOfRun, ComesToDamage, Went}
 use Rattle.reversal.specs.Course.{Course}
 
 -- A run uses the table of all that is done over one by a list. Only a run may have its schedule made.

@@ -2,14 +2,14 @@
 -- out of memory.
 use Rattle.std.specs.Prelude.{◌≡◌, ◌⊎◌, ℕ, ◌+◌, ◌<◌, ◌≤◌, ◌++◌, List, length, take, slice_get, Option, Some}
 use Rattle.keepers.specs.Counts.{raised}
-use Rattle.keepers.specs.Told.{Tells, AddsPrefix}
+use Rattle.keepers.specs.Claims.{Tells, AddsPrefix}
 use Rattle.reverse_runner.specs.KeepersSeen.{Called, CalledBetween}
 use Rattle.requests.specs.declared.ended.Ended.{Ended}
 use Rattle.requests.specs.Ending.{done, stopped, keeper_failed, damaged}
 use Rattle.reversal.specs.Output.{Adds}
 use Rattle.reversal.specs.Moment.{Moment, NothingFails, SinkFails, KeeperFails, AllTell}
 use Rattle.reversal.specs.Deeds.{Deed, States, bytes_of, bytes_written, writes_made, steps_made, calls_made, Did, CallsLevel}
-use Rattle.reversal.specs.Going.{SameLevels, AllLevels, SparesNext, UnreachedNext}
+use Rattle.reversal.specs.RunTrace.{SameLevels, AllLevels, SparesNext, UnreachedNext}
 
 -- What a job shows: states by their numbers, the step that a question asks for, and what a console's orders did.
 pub record Shown : Type 0 where

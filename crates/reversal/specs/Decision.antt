@@ -2,28 +2,28 @@
 -- decision. A command is a row of `table_of`, and a job one of `course_of`. A table reads like the order of refusals.
 -- The first line that isn't met decides, and the last line is the job.
 use Rattle.std.specs.Prelude.{◌≡◌, ◌⊎◌, ℕ, ◌+◌, ◌*◌, ◌≤◌, ◌++◌, slice_get, List, [], ◌∷◌, length, map, take, Option, None, Some}
-use Rattle.keepers.specs.Told.{Files, Location, WhereTold}
+use Rattle.keepers.specs.Claims.{Files, Location, WhereTold}
 use Rattle.reverse_runner.specs.Rooms.{image_room, AreRoomy}
 use Rattle.requests.specs.declared.ended.Ended.{Ended}
-use Rattle.requests.specs.Request.{Choice, unit_count, plan, plan_periodic, certify, price, find, assemble, disassemble, move_about as move_about_command, demo, Command, run, check, Request, ask as ask_command}
+use Rattle.requests.specs.Request.{Choice, unit_count, plan, plan_periodic, certify, cost, find, asm, disasm, console as console_command, demo, Command, run, check, Request, ask as ask_command}
 use Rattle.requests.specs.Ending.{unreadable, too_long}
 use Rattle.requests.specs.Operands.{by_name, question_bound}
 use Rattle.requests.specs.Bounds.{IsWithin}
 use Rattle.requests.specs.Inputs.{Input, inputs_of, names, contents, asked_count}
-use Rattle.reversal.specs.Job.{ask, Job, perform, seek, write, move_about, demonstrate}
+use Rattle.reversal.specs.Job.{ask, Job, perform, seek, write, console, demonstrate}
 use Rattle.reversal.specs.Moment.{Moment}
 use Rattle.reversal.specs.Course.{Course, EndsShowing}
 use Rattle.reversal.specs.Table.{Decision, Need, Table, Decided, refuse, accept, grants}
-use Rattle.reversal.specs.Fronts.{no_table, over_bytes}
+use Rattle.reversal.specs.InputMeaning.{no_table, over_bytes}
 use Rattle.reversal.specs.Texts.{texts_course}
 use Rattle.reversal.specs.CommandRun.{performing}
 use Rattle.reversal.specs.CommandAsk.{asking}
 use Rattle.reversal.specs.CommandPlan.{plan_table, plan_periodic_table}
 use Rattle.reversal.specs.CommandCheck.{check_table}
-use Rattle.reversal.specs.CommandCost.{price_table}
+use Rattle.reversal.specs.CommandCost.{cost_table}
 use Rattle.reversal.specs.CommandCertify.{certify_table}
-use Rattle.reversal.specs.CommandAssemble.{assemble_table, disassemble_table}
-use Rattle.reversal.specs.CommandConsole.{console_table, moving_about}
+use Rattle.reversal.specs.CommandAsm.{asm_table, disasm_table}
+use Rattle.reversal.specs.CommandConsole.{console_table, console_course}
 use Rattle.reversal.specs.CommandDemo.{demo_table, demonstrating}
 use Rattle.reversal.specs.CommandFind.{find_table, searching}
 
@@ -47,21 +47,21 @@ table_of options (check c) (book ∷ schedule ∷ []) slots = check_table c.step
 table_of options (check c) _ slots = no_table
 table_of options (certify c) (book ∷ schedule ∷ certificate ∷ []) slots = certify_table c.steps book schedule certificate
 table_of options (certify c) _ slots = no_table
-table_of options (price c) (book ∷ schedule ∷ []) slots = price_table c.steps book schedule
-table_of options (price c) _ slots = no_table
+table_of options (cost c) (book ∷ schedule ∷ []) slots = cost_table c.steps book schedule
+table_of options (cost c) _ slots = no_table
 table_of options (ask_command c) bytes slots =
     grants (IsWithin (question_bound (unit_count options * c.run.steps) c.question))
     (over_bytes (ask c.question) options (by_name c.schedule) c.run.steps bytes slots)
 table_of options (find c) (program ∷ []) slots = find_table options c.steps c.digest program None
 table_of options (find c) (program ∷ journal ∷ []) slots = find_table options c.steps c.digest program (Some journal)
 table_of options (find c) _ slots = no_table
-table_of options (assemble c) (source ∷ []) slots = assemble_table source
-table_of options (assemble c) _ slots = no_table
-table_of options (disassemble c) (program ∷ []) slots = disassemble_table program
-table_of options (disassemble c) _ slots = no_table
-table_of options (move_about_command c) (program ∷ book ∷ script ∷ []) slots = console_table options c.steps program None book script slots
-table_of options (move_about_command c) (program ∷ journal ∷ book ∷ script ∷ []) slots = console_table options c.steps program (Some journal) book script slots
-table_of options (move_about_command c) _ slots = no_table
+table_of options (asm c) (source ∷ []) slots = asm_table source
+table_of options (asm c) _ slots = no_table
+table_of options (disasm c) (program ∷ []) slots = disasm_table program
+table_of options (disasm c) _ slots = no_table
+table_of options (console_command c) (program ∷ book ∷ script ∷ []) slots = console_table options c.steps program None book script slots
+table_of options (console_command c) (program ∷ journal ∷ book ∷ script ∷ []) slots = console_table options c.steps program (Some journal) book script slots
+table_of options (console_command c) _ slots = no_table
 table_of options (demo c) [] slots = demo_table c.number c.steps c.slots
 table_of options (demo c) _ slots = no_table
 
@@ -89,7 +89,7 @@ course_of (perform over) = performing over
 course_of (ask question over) = asking question over
 course_of (seek first journal steps workers digest) = searching first journal steps workers digest
 course_of (write texts) = texts_course texts
-course_of (move_about first journal p orders) = moving_about first journal p orders
+course_of (console first journal p orders) = console_course first journal p orders
 course_of (demonstrate number first steps slots) = demonstrating number first steps slots
 
 -- how a call ends by a decision: with the refusal's ending, or with that of a job and what it shows
@@ -112,7 +112,7 @@ KeepsOthers slots place (accept job) old new = StayInPlace slots place old new �
 abbrev pub HaveRoomsFor : Job → (ℕ → Option ℕ) → Type 0
 HaveRoomsFor (perform over) rooms = AreRoomy (image_room over.first) (length over.slots) rooms
 HaveRoomsFor (ask question over) rooms = AreRoomy (image_room over.first) (length over.slots) rooms
-HaveRoomsFor (move_about first journal p orders) rooms = AreRoomy (image_room first) (length p.slots) rooms
+HaveRoomsFor (console first journal p orders) rooms = AreRoomy (image_room first) (length p.slots) rooms
 HaveRoomsFor job rooms = ⊥
 
 -- the statuses of a call that may have had a job; at any other it was refused

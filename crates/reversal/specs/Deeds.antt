@@ -4,9 +4,9 @@ use Rattle.std.specs.List.{flat_map}
 use Rattle.plan_types.specs.declared.action.Action.{Action}
 use Rattle.level_book.specs.CostFold.{steps_of}
 use Rattle.keepers.specs.Counts.{raised}
-use Rattle.keepers.specs.Told.{Tells}
+use Rattle.keepers.specs.Claims.{Tells}
 use Rattle.rv_machine.specs.MachineState.{MachineState}
-use Rattle.reverse_runner.specs.Handed.{handed_by}
+use Rattle.reverse_runner.specs.StateOrder.{handed_by}
 use Rattle.reverse_runner.specs.KeepersSeen.{Calls, calls_of, Called}
 use Rattle.reverse_queries.specs.Queries.{hands_out}
 use Rattle.reversal.specs.Output.{line_of, Adds}

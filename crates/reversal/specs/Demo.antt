@@ -10,7 +10,7 @@ use Rattle.rv_decode.specs.Words.{word_of}
 use Rattle.plan_types.specs.declared.action.Action.{Action}
 use Rattle.level_book.specs.BookCosts.{plain}
 use Rattle.level_book.specs.CostFold.{forward}
-use Rattle.revolve_gen.specs.Written.{revolve_list}
+use Rattle.revolve_gen.specs.RevolveList.{revolve_list}
 use Rattle.rv_machine.specs.MachineState.{MachineState}
 use Rattle.rv_machine.specs.States.{state_number}
 use Rattle.reversal.specs.Output.{lines_down}

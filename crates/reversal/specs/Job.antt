@@ -42,7 +42,7 @@ pub data Job : Type 0 where
   -- texts, each in one write
   write : List (List ℕ) → Job
   -- orders of a script that move about in a run from a state, with images kept at its marks
-  move_about : MachineState → List (List ℕ) → MarkPlan → List Order → Job
+  console : MachineState → List (List ℕ) → MarkPlan → List Order → Job
   -- Revolve's list over the run from a state made from a number, for so many steps and slots. It has images in memory
   -- of its own, and writes no line, but a summary.
   demonstrate : (number : ℕ) → MachineState → (steps slots : ℕ) → Job

@@ -1,7 +1,7 @@
 -- No public clause cites this file. How lines are written, each in one call.
 use Rattle.std.specs.Prelude.{◌≡◌, ℕ, ◌+◌, List, [], ◌∷◌, ◌++◌, length, take, slice_get, Option, Some}
 use Rattle.keepers.specs.Counts.{raised}
-use Rattle.keepers.specs.Told.{Tells}
+use Rattle.keepers.specs.Claims.{Tells}
 use Rattle.rv_machine.specs.MachineState.{MachineState}
 use Rattle.state_image.specs.Line.{line}
 use Rattle.reversal.specs.Output.{Adds}

@@ -1,8 +1,8 @@
 -- No public clause cites this file. The canonical line of each word, as it is computed.
 use Rattle.std.specs.Prelude.{ℕ, ◌<◌, ◌^◌, ◌++◌, List, [], ◌∷◌, length, map, find, codes, Option, None, Some}
 use Rattle.rv_asm.specs.Table.{wants}
-use Rattle.rv_asm.specs.Packing.{takes}
-use Rattle.rv_asm.specs.Coding.{entries}
+use Rattle.rv_asm.specs.PackedWords.{takes}
+use Rattle.rv_asm.specs.Encoder.{entries}
 use Rattle.rv_asm.specs.Canonical.{unpacked, operands_text}
 use Rattle.line_texts.specs.Numbers.{hex_word}
 use Rattle.reversal.specs.Plans.{in_pieces}

@@ -1,9 +1,11 @@
 -- One moment of a sink, of keepers and of the count of steps: what they claim and count.
-use Rattle.std.specs.Prelude.{◌≡◌, ◌≢◌, ℕ, ◌<◌, List, Option, Some, IsSome, None}
+use Rattle.std.specs.Prelude.{◌≡◌, ◌≢◌, ℕ, ◌<◌, List, Option, Some, IsSome}
 use Rattle.std.specs.FinMap as finmap
 use Rattle.keepers.specs.Counts.{Rose}
-use Rattle.keepers.specs.Told.{Images}
-use Rattle.reverse_runner.specs.KeepersSeen.{Calls, by_number}
+use Rattle.keepers.specs.Claims.{Images}
+use Rattle.keepers.specs.declared.sink.Sink as sink
+use Rattle.keepers.specs.declared.storage.Storage as storage
+use Rattle.reverse_runner.specs.KeepersSeen.{Calls, by_number, told_by, calls_to}
 
 pub record Moment : Type 0 where
   -- the bytes that the sink claims, how often it was called, and how often it failed
@@ -18,24 +20,23 @@ pub record Moment : Type 0 where
   pub keeper_faults : ℕ → ℕ
 
 -- one moment of a sink, of keepers and of a count of steps
-abbrev pub moment : {X K : Type 0} → (X → Option (List ℕ)) → (X → ℕ) → (X → ℕ) → (K → Option Images) → (K → ℕ) → (K → ℕ) → (K → ℕ) → (K → ℕ) →
-    X → List K → ℕ → Moment
-moment told writes faults images puts gets frees keeper_faults sink keepers steps = record {
-  told = told sink;
-  writes = writes sink;
-  faults = faults sink;
+abbrev pub moment : {X K : Type 0} → sink.Ghosts X → storage.Ghosts K → X → List K → ℕ → Moment
+moment writing seen out keepers steps = record {
+  told = writing.told out;
+  writes = writing.call_count out;
+  faults = writing.fault_count out;
   steps = steps;
-  calls = record { puts = by_number 0 puts keepers; gets = by_number 0 gets keepers; frees = by_number 0 frees keepers };
-  images = by_number None images keepers;
-  keeper_faults = by_number 0 keeper_faults keepers;
+  calls = calls_to seen keepers;
+  images = told_by seen keepers;
+  keeper_faults = by_number 0 seen.fault_count keepers;
 }
 
 -- one moment of a sink and a count of steps, with keepers as at another moment
-abbrev pub beside : {X : Type 0} → (X → Option (List ℕ)) → (X → ℕ) → (X → ℕ) → Moment → X → ℕ → Moment
-beside told writes faults other sink steps = record {
-  told = told sink;
-  writes = writes sink;
-  faults = faults sink;
+abbrev pub beside : {X : Type 0} → sink.Ghosts X → Moment → X → ℕ → Moment
+beside writing other out steps = record {
+  told = writing.told out;
+  writes = writing.call_count out;
+  faults = writing.fault_count out;
   steps = steps;
   calls = other.calls;
   images = other.images;

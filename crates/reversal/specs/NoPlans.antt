@@ -2,7 +2,7 @@
 use Rattle.std.specs.Prelude.{◌≡◌, ◌⊎◌, ℕ, ◌≤◌, length, slice_get, Some}
 use Rattle.level_book.specs.declared.book.Slots.TheVariants.{Unlimited}
 use Rattle.level_book.specs.BookCosts.{BookCosts, slots_of, room, total_room}
-use Rattle.disk_gen.specs.Periodic.{images}
+use Rattle.disk_gen.specs.PeriodicList.{images}
 use Rattle.disk_gen.specs.Plans.{slots_at, HasSlots}
 use Rattle.hrevolve_gen.specs.Plans as nested
 use Rattle.requests.specs.declared.ended.Ended.{Ended}

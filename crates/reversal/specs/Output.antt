@@ -3,7 +3,7 @@ use Rattle.std.specs.Prelude.{◌≡◌, ℕ, List, [], ◌∷◌, ◌++◌}
 use Rattle.std.specs.List.{flat_map}
 use Rattle.rv_machine.specs.MachineState.{MachineState}
 use Rattle.state_image.specs.Line.{line}
-use Rattle.reverse_runner.specs.Handed.{countdown}
+use Rattle.reverse_runner.specs.StateOrder.{countdown}
 
 -- the line of the state with the number n, and a line end
 abbrev pub line_of : (ℕ → MachineState) → ℕ → List ℕ

@@ -6,7 +6,7 @@ use Rattle.plan_types.specs.declared.action.Action.{Action}
 use Rattle.level_book.specs.BookCosts.{BookCosts, names_of, total_room}
 use Rattle.action_text.specs.Canonical.{canonical}
 use Rattle.binomials.specs.Advances.{repeats, least_advances}
-use Rattle.revolve_gen.specs.Written.{revolve_list}
+use Rattle.revolve_gen.specs.RevolveList.{revolve_list}
 use Rattle.cert_text.specs.declared.certificate.Certificate.{Certificate}
 use Rattle.cert_text.specs.declared.certificate.Certificate.TheVariants.{Revolve}
 use Rattle.cert_text.specs.Canonical as certificate

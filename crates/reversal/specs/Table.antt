@@ -10,7 +10,7 @@ use Rattle.reverse_runner.specs.KeepersSeen.{HaveRoom}
 use Rattle.revolve_gen.specs.Plans as revolve
 use Rattle.cert_text.specs.declared.certificate.Certificate.{Certificate}
 use Rattle.bound_cert.specs.declared.verdict.Reason.{Reason}
-use Rattle.bound_cert.specs.Accepted.{IsAccepted, IsFirstReason}
+use Rattle.bound_cert.specs.Acceptance.{IsAccepted, IsFirstReason}
 use Rattle.requests.specs.declared.ended.Ended.{Ended}
 use Rattle.requests.specs.Ending.{few_keepers, small_keeper, invalid, out_of_range, no_plan, not_least}
 use Rattle.reversal.specs.Job.{Job}

@@ -1,23 +1,16 @@
 // A question about a run, and how it is answered.
-ghost use Rattle.std.specs.Prelude.{◌≡◌, ◌≢◌, ◌⊎◌, ◌≤◌, ◌<◌, ◌+◌, ◌*◌, ℕ, length, map, Option};
-ghost use Rattle.plan_types.specs.declared.limits.TheConstants.{MOST_ACTIONS};
-ghost use Rattle.keepers.specs.Told.{Images, Tells, AddsPrefix};
+ghost use Rattle.std.specs.Prelude.{◌≡◌, ◌≢◌, ◌⊎◌, ◌≤◌, ◌<◌, ◌+◌, ◌*◌, map};
+ghost use Rattle.keepers.specs.Claims.{Tells, AddsPrefix};
 ghost use Rattle.keepers.specs.Counts.{Rose, raised};
 ghost use Rattle.level_book.specs.BookCosts.{slots_of};
-ghost use Rattle.level_book.specs.Valid.{Valid};
-ghost use Rattle.rv_machine.specs.MachineState.{IsMachineState};
+ghost use Rattle.rv_pages.specs.declared.pages.TheConstants.{LAST_WORD};
 ghost use Rattle.reverse_runner.specs.KeepersSeen.{HaveRoom};
-ghost use Rattle.reverse_runner.specs.Rooms.{image_room, rooms_by, AreRoomy};
-ghost use Rattle.reverse_runner.specs.Standing.{begun, StandsAt};
 ghost use Rattle.reverse_runner.specs.declared.fault.RunFault.TheVariants as fault_is;
 ghost use Rattle.reversal.specs.Output.{Adds};
 ghost use Rattle.reversal.specs.Job.{ask};
-ghost use Rattle.reversal.specs.Moment.{moment, AllTell};
 ghost use Rattle.reversal.specs.CommandAsk.{answer_text};
-ghost use Rattle.reversal.specs.Table.{accept};
-ghost use Rattle.reversal.specs.Decision.{KeepsOthers};
 ghost use Rattle.requests.specs.Ending.{done, stopped};
-ghost use Rattle.reversal.specs.JobReading.{run_over, run_from, CanBeAsked, IsUntouched, Works, fault_ending};
+ghost use Rattle.reversal.specs.JobModel.{run_over, run_from, CanBeAsked, Does, DoesBegun, IsBegun, fault_ending};
 ghost use Rattle.requests.specs.declared.question.Question.TheVariants as about;
 
 use crate::job::fault_ending;
@@ -62,13 +55,7 @@ impl Asking {
     ) -> Ended
         requires can_be_asked { CanBeAsked self }
         requires room { HaveRoom self.over.steps (slots_of self.over.book) (map K.slot_count keepers.old.items) }
-        ensures works { IsUntouched result out.old out.new keepers.old keepers.new counter.old counter.new
-            ⊎ Works (ask self.question (run_over self.over)) result
-            (moment O.told O.call_count O.fault_count K.told K.put_count K.get_count K.free_count K.fault_count out.old keepers.old.items counter.old)
-            (moment O.told O.call_count O.fault_count K.told K.put_count K.get_count K.free_count K.fault_count out.new keepers.new.items counter.new) }
-        ensures others { KeepsOthers K.slot_count K.place (accept (ask self.question (run_over self.over))) keepers.old.items keepers.new.items }
-        ensures roomy { AreRoomy (image_room self.over.start) (length (slots_of self.over.book)) (rooms_by K.Storage keepers.old.items) →
-            result.status ≡ 17 → IsUntouched result out.old out.new keepers.old keepers.new counter.old counter.new }
+        ensures { Does O.Sink K.Storage (ask self.question (run_over self.over)) result out.old out.new keepers.old keepers.new counter.old counter.new }
     {
         let question = self.question;
         let Over {
@@ -106,19 +93,10 @@ fn show_state<K: Keeper, O: Sink, L: Ledger>(
     out: &mut O,
     counter: &mut Steps<L>,
 ) -> Ended
-    requires begun { session.old ≡ begun session.old.work session.old.journal session.old.unit session.old.situation.steps session.old.situation.slots }
-    requires stands { (told : ℕ → Option Images) → AllTell (length session.old.situation.slots) told → StandsAt session.old.work session.old told }
-    requires state { IsMachineState session.old.work }
-    requires valid { Valid session.old.situation.steps session.old.situation.slots list.now }
-    requires few { length list.now ≤ MOST_ACTIONS }
-    requires room { HaveRoom session.old.situation.steps session.old.situation.slots (map K.slot_count keepers.old.items) }
+    requires begun { IsBegun session.old list.now (map K.slot_count keepers.old.items) }
     requires place { place ≤ session.old.unit * session.old.situation.steps }
-    ensures works { Works (ask (about.State place) (run_from session.old list.now)) result
-        (moment O.told O.call_count O.fault_count K.told K.put_count K.get_count K.free_count K.fault_count out.old keepers.old.items counter.old)
-        (moment O.told O.call_count O.fault_count K.told K.put_count K.get_count K.free_count K.fault_count out.new keepers.new.items counter.new) }
-    ensures others { KeepsOthers K.slot_count K.place (accept (ask (about.State place) (run_from session.old list.now))) keepers.old.items keepers.new.items }
-    ensures roomy { AreRoomy (image_room session.old.work) (length session.old.situation.slots) (rooms_by K.Storage keepers.old.items) →
-        result.status ≢ 17 }
+    ensures { DoesBegun O.Sink K.Storage (ask (about.State place) (run_from session.old list.now)) result out.old out.new
+        keepers.old.items keepers.new.items counter.old counter.new }
 {
     let mut writer = LineWriter::new(out);
     match state_at(session, list, keepers, place, &mut writer, counter) {
@@ -136,19 +114,10 @@ fn tell_last_write<K: Keeper, O: Sink, L: Ledger>(
     out: &mut O,
     counter: &mut Steps<L>,
 ) -> Ended
-    requires begun { session.old ≡ begun session.old.work session.old.journal session.old.unit session.old.situation.steps session.old.situation.slots }
-    requires stands { (told : ℕ → Option Images) → AllTell (length session.old.situation.slots) told → StandsAt session.old.work session.old told }
-    requires state { IsMachineState session.old.work }
-    requires valid { Valid session.old.situation.steps session.old.situation.slots list.now }
-    requires few { length list.now ≤ MOST_ACTIONS }
-    requires room { HaveRoom session.old.situation.steps session.old.situation.slots (map K.slot_count keepers.old.items) }
-    requires address { address ≤ 4294967292 }
-    ensures works { Works (ask (about.LastWrite address) (run_from session.old list.now)) result
-        (moment O.told O.call_count O.fault_count K.told K.put_count K.get_count K.free_count K.fault_count out.old keepers.old.items counter.old)
-        (moment O.told O.call_count O.fault_count K.told K.put_count K.get_count K.free_count K.fault_count out.new keepers.new.items counter.new) }
-    ensures others { KeepsOthers K.slot_count K.place (accept (ask (about.LastWrite address) (run_from session.old list.now))) keepers.old.items keepers.new.items }
-    ensures roomy { AreRoomy (image_room session.old.work) (length session.old.situation.slots) (rooms_by K.Storage keepers.old.items) →
-        result.status ≢ 17 }
+    requires begun { IsBegun session.old list.now (map K.slot_count keepers.old.items) }
+    requires address { address ≤ LAST_WORD }
+    ensures { DoesBegun O.Sink K.Storage (ask (about.LastWrite address) (run_from session.old list.now)) result out.old out.new
+        keepers.old.items keepers.new.items counter.old counter.new }
 {
     match last_write(session, list, keepers, address, counter) {
         Ok(answer) => write_answer(answer, out),
@@ -165,19 +134,10 @@ fn tell_last_change<K: Keeper, O: Sink, L: Ledger>(
     out: &mut O,
     counter: &mut Steps<L>,
 ) -> Ended
-    requires begun { session.old ≡ begun session.old.work session.old.journal session.old.unit session.old.situation.steps session.old.situation.slots }
-    requires stands { (told : ℕ → Option Images) → AllTell (length session.old.situation.slots) told → StandsAt session.old.work session.old told }
-    requires state { IsMachineState session.old.work }
-    requires valid { Valid session.old.situation.steps session.old.situation.slots list.now }
-    requires few { length list.now ≤ MOST_ACTIONS }
-    requires room { HaveRoom session.old.situation.steps session.old.situation.slots (map K.slot_count keepers.old.items) }
-    requires address { address ≤ 4294967292 }
-    ensures works { Works (ask (about.LastChange address) (run_from session.old list.now)) result
-        (moment O.told O.call_count O.fault_count K.told K.put_count K.get_count K.free_count K.fault_count out.old keepers.old.items counter.old)
-        (moment O.told O.call_count O.fault_count K.told K.put_count K.get_count K.free_count K.fault_count out.new keepers.new.items counter.new) }
-    ensures others { KeepsOthers K.slot_count K.place (accept (ask (about.LastChange address) (run_from session.old list.now))) keepers.old.items keepers.new.items }
-    ensures roomy { AreRoomy (image_room session.old.work) (length session.old.situation.slots) (rooms_by K.Storage keepers.old.items) →
-        result.status ≢ 17 }
+    requires begun { IsBegun session.old list.now (map K.slot_count keepers.old.items) }
+    requires address { address ≤ LAST_WORD }
+    ensures { DoesBegun O.Sink K.Storage (ask (about.LastChange address) (run_from session.old list.now)) result out.old out.new
+        keepers.old.items keepers.new.items counter.old counter.new }
 {
     match last_change(session, list, keepers, address, counter) {
         Ok(answer) => write_answer(answer, out),

@@ -1,20 +1,18 @@
 // Whether a list is the least by its certificate: of all valid lists, or of its class.
-ghost use Rattle.std.specs.Prelude.{◌≡◌, ◌⊎◌, ℕ, ◌≤◌, List, length, map, codes, IfOk, IfErr, OnOk};
+ghost use Rattle.std.specs.Prelude.{◌≡◌, ℕ, ◌≤◌, List, length, map, IfOk, IfErr};
 ghost use Rattle.plan_types.specs.declared.limits.TheConstants.{MOST_ACTIONS, MOST_STEPS};
-ghost use Rattle.level_book.specs.BookCosts.{slots_of};
 ghost use Rattle.level_book.specs.Valid.{Valid};
 ghost use Rattle.cert_text.specs.Meaning.{IsCertificateText};
 ghost use Rattle.cert_text.specs.Faults.{HasFirstFault};
-ghost use Rattle.bound_cert.specs.Accepted.{class_of, IsAccepted};
+ghost use Rattle.bound_cert.specs.Acceptance.{class_of, IsAccepted};
 ghost use Rattle.requests.specs.Request.{Choice, certify as certify_command};
-ghost use Rattle.reversal.specs.Table.{accept, refuse};
 ghost use Rattle.reversal.specs.CommandCertify.{least_line, DecidesCertify};
 ghost use Rattle.reversal.specs.Decision.{DecidesBytes};
-ghost use Rattle.requests.specs.Ending.{no_memory, bad_certificate};
+ghost use Rattle.requests.specs.Ending.{bad_certificate};
 ghost use Rattle.requests.specs.Inputs.{inputs_of};
-ghost use Rattle.requests.specs.InputReading.{AreWithinLimits};
-ghost use Rattle.reversal.specs.JobReading.{job_of, CanBeDone, KeepersHaveRoom, IsRefusal, IsUnweighed};
-ghost use Rattle.requests.specs.RequestReading.{as_certify};
+ghost use Rattle.requests.specs.InputOutcome.{AreWithinLimits};
+ghost use Rattle.reversal.specs.JobModel.{IsRefusal, IsUnweighed, IsDecided};
+ghost use Rattle.requests.specs.RequestModel.{as_certify};
 
 use crate::decision::{book_in, judge, list_in};
 use crate::job::Job;
@@ -29,13 +27,8 @@ use std::alloc::Global;
 pub fn decide_certify(alloc: Global, certify: &Certify<'_>, bytes: &[Vec<u8>]) -> Result<Job, Ended>
     requires steps { certify.now.steps ≤ MOST_STEPS }
     requires inputs { AreWithinLimits (inputs_of (certify_command (as_certify certify.now))) (map (λ b. b.items) bytes.now) }
-    ensures accepted { IfOk result (λ job. (slots : List ℕ) → (options : List Choice) →
-        DecidesBytes options (certify_command (as_certify certify.now)) (map (λ b. b.items) bytes.now) slots (accept (job_of job))) }
-    ensures can_be_done { IfOk result CanBeDone }
-    ensures room { IfOk result (λ job. (counts : List ℕ) → KeepersHaveRoom job counts) }
-    ensures refused { IfErr result (λ e. (e ≡ no_memory)
-        ⊎ ((slots : List ℕ) → (options : List Choice) →
-        DecidesBytes options (certify_command (as_certify certify.now)) (map (λ b. b.items) bytes.now) slots (refuse e))) }
+    ensures { (slots : List ℕ) → (options : List Choice) →
+        IsDecided (DecidesBytes options (certify_command (as_certify certify.now)) (map (λ b. b.items) bytes.now) slots) slots result }
 {
     let [book, schedule, certificate] = bytes else {
         unreachable!()
@@ -53,10 +46,7 @@ fn certify_texts(
     requires steps { steps ≤ MOST_STEPS }
     requires short { length schedule.now ≤ 536870912 }
     requires small { length certificate.now ≤ 536870912 }
-    ensures accepted { IfOk result (λ job. DecidesCertify steps book.now schedule.now certificate.now (accept (job_of job))) }
-    ensures can_be_done { IfOk result CanBeDone }
-    ensures room { IfOk result (λ job. (counts : List ℕ) → KeepersHaveRoom job counts) }
-    ensures refused { IfErr result (λ e. (e ≡ no_memory) ⊎ DecidesCertify steps book.now schedule.now certificate.now (refuse e)) }
+    ensures { (counts : List ℕ) → IsDecided (DecidesCertify steps book.now schedule.now certificate.now) counts result }
 {
     let book = book_in(alloc, book)?;
     let list = list_in(alloc, schedule, &book)?;

@@ -1,5 +1,5 @@
 // The decision on a request by its inputs: a job, or a refusal.
-ghost use Rattle.std.specs.Prelude.{◌≡◌, ◌⊎◌, ℕ, ◌*◌, ◌≤◌, ◌++◌, List, [], ◌∷◌, length, map, codes, decimal, IfOk, IfErr, OnOk};
+ghost use Rattle.std.specs.Prelude.{◌≡◌, ◌⊎◌, ℕ, ◌*◌, ◌≤◌, ◌++◌, List, length, map, codes, decimal, IfOk, IfErr, OnOk};
 ghost use Rattle.std.specs.List.{AllByRecursion};
 ghost use Rattle.plan_types.specs.declared.limits.TheConstants.{MOST_STEPS};
 ghost use Rattle.level_book.specs.BookCosts.{slots_of, names_of};
@@ -12,34 +12,34 @@ ghost use Rattle.requests.specs.Request.{Choice, Run as RunCommand, run as run_c
 ghost use Rattle.requests.specs.Operands.{by_name, question_bound};
 ghost use Rattle.requests.specs.Bounds.{numbers, IsWithin};
 ghost use Rattle.reversal.specs.Table.{accept, refuse, Keep};
-ghost use Rattle.reversal.specs.Fronts.{HasBookFault, IsStartOf, HasProgramFault, AreItemsOf, HasJournalFault, DecidesOver, DecidesOverBytes};
+ghost use Rattle.reversal.specs.InputMeaning.{HasBookFault, IsStartOf, HasProgramFault, AreItemsOf, HasJournalFault, DecidesOver, DecidesOverBytes};
 ghost use Rattle.reversal.specs.Decision.{DecidesBytes};
 ghost use Rattle.reversal.specs.CommandCheck.{DecidesCheck};
 ghost use Rattle.requests.specs.Ending.{no_memory, bad_program, bad_journal, bad_book, bad_text, invalid};
 ghost use Rattle.requests.specs.Inputs.{inputs_of};
-ghost use Rattle.requests.specs.InputReading.{AreWithinLimits};
+ghost use Rattle.requests.specs.InputOutcome.{AreWithinLimits};
 ghost use Rattle.reversal.specs.Job.{Run as ARun, Job as AJob, perform};
-ghost use Rattle.reversal.specs.JobReading.{run_over, job_of, IsOver, CanBeDone, HasWorkers, KeepersHaveRoom, IsRefusal, text_of};
-ghost use Rattle.requests.specs.RequestReading.{request_of, as_backward, as_ask, as_check};
+ghost use Rattle.reversal.specs.JobModel.{run_over, job_of, IsOver, CanBeDone, HasWorkers, KeepersHaveRoom, IsRefusal, text_of, IsDecided, RunFits};
+ghost use Rattle.requests.specs.RequestModel.{request_of, as_run_backward, as_ask, as_check};
 
 use crate::actions::{Actions, Listed};
 use crate::asking::{Asking, Over};
-use crate::assembling::decide_assemble;
+use crate::asm::decide_asm;
 use crate::certifying::decide_certify;
+use crate::console::decide_console;
+use crate::cost::decide_cost;
 use crate::demo::decide_demo;
 use crate::finding::decide_find;
 use crate::job::{Job, Performance};
-use crate::listing::decide_disassemble;
-use crate::moving::decide_move_about;
+use crate::listing::decide_disasm;
 use crate::plan_kinds::{decide_plan, decide_plan_periodic};
 use crate::planning::decide_made;
-use crate::pricing::decide_price;
 use action_text::read_actions;
-use elf_load::{load, load_raw};
-use input_journal::{Journal, read_journal};
+use elf_load::load_start;
+use input_journal::{Journal, read_recorded};
 use level_book::{Book, read_book};
 use plan_types::{Action, Line};
-use requests::{Ask, Backward, Check, Command, Ended, Options, Request, Schedule};
+use requests::{Ask, Check, Command, Ended, Options, Request, RunBackward, Schedule};
 use rv_machine::State;
 use schedule_rules::{Verdict, check};
 use std::alloc::Global;
@@ -66,12 +66,9 @@ pub fn decide<R: Threads + Sync>(
 ) -> Result<Job, Ended>
     requires numbers { AllByRecursion IsWithin (numbers (request_of request.now)) }
     requires inputs { AreWithinLimits (inputs_of (request_of request.now).command) (map (λ b. b.items) bytes.old) }
-    ensures accepted { IfOk result (λ job. DecidesBytes (request_of request.now).options (request_of request.now).command
-        (map (λ b. b.items) bytes.old) counts.now (accept (job_of job))) }
-    ensures can_be_done { IfOk result CanBeDone }
-    ensures room { IfOk result (λ job. KeepersHaveRoom job counts.now) }
-    ensures refused { IfErr result (λ e. (e ≡ no_memory)
-        ⊎ DecidesBytes (request_of request.now).options (request_of request.now).command (map (λ b. b.items) bytes.old) counts.now (refuse e)) }
+    ensures { IsDecided
+        (DecidesBytes (request_of request.now).options (request_of request.now).command (map (λ b. b.items) bytes.old) counts.now)
+        counts.now result }
 {
     match &request.command {
         Command::Run(backward) => decide_run(alloc, &request.options, backward, bytes, counts),
@@ -83,12 +80,12 @@ pub fn decide<R: Threads + Sync>(
         Command::PlanPeriodic(plan) => decide_plan_periodic(alloc, plan, bytes),
         Command::Check(check) => decide_check(alloc, check, bytes),
         Command::Certify(certify) => decide_certify(alloc, certify, bytes),
-        Command::Price(price) => decide_price(alloc, price, bytes),
+        Command::Cost(cost) => decide_cost(alloc, cost, bytes),
         Command::Find(find) => decide_find(alloc, &request.options, find, bytes),
-        Command::Assemble(assemble) => decide_assemble(alloc, assemble, bytes),
-        Command::Disassemble(disassemble) => decide_disassemble(alloc, disassemble, bytes),
-        Command::MoveAbout(about) => {
-            decide_move_about(alloc, &request.options, about, bytes, counts)
+        Command::Asm(asm) => decide_asm(alloc, asm, bytes),
+        Command::Disasm(disasm) => decide_disasm(alloc, disasm, bytes),
+        Command::Console(console) => {
+            decide_console(alloc, &request.options, console, bytes, counts)
         }
         Command::Demo(demo) => decide_demo(alloc, demo),
     }
@@ -98,23 +95,17 @@ pub fn decide<R: Threads + Sync>(
 fn decide_run(
     alloc: Global,
     options: &Options,
-    backward: &Backward<'_>,
+    backward: &RunBackward<'_>,
     bytes: &mut [Vec<u8>],
     counts: &[u32],
 ) -> Result<Job, Ended>
-    requires stack { (1 ≤ stack_pages options.now) × (stack_pages options.now ≤ 1024) }
-    requires unit { (1 ≤ unit_count options.now) × (unit_count options.now ≤ 1024) }
+    requires run { RunFits options.now backward.now.run.steps }
     requires workers { (1 ≤ worker_count options.now) × (worker_count options.now ≤ 64) }
-    requires steps { backward.now.run.steps ≤ MOST_STEPS }
-    requires instructions { unit_count options.now * backward.now.run.steps ≤ MOST_STEPS }
-    requires inputs { AreWithinLimits (inputs_of (run_command (as_backward backward.now))) (map (λ b. b.items) bytes.old) }
-    ensures accepted { IfOk result (λ job. DecidesBytes options.now (run_command (as_backward backward.now)) (map (λ b. b.items) bytes.old) counts.now
-        (accept (job_of job))) }
-    ensures can_be_done { IfOk result CanBeDone }
+    requires inputs { AreWithinLimits (inputs_of (run_command (as_run_backward backward.now))) (map (λ b. b.items) bytes.old) }
+    ensures decided { IsDecided
+        (DecidesBytes options.now (run_command (as_run_backward backward.now)) (map (λ b. b.items) bytes.old) counts.now)
+        counts.now result }
     ensures workers { IfOk result (HasWorkers (worker_count options.now)) }
-    ensures room { IfOk result (λ job. KeepersHaveRoom job counts.now) }
-    ensures refused { IfErr result (λ e. (e ≡ no_memory)
-        ⊎ DecidesBytes options.now (run_command (as_backward backward.now)) (map (λ b. b.items) bytes.old) counts.now (refuse e)) }
 {
     let steps = backward.run.steps as u32;
     match backward.schedule {
@@ -160,18 +151,10 @@ fn decide_ask(
     bytes: &mut [Vec<u8>],
     counts: &[u32],
 ) -> Result<Job, Ended>
-    requires stack { (1 ≤ stack_pages options.now) × (stack_pages options.now ≤ 1024) }
-    requires unit { (1 ≤ unit_count options.now) × (unit_count options.now ≤ 1024) }
-    requires steps { ask.now.run.steps ≤ MOST_STEPS }
-    requires instructions { unit_count options.now * ask.now.run.steps ≤ MOST_STEPS }
+    requires run { RunFits options.now ask.now.run.steps }
     requires question { IsWithin (question_bound (unit_count options.now * ask.now.run.steps) ask.now.question) }
     requires inputs { AreWithinLimits (inputs_of (ask_command (as_ask ask.now))) (map (λ b. b.items) bytes.old) }
-    ensures accepted { IfOk result (λ job. DecidesBytes options.now (ask_command (as_ask ask.now)) (map (λ b. b.items) bytes.old) counts.now
-        (accept (job_of job))) }
-    ensures can_be_done { IfOk result CanBeDone }
-    ensures room { IfOk result (λ job. KeepersHaveRoom job counts.now) }
-    ensures refused { IfErr result (λ e. (e ≡ no_memory)
-        ⊎ DecidesBytes options.now (ask_command (as_ask ask.now)) (map (λ b. b.items) bytes.old) counts.now (refuse e)) }
+    ensures { IsDecided (DecidesBytes options.now (ask_command (as_ask ask.now)) (map (λ b. b.items) bytes.old) counts.now) counts.now result }
 {
     let steps = ask.run.steps as u32;
     let over = decide_over(alloc, options, steps, bytes, counts)?;
@@ -187,10 +170,7 @@ fn decide_over(
     bytes: &mut [Vec<u8>],
     counts: &[u32],
 ) -> Result<Over, Ended>
-    requires stack { (1 ≤ stack_pages options.now) × (stack_pages options.now ≤ 1024) }
-    requires unit { (1 ≤ unit_count options.now) × (unit_count options.now ≤ 1024) }
-    requires steps { steps ≤ MOST_STEPS }
-    requires instructions { unit_count options.now * steps ≤ MOST_STEPS }
+    requires run { RunFits options.now steps }
     requires inputs { (r : RunCommand) × (name : List ℕ)
         × AreWithinLimits (inputs_of (run_command (record { run = r; schedule = by_name name }))) (map (λ b. b.items) bytes.old) }
     ensures accepted { IfOk result (λ o. (job : ARun → AJob) (name : List ℕ) →
@@ -232,10 +212,7 @@ fn decide_texts(
     texts: Texts<'_>,
     counts: &[u32],
 ) -> Result<Over, Ended>
-    requires stack { (1 ≤ stack_pages options.now) × (stack_pages options.now ≤ 1024) }
-    requires unit { (1 ≤ unit_count options.now) × (unit_count options.now ≤ 1024) }
-    requires steps { steps ≤ MOST_STEPS }
-    requires instructions { unit_count options.now * steps ≤ MOST_STEPS }
+    requires run { RunFits options.now steps }
     requires short { length texts.schedule.now ≤ 536870912 }
     ensures accepted { IfOk result (λ o. (job : ARun → AJob) →
         DecidesOver job options.now steps texts.entry.program.now (text_of texts.entry.journal) texts.entry.book.now (Some texts.entry.schedule.now)
@@ -268,13 +245,8 @@ fn decide_texts(
 fn decide_check(alloc: Global, check: &Check<'_>, bytes: &[Vec<u8>]) -> Result<Job, Ended>
     requires steps { check.now.steps ≤ MOST_STEPS }
     requires inputs { AreWithinLimits (inputs_of (check_command (as_check check.now))) (map (λ b. b.items) bytes.now) }
-    ensures accepted { IfOk result (λ job. (slots : List ℕ) → (options : List Choice) →
-        DecidesBytes options (check_command (as_check check.now)) (map (λ b. b.items) bytes.now) slots (accept (job_of job))) }
-    ensures can_be_done { IfOk result CanBeDone }
-    ensures room { IfOk result (λ job. (counts : List ℕ) → KeepersHaveRoom job counts) }
-    ensures refused { IfErr result (λ e. (e ≡ no_memory)
-        ⊎ ((slots : List ℕ) → (options : List Choice) →
-        DecidesBytes options (check_command (as_check check.now)) (map (λ b. b.items) bytes.now) slots (refuse e))) }
+    ensures { (slots : List ℕ) → (options : List Choice) →
+        IsDecided (DecidesBytes options (check_command (as_check check.now)) (map (λ b. b.items) bytes.now) slots) slots result }
 {
     let [book, schedule] = bytes else {
         unreachable!()
@@ -285,10 +257,7 @@ fn decide_check(alloc: Global, check: &Check<'_>, bytes: &[Vec<u8>]) -> Result<J
 fn judge_texts(alloc: Global, steps: u32, book: &[u8], schedule: &[u8]) -> Result<Job, Ended>
     requires steps { steps ≤ MOST_STEPS }
     requires short { length schedule.now ≤ 536870912 }
-    ensures accepted { IfOk result (λ job. DecidesCheck steps book.now schedule.now (accept (job_of job))) }
-    ensures can_be_done { IfOk result CanBeDone }
-    ensures room { IfOk result (λ job. (counts : List ℕ) → KeepersHaveRoom job counts) }
-    ensures refused { IfErr result (λ e. (e ≡ no_memory) ⊎ DecidesCheck steps book.now schedule.now (refuse e)) }
+    ensures { (counts : List ℕ) → IsDecided (DecidesCheck steps book.now schedule.now) counts result }
 {
     let book = book_in(alloc, book)?;
     let list = list_in(alloc, schedule, &book)?;
@@ -340,11 +309,7 @@ pub(crate) fn start_of(alloc: Global, options: &Options, bytes: &[u8]) -> Result
     ensures refused { IfErr result (IsRefusal (HasProgramFault (says_raw options.now) (stack_pages options.now) bytes.now) bad_program) }
 {
     let stack = options.stack_pages() as u32;
-    if options.says_raw() {
-        Ok(load_raw(alloc, bytes, stack)?)
-    } else {
-        Ok(load(alloc, bytes, stack)?)
-    }
+    Ok(load_start(alloc, options.says_raw(), bytes, stack)?)
 }
 
 // How many instructions a step of a schedule has.
@@ -368,10 +333,7 @@ pub(crate) fn journal_in(alloc: Global, bytes: Option<Vec<u8>>) -> Result<Journa
     ensures found { IfOk result (AreItemsOf (text_of bytes)) }
     ensures refused { IfErr result (IsRefusal (HasJournalFault (text_of bytes)) bad_journal) }
 {
-    match bytes {
-        Some(bytes) => Ok(read_journal(alloc, bytes)?),
-        None => Ok(Journal::none(alloc)),
-    }
+    Ok(read_recorded(alloc, bytes)?)
 }
 
 // The list that the bytes of a schedule mean over the levels of a book.

@@ -1,32 +1,24 @@
 // A demonstration: a run backward of a program made from a number.
-ghost use Rattle.std.specs.Prelude.{◌≡◌, ◌≢◌, ◌⊎◌, ◌↔◌, ℕ, ◌+◌, ◌*◌, ◌%◌, ◌^◌, ◌<◌, ◌≤◌, ◌++◌, List, [], ◌∷◌, length, Option, decimal, MatchOption, IfOk, IfErr, OnOk};
+ghost use Rattle.std.specs.Prelude.{◌≡◌, ◌⊎◌, ℕ, ◌+◌, ◌*◌, ◌%◌, ◌≤◌, ◌++◌, List, [], length, Option, decimal, MatchOption, IfOk, IfErr, OnOk};
 ghost use Rattle.std.specs.Int.{w32, to_le_bytes};
-ghost use Rattle.plan_types.specs.declared.action.Action.{Action};
 ghost use Rattle.plan_types.specs.declared.limits.TheConstants.{MOST_SLOTS, MOST_STEPS};
 ghost use Rattle.level_book.specs.BookCosts.{slots_of, total_room, plain};
 ghost use Rattle.level_book.specs.CostFold.{forward};
-ghost use Rattle.level_book.specs.Valid.{Valid};
 ghost use Rattle.elf_load.specs.Raw.{IsRawProgram};
 ghost use Rattle.revolve_gen.specs.Plans.{HasPlan};
-ghost use Rattle.rv_machine.specs.MachineState.{MachineState};
 ghost use Rattle.rv_machine.specs.States.{state_number};
-ghost use Rattle.reverse_runner.specs.KeepersSeen.{told_by};
-ghost use Rattle.reverse_runner.specs.Standing.{begun, StandsAt};
+ghost use Rattle.reverse_runner.specs.SessionOfRun.{begun};
 ghost use Rattle.sha2.specs.Sha256.{sha256};
-ghost use Rattle.reversal.specs.DemoReading.{IsAtStart, BreaksWithin};
-ghost use Rattle.requests.specs.Request.{Choice, demo as demo_command};
+ghost use Rattle.reversal.specs.DemoStates.{IsAtStart, BreaksWithin};
 ghost use Rattle.reversal.specs.Job.{demonstrate};
 ghost use Rattle.reversal.specs.Moment.{Moment, beside};
-ghost use Rattle.reversal.specs.Table.{accept, refuse};
 ghost use Rattle.reversal.specs.CommandDemo.{DecidesDemo};
-ghost use Rattle.reversal.specs.Decision.{DecidesBytes};
 ghost use Rattle.rv_decode.specs.Ranges.{HasRanges};
 ghost use Rattle.rv_decode.specs.Words.{word_of};
 ghost use Rattle.reversal.specs.Demo.{drawn, instruction_of, program, demo_list, summary_text};
 ghost use Rattle.reversal.specs.Output.{lines_down};
 ghost use Rattle.requests.specs.Ending.{no_memory};
-ghost use Rattle.reversal.specs.JobReading.{job_of, IsShowable, CanBeDone, KeepersHaveRoom, Works};
-ghost use Rattle.requests.specs.RequestReading.{as_demo};
+ghost use Rattle.reversal.specs.JobModel.{IsShowable, Works, IsDecided};
 
 use crate::job::Job;
 use crate::line_hasher::LineHasher;
@@ -57,10 +49,7 @@ pub fn decide_demo(alloc: Global, demo: &Demo) -> Result<Job, Ended>
     requires number { demo.now.number ≤ 4294967295 }
     requires steps { demo.now.steps ≤ MOST_STEPS }
     requires slots { demo.now.slots ≤ MOST_SLOTS }
-    ensures accepted { IfOk result (λ job. DecidesDemo demo.now.number demo.now.steps demo.now.slots (accept (job_of job))) }
-    ensures can_be_done { IfOk result CanBeDone }
-    ensures room { IfOk result (λ job. (counts : List ℕ) → KeepersHaveRoom job counts) }
-    ensures refused { IfErr result (λ e. (e ≡ no_memory) ⊎ DecidesDemo demo.now.number demo.now.steps demo.now.slots (refuse e)) }
+    ensures { (counts : List ℕ) → IsDecided (DecidesDemo demo.now.number demo.now.steps demo.now.slots) counts result }
 {
     let number = demo.number as u32;
     let steps = demo.steps as u32;
@@ -187,8 +176,8 @@ impl Demonstration {
         requires { IsShowable self }
         ensures { (other : Moment) → ((result ≡ no_memory) × (out.new ≡ out.old) × (counter.new ≡ counter.old))
             ⊎ Works (demonstrate self.number self.start self.steps self.slots) result
-            (beside O.told O.call_count O.fault_count other out.old counter.old)
-            (beside O.told O.call_count O.fault_count other out.new counter.new) }
+            (beside O.Sink other out.old counter.old)
+            (beside O.Sink other out.new counter.new) }
     {
         let Demonstration {
             number,

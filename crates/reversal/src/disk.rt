@@ -1,13 +1,12 @@
 // The list of DiskRevolve for memory and an unlimited disk, and its tables, as text.
-ghost use Rattle.std.specs.Prelude.{◌≡◌, ◌⊎◌, ℕ, ◌≤◌, List, length, IfOk, IfErr, OnOk};
+ghost use Rattle.std.specs.Prelude.{◌≡◌, ◌⊎◌, ℕ, ◌≤◌, List, IfOk, IfErr, OnOk};
 ghost use Rattle.level_book.specs.DiskUnderTable.{IsGreatestDisk};
 ghost use Rattle.cost_tables.specs.TableRows.{FastestTablesFit};
 ghost use Rattle.disk_gen.specs.DiskPlans.{HasDiskPlan};
 ghost use Rattle.disk_gen.specs.DiskRows.{AreDiskFor, disk_tables_in};
-ghost use Rattle.reversal.specs.Table.{accept, refuse};
 ghost use Rattle.reversal.specs.CommandPlan.{DecidesPlanDisk};
 ghost use Rattle.requests.specs.Ending.{no_memory};
-ghost use Rattle.reversal.specs.JobReading.{job_of, CanBeDone, KeepersHaveRoom};
+ghost use Rattle.reversal.specs.JobModel.{IsDecided};
 ghost use Rattle.reversal.specs.NoPlans.{IsUndisked};
 
 use crate::actions::{Actions, Listed};
@@ -36,10 +35,7 @@ pub fn disk_text<R: Threads + Sync>(
 ) -> Result<Job, Ended>
     requires workers { (1 ≤ workers) × (workers ≤ 64) }
     requires steps { steps ≤ 8192 }
-    ensures accepted { IfOk result (λ job. DecidesPlanDisk steps book.now (accept (job_of job))) }
-    ensures can_be_done { IfOk result CanBeDone }
-    ensures room { IfOk result (λ job. (counts : List ℕ) → KeepersHaveRoom job counts) }
-    ensures refused { IfErr result (λ e. (e ≡ no_memory) ⊎ DecidesPlanDisk steps book.now (refuse e)) }
+    ensures { (counts : List ℕ) → IsDecided (DecidesPlanDisk steps book.now) counts result }
 {
     let book = book_in(alloc, book)?;
     let _levels = book.levels();

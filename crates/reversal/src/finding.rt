@@ -1,17 +1,17 @@
 // The search of a run for the last state with a digest.
-ghost use Rattle.std.specs.Prelude.{◌≡◌, ◌⊎◌, ℕ, ◌≤◌, List, map, IfOk, IfErr};
+ghost use Rattle.std.specs.Prelude.{ℕ, ◌≤◌, List, map};
 ghost use Rattle.plan_types.specs.declared.limits.TheConstants.{MOST_STEPS};
 ghost use Rattle.requests.specs.Request.{find as find_command, stack_pages, worker_count};
 ghost use Rattle.requests.specs.Inputs.{inputs_of};
-ghost use Rattle.requests.specs.InputReading.{AreWithinLimits};
-ghost use Rattle.requests.specs.RequestReading.{as_find};
+ghost use Rattle.requests.specs.InputOutcome.{AreWithinLimits};
+ghost use Rattle.requests.specs.RequestModel.{as_find};
 ghost use Rattle.requests.specs.Ending.{no_memory};
 ghost use Rattle.reversal.specs.Job.{seek};
 ghost use Rattle.reversal.specs.Moment.{Moment, beside};
-ghost use Rattle.reversal.specs.Table.{accept, refuse, Decided};
+ghost use Rattle.reversal.specs.Table.{Decided};
 ghost use Rattle.reversal.specs.CommandFind.{find_table};
 ghost use Rattle.reversal.specs.Decision.{DecidesBytes};
-ghost use Rattle.reversal.specs.JobReading.{job_of, IsSearchable, CanBeDone, KeepersHaveRoom, Works, text_of};
+ghost use Rattle.reversal.specs.JobModel.{IsSearchable, Works, text_of, IsDecided};
 
 use crate::asking::write_answer;
 use crate::decision::{journal_in, start_of};
@@ -49,8 +49,8 @@ impl Finding {
     ) -> Ended
         requires { IsSearchable self }
         ensures { (other : Moment) → Works (seek self.start self.journal self.steps self.workers self.digest) result
-            (beside O.told O.call_count O.fault_count other out.old counter.old)
-            (beside O.told O.call_count O.fault_count other out.new counter.new) }
+            (beside O.Sink other out.old counter.old)
+            (beside O.Sink other out.new counter.new) }
     {
         let Finding {
             start,
@@ -80,12 +80,8 @@ pub fn decide_find(
     requires workers { (1 ≤ worker_count options.now) × (worker_count options.now ≤ 64) }
     requires steps { find.now.steps ≤ MOST_STEPS }
     requires inputs { AreWithinLimits (inputs_of (find_command (as_find find.now))) (map (λ b. b.items) bytes.old) }
-    ensures accepted { IfOk result (λ job. (slots : List ℕ) →
-        DecidesBytes options.now (find_command (as_find find.now)) (map (λ b. b.items) bytes.old) slots (accept (job_of job))) }
-    ensures can_be_done { IfOk result CanBeDone }
-    ensures room { IfOk result (λ job. (counts : List ℕ) → KeepersHaveRoom job counts) }
-    ensures refused { IfErr result (λ e. (e ≡ no_memory)
-        ⊎ ((slots : List ℕ) → DecidesBytes options.now (find_command (as_find find.now)) (map (λ b. b.items) bytes.old) slots (refuse e))) }
+    ensures { (slots : List ℕ) →
+        IsDecided (DecidesBytes options.now (find_command (as_find find.now)) (map (λ b. b.items) bytes.old) slots) slots result }
 {
     match bytes {
         [program] => find_in(alloc, options, find, program.as_slice(), None),
@@ -107,12 +103,8 @@ fn find_in(
     requires stack { (1 ≤ stack_pages options.now) × (stack_pages options.now ≤ 1024) }
     requires workers { (1 ≤ worker_count options.now) × (worker_count options.now ≤ 64) }
     requires steps { find.now.steps ≤ MOST_STEPS }
-    ensures accepted { IfOk result (λ job. Decided (find_table options.now find.now.steps find.now.digest program.now (text_of journal))
-        (accept (job_of job))) }
-    ensures can_be_done { IfOk result CanBeDone }
-    ensures room { IfOk result (λ job. (counts : List ℕ) → KeepersHaveRoom job counts) }
-    ensures refused { IfErr result (λ e. (e ≡ no_memory)
-        ⊎ Decided (find_table options.now find.now.steps find.now.digest program.now (text_of journal)) (refuse e)) }
+    ensures { (counts : List ℕ) →
+        IsDecided (Decided (find_table options.now find.now.steps find.now.digest program.now (text_of journal))) counts result }
 {
     let start = start_of(alloc, options, program)?;
     let journal = journal_in(alloc, journal)?;

@@ -1,15 +1,15 @@
 // The list of H-Revolve for the levels of a book, and its tables, as text.
-ghost use Rattle.std.specs.Prelude.{◌≡◌, ◌⊎◌, ℕ, ◌<◌, ◌≤◌, List, length, IfOk, IfErr, IfNone, OnOk, MatchOption};
+ghost use Rattle.std.specs.Prelude.{◌≡◌, ◌⊎◌, ℕ, ◌<◌, ◌≤◌, List, length, IfOk, IfErr, OnOk, MatchOption};
 ghost use Rattle.level_book.specs.BookCosts.{room, slots_of};
 ghost use Rattle.level_book.specs.NestedClass.{Nested};
 ghost use Rattle.level_book.specs.UnderTable.{IsGreatest};
 ghost use Rattle.cost_tables.specs.TableRows.{AreFor, TablesFit, tables_in};
-ghost use Rattle.hrevolve_gen.specs.Written.{IsWritten};
+ghost use Rattle.hrevolve_gen.specs.HRevolveList.{IsWritten};
 ghost use Rattle.hrevolve_gen.specs.Plans.{HasNestedPlan};
-ghost use Rattle.reversal.specs.Table.{accept, refuse, IsFirstWide};
+ghost use Rattle.reversal.specs.Table.{IsFirstWide};
 ghost use Rattle.reversal.specs.CommandPlan.{DecidesPlanHrevolve};
 ghost use Rattle.requests.specs.Ending.{no_memory, out_of_range};
-ghost use Rattle.reversal.specs.JobReading.{job_of, CanBeDone, KeepersHaveRoom};
+ghost use Rattle.reversal.specs.JobModel.{IsDecided};
 ghost use Rattle.reversal.specs.NoPlans.{IsUnnested};
 
 use crate::actions::{Actions, Listed};
@@ -40,10 +40,7 @@ pub fn hrevolve_text<R: Threads + Sync>(
 ) -> Result<Job, Ended>
     requires workers { (1 ≤ workers) × (workers ≤ 64) }
     requires steps { steps ≤ 2048 }
-    ensures accepted { IfOk result (λ job. DecidesPlanHrevolve steps book.now (accept (job_of job))) }
-    ensures can_be_done { IfOk result CanBeDone }
-    ensures room { IfOk result (λ job. (counts : List ℕ) → KeepersHaveRoom job counts) }
-    ensures refused { IfErr result (λ e. (e ≡ no_memory) ⊎ DecidesPlanHrevolve steps book.now (refuse e)) }
+    ensures { (counts : List ℕ) → IsDecided (DecidesPlanHrevolve steps book.now) counts result }
 {
     let book = book_in(alloc, book)?;
     if let Some(level) = first_wide(steps, &book) {

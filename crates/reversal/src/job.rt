@@ -1,34 +1,29 @@
 // What an accepted call is to do.
-ghost use Rattle.std.specs.Prelude.{◌≡◌, ◌≢◌, ◌⊎◌, ◌≤◌, ℕ, [], ◌∷◌, length, map, Option};
+ghost use Rattle.std.specs.Prelude.{◌≡◌, ◌≢◌, ℕ, [], ◌∷◌, length, map, Option};
 ghost use Rattle.std.specs.List.{AllByRecursion};
-ghost use Rattle.plan_types.specs.declared.limits.TheConstants.{MOST_ACTIONS};
-ghost use Rattle.keepers.specs.Told.{Images};
+ghost use Rattle.keepers.specs.Claims.{Images};
 ghost use Rattle.level_book.specs.BookCosts.{slots_of};
-ghost use Rattle.level_book.specs.Valid.{Valid};
-ghost use Rattle.rv_machine.specs.MachineState.{IsMachineState};
 ghost use Rattle.unit_digests.specs.Digests.{HasPages};
 ghost use Rattle.reverse_runner.specs.KeepersSeen.{HaveRoom};
-ghost use Rattle.reverse_runner.specs.Rooms.{image_room, rooms_by, AreRoomy};
 ghost use Rattle.reverse_runner.specs.SessionState.{levels_of};
-ghost use Rattle.reverse_runner.specs.LevelsStand.{AreAlone};
-ghost use Rattle.reverse_runner.specs.Standing.{begun, StandsAt};
+ghost use Rattle.reverse_runner.specs.HoldingsOfRun.{AreAlone};
 ghost use Rattle.reverse_runner.specs.declared.fault.RunFault.TheVariants as fault_is;
 ghost use Rattle.reversal.specs.Job.{perform, write};
-ghost use Rattle.reversal.specs.Moment.{Moment, moment, beside, AllTell, AllEmpty};
+ghost use Rattle.reversal.specs.Moment.{Moment, beside, AllEmpty};
 ghost use Rattle.reversal.specs.ActionsLeft.{left_of};
 ghost use Rattle.reversal.specs.Table.{accept};
-ghost use Rattle.reversal.specs.Decision.{EndsBy, KeepsOthers, HaveRoomsFor};
-ghost use Rattle.reversal.specs.Beginning.{Begins};
-ghost use Rattle.reversal.specs.JobReading.{performed_run, run_from, job_of, IsPerformable, CanBeDone, KeepersHaveRoom, IsUntouched, Works, fault_ending};
+ghost use Rattle.reversal.specs.Decision.{EndsBy};
+ghost use Rattle.reversal.specs.RunStart.{Begins};
+ghost use Rattle.reversal.specs.JobModel.{performed_run, run_from, job_of, IsPerformable, CanBeDone, KeepersHaveRoom, IsBegun, Does, DoesBegun, fault_ending};
 
 use crate::actions::Actions;
 use crate::asking::Asking;
+use crate::console::ConsoleRun;
+use crate::cost::CostReport;
 use crate::demo::Demonstration;
 use crate::finding::Finding;
 use crate::listing::Listing;
-use crate::moving::Moving;
 use crate::planning::Plan;
-use crate::pricing::Pricing;
 use input_journal::Journal;
 use keepers::{Keeper, Sink};
 use level_book::Book;
@@ -55,13 +50,13 @@ pub enum Job {
     /// To write bytes in one piece.
     Bytes(Vec<u8>),
     /// To write what a list costs.
-    Report(Pricing),
+    Report(CostReport),
     /// To write a plan.
     Plan(Plan),
     /// To write the lines of words.
     List(Listing),
     /// To move about in a run by orders.
-    MoveAbout(Moving),
+    Console(ConsoleRun),
     /// To run a program made from a number, and to write a summary.
     Demonstrate(Demonstration),
 }
@@ -94,9 +89,9 @@ impl Job {
                 asking.over.start.is_machine_state();
                 asking.over.journal.is_recorded();
             }
-            Job::MoveAbout(moving) => {
-                moving.start.is_machine_state();
-                moving.journal.is_recorded();
+            Job::Console(console) => {
+                console.run.start.is_machine_state();
+                console.run.journal.is_recorded();
             }
             Job::Find(_) => {}
             Job::Write(_) => {}
@@ -120,12 +115,7 @@ impl Job {
     ) -> Ended
         requires can_be_done { CanBeDone self }
         requires room { KeepersHaveRoom self (map K.slot_count keepers.old.items) }
-        ensures works { IsUntouched result out.old out.new keepers.old keepers.new counter.old counter.new ⊎ Works (job_of self) result
-            (moment O.told O.call_count O.fault_count K.told K.put_count K.get_count K.free_count K.fault_count out.old keepers.old.items counter.old)
-            (moment O.told O.call_count O.fault_count K.told K.put_count K.get_count K.free_count K.fault_count out.new keepers.new.items counter.new) }
-        ensures others { KeepsOthers K.slot_count K.place (accept (job_of self)) keepers.old.items keepers.new.items }
-        ensures roomy { HaveRoomsFor (job_of self) (rooms_by K.Storage keepers.old.items) → result.status ≡ 17 →
-            IsUntouched result out.old out.new keepers.old keepers.new counter.old counter.new }
+        ensures { Does O.Sink K.Storage (job_of self) result out.old out.new keepers.old keepers.new counter.old counter.new }
     {
         match self {
             Job::Perform(performance) => performance.perform(rt, alloc, keepers, out, counter),
@@ -133,10 +123,10 @@ impl Job {
             Job::Find(finding) => finding.find(rt, alloc, out, counter),
             Job::Write(text) => write_bytes(text.bytes(), out),
             Job::Bytes(bytes) => write_bytes(&bytes, out),
-            Job::Report(pricing) => pricing.write(out),
+            Job::Report(report) => report.write(out),
             Job::Plan(plan) => plan.write(out),
             Job::List(listing) => listing.write(out),
-            Job::MoveAbout(moving) => moving.move_about(alloc, keepers, out, counter),
+            Job::Console(console) => console.answer_orders(alloc, keepers, out, counter),
             Job::Demonstrate(demonstration) => demonstration.show(alloc, out, counter),
         }
     }
@@ -154,12 +144,7 @@ impl Performance {
     ) -> Ended
         requires can_be_done { IsPerformable self }
         requires room { HaveRoom self.steps (slots_of self.book) (map K.slot_count keepers.old.items) }
-        ensures works { IsUntouched result out.old out.new keepers.old keepers.new counter.old counter.new ⊎ Works (perform (performed_run self)) result
-            (moment O.told O.call_count O.fault_count K.told K.put_count K.get_count K.free_count K.fault_count out.old keepers.old.items counter.old)
-            (moment O.told O.call_count O.fault_count K.told K.put_count K.get_count K.free_count K.fault_count out.new keepers.new.items counter.new) }
-        ensures others { KeepsOthers K.slot_count K.place (accept (perform (performed_run self))) keepers.old.items keepers.new.items }
-        ensures roomy { AreRoomy (image_room self.start) (length (slots_of self.book)) (rooms_by K.Storage keepers.old.items) → result.status ≡ 17 →
-            IsUntouched result out.old out.new keepers.old keepers.new counter.old counter.new }
+        ensures { Does O.Sink K.Storage (perform (performed_run self)) result out.old out.new keepers.old keepers.new counter.old counter.new }
     {
         let Performance {
             start,
@@ -194,8 +179,8 @@ impl Performance {
 // Writes bytes in one piece.
 fn write_bytes<O: Sink>(bytes: &[u8], out: &mut O) -> Ended
     ensures { (other : Moment) (steps : ℕ) → EndsBy (accept (write (bytes.now ∷ []))) result
-        (beside O.told O.call_count O.fault_count other out.old steps)
-        (beside O.told O.call_count O.fault_count other out.new steps) }
+        (beside O.Sink other out.old steps)
+        (beside O.Sink other out.new steps) }
 {
     match out.write(bytes) {
         Ok(()) => Ended::done(),
@@ -213,20 +198,11 @@ fn perform_all<R: Threads + Sync, K: Keeper, O: Sink, L: Ledger>(
     out: &mut O,
     counter: &mut Steps<L>,
 ) -> Ended
-    requires begun { session.old ≡ begun session.old.work session.old.journal session.old.unit session.old.situation.steps session.old.situation.slots }
-    requires stands { (told : ℕ → Option Images) → AllTell (length session.old.situation.slots) told → StandsAt session.old.work session.old told }
+    requires begun { IsBegun session.old (left_of actions.old) (map K.slot_count keepers.old.items) }
     requires alone { (told : ℕ → Option Images) → AllEmpty (length session.old.situation.slots) told → AreAlone (levels_of session.old told) }
-    requires state { IsMachineState session.old.work }
     requires pages { AllByRecursion (HasPages session.old.work) digesters }
-    requires valid { Valid session.old.situation.steps session.old.situation.slots (left_of actions.old) }
-    requires few { length (left_of actions.old) ≤ MOST_ACTIONS }
-    requires room { HaveRoom session.old.situation.steps session.old.situation.slots (map K.slot_count keepers.old.items) }
-    ensures works { Works (perform (run_from session.old (left_of actions.old))) result
-        (moment O.told O.call_count O.fault_count K.told K.put_count K.get_count K.free_count K.fault_count out.old keepers.old.items counter.old)
-        (moment O.told O.call_count O.fault_count K.told K.put_count K.get_count K.free_count K.fault_count out.new keepers.new.items counter.new) }
-    ensures others { KeepsOthers K.slot_count K.place (accept (perform (run_from session.old (left_of actions.old)))) keepers.old.items keepers.new.items }
-    ensures roomy { AreRoomy (image_room session.old.work) (length session.old.situation.slots) (rooms_by K.Storage keepers.old.items) →
-        result.status ≢ 17 }
+    ensures { DoesBegun O.Sink K.Storage (perform (run_from session.old (left_of actions.old))) result out.old out.new
+        keepers.old.items keepers.new.items counter.old counter.new }
 {
     let mut writer = LineWriter::new(out);
     let mut place = 0;

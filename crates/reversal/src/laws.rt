@@ -1,17 +1,16 @@
 // Laws of requests and decisions. Each function does nothing; its contract is the law.
-ghost use Rattle.std.specs.Prelude.{◌≡◌, ◌⊎◌, ℕ, ◌+◌, ◌≤◌, ◌++◌, List, [], ◌∷◌, length, take, Option, Contains};
-ghost use Rattle.keepers.specs.Told.{Tells};
+ghost use Rattle.std.specs.Prelude.{◌≡◌, ◌⊎◌, ℕ, ◌+◌, ◌≤◌, ◌++◌, List, [], ◌∷◌, length, take, Option};
+ghost use Rattle.keepers.specs.Claims.{Tells};
 ghost use Rattle.plan_types.specs.declared.action.Action.{Action};
 ghost use Rattle.plan_types.specs.declared.limits.TheConstants.{MOST_STEPS};
 ghost use Rattle.level_book.specs.BookCosts.{BookCosts, slots_of, names_of, total_room};
 ghost use Rattle.binomials.specs.Advances.{least_advances};
 ghost use Rattle.rv_machine.specs.MachineState.{MachineState};
-ghost use Rattle.reverse_runner.specs.Handed.{handed};
 ghost use Rattle.reverse_queries.specs.Collision.{CollidesOn};
-ghost use Rattle.reverse_queries.specs.Performing.{IsOut};
+ghost use Rattle.reverse_queries.specs.ListPerformance.{IsOut};
 ghost use Rattle.reverse_queries.specs.Queries.{WritesIn, ChangesIn, IsLast, front_to, up_to};
 ghost use Rattle.requests.specs.declared.question.Question.TheVariants.{State, LastWrite, LastChange};
-ghost use Rattle.disk_gen.specs.Periodic.{periodic_list};
+ghost use Rattle.disk_gen.specs.PeriodicList.{periodic_list};
 ghost use Rattle.level_book.specs.BookFaults.{IsBookText};
 ghost use Rattle.level_book.specs.CostFold.{forward, cost};
 ghost use Rattle.level_book.specs.DiskClass.{Disk};
@@ -24,34 +23,34 @@ ghost use Rattle.cert_text.specs.declared.certificate.Certificate.TheVariants as
 ghost use Rattle.cost_tables.specs.TableRows.{TableRows};
 ghost use Rattle.disk_gen.specs.DiskRows.{DiskRows};
 ghost use Rattle.cert_text.specs.Canonical.{pieces};
-ghost use Rattle.bound_cert.specs.Accepted.{class_of, IsAccepted, IsLeastOf};
+ghost use Rattle.bound_cert.specs.Acceptance.{class_of, IsAccepted, IsLeastOf};
 ghost use Rattle.cert_text.specs.Meaning.{IsCertificateText};
 ghost use Rattle.revolve_gen.specs.Multistage.{IsMultistage};
-ghost use Rattle.revolve_gen.specs.Written.{revolve_list};
+ghost use Rattle.revolve_gen.specs.RevolveList.{revolve_list};
 ghost use Rattle.reversal.specs.Table.{Decision, accept};
 ghost use Rattle.reversal.specs.CommandCertify.{least_line, DecidesCertify};
-ghost use Rattle.reversal.specs.Fronts.{in_units, IsStartOf, AreItemsOf, DecidesOver};
+ghost use Rattle.reversal.specs.InputMeaning.{in_units, IsStartOf, AreItemsOf, DecidesOver};
 ghost use Rattle.reversal.specs.Decision.{course_of, Decides, EndsBy};
 ghost use Rattle.reversal.specs.CommandPlan.{DecidesPlanRevolve, DecidesPlanMultistage, DecidesPlanDisk, DecidesPlanHrevolve, DecidesPlanPeriodic};
 ghost use Rattle.reversal.specs.Plans.{list_pieces, plan_pieces, certificate_of};
 ghost use Rattle.reversal.specs.WrittenPlans.{SaysAgain};
-ghost use Rattle.reversal.specs.Job.{Run, Job, perform, ask as ask_job, move_about, write, last_of, state_of, unit_state};
+ghost use Rattle.reversal.specs.Job.{Run, Job, perform, ask as ask_job, console, write, last_of, state_of, unit_state};
 ghost use Rattle.reverse_console.specs.declared.order.Order.{Order};
 ghost use Rattle.reverse_console.specs.Marks.{MarkPlan};
-ghost use Rattle.reversal.specs.Beginning.{Begins};
-ghost use Rattle.reversal.specs.Collision.{OrdersCollide};
-ghost use Rattle.reversal.specs.CommandConsole.{AreOfOrders, of_run, WentAbout, AnyMark, WritesAnswers, moving_about};
+ghost use Rattle.reversal.specs.RunStart.{Begins};
+ghost use Rattle.reversal.specs.Collision.{OrdersCollide, ShowsItsStatesOrCollides, WritesTheBeginningOrCollides};
+ghost use Rattle.reversal.specs.CommandConsole.{AreOfOrders, of_run, WentAbout, AnyMark, WritesAnswers, console_course};
 ghost use Rattle.reversal.specs.CommandAsk.{asking};
 ghost use Rattle.reversal.specs.CommandRun.{performing};
-ghost use Rattle.reversal.specs.Going.{AllLevels, SparesNext, UnreachedNext, Went, IsFound, ComesTo, GoesOver, IsWithinSlots};
+ghost use Rattle.reversal.specs.RunTrace.{AllLevels, SparesNext, UnreachedNext, Went, IsFound, ComesTo, GoesOver, IsWithinSlots};
 ghost use Rattle.level_book.specs.Configuration.{Configuration, start};
 ghost use Rattle.level_book.specs.Valid.{Leads, Valid};
-ghost use Rattle.reverse_runner.specs.Acts.{Holdings};
+ghost use Rattle.reverse_runner.specs.ActionEffects.{Holdings};
 ghost use Rattle.reversal.specs.Moment.{Moment, NothingRises, AllTell};
 ghost use Rattle.requests.specs.declared.ended.Ended.{Ended};
 ghost use Rattle.requests.specs.Ending.{done};
-ghost use Rattle.reverse_console.specs.Standing.{MarksTell};
-ghost use Rattle.reversal.specs.Output.{line_of, lines_down, Adds, AddsFrontOf};
+ghost use Rattle.reverse_console.specs.MarksOfRun.{MarksTell};
+ghost use Rattle.reversal.specs.Output.{line_of, lines_down, Adds};
 ghost use Rattle.reversal.specs.Course.{Shown, Done, Stops, FailsAt, DamagedAt, Halts};
 ghost use Rattle.reversal.specs.Deeds.{Deed, States, bytes_written, steps_made};
 
@@ -81,7 +80,7 @@ pub fn deeds_make_the_output()
 /// If a script was done over in-memory storage, each order was answered in the run. Just the answers were written.
 pub fn scripts_write_the_answers_to_their_orders()
     ensures { (first : MachineState) (items : List (List ℕ)) (p : MarkPlan) (orders : List Order) (shown : Shown) (old new : Moment) →
-        MarksTell p old.images → Done (moving_about first items p orders) shown old new → WritesAnswers first items p orders old new }
+        MarksTell p old.images → Done (console_course first items p orders) shown old new → WritesAnswers first items p orders old new }
 {}
 
 /// An accepted job is done, if no fault counter rises and the keepers of its levels claim their content. No image is
@@ -186,16 +185,13 @@ pub fn runs_stay_within_their_slots()
 pub fn runs_show_their_states_or_collide()
     ensures shown { (run : Run) → Begins (perform run) →
         (performed : ℕ) (states : States) (old new : Moment) (went : Went AllLevels run performed states old new) →
-        ((n : ℕ) → Contains (handed run.unit run.steps (take (performed + 1) run.list)) n → states n ≡ state_of run n)
-        ⊎ CollidesOn (unit_state run) (take performed run.list) went.through.held }
+        ShowsItsStatesOrCollides run performed states went.through.held }
     ensures shown_at_storage { (run : Run) → Begins (perform run) →
         (performed level : ℕ) (states : States) (old new : Moment) (went : Went (UnreachedNext level) run performed states old new) →
-        ((n : ℕ) → Contains (handed run.unit run.steps (take (performed + 1) run.list)) n → states n ≡ state_of run n)
-        ⊎ CollidesOn (unit_state run) (take performed run.list) went.through.held }
+        ShowsItsStatesOrCollides run performed states went.through.held }
     ensures shown_in_memory { (run : Run) → Begins (perform run) →
         (performed : ℕ) (states : States) (old new : Moment) (went : Went SparesNext run performed states old new) →
-        ((n : ℕ) → Contains (handed run.unit run.steps (take (performed + 1) run.list)) n → states n ≡ state_of run n)
-        ⊎ CollidesOn (unit_state run) (take performed run.list) went.through.held }
+        ShowsItsStatesOrCollides run performed states went.through.held }
     ensures lines { (run : Run) → Begins (perform run) →
         (shown : Shown) (old new : Moment) (done : Done (performing run) shown old new) →
         Tells old.told new.told (Adds (lines_down (state_of run) (last_of run)))
@@ -207,20 +203,16 @@ pub fn runs_show_their_states_or_collide()
 pub fn runs_write_the_beginning_of_their_lines_or_collide()
     ensures at_a_write { (run : Run) → Begins (perform run) →
         (shown : Shown) (performed : ℕ) (old new : Moment) (stops : Stops (performing run) shown performed old new) →
-        Tells old.told new.told (AddsFrontOf (lines_down (state_of run) (last_of run)))
-        ⊎ CollidesOn (unit_state run) (take performed run.list) stops.held.through.held }
+        WritesTheBeginningOrCollides run performed stops.held.through.held old new }
     ensures at_storage { (run : Run) → Begins (perform run) →
         (shown : Shown) (performed level : ℕ) (old new : Moment) (fails : FailsAt (performing run) shown performed level old new) →
-        Tells old.told new.told (AddsFrontOf (lines_down (state_of run) (last_of run)))
-        ⊎ CollidesOn (unit_state run) (take performed run.list) fails.held.through.held }
+        WritesTheBeginningOrCollides run performed fails.held.through.held old new }
     ensures at_damage { (run : Run) → Begins (perform run) →
         (shown : Shown) (performed level : ℕ) (put got : List ℕ) (old new : Moment) (damaged : DamagedAt (performing run) shown performed level put got old new) →
-        Tells old.told new.told (AddsFrontOf (lines_down (state_of run) (last_of run)))
-        ⊎ CollidesOn (unit_state run) (take performed run.list) damaged.held.through.held }
+        WritesTheBeginningOrCollides run performed damaged.held.through.held old new }
     ensures in_memory { (run : Run) → Begins (perform run) →
         (shown : Shown) (performed : ℕ) (old new : Moment) (halts : Halts (performing run) shown performed old new) →
-        Tells old.told new.told (AddsFrontOf (lines_down (state_of run) (last_of run)))
-        ⊎ CollidesOn (unit_state run) (take performed run.list) halts.held.through.held }
+        WritesTheBeginningOrCollides run performed halts.held.through.held old new }
 {}
 
 /// Over any keepers, the line that answers a question is that of the run's state. The number is that of the last step
@@ -249,6 +241,6 @@ pub fn questions_are_answered_in_the_run_or_collide()
 /// collision came back for a mark: bytes other than its image, with the same SHA-256.
 pub fn scripts_are_answered_in_the_run_or_collide()
     ensures { (first : MachineState) (items : List (List ℕ)) (p : MarkPlan) (orders : List Order) (deeds : List Deed) (old new : Moment) →
-        Begins (move_about first items p orders) → (went : WentAbout first items p orders deeds AnyMark old new) →
+        Begins (console first items p orders) → (went : WentAbout first items p orders deeds AnyMark old new) →
         AreOfOrders p (of_run first items p.count) orders 0 deeds ⊎ OrdersCollide first p went.from (AnyMark went.from) orders 0 deeds went.seen }
 {}

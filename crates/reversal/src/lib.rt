@@ -10,8 +10,10 @@
 
 mod actions;
 mod asking;
-mod assembling;
+mod asm;
 mod certifying;
+mod console;
+mod cost;
 mod decision;
 mod demo;
 mod disk;
@@ -21,12 +23,10 @@ mod job;
 pub mod laws;
 mod line_hasher;
 mod listing;
-mod moving;
 mod multistage;
 mod periodic;
 mod plan_kinds;
 mod planning;
-mod pricing;
 mod top;
 
 pub use crate::top::reversal;

@@ -1,26 +1,25 @@
 // The lines of the words of a raw program.
-ghost use Rattle.std.specs.Prelude.{◌≡◌, ◌⊎◌, ℕ, ◌+◌, ◌≤◌, ◌%◌, ◌++◌, List, length, map, take, drop, IfOk, IfErr};
+ghost use Rattle.std.specs.Prelude.{◌≡◌, ℕ, ◌+◌, ◌≤◌, ◌%◌, ◌++◌, List, length, map, take, drop, IfOk};
 ghost use Rattle.std.specs.List.{AllByRecursion};
 ghost use Rattle.std.specs.Vec.{vec_len, vec_capacity};
-ghost use Rattle.requests.specs.Request.{Choice, disassemble as disassemble_command};
+ghost use Rattle.requests.specs.Request.{Choice, disasm as disasm_command};
 ghost use Rattle.requests.specs.Inputs.{inputs_of};
-ghost use Rattle.requests.specs.InputReading.{AreWithinLimits};
-ghost use Rattle.requests.specs.RequestReading.{as_disassemble};
-ghost use Rattle.requests.specs.Ending.{no_memory};
+ghost use Rattle.requests.specs.InputOutcome.{AreWithinLimits};
+ghost use Rattle.requests.specs.RequestModel.{as_disasm};
 ghost use Rattle.reversal.specs.Job.{write};
 ghost use Rattle.reversal.specs.Moment.{Moment, beside};
 ghost use Rattle.reversal.specs.Deeds.{bytes_of};
-ghost use Rattle.reversal.specs.Table.{accept, refuse};
-ghost use Rattle.reversal.specs.CommandAssemble.{word_bytes, DecidesDisassemble};
+ghost use Rattle.reversal.specs.Table.{accept};
+ghost use Rattle.reversal.specs.CommandAsm.{word_bytes, DecidesDisasm};
 ghost use Rattle.reversal.specs.Decision.{EndsBy, DecidesBytes};
 ghost use Rattle.reversal.specs.Listing.{ended_line, word_pieces, IsWord};
-ghost use Rattle.reversal.specs.JobReading.{job_of, CanBeDone, KeepersHaveRoom};
+ghost use Rattle.reversal.specs.JobModel.{IsDecided};
 
 use crate::job::Job;
 use elf_load::ElfFault;
 use keepers::Sink;
 use plan_types::Line;
-use requests::{Disassemble, Ended};
+use requests::{Disasm, Ended};
 use rv_asm::disassemble;
 use std::alloc::{AllocError, Global};
 
@@ -41,8 +40,8 @@ impl Listing {
     pub fn write<O: Sink>(self, out: &mut O) -> Ended
         requires { 5184 ≤ vec_capacity self.piece }
         ensures { (other : Moment) (steps : ℕ) → EndsBy (accept (write (word_pieces self.words.items))) result
-            (beside O.told O.call_count O.fault_count other out.old steps)
-            (beside O.told O.call_count O.fault_count other out.new steps) }
+            (beside O.Sink other out.old steps)
+            (beside O.Sink other out.new steps) }
     {
         let Listing { words, mut piece } = self;
         let mut rest = words.as_slice();
@@ -86,29 +85,17 @@ fn push_line(word: u32, line: &mut Line, piece: &mut Vec<u8>)
 }
 
 /// The decision on a request to disassemble a raw program, by its bytes.
-pub fn decide_disassemble(
-    alloc: Global,
-    disassemble: &Disassemble<'_>,
-    bytes: &[Vec<u8>],
-) -> Result<Job, Ended>
-    requires { AreWithinLimits (inputs_of (disassemble_command (as_disassemble disassemble.now))) (map (λ b. b.items) bytes.now) }
-    ensures accepted { IfOk result (λ job. (slots : List ℕ) → (options : List Choice) →
-        DecidesBytes options (disassemble_command (as_disassemble disassemble.now)) (map (λ b. b.items) bytes.now) slots (accept (job_of job))) }
-    ensures can_be_done { IfOk result CanBeDone }
-    ensures room { IfOk result (λ job. (counts : List ℕ) → KeepersHaveRoom job counts) }
-    ensures refused { IfErr result (λ e. (e ≡ no_memory)
-        ⊎ ((slots : List ℕ) → (options : List Choice) →
-        DecidesBytes options (disassemble_command (as_disassemble disassemble.now)) (map (λ b. b.items) bytes.now) slots (refuse e))) }
+pub fn decide_disasm(alloc: Global, disasm: &Disasm<'_>, bytes: &[Vec<u8>]) -> Result<Job, Ended>
+    requires { AreWithinLimits (inputs_of (disasm_command (as_disasm disasm.now))) (map (λ b. b.items) bytes.now) }
+    ensures { (slots : List ℕ) → (options : List Choice) →
+        IsDecided (DecidesBytes options (disasm_command (as_disasm disasm.now)) (map (λ b. b.items) bytes.now) slots) slots result }
 {
     let [program] = bytes else { unreachable!() };
     list_words(alloc, program)
 }
 
 fn list_words(alloc: Global, program: &[u8]) -> Result<Job, Ended>
-    ensures accepted { IfOk result (λ job. DecidesDisassemble program.now (accept (job_of job))) }
-    ensures can_be_done { IfOk result CanBeDone }
-    ensures room { IfOk result (λ job. (counts : List ℕ) → KeepersHaveRoom job counts) }
-    ensures refused { IfErr result (λ e. (e ≡ no_memory) ⊎ DecidesDisassemble program.now (refuse e)) }
+    ensures { (counts : List ℕ) → IsDecided (DecidesDisasm program.now) counts result }
 {
     if program.is_empty() || program.len() % 4 != 0 {
         return Err(Ended::from(ElfFault::RawLength(program.len() as u64)));

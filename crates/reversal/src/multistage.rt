@@ -5,11 +5,10 @@ ghost use Rattle.level_book.specs.BookCosts.{total_room};
 ghost use Rattle.revolve_gen.specs.Plans.{HasPlan};
 ghost use Rattle.revolve_gen.specs.Multistage.{IsMultistage};
 ghost use Rattle.multistage_gen.specs.Plan.{IsPlaced};
-ghost use Rattle.multistage_gen.specs.Planned.{IsMultistageList};
-ghost use Rattle.reversal.specs.Table.{accept, refuse};
+ghost use Rattle.multistage_gen.specs.MultistageList.{IsMultistageList};
 ghost use Rattle.reversal.specs.CommandPlan.{DecidesPlanMultistage};
 ghost use Rattle.requests.specs.Ending.{no_memory, no_plan};
-ghost use Rattle.reversal.specs.JobReading.{job_of, CanBeDone, KeepersHaveRoom};
+ghost use Rattle.reversal.specs.JobModel.{IsDecided};
 
 use crate::actions::Actions;
 use crate::decision::book_in;
@@ -25,10 +24,7 @@ use std::alloc::Global;
 /// The decision on a multistage plan by the bytes of its book: the texts of its list and certificate.
 pub fn multistage_text(alloc: Global, steps: u32, book: &[u8]) -> Result<Job, Ended>
     requires steps { steps ≤ MOST_STEPS }
-    ensures accepted { IfOk result (λ job. DecidesPlanMultistage steps book.now (accept (job_of job))) }
-    ensures can_be_done { IfOk result CanBeDone }
-    ensures room { IfOk result (λ job. (counts : List ℕ) → KeepersHaveRoom job counts) }
-    ensures refused { IfErr result (λ e. (e ≡ no_memory) ⊎ DecidesPlanMultistage steps book.now (refuse e)) }
+    ensures { (counts : List ℕ) → IsDecided (DecidesPlanMultistage steps book.now) counts result }
 {
     let book = book_in(alloc, book)?;
     let plan = plan_for(alloc, steps, &book)?;

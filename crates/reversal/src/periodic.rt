@@ -2,12 +2,11 @@
 ghost use Rattle.std.specs.Prelude.{◌≡◌, ◌⊎◌, ℕ, ◌≤◌, List, IfOk, IfErr, OnOk};
 ghost use Rattle.plan_types.specs.declared.limits.TheConstants.{MOST_STEPS};
 ghost use Rattle.level_book.specs.BookCosts.{total_room};
-ghost use Rattle.disk_gen.specs.Periodic.{periodic_list};
+ghost use Rattle.disk_gen.specs.PeriodicList.{periodic_list};
 ghost use Rattle.disk_gen.specs.Plans.{HasPeriodicPlan};
-ghost use Rattle.reversal.specs.Table.{accept, refuse};
 ghost use Rattle.reversal.specs.CommandPlan.{DecidesPlanPeriodic};
 ghost use Rattle.requests.specs.Ending.{no_memory};
-ghost use Rattle.reversal.specs.JobReading.{job_of, CanBeDone, KeepersHaveRoom};
+ghost use Rattle.reversal.specs.JobModel.{IsDecided};
 ghost use Rattle.reversal.specs.NoPlans.{IsUnperiodic};
 
 use crate::actions::Actions;
@@ -25,10 +24,7 @@ pub fn periodic_text(alloc: Global, steps: u32, period: u32, book: &[u8]) -> Res
     requires steps { steps ≤ MOST_STEPS }
     requires some { 1 ≤ period }
     requires small { period ≤ MOST_STEPS }
-    ensures accepted { IfOk result (λ job. DecidesPlanPeriodic steps period book.now (accept (job_of job))) }
-    ensures can_be_done { IfOk result CanBeDone }
-    ensures room { IfOk result (λ job. (counts : List ℕ) → KeepersHaveRoom job counts) }
-    ensures refused { IfErr result (λ e. (e ≡ no_memory) ⊎ DecidesPlanPeriodic steps period book.now (refuse e)) }
+    ensures { (counts : List ℕ) → IsDecided (DecidesPlanPeriodic steps period book.now) counts result }
 {
     let book = book_in(alloc, book)?;
     let periodic = periodic_for(alloc, steps, period, &book)?;

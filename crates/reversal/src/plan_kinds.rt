@@ -1,18 +1,15 @@
 // The decisions on requests for plans.
-ghost use Rattle.std.specs.Prelude.{◌≡◌, ◌⊎◌, ℕ, ◌≤◌, List, map, IfOk, IfErr};
-ghost use Rattle.std.specs.List.{AllByRecursion};
+ghost use Rattle.std.specs.Prelude.{ℕ, ◌≤◌, List, map};
 ghost use Rattle.plan_types.specs.declared.limits.TheConstants.{MOST_STEPS};
 ghost use Rattle.requests.specs.Request.{Choice, plan_limit, plan as plan_command, plan_periodic as plan_periodic_command};
 ghost use Rattle.requests.specs.Operands.{within};
 ghost use Rattle.requests.specs.Bounds.{IsWithin};
-ghost use Rattle.reversal.specs.Table.{accept, refuse};
 ghost use Rattle.reversal.specs.CommandPlan.{DecidesPlan};
 ghost use Rattle.reversal.specs.Decision.{DecidesBytes};
-ghost use Rattle.requests.specs.Ending.{no_memory};
 ghost use Rattle.requests.specs.Inputs.{inputs_of};
-ghost use Rattle.requests.specs.InputReading.{AreWithinLimits};
-ghost use Rattle.reversal.specs.JobReading.{job_of, CanBeDone, KeepersHaveRoom};
-ghost use Rattle.requests.specs.RequestReading.{as_plan, as_plan_periodic};
+ghost use Rattle.requests.specs.InputOutcome.{AreWithinLimits};
+ghost use Rattle.reversal.specs.JobModel.{IsDecided};
+ghost use Rattle.requests.specs.RequestModel.{as_plan, as_plan_periodic};
 
 use crate::disk::disk_text;
 use crate::hrevolve::hrevolve_text;
@@ -36,13 +33,8 @@ pub fn decide_plan<R: Threads + Sync>(
     requires workers { (1 ≤ workers) × (workers ≤ 64) }
     requires steps { IsWithin (within (plan_limit plan.now.kind) plan.now.steps) }
     requires inputs { AreWithinLimits (inputs_of (plan_command (as_plan plan.now))) (map (λ b. b.items) bytes.now) }
-    ensures accepted { IfOk result (λ job. (slots : List ℕ) → (options : List Choice) →
-        DecidesBytes options (plan_command (as_plan plan.now)) (map (λ b. b.items) bytes.now) slots (accept (job_of job))) }
-    ensures can_be_done { IfOk result CanBeDone }
-    ensures room { IfOk result (λ job. (counts : List ℕ) → KeepersHaveRoom job counts) }
-    ensures refused { IfErr result (λ e. (e ≡ no_memory)
-        ⊎ ((slots : List ℕ) → (options : List Choice) →
-        DecidesBytes options (plan_command (as_plan plan.now)) (map (λ b. b.items) bytes.now) slots (refuse e))) }
+    ensures { (slots : List ℕ) → (options : List Choice) →
+        IsDecided (DecidesBytes options (plan_command (as_plan plan.now)) (map (λ b. b.items) bytes.now) slots) slots result }
 {
     let [book] = bytes else { unreachable!() };
     kind_text(rt, alloc, workers, plan.kind, plan.steps as u32, book)
@@ -59,10 +51,7 @@ fn kind_text<R: Threads + Sync>(
 ) -> Result<Job, Ended>
     requires workers { (1 ≤ workers) × (workers ≤ 64) }
     requires steps { IsWithin (within (plan_limit kind) steps) }
-    ensures accepted { IfOk result (λ job. DecidesPlan kind steps book.now (accept (job_of job))) }
-    ensures can_be_done { IfOk result CanBeDone }
-    ensures room { IfOk result (λ job. (counts : List ℕ) → KeepersHaveRoom job counts) }
-    ensures refused { IfErr result (λ e. (e ≡ no_memory) ⊎ DecidesPlan kind steps book.now (refuse e)) }
+    ensures { (counts : List ℕ) → IsDecided (DecidesPlan kind steps book.now) counts result }
 {
     match kind {
         PlanKind::Revolve => revolve_text(alloc, steps, book),
@@ -82,13 +71,8 @@ pub fn decide_plan_periodic(
     requires some { 1 ≤ plan.now.period }
     requires small { plan.now.period ≤ MOST_STEPS }
     requires inputs { AreWithinLimits (inputs_of (plan_periodic_command (as_plan_periodic plan.now))) (map (λ b. b.items) bytes.now) }
-    ensures accepted { IfOk result (λ job. (slots : List ℕ) → (options : List Choice) →
-        DecidesBytes options (plan_periodic_command (as_plan_periodic plan.now)) (map (λ b. b.items) bytes.now) slots (accept (job_of job))) }
-    ensures can_be_done { IfOk result CanBeDone }
-    ensures room { IfOk result (λ job. (counts : List ℕ) → KeepersHaveRoom job counts) }
-    ensures refused { IfErr result (λ e. (e ≡ no_memory)
-        ⊎ ((slots : List ℕ) → (options : List Choice) →
-        DecidesBytes options (plan_periodic_command (as_plan_periodic plan.now)) (map (λ b. b.items) bytes.now) slots (refuse e))) }
+    ensures { (slots : List ℕ) → (options : List Choice) →
+        IsDecided (DecidesBytes options (plan_periodic_command (as_plan_periodic plan.now)) (map (λ b. b.items) bytes.now) slots) slots result }
 {
     let [book] = bytes else { unreachable!() };
     periodic_text(alloc, plan.steps as u32, plan.period as u32, book)

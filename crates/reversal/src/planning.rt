@@ -1,5 +1,5 @@
 // Revolve's list for a book: a run by it, or its text with its certificate.
-ghost use Rattle.std.specs.Prelude.{◌≡◌, ◌≢◌, ◌⊎◌, ◌↔◌, ℕ, ◌+◌, ◌*◌, ◌≤◌, ◌++◌, List, [], ◌∷◌, map, take, drop, true, false, Option, IsTrue, IfOk, IfErr, OnOk};
+ghost use Rattle.std.specs.Prelude.{◌≡◌, ◌≢◌, ◌⊎◌, ◌↔◌, ℕ, ◌+◌, ◌≤◌, ◌++◌, List, [], ◌∷◌, map, take, drop, true, false, Option, IsTrue, IfOk, IfErr, OnOk};
 ghost use Rattle.std.specs.List.{AllByRecursion};
 ghost use Rattle.std.specs.Vec.{vec_len, vec_capacity};
 ghost use Rattle.plan_types.specs.declared.action.Action.{Action};
@@ -8,21 +8,21 @@ ghost use Rattle.level_book.specs.BookCosts.{names_of, total_room};
 ghost use Rattle.action_text.specs.Canonical.{HasSpelling};
 ghost use Rattle.cert_text.specs.Canonical.{pieces};
 ghost use Rattle.revolve_gen.specs.Plans.{HasPlan};
-ghost use Rattle.revolve_gen.specs.Written.{revolve_list};
-ghost use Rattle.requests.specs.Request.{Choice, Run as RunCommand, run as run_command, stack_pages, worker_count, unit_count};
+ghost use Rattle.revolve_gen.specs.RevolveList.{revolve_list};
+ghost use Rattle.requests.specs.Request.{Run as RunCommand, run as run_command, worker_count};
 ghost use Rattle.requests.specs.Operands.{made};
 ghost use Rattle.reversal.specs.Job.{perform, write};
 ghost use Rattle.reversal.specs.Moment.{Moment, beside};
 ghost use Rattle.reversal.specs.Deeds.{bytes_of};
-ghost use Rattle.reversal.specs.Table.{accept, refuse};
-ghost use Rattle.reversal.specs.Fronts.{DecidesOver, DecidesOverBytes};
+ghost use Rattle.reversal.specs.Table.{accept};
+ghost use Rattle.reversal.specs.InputMeaning.{DecidesOver, DecidesOverBytes};
 ghost use Rattle.reversal.specs.Decision.{EndsBy};
 ghost use Rattle.reversal.specs.CommandPlan.{DecidesPlanRevolve};
 ghost use Rattle.requests.specs.Ending.{no_memory, no_plan};
 ghost use Rattle.requests.specs.Inputs.{inputs_of};
-ghost use Rattle.requests.specs.InputReading.{AreWithinLimits};
+ghost use Rattle.requests.specs.InputOutcome.{AreWithinLimits};
 ghost use Rattle.reversal.specs.ActionsLeft.{left_of};
-ghost use Rattle.reversal.specs.JobReading.{job_of, pieces_of, IsWritable, CanBeDone, HasWorkers, KeepersHaveRoom, text_of};
+ghost use Rattle.reversal.specs.JobModel.{job_of, pieces_of, IsWritable, CanBeDone, HasWorkers, KeepersHaveRoom, text_of, IsDecided, RunFits};
 ghost use Rattle.reversal.specs.Plans.{line_of_action, list_pieces};
 
 use crate::actions::Actions;
@@ -60,18 +60,11 @@ pub fn decide_made(
     bytes: &mut [Vec<u8>],
     counts: &[u32],
 ) -> Result<Job, Ended>
-    requires stack { (1 ≤ stack_pages options.now) × (stack_pages options.now ≤ 1024) }
-    requires unit { (1 ≤ unit_count options.now) × (unit_count options.now ≤ 1024) }
+    requires run { RunFits options.now steps }
     requires workers { (1 ≤ worker_count options.now) × (worker_count options.now ≤ 64) }
-    requires steps { steps ≤ MOST_STEPS }
-    requires instructions { unit_count options.now * steps ≤ MOST_STEPS }
     requires inputs { (r : RunCommand) × AreWithinLimits (inputs_of (run_command (record { run = r; schedule = made }))) (map (λ b. b.items) bytes.old) }
-    ensures accepted { IfOk result (λ job. DecidesOverBytes perform options.now made steps (map (λ b. b.items) bytes.old) counts.now (accept (job_of job))) }
-    ensures can_be_done { IfOk result CanBeDone }
+    ensures decided { IsDecided (DecidesOverBytes perform options.now made steps (map (λ b. b.items) bytes.old) counts.now) counts.now result }
     ensures workers { IfOk result (HasWorkers (worker_count options.now)) }
-    ensures room { IfOk result (λ job. KeepersHaveRoom job counts.now) }
-    ensures refused { IfErr result (λ e. (e ≡ no_memory)
-        ⊎ DecidesOverBytes perform options.now made steps (map (λ b. b.items) bytes.old) counts.now (refuse e)) }
 {
     match bytes {
         [program, book] => {
@@ -101,19 +94,12 @@ fn decide_texts(
     texts: Texts<'_>,
     counts: &[u32],
 ) -> Result<Job, Ended>
-    requires stack { (1 ≤ stack_pages options.now) × (stack_pages options.now ≤ 1024) }
-    requires unit { (1 ≤ unit_count options.now) × (unit_count options.now ≤ 1024) }
+    requires run { RunFits options.now steps }
     requires workers { (1 ≤ worker_count options.now) × (worker_count options.now ≤ 64) }
-    requires steps { steps ≤ MOST_STEPS }
-    requires instructions { unit_count options.now * steps ≤ MOST_STEPS }
-    ensures accepted { IfOk result (λ job. DecidesOver perform options.now steps texts.entry.program.now
-        (text_of texts.entry.journal) texts.entry.book.now None counts.now (accept (job_of job))) }
-    ensures can_be_done { IfOk result CanBeDone }
+    ensures decided { IsDecided
+        (DecidesOver perform options.now steps texts.entry.program.now (text_of texts.entry.journal) texts.entry.book.now None counts.now)
+        counts.now result }
     ensures workers { IfOk result (HasWorkers (worker_count options.now)) }
-    ensures room { IfOk result (λ job. KeepersHaveRoom job counts.now) }
-    ensures refused { IfErr result (λ e. (e ≡ no_memory)
-        ⊎ DecidesOver perform options.now steps texts.entry.program.now
-        (text_of texts.entry.journal) texts.entry.book.now None counts.now (refuse e)) }
 {
     let book = book_in(alloc, texts.book)?;
     keep(steps, &book, counts)?;
@@ -134,10 +120,7 @@ fn decide_texts(
 /// The decision on a plan of Revolve by its book: the texts of its list and certificate.
 pub fn revolve_text(alloc: Global, steps: u32, book: &[u8]) -> Result<Job, Ended>
     requires steps { steps ≤ MOST_STEPS }
-    ensures accepted { IfOk result (λ job. DecidesPlanRevolve steps book.now (accept (job_of job))) }
-    ensures can_be_done { IfOk result CanBeDone }
-    ensures room { IfOk result (λ job. (counts : List ℕ) → KeepersHaveRoom job counts) }
-    ensures refused { IfErr result (λ e. (e ≡ no_memory) ⊎ DecidesPlanRevolve steps book.now (refuse e)) }
+    ensures { (counts : List ℕ) → IsDecided (DecidesPlanRevolve steps book.now) counts result }
 {
     let book = book_in(alloc, book)?;
     let revolve = revolve_for(alloc, steps, &book)?;
@@ -213,8 +196,8 @@ impl Plan {
     pub fn write<O: Sink>(mut self, out: &mut O) -> Ended
         requires { IsWritable self }
         ensures { (other : Moment) (steps : ℕ) → EndsBy (accept (write (pieces_of self))) result
-            (beside O.told O.call_count O.fault_count other out.old steps)
-            (beside O.told O.call_count O.fault_count other out.new steps) }
+            (beside O.Sink other out.old steps)
+            (beside O.Sink other out.new steps) }
     {
         while self.next_piece() {
             match out.write(&self.piece) {

@@ -1,5 +1,5 @@
 // The top call.
-ghost use Rattle.std.specs.Prelude.{◌≡◌, ◌≢◌, ◌⊎◌, ◌↔◌, ℕ, List, ◌++◌, map, take, IfOk, IfErr};
+ghost use Rattle.std.specs.Prelude.{◌≡◌, ◌≢◌, ◌⊎◌, ◌↔◌, ℕ, ◌++◌, map, take, IfOk, IfErr};
 ghost use Rattle.std.specs.List.{AllByRecursion};
 ghost use Rattle.keepers.specs.Counts.{Rose};
 ghost use Rattle.requests.specs.Request.{Request as ARequest, Says, words_of};
@@ -7,14 +7,14 @@ ghost use Rattle.requests.specs.Bounds.{numbers, IsWithin, RefusesWords, Asks};
 ghost use Rattle.requests.specs.Inputs.{inputs_of, names, FailsAtInput};
 ghost use Rattle.reversal.specs.Table.{Decision, accept, refuse};
 ghost use Rattle.reverse_runner.specs.Rooms.{rooms_by};
-ghost use Rattle.reversal.specs.Beginning.{Begins, BeginsBy};
+ghost use Rattle.reversal.specs.RunStart.{Begins, BeginsBy};
 ghost use Rattle.reversal.specs.Decision.{course_of, Comes, StayInPlace, KeepsOthers, HaveRoomsFor, EndsBy, IsOfJob};
 ghost use Rattle.reversal.specs.Job.{Job as AJob};
 ghost use Rattle.reversal.specs.Moment.{moment};
 ghost use Rattle.reversal.specs.Course.{HaltsShowing};
 ghost use Rattle.requests.specs.Ending.{no_memory};
-ghost use Rattle.requests.specs.RequestReading.{request_of};
-ghost use Rattle.reversal.specs.JobReading.{job_of, CanBeDone, KeepersHaveRoom};
+ghost use Rattle.requests.specs.RequestModel.{request_of};
+ghost use Rattle.reversal.specs.JobModel.{job_of, CanBeDone, KeepersHaveRoom};
 
 use crate::decision::decide;
 use crate::job::Job;
@@ -57,8 +57,8 @@ pub fn reversal<R: Threads + Sync, I: Inputs, K: Keeper, O: Sink, L: Ledger>(
         × Comes r (I.told inputs.old) (I.asked inputs.old) (I.asked inputs.new) (map K.slot_count keepers.old.items) d
         × KeepsOthers K.slot_count K.place d keepers.old.items keepers.new.items
         × EndsBy d result
-        (moment O.told O.call_count O.fault_count K.told K.put_count K.get_count K.free_count K.fault_count out.old keepers.old.items steps.old)
-        (moment O.told O.call_count O.fault_count K.told K.put_count K.get_count K.free_count K.fault_count out.new keepers.new.items steps.new)
+        (moment O.Sink K.Storage out.old keepers.old.items steps.old)
+        (moment O.Sink K.Storage out.new keepers.new.items steps.new)
         × BeginsBy d }
 
     // If memory runs out, nothing was done, or a part of a decided job. Over keepers with room it is nothing in a run.
@@ -68,8 +68,8 @@ pub fn reversal<R: Threads + Sync, I: Inputs, K: Keeper, O: Sink, L: Ledger>(
         × Begins job
         × KeepsOthers K.slot_count K.place (accept job) keepers.old.items keepers.new.items
         × HaltsShowing (course_of job)
-        (moment O.told O.call_count O.fault_count K.told K.put_count K.get_count K.free_count K.fault_count out.old keepers.old.items steps.old)
-        (moment O.told O.call_count O.fault_count K.told K.put_count K.get_count K.free_count K.fault_count out.new keepers.new.items steps.new)
+        (moment O.Sink K.Storage out.old keepers.old.items steps.old)
+        (moment O.Sink K.Storage out.new keepers.new.items steps.new)
         × (HaveRoomsFor job (rooms_by K.Storage keepers.old.items) → (out.new ≡ out.old) × (keepers.new ≡ keepers.old) × (steps.new ≡ steps.old)))) }
 
     // Each keeper has the same slots, in the same place.

@@ -1,6 +1,6 @@
 -- What the keeper of a case counts: the counts of its part.
 use Rattle.std.specs.Prelude.{ℕ, Option, Some, None}
-use Rattle.keepers.specs.Told.{Images}
+use Rattle.keepers.specs.Claims.{Images}
 use Rattle.reversal_calls.specs.declared.case_keeper.CaseKeeper.{CaseKeeper}
 use Rattle.reversal_calls.specs.declared.case_keeper.CaseKeeper.TheVariants.{Memory, Flip}
 

@@ -16,6 +16,7 @@ mod over_files;
 
 use came::{Seen, SeenKeeper, came_of};
 use case::{Case, case_of};
+use case_files::all_came;
 use case_keeper::CaseKeeper;
 use keepers::MemorySink;
 use noted::NotedInputs;
@@ -28,6 +29,9 @@ use std::marker::Brand;
 use std::sync::ledger::{Blank, Ledger};
 use std::thread::Threads;
 use std::{env, fs, io};
+
+// The count of machine steps can't be read.
+const UNSEEN: Option<&str> = Some("steps");
 
 fn main(rt: HostRuntime) -> io::Result<()> {
     run_files(&rt, &rt)
@@ -90,7 +94,7 @@ fn run_line<T: Threads + Sync>(
     };
     let mut called = called::<T, Brand>(threads, case, Blank::new(1));
     let came = came_of(alloc, &seen_of(alloc, &called)?, wanted)?;
-    if !all_came(rt, name, number, wanted, &came)? {
+    if !all_came(rt, name, number, wanted, &came, UNSEEN)? {
         return Ok(Outcome::Failed);
     }
     run_again(
@@ -124,7 +128,7 @@ fn run_again<T: Threads + Sync>(
     };
     let mut ran = run_over_files::<T, Brand>(threads, case, Blank::new(1))?;
     let came = came_of(alloc, &seen_of_ran(alloc, &ran)?, wanted)?;
-    if !all_came(rt, name, number, wanted, &came)? {
+    if !all_came(rt, name, number, wanted, &came, UNSEEN)? {
         println!(rt; "{name}:{number} came otherwise over files")?;
         return Ok(Outcome::Failed);
     }
@@ -133,29 +137,6 @@ fn run_again<T: Threads + Sync>(
         return Ok(Outcome::Failed);
     }
     Ok(Outcome::PassedTwice)
-}
-
-// Whether each member is as expected, and prints those that aren't.
-fn all_came(
-    rt: &HostRuntime,
-    name: &str,
-    number: u64,
-    wanted: &Map<String, Value>,
-    came: &Value,
-) -> io::Result<bool> {
-    let mut all = true;
-    for (member, value) in wanted {
-        // The count of machine steps can't be read.
-        if member.as_str() == "steps" {
-            continue;
-        }
-        let found = came.get(member.as_str()).unwrap_or(&Value::Null);
-        if found != value {
-            all = false;
-            println!(rt; "{name}:{number} {member}: wanted {value}, came {found}")?;
-        }
-    }
-    Ok(all)
 }
 
 /// A call that ended, with what it was given.

@@ -3,7 +3,7 @@ ghost use Rattle.std.specs.Prelude.{◌≡◌, ◌<◌, ℕ, List, [], Some, IfO
 ghost use Rattle.std.specs.declared.alloc.Global.{Global as AGlobal};
 ghost use Rattle.std.specs.FinMap as finmap;
 ghost use Rattle.keepers.specs.AnyKeeper.{told_of};
-ghost use Rattle.keepers.specs.Outside.{asked_of, input_faults_of, fresh};
+ghost use Rattle.keepers.specs.ExternalState.{asked_of, input_faults_of, fresh};
 ghost use Rattle.keepers.specs.declared.any_keeper.AnyKeeper.{AnyKeeper as AnAnyKeeper};
 ghost use Rattle.memory_disk.specs.declared.MemoryDisk.{MemoryDisk as AMemoryDisk};
 ghost use Rattle.requests.specs.Bounds.{Asks};

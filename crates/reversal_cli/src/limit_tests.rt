@@ -44,8 +44,8 @@ fn the_longest_source_is_assembled_and_listed_again(rt: HostRuntime) -> Result<(
     Ok(())
 }
 
-// A word of zeros is illegal, so state 1 and all later ones have trapped. All pages are zero, so the image has 164
-// bytes, which were written by hand. Another program took their SHA-256.
+// A word of zeros is illegal, so state 1 and all later ones have trapped. All pages are zero, so the image ends before
+// its pages. Its bytes were written by hand. Another program took their SHA-256.
 #[test]
 fn the_last_of_the_most_states_is_found(rt: HostRuntime) -> Result<(), Fail> {
     fs::write(&rt, "zeros.bin", [0; 4])?;

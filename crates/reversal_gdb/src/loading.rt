@@ -1,25 +1,14 @@
 // The run that a session is over.
-ghost use Rattle.std.specs.Prelude.{◌≡◌, IfOk};
+ghost use Rattle.std.specs.Prelude.{◌≡◌, IfOk, IfErr};
+ghost use Rattle.reversal_gdb.specs.Loading.{IsLoaded, IsUnloaded, budget_for};
 
-use crate::options::Options;
 use crate::words::Run;
-use elf_load::{load, load_raw};
-use input_journal::{Journal, read_journal};
-use keepers::{InputFault, Inputs, Whole};
-use requests::Ended;
-use run_timeline::Timeline;
-use rv_machine::State;
+use elf_load::load_start;
+use input_journal::read_recorded;
+use keepers::Inputs;
+use requests::{Ended, journal_input, program_input, read_input};
+use run_timeline::{MARK_PAGE_BYTES, MARK_REST_BYTES, Timeline};
 use std::alloc::Global;
-
-// The limits of the inputs, in bytes.
-const PROGRAM_LIMIT: u32 = 33_554_432;
-
-const JOURNAL_LIMIT: u32 = 67_108_864;
-
-// The bytes that a kept state takes: those of each page, and the rest.
-const PAGE_BYTES: u64 = 4100;
-
-const REST_BYTES: u64 = 512;
 
 // The most bytes of all states that are kept.
 const MOST_BYTES: u64 = 0x4000_0000;
@@ -30,52 +19,32 @@ pub fn timeline_of<I: Inputs>(
     run: &Run<'_>,
     inputs: &mut I,
 ) -> Result<Timeline, Ended>
-    ensures { IfOk result (λ t. t.place ≡ 0) }
+    ensures loaded { IfOk result (IsLoaded run.now (I.told inputs.old)) }
+    ensures refused { IfErr result (IsUnloaded I.Inputs run.now inputs.old inputs.new) }
 {
-    let program = read(alloc, 1, run.program.as_bytes(), PROGRAM_LIMIT, inputs)?;
-    let start = start_of(alloc, &run.options, program.as_slice())?;
+    let options = &run.options;
+    let program = read_input(alloc, 1, &program_input(run.program.as_bytes()), inputs)?;
+    let start = load_start(
+        alloc,
+        options.is_raw(),
+        program.as_slice(),
+        options.stack_pages(),
+    )?;
     let journal = match run.journal {
-        Some(name) => read_journal(
-            alloc,
-            read(alloc, 2, name.as_bytes(), JOURNAL_LIMIT, inputs)?,
-        )?,
-        None => Journal::none(alloc),
+        Some(name) => Some(read_input(alloc, 2, &journal_input(name.as_bytes()), inputs)?),
+        None => None,
     };
-    let budget = budget_for(run.options.marks(), start.pages.count());
-    Ok(Timeline::begin(alloc, start, journal, budget, run.options.most_steps())?)
-}
-
-// The first state of a program.
-fn start_of(alloc: Global, options: &Options, program: &[u8]) -> Result<State, Ended> {
-    let stack = options.stack_pages();
-    if options.is_raw() {
-        Ok(load_raw(alloc, program, stack)?)
-    } else {
-        Ok(load(alloc, program, stack)?)
-    }
+    let journal = read_recorded(alloc, journal)?;
+    let budget = budget_for(options.marks(), start.pages.count());
+    Ok(Timeline::begin(alloc, start, journal, budget, options.most_steps())?)
 }
 
 // The bytes for so many states with so many pages each, at most 1 GiB.
-fn budget_for(marks: u32, pages: u32) -> u64 {
+fn budget_for(marks: u32, pages: u32) -> u64
+    ensures { result ≡ budget_for marks pages }
+{
     let each = (pages as u64)
-        .saturating_mul(PAGE_BYTES)
-        .saturating_add(REST_BYTES);
+        .saturating_mul(MARK_PAGE_BYTES)
+        .saturating_add(MARK_REST_BYTES);
     each.saturating_mul(marks as u64).min(MOST_BYTES)
-}
-
-// The bytes of the input with a number and a name.
-fn read<I: Inputs>(
-    alloc: Global,
-    number: u64,
-    name: &[u8],
-    limit: u32,
-    inputs: &mut I,
-) -> Result<Vec<u8>, Ended> {
-    let mut bytes = Vec::new(alloc);
-    match inputs.read(name, limit, &mut bytes) {
-        Ok(Whole::All) => Ok(bytes),
-        Ok(Whole::Longer) => Err(Ended::too_long(number, limit)),
-        Err(InputFault::Failed) => Err(Ended::unreadable(number)),
-        Err(InputFault::Memory) => Err(Ended::no_memory()),
-    }
 }

@@ -3,7 +3,9 @@
 //! `gdb_session`'s `serve` says what is answered.
 #![tactic(auto)]
 
-ghost use Rattle.std.specs.Prelude.{◌≡◌, ◌<◌};
+ghost use Rattle.std.specs.Prelude.{◌≡◌, ◌≢◌, ◌<◌};
+ghost use Rattle.gdb_session.specs.declared.server.ServeFault.TheVariants as fault_is;
+ghost use Rattle.requests.specs.Ending.{no_memory, stopped};
 
 mod loading;
 mod options;
@@ -107,7 +109,10 @@ fn answered<R: Threads + Drop, L: Ledger>(
 }
 
 // The ending after a fault.
-fn ending_of(fault: ServeFault) -> Ended {
+fn ending_of(fault: ServeFault) -> Ended
+    ensures memory { fault ≡ fault_is.Memory → result ≡ no_memory }
+    ensures stopped { fault ≢ fault_is.Memory → result ≡ stopped 0 }
+{
     match fault {
         ServeFault::Memory => Ended::no_memory(),
         _ => Ended::stopped(0),

@@ -1,5 +1,7 @@
 // The options of a command line.
-ghost use Rattle.std.specs.Prelude.{◌≡◌, ◌≤◌, IfSome};
+ghost use Rattle.std.specs.Prelude.{◌≤◌, ◌<◌, ◌^◌, ℕ, IfSome, IfNone};
+ghost use Rattle.std.specs.Option.{option_map};
+ghost use Rattle.reversal_gdb.specs.OptionValues.{Gives, IsNumberOf};
 
 use clap::ArgMatches;
 
@@ -30,8 +32,15 @@ pub struct Options {
 }
 
 impl Options {
+    ghost use Rattle.std.specs.Prelude.{◌≡◌, IfSome, IfNone};
+    ghost use Rattle.clap.specs.Words.{found_of, rows_of};
+    ghost use Rattle.reversal_gdb.specs.CommandLine.{AreOptions};
+
     /// The options among the arguments, if their numbers are within their bounds.
-    pub fn among(matches: &ArgMatches<'_>) -> Option<Options> {
+    pub fn among(matches: &ArgMatches<'_>) -> Option<Options>
+        ensures some { IfSome result (AreOptions (rows_of (found_of matches.now))) }
+        ensures none { IfNone result ((o : _) → AreOptions (rows_of (found_of matches.now)) o → ⊥) }
+    {
         let stack = number_in(matches.get_str("stack"), STACK_PAGES, 1, MOST_STACK_PAGES)?;
         let most = number_in(matches.get_str("most"), MOST_STEPS, 1, MOST_STEPS)?;
         let marks = number_in(matches.get_str("marks"), MARKS, FEWEST_MARKS, MOST_MARKS)?;
@@ -52,8 +61,7 @@ impl Options {
 
     /// How many pages the stack has.
     pub fn stack_pages(&self) -> u32
-        ensures some { 1 ≤ result }
-        ensures few { result ≤ 1024 }
+        ensures { result ≡ self.now.stack }
     {
         self.stack
     }
@@ -75,18 +83,24 @@ impl Options {
 
 // The number between two bounds that a text is, or the default without a text.
 fn number_in(text: Option<&str>, default: u32, least: u32, greatest: u32) -> Option<u32>
-    requires least { least ≤ default }
-    requires greatest { default ≤ greatest }
-    ensures least { IfSome result (λ n. least ≤ n) }
-    ensures greatest { IfSome result (λ n. n ≤ greatest) }
+    ensures some { IfSome result (IsNumberOf (option_map (λ t. t.now) text.entry) default least greatest) }
+    ensures none { IfNone result ((n : ℕ) → IsNumberOf (option_map (λ t. t.now) text.entry) default least greatest n → ⊥) }
 {
-    let number = match text {
-        Some(text) => text.parse::<u32>().ok()?,
-        None => default,
-    };
+    let number = number_of(text, default)?;
     if least <= number && number <= greatest {
         Some(number)
     } else {
         None
+    }
+}
+
+// The number of 32 bits that a text is, or the default without a text.
+fn number_of(text: Option<&str>, default: u32) -> Option<u32>
+    ensures some { IfSome result (Gives default (option_map (λ t. t.now) text.entry)) }
+    ensures none { IfNone result ((n : ℕ) → n < 2 ^ 32 → Gives default (option_map (λ t. t.now) text.entry) n → ⊥) }
+{
+    match text {
+        Some(digits) => digits.parse::<u32>().ok(),
+        None => Some(default),
     }
 }

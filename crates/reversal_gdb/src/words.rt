@@ -1,4 +1,7 @@
 // What the words of a command line ask for.
+ghost use Rattle.std.specs.Prelude.{◌≡◌, map, string_bytes, IfOk, IfSome, IfNone};
+ghost use Rattle.clap.specs.Words.{FailsBy, fault_of, found_of, matches_of, rows_of};
+ghost use Rattle.reversal_gdb.specs.CommandLine.{AskFor, Names, command};
 
 use crate::options::Options;
 use clap::error::ErrorKind;
@@ -25,12 +28,14 @@ pub struct Run<'a> {
 }
 
 /// What the words ask for, of which the first is the program's own name.
-pub fn read_words<'a>(alloc: Global, words: &'a [String]) -> Result<Asked<'a>, AllocError> {
+pub fn read_words<'a>(alloc: Global, words: &'a [String]) -> Result<Asked<'a>, AllocError>
+    ensures { IfOk result (AskFor (map string_bytes words.entry.now)) }
+{
     match matches_of(alloc, words) {
-        Ok(matches) => Ok(match run_of(&matches) {
-            Some(run) => Asked::Session(run),
-            None => Asked::Nothing,
-        }),
+        Ok(matches) => match run_of(&matches) {
+            Some(run) => Ok(Asked::Session(run)),
+            None => Ok(Asked::Nothing),
+        },
         Err(error) => match error.kind() {
             ErrorKind::DisplayHelp => Ok(Asked::Help),
             ErrorKind::OutOfMemory => Err(AllocError),
@@ -40,7 +45,10 @@ pub fn read_words<'a>(alloc: Global, words: &'a [String]) -> Result<Asked<'a>, A
 }
 
 // The arguments of the command line.
-fn matches_of<'a>(alloc: Global, words: &'a [String]) -> Result<ArgMatches<'a>, Error> {
+fn matches_of<'a>(alloc: Global, words: &'a [String]) -> Result<ArgMatches<'a>, Error>
+    ensures found { IfOk result (λ m. rows_of (found_of m) ≡ matches_of command (map string_bytes words.entry.now)) }
+    ensures fails { FailsBy (fault_of command (map string_bytes words.entry.now)) result }
+{
     let raw = Arg::new(alloc, "raw")
         .long("raw")
         .action(ArgAction::SetTrue);
@@ -55,7 +63,10 @@ fn matches_of<'a>(alloc: Global, words: &'a [String]) -> Result<ArgMatches<'a>, 
 }
 
 // The run that the arguments name.
-fn run_of<'a>(matches: &ArgMatches<'a>) -> Option<Run<'a>> {
+fn run_of<'a>(matches: &ArgMatches<'a>) -> Option<Run<'a>>
+    ensures some { IfSome result (Names (rows_of (found_of matches.now))) }
+    ensures none { IfNone result ((run : _) → Names (rows_of (found_of matches.now)) run → ⊥) }
+{
     Some(Run {
         options: Options::among(matches)?,
         program: matches.get_str("program")?,

@@ -8,7 +8,7 @@ use Rattle.std.proofs.lemmas.List.{length-map, take_all}
 use Rattle.std.proofs.lemmas.Option.{slice_get-map, same_Some}
 use Rattle.plan_types.specs.declared.action.Action.{Action}
 use Rattle.plan_types.specs.declared.limits.TheConstants.{MOST_SLOTS}
-use Rattle.keepers.specs.Told.{Images, Files}
+use Rattle.keepers.specs.Claims.{Images, Files}
 use Rattle.keepers.specs.AnyKeeper.{told_of, slots_of, place_of}
 use Rattle.keepers.specs.SlotFiles.{slot_path, level_images, disk_of}
 use Rattle.keepers.specs.declared.any_keeper.AnyKeeper.{AnyKeeper}
@@ -18,17 +18,17 @@ use Rattle.keepers.proofs.SlotImages.{get_level, get_there}
 use Rattle.level_book.specs.Configuration.{start, held_on}
 use Rattle.level_book.specs.Valid.{Leads, Valid}
 use Rattle.rv_machine.specs.MachineState.{MachineState}
-use Rattle.image_store.specs.Standing.{IsToldAnd}
-use Rattle.reverse_runner.specs.HoldsJust.{HoldsJust}
+use Rattle.image_store.specs.StoredImages.{IsToldAnd}
+use Rattle.reverse_runner.specs.KeeperContents.{HoldsJust}
 use Rattle.reverse_runner.specs.KeepersSeen.{by_number}
-use Rattle.reverse_runner.specs.LevelsStand.{Numbers}
+use Rattle.reverse_runner.specs.HoldingsOfRun.{Numbers}
 use Rattle.reversal.specs.CommandRun.{performing}
 use Rattle.reversal.specs.Course.{Shown, Done}
 use Rattle.reversal.specs.Decision.{StayInPlace}
 use Rattle.reversal.specs.Deeds.{deed_of}
 use Rattle.reversal.specs.Job.{Run, unit_state}
 use Rattle.reversal.specs.Moment.{Moment, AllEmpty}
-use Rattle.reversal_program.specs.Beginning.{IsKeeperOf, AllBegin, HaveNoFiles}
+use Rattle.reversal_program.specs.LevelStart.{IsKeeperOf, AllBegin, HaveNoFiles}
 use Rattle.reversal_program.specs.Files.{FilesHoldJust, LevelHoldsJust}
 use Rattle.reversal_program.proofs.Levels.{begin_empty}
 

@@ -2,13 +2,13 @@
 use Rattle.std.proofs.Common.{◌≡◌, ℕ, zero, suc, ◌+◌, ◌<◌, List, [], ◌∷◌, length, Option, None, Some, ap, ◌∙◌, arith, refl}
 use Rattle.std.specs.Option.{option_map}
 use Rattle.std.specs.FinMap as finmap
-use Rattle.keepers.specs.Told.{Files}
+use Rattle.keepers.specs.Claims.{Files}
 use Rattle.keepers.specs.AnyKeeper.{told_of}
 use Rattle.keepers.specs.SlotFiles.{level_images}
 use Rattle.keepers.specs.declared.any_keeper.AnyKeeper.{AnyKeeper}
 use Rattle.keepers.proofs.SlotImages.{level_empty}
 use Rattle.reverse_runner.specs.KeepersSeen.{by_number}
-use Rattle.reversal_program.specs.Beginning.{AllBegin, HaveNoFiles, HasNoFiles, held_at_first}
+use Rattle.reversal_program.specs.LevelStart.{AllBegin, HaveNoFiles, HasNoFiles, held_at_first}
 
 holds_none : {D : Type 0} (told : D → Option Files) (level : ℕ) (folder : Option (List ℕ)) (disk : D) → HasNoFiles told level folder disk → held_at_first told level folder disk ≡ Some finmap.empty
 holds_none told level None disk none = refl

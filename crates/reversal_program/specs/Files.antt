@@ -3,14 +3,14 @@ use Rattle.std.specs.Prelude.{◌≡◌, ℕ, ◌<◌, List, true, Option, Some,
 use Rattle.std.specs.FinSet as set
 use Rattle.std.specs.FinMap as finmap
 use Rattle.plan_types.specs.declared.limits.TheConstants.{MOST_SLOTS}
-use Rattle.keepers.specs.Told.{Files}
+use Rattle.keepers.specs.Claims.{Files}
 use Rattle.keepers.specs.SlotFiles.{slot_path, disk_of}
 use Rattle.keepers.specs.declared.any_keeper.AnyKeeper.{AnyKeeper}
 use Rattle.keepers.specs.declared.any_keeper.AnyKeeper.TheVariants.{File}
 use Rattle.keepers.specs.declared.file_keeper.FileKeeper.{FileKeeper}
 use Rattle.rv_machine.specs.MachineState.{MachineState}
 use Rattle.state_image.specs.Image.{image}
-use Rattle.reverse_runner.specs.LevelsStand.{Numbers}
+use Rattle.reverse_runner.specs.HoldingsOfRun.{Numbers}
 
 -- The files of a level's slots in a folder are just the images of the states with these numbers. Each is in the file of
 -- its own slot. No other slot has a file.

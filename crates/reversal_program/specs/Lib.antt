@@ -1,3 +1,3 @@
-pub mod Beginning
+pub mod LevelStart
 pub mod Files
 pub mod Run

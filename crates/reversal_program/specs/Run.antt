@@ -1,9 +1,9 @@
 -- What a call of the program does to its objects: what the top call of reversal does.
 use Rattle.std.specs.Prelude.{◌≡◌, ◌≢◌, ◌⊎◌, ◌↔◌, ℕ, List, ◌++◌, map, take, Option, None}
 use Rattle.keepers.specs.Counts.{Rose}
-use Rattle.keepers.specs.Told.{Files}
+use Rattle.keepers.specs.Claims.{Files}
 use Rattle.keepers.specs.AnyKeeper.{told_of, slots_of, puts_of, gets_of, frees_of, faults_of, room_of, place_of}
-use Rattle.keepers.specs.Outside.{writer_of, writes_of, sink_faults_of}
+use Rattle.keepers.specs.ExternalState.{writer_of, writes_of, sink_faults_of}
 use Rattle.keepers.specs.declared.any_keeper.AnyKeeper.{AnyKeeper}
 use Rattle.keepers.specs.declared.stdout_sink.StdoutSink.{StdoutSink}
 use Rattle.reverse_runner.specs.KeepersSeen.{by_number}
@@ -13,7 +13,7 @@ use Rattle.requests.specs.Bounds.{RefusesWords, Asks}
 use Rattle.requests.specs.Inputs.{inputs_of, names, FailsAtInput}
 use Rattle.requests.specs.Ending.{no_memory}
 use Rattle.reversal.specs.Table.{Decision, accept}
-use Rattle.reversal.specs.Beginning.{Begins, BeginsBy}
+use Rattle.reversal.specs.RunStart.{Begins, BeginsBy}
 use Rattle.reversal.specs.Decision.{course_of, Comes, StayInPlace, KeepsOthers, HaveRoomsFor, EndsBy, IsOfJob}
 use Rattle.reversal.specs.Job.{Job}
 use Rattle.reversal.specs.Moment.{Moment, moment}
@@ -21,7 +21,19 @@ use Rattle.reversal.specs.Course.{HaltsShowing}
 
 -- the program's objects at one moment, by what the disks and the writer claim
 abbrev pub seen : {D W : Type 0} → (D → Option Files) → (W → Option (List ℕ)) → StdoutSink W → List (AnyKeeper D) → ℕ → Moment
-seen told contents out keepers steps = moment (λ s. contents (writer_of s)) writes_of sink_faults_of (told_of told) puts_of gets_of frees_of faults_of out keepers steps
+seen told contents out keepers steps = moment
+    (record { told = λ s. contents (writer_of s); call_count = writes_of; fault_count = sink_faults_of })
+    (record {
+      told = told_of told;
+      slot_count = slots_of;
+      put_count = puts_of;
+      get_count = gets_of;
+      free_count = frees_of;
+      fault_count = faults_of;
+      room_bytes = room_of;
+      place = place_of;
+    })
+    out keepers steps
 
 -- A call by these words, over inputs that claim this, from the objects before it to those after it. The fields are the
 -- clauses of the top call, in their order.

@@ -2,7 +2,7 @@
 ghost use Rattle.std.specs.Prelude.{◌≡◌, ◌⊎◌, ℕ, ◌<◌, ◌≤◌, List, Option, Some, length, map, slice_get, None};
 ghost use Rattle.std.specs.FinMap as finmap;
 ghost use Rattle.keepers.specs.Counts.{Rose};
-ghost use Rattle.keepers.specs.Told.{Files};
+ghost use Rattle.keepers.specs.Claims.{Files};
 ghost use Rattle.keepers.specs.AnyKeeper.{told_of, slots_of, place_of};
 ghost use Rattle.keepers.specs.declared.any_keeper.AnyKeeper.{AnyKeeper as AnAnyKeeper};
 ghost use Rattle.level_book.specs.Configuration.{held_on};
@@ -20,7 +20,7 @@ ghost use Rattle.reversal.specs.Decision.{course_of, Decides, StayInPlace};
 ghost use Rattle.reversal.specs.Job.{Job as AJob, Run, unit_state};
 ghost use Rattle.reversal.specs.Moment.{Moment, NothingRises, AllTell};
 ghost use Rattle.reversal.specs.Table.{accept};
-ghost use Rattle.reversal_program.specs.Beginning.{AllBegin, HaveNoFiles};
+ghost use Rattle.reversal_program.specs.LevelStart.{AllBegin, HaveNoFiles};
 ghost use Rattle.reversal_program.specs.Files.{LevelHoldsJust};
 ghost use Rattle.reversal_program.specs.Run.{IsRun, seen};
 

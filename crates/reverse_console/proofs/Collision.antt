@@ -9,21 +9,21 @@ use Rattle.input_journal.specs.Form.{IsRecorded}
 use Rattle.rv_machine.specs.MachineState.{MachineState, IsMachineState}
 use Rattle.rv_machine.specs.States.{state_number}
 use Rattle.rv_machine.proofs.Runs.{state_number_keeps_pages, state_number-add}
-use Rattle.rv_machine.proofs.Staying.{number_is_state}
+use Rattle.rv_machine.proofs.StateInvariant.{number_is_state}
 use Rattle.state_image.specs.Image.{image}
 use Rattle.state_image.specs.Line.{line}
-use Rattle.state_image.proofs.Telling.{image_tells}
+use Rattle.state_image.proofs.ImageInjectivity.{image_tells}
 use Rattle.image_store.specs.declared.shelf.Kept.{Kept}
 use Rattle.reverse_queries.specs.Queries.{IsLast, ChangesWord, WritesWord}
 use Rattle.reverse_console.specs.declared.order.Order.{Order}
 use Rattle.reverse_console.specs.declared.order.Order.TheVariants.{Back, Step, Goto, BackTo, RunTo, BackChange, BackWrite}
 use Rattle.reverse_console.specs.Answer.{IsAnswer, IsFirst, IsAt}
 use Rattle.reverse_console.specs.Marks.{marked, mark_of}
-use Rattle.reverse_console.specs.Seen.{Source, ComesFrom, IsSeen, IsLastSeen, IsFirstSeen, HasPc, Changes, Writes, IsAnswerSeen}
+use Rattle.reverse_console.specs.StateSources.{Source, ComesFrom, IsSeen, IsLastSeen, IsFirstSeen, HasPc, Changes, Writes, IsAnswerSeen}
 use Rattle.reverse_console.specs.ScriptAnswers.{IsTextOf, answer_text}
-use Rattle.reverse_console.specs.Standing.{KeepsMarks}
+use Rattle.reverse_console.specs.MarksOfRun.{KeepsMarks}
 use Rattle.reverse_console.specs.Collision.{Collides, SeenCollides, LastCollides, FirstCollides, AnswerCollides, TextCollides}
-use Rattle.reverse_console.proofs.Seeing.{changes_there, changes_back}
+use Rattle.reverse_console.proofs.FetchedStates.{changes_there, changes_back}
 
 same_bytes : (xs ys : List ℕ) → (xs ≡ ys) ⊎ (xs ≢ ys)
 same_bytes xs ys = elim (cases_Bool (bytes_eq xs ys)) [

@@ -4,6 +4,7 @@ use Rattle.std.specs.Prelude.{codes}
 use Rattle.std.specs.Str.{bytes_eq}
 use Rattle.std.proofs.lemmas.Bool.{leb-true, le-leb}
 use Rattle.std.proofs.lemmas.Option.{none-some, same_Some}
+use Rattle.rv_pages.specs.declared.pages.TheConstants.{LAST_WORD}
 use Rattle.reverse_console.specs.declared.command.Command.{Command}
 use Rattle.reverse_console.specs.declared.command.Command.TheVariants as command
 use Rattle.reverse_console.specs.declared.order.Order.{Order}
@@ -11,8 +12,8 @@ use Rattle.reverse_console.specs.declared.order.Order.TheVariants.{Back, Step, G
 use Rattle.reverse_console.specs.Answer.{IsOrder}
 use Rattle.reverse_console.specs.ScriptWords.{begins_comment}
 use Rattle.reverse_console.specs.Script.{command_word, IsOperand}
-use Rattle.reverse_console.specs.ScriptReading.{command_of, operand_of, is_given}
-use Rattle.line_texts.specs.Reading.{address_of, number_of}
+use Rattle.reverse_console.specs.ScriptParser.{command_of, operand_of, is_given}
+use Rattle.line_texts.specs.Parsers.{address_of, number_of}
 use Rattle.line_texts.proofs.Steps.{which, same_bytes}
 use Rattle.line_texts.proofs.Decimal.{number_is, decimal_is}
 use Rattle.line_texts.proofs.Addresses.{address_read, address_is}
@@ -101,8 +102,8 @@ given_is count (Step k) e = tt
 given_is count (Goto k) e = leb-true k count e
 given_is count (BackTo a) e = tt
 given_is count (RunTo a) e = tt
-given_is count (BackChange word) e = leb-true word 0xFFFFFFFC e
-given_is count (BackWrite word) e = leb-true word 0xFFFFFFFC e
+given_is count (BackChange word) e = leb-true word LAST_WORD e
+given_is count (BackWrite word) e = leb-true word LAST_WORD e
 
 pub is_given_again : (count : ℕ) (order : Order) → IsOrder count order → is_given count order ≡ true
 is_given_again count (Back k) is = refl
@@ -110,8 +111,8 @@ is_given_again count (Step k) is = refl
 is_given_again count (Goto k) is = le-leb k count is
 is_given_again count (BackTo a) is = refl
 is_given_again count (RunTo a) is = refl
-is_given_again count (BackChange word) is = le-leb word 0xFFFFFFFC is
-is_given_again count (BackWrite word) is = le-leb word 0xFFFFFFFC is
+is_given_again count (BackChange word) is = le-leb word LAST_WORD is
+is_given_again count (BackWrite word) is = le-leb word LAST_WORD is
 
 pub not_given : (count : ℕ) (order : Order) → is_given count order ≡ false → IsOrder count order → ⊥
 not_given count order fails is = true≢false (sym (is_given_again count order is) ∙ fails)

@@ -8,7 +8,7 @@ use Rattle.reverse_console.specs.Answer.{IsOrder}
 use Rattle.reverse_console.specs.ScriptWords.{begins_comment}
 use Rattle.reverse_console.specs.Script.{command_word, order_with, IsOperand, Says, SayNothing}
 use Rattle.reverse_console.specs.ScriptFaults.{IsFault, broken, rule_of}
-use Rattle.reverse_console.specs.ScriptReading.{command_of, operand_of, is_given, in_range, given_by, given, alone, behind_command, with_command, line_of}
+use Rattle.reverse_console.specs.ScriptParser.{command_of, operand_of, is_given, in_range, given_by, given, alone, behind_command, with_command, line_of}
 use Rattle.reverse_console.proofs.ScriptCommands.{known, no_comment, command_is, other_word, operand_read, operand_is, other_operand, given_is, is_given_again, not_given, given_or_not}
 use Rattle.line_texts.specs.Tokens.{Token}
 use Rattle.line_texts.proofs.Steps.{which}

@@ -15,8 +15,8 @@ use Rattle.line_texts.specs.Tokens.{words}
 use Rattle.reverse_console.specs.Script.{Says, IsPassed, LinesSay, IsScript}
 use Rattle.reverse_console.specs.ScriptFaults.{FaultIn, fault_at, HasFirstFault}
 use Rattle.reverse_console.specs.ScriptLaws.{OneScript, OneFault, ScriptsHaveNoFault, ScriptOrFault}
-use Rattle.reverse_console.specs.ScriptReading.{line_of, orders_from, script_of}
-use Rattle.line_texts.specs.Reading.{GivesUnlessMemory}
+use Rattle.reverse_console.specs.ScriptParser.{line_of, orders_from, script_of}
+use Rattle.line_texts.specs.Parsers.{GivesUnlessMemory}
 use Rattle.line_texts.specs.Lines.{lines}
 use Rattle.line_texts.proofs.Steps.{done, failed, ok_is, err_is, not_both}
 use Rattle.reverse_console.proofs.ScriptLines.{IsAnswerOf, line_answer, passed_read, says_read, fault_read}

@@ -1,7 +1,7 @@
 -- Orders that are answered one after the other.
 use Rattle.std.proofs.Common.{◌≡◌, ◌≢◌, inl, inr, ℕ, Bool, true, false, true≢false, List, [], ◌∷◌, ◌++◌, take, Option, Some, None, Result, Ok, Err, IfOk, OnErr, IsErrOf, refl, sym, ◌∙◌, ap, subst, append_assoc, append-nil}
 use Rattle.keepers.specs.Counts.{raised}
-use Rattle.keepers.specs.Told.{Images, Tells, AddsPrefix}
+use Rattle.keepers.specs.Claims.{Images, Tells, AddsPrefix}
 use Rattle.keepers.specs.declared.storage.Storage.{Ghosts}
 use Rattle.rv_machine.specs.MachineState.{MachineState}
 use Rattle.rv_machine.specs.States.{state_number}
@@ -19,13 +19,13 @@ use Rattle.reverse_console.specs.Answer.{IsAnswer, IsGiven, found_at}
 use Rattle.reverse_console.specs.ConsoleState.{ConsoleState, GoesOn, source_of}
 use Rattle.reverse_runner.specs.KeepersSeen.{Calls}
 use Rattle.reverse_console.specs.Costs.{Effort, effort_of, Takes, BreaksAt, IsSeenAt, StopsAt, TookUntil}
-use Rattle.reverse_console.specs.Handling.{StandAt}
+use Rattle.reverse_console.specs.MarkInvariant.{StandAt}
 use Rattle.reverse_console.specs.Marks.{MarkPlan, mark_count, mark_of}
-use Rattle.reverse_console.specs.Seen.{Source, ComesFrom, IsAnswerSeen}
-use Rattle.reverse_console.specs.Standing.{Stands}
-use Rattle.reverse_console.specs.ScriptAnswers.{place_after, Moment, IsTextOf, IsShown, IsAnswered, AreAnswered, BreaksOff, AreAnswers, answer_text, script_text, BreaksOffIn}
-use Rattle.reverse_console.proofs.Getting.{stand_same}
-use Rattle.reverse_console.proofs.Seeing.{comes_back, not_got_back, answer_back}
+use Rattle.reverse_console.specs.StateSources.{Source, ComesFrom, IsAnswerSeen}
+use Rattle.reverse_console.specs.MarksOfRun.{Stands}
+use Rattle.reverse_console.specs.ScriptAnswers.{place_after, Moment, IsTextOf, IsShown, IsAnswered, AreAnswered, BreaksOff, MissesText, AreAnswers, answer_text, script_text, BreaksOffIn}
+use Rattle.reverse_console.proofs.MarkGets.{stand_same}
+use Rattle.reverse_console.proofs.FetchedStates.{comes_back, not_got_back, answer_back}
 
 -- ---- what is written
 
@@ -156,11 +156,7 @@ answered_more from (o ∷ orders) answers text old mid new order answer piece ar
 
 -- where the sink failed, and where it didn't
 pub breaks_of : (from : Source) (order : Order) (fault : RunFault) (text : List ℕ) (old new : Moment) (a b c : Option (List ℕ)) → Tells a b (λ x y. y ≡ x ++ text) →
-    (fault ≡ Visitor →
-    (answer : Option ℕ)
-    × ((piece : List ℕ)
-    × (IsAnswerSeen from old.place order answer × IsTextOf from answer piece × (new.writes ≡ raised old.writes 1) × Tells b c (AddsPrefix piece) × Takes from.plan (effort_of from.plan old.place order answer) old.steps new.steps old.calls new.calls))) →
-    (fault ≢ Visitor → (c ≡ b) × (new.writes ≡ old.writes)) → fault ≢ Ended → TookUntil from old.place order fault old.steps new.steps old.calls new.calls → BreaksOff from order fault text old new a c
+    (fault ≡ Visitor → MissesText from order old new b c) → (fault ≢ Visitor → (c ≡ b) × (new.writes ≡ old.writes)) → fault ≢ Ended → TookUntil from old.place order fault old.steps new.steps old.calls new.calls → BreaksOff from order fault text old new a c
 breaks_of from order (Keeper k) text old new a b c h missed same lasts took =
     let s = same (λ e. cc) in
     record { stops = took; none = s.1; written = subst (λ (o : Option (List ℕ)). Tells a o (λ x y. y ≡ x ++ text)) (sym s.0) h }
@@ -169,7 +165,7 @@ breaks_of from order (Damaged k put got) text old new a b c h missed same lasts 
     record { stops = took; none = s.1; written = subst (λ (o : Option (List ℕ)). Tells a o (λ x y. y ≡ x ++ text)) (sym s.0) h }
 breaks_of from order Visitor text old new a b c h missed same lasts took =
     let m = missed refl in
-    record { answer = m.0; piece = m.1.0; seen = m.1.1.0; says = m.1.1.1; takes = m.1.1.4; wrote = m.1.1.2; part = tells_part text m.1.0 a b c h m.1.1.3 }
+    record { answer = m.answer; piece = m.piece; seen = m.seen; says = m.says; takes = m.takes; wrote = m.wrote; part = tells_part text m.piece a b c h m.part }
 breaks_of from order Memory text old new a b c h missed same lasts took =
     let s = same (λ e. cc) in
     record { stops = took; none = s.1; written = subst (λ (o : Option (List ℕ)). Tells a o (λ x y. y ≡ x ++ text)) (sym s.0) h }
@@ -237,6 +233,17 @@ module _ (old new : ConsoleState) (told told' : ℕ → Option Images) (goes : G
     says = text_there answer text one.says;
     takes = takes_there a.place order answer a.steps b.steps a.calls b.calls one.takes;
     wrote = one.wrote;
+  }
+
+  pub missed_there : (order : Order) (a b : Moment) (before after : Option (List ℕ)) → MissesText (source_of new told') order a b before after → MissesText (source_of old told) order a b before after
+  missed_there order a b before after m = record {
+    answer = m.answer;
+    piece = m.piece;
+    seen = seen_there a.place order m.answer m.seen;
+    says = text_there m.answer m.piece m.says;
+    wrote = m.wrote;
+    part = m.part;
+    takes = takes_there a.place order m.answer a.steps b.steps a.calls b.calls m.takes;
   }
 
   -- it stands where it stood

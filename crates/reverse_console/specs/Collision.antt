@@ -8,7 +8,7 @@ use Rattle.state_image.specs.Image.{image}
 use Rattle.reverse_console.specs.declared.order.Order.{Order}
 use Rattle.reverse_console.specs.declared.order.Order.TheVariants.{Back, Step, Goto, BackTo, RunTo, BackChange, BackWrite}
 use Rattle.reverse_console.specs.Marks.{marked, mark_of}
-use Rattle.reverse_console.specs.Seen.{Source, ComesFrom, IsSeen, IsLastSeen, IsFirstSeen, HasPc, Changes, Writes, IsAnswerSeen}
+use Rattle.reverse_console.specs.StateSources.{Source, ComesFrom, IsSeen, IsLastSeen, IsFirstSeen, HasPc, Changes, Writes, IsAnswerSeen}
 use Rattle.reverse_console.specs.ScriptAnswers.{IsTextOf}
 
 -- the bytes from which a state came collide with the image of the mark's state

@@ -4,7 +4,7 @@ use Rattle.reverse_console.specs.declared.console.Console.TheInside.{Inside}
 use Rattle.reverse_runner.specs.Rooms.{image_room, AreShort}
 use Rattle.reverse_console.specs.ConsoleState.{ConsoleState}
 use Rattle.reverse_console.specs.Marks.{mark_count}
-use Rattle.reverse_console.specs.Handling.{AreSet}
+use Rattle.reverse_console.specs.MarkInvariant.{AreSet}
 use Rattle.reverse_runner.specs.DeskFields.{Fits}
 
 abbrev pub console_state : Inside → ConsoleState

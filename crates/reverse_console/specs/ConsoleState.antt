@@ -1,16 +1,18 @@
 -- The model of a console.
 use Rattle.std.specs.Prelude.{◌≡◌, ℕ, Bool, List, Option, refl}
 use Rattle.std.specs.Coded.{Coded, code_by, coded×, coded_ℕ, coded_bool, coded_list}
-use Rattle.keepers.specs.Told.{Images}
+use Rattle.keepers.specs.Claims.{Images}
+use Rattle.level_book.specs.BookCosts.{slots_of}
 use Rattle.level_book.specs.declared.book.Slots.{Slots}
 use Rattle.level_book.specs.contracts.book.Slots as slots_row
 use Rattle.rv_machine.specs.MachineState.{MachineState}
 use Rattle.rv_machine.specs.StateCode.{state_code}
 use Rattle.image_store.specs.Shelves.{ShelfState}
-use Rattle.reverse_runner.specs.Acts.{Levels}
+use Rattle.reverse_runner.specs.ActionEffects.{Levels}
 use Rattle.reverse_runner.specs.SessionState.{SamePages, shelf_code}
+use Rattle.reverse_console.specs.declared.marked_run.MarkedRun.{MarkedRun}
 use Rattle.reverse_console.specs.Marks.{MarkPlan}
-use Rattle.reverse_console.specs.Seen.{Source}
+use Rattle.reverse_console.specs.StateSources.{Source}
 
 pub record ConsoleState : Type 0 where
   -- the places of its marks
@@ -25,6 +27,10 @@ pub record ConsoleState : Type 0 where
   pub place : ℕ
   -- whether an order was refused
   pub ended : Bool
+
+-- the marks of a run, by the levels of its book
+abbrev pub plan_of : MarkedRun → MarkPlan
+plan_of run = record { slots = slots_of run.book; count = run.count }
 
 -- its levels over what its keepers claim
 abbrev pub levels_of : ConsoleState → (ℕ → Option Images) → Levels

@@ -9,7 +9,7 @@ use Rattle.reverse_console.specs.declared.order.Order.{Order}
 use Rattle.reverse_console.specs.declared.order.Order.TheVariants.{BackTo, RunTo, BackChange, BackWrite}
 use Rattle.reverse_console.specs.Marks.{MarkPlan, marked, mark_level, mark_of, mark_count, mark, marks_below}
 use Rattle.reverse_console.specs.Refusals.{IsOfPutting, IsNotGot}
-use Rattle.reverse_console.specs.Seen.{Source, IsAnswerSeen}
+use Rattle.reverse_console.specs.StateSources.{Source, IsAnswerSeen}
 
 -- each of the first i marks is put on its level
 abbrev pub puts_of : MarkPlan → ℕ → Calls

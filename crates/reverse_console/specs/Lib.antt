@@ -4,7 +4,7 @@ pub mod Causes
 pub mod Collision
 pub mod Costs
 pub mod ConsoleFields
-pub mod Handling
+pub mod MarkInvariant
 pub mod MarkFields
 pub mod MarkLaws
 pub mod Marks
@@ -14,8 +14,8 @@ pub mod Script
 pub mod ScriptAnswers
 pub mod ScriptFaults
 pub mod ScriptLaws
-pub mod ScriptReading
+pub mod ScriptParser
 pub mod ScriptWords
-pub mod Seeking
-pub mod Seen
-pub mod Standing
+pub mod SearchTargets
+pub mod StateSources
+pub mod MarksOfRun

@@ -1,6 +1,6 @@
 -- What an order does, and what orders leave.
 use Rattle.std.specs.Prelude.{◌≡◌, ◌≢◌, ℕ, ◌<◌, Bool, false, List, length, Option, Some, Result, Err, IfOk, IfErr, OnOk, OnErr}
-use Rattle.keepers.specs.Told.{Images}
+use Rattle.keepers.specs.Claims.{Images}
 use Rattle.keepers.specs.declared.storage.Storage.{Ghosts}
 use Rattle.rv_machine.specs.MachineState.{MachineState, IsMachineState}
 use Rattle.rv_machine.specs.States.{state_number}
@@ -14,8 +14,8 @@ use Rattle.reverse_console.specs.Answer.{IsAnswer, IsGiven, found_at}
 use Rattle.reverse_console.specs.ConsoleState.{ConsoleState, GoesOn}
 use Rattle.reverse_console.specs.Costs.{effort_of, Takes, TookUntil}
 use Rattle.reverse_console.specs.Marks.{mark_of}
-use Rattle.reverse_console.specs.Seen.{Source, ComesFrom, IsAnswerSeen}
-use Rattle.reverse_console.specs.Standing.{Stands}
+use Rattle.reverse_console.specs.StateSources.{Source, ComesFrom, IsAnswerSeen}
+use Rattle.reverse_console.specs.MarksOfRun.{Stands}
 
 -- what a visitor does with a state of a journal: `got` or `missed`
 abbrev pub Visits : Type 0 → Type 1

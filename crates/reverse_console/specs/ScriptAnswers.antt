@@ -1,22 +1,24 @@
 -- What the orders of a script answer, and what is written. Both are stated by the fetched bytes, and in the run that a
 -- console represents.
-use Rattle.std.specs.Prelude.{◌≡◌, ℕ, ◌-◌, ◌<◌, Bool, true, false, List, [], ◌∷◌, ◌++◌, take, slice_get, Option, Some, None, Result, OnOk, IfErr, codes}
+use Rattle.std.specs.Prelude.{◌≡◌, ◌≢◌, ℕ, ◌-◌, ◌<◌, ◌^◌, Bool, true, false, List, [], ◌∷◌, ◌++◌, length, take, slice_get, Option, Some, None, Result, Err, OnOk, OnErr, IfErr, codes}
 use Rattle.std.specs.List.{flat_map}
 use Rattle.keepers.specs.Counts.{raised}
-use Rattle.keepers.specs.Told.{Tells, AddsPrefix}
+use Rattle.keepers.specs.Claims.{Tells, AddsPrefix}
+use Rattle.keepers.specs.declared.storage.Storage.{Ghosts}
 use Rattle.rv_machine.specs.MachineState.{MachineState}
 use Rattle.rv_machine.specs.States.{state_number}
 use Rattle.state_image.specs.Line.{line}
-use Rattle.reverse_runner.specs.KeepersSeen.{Calls}
+use Rattle.reverse_runner.specs.KeepersSeen.{Calls, HaveRoom, told_by}
 use Rattle.reverse_runner.specs.declared.fault.RunFault.{RunFault}
 use Rattle.reverse_runner.specs.declared.fault.RunFault.TheVariants.{Visitor}
 use Rattle.reverse_console.specs.declared.order.Order.{Order}
 use Rattle.reverse_console.specs.declared.script.Stop.{Stop}
-use Rattle.reverse_console.specs.Answer.{IsAnswer, found_at}
-use Rattle.reverse_console.specs.ConsoleState.{ConsoleState}
-use Rattle.reverse_console.specs.Costs.{effort_of, Takes, StopsAt}
-use Rattle.reverse_console.specs.Marks.{mark_of}
-use Rattle.reverse_console.specs.Seen.{Source, ComesFrom, IsAnswerSeen}
+use Rattle.reverse_console.specs.Answer.{IsAnswer, IsOrder, found_at}
+use Rattle.reverse_console.specs.ConsoleState.{ConsoleState, source_of}
+use Rattle.reverse_console.specs.Costs.{effort_of, Takes, TookUntil, StopsAt}
+use Rattle.reverse_console.specs.Marks.{mark_of, span}
+use Rattle.reverse_console.specs.OrderResults.{LeavesConsole, LeavesKeepers, AreSpared}
+use Rattle.reverse_console.specs.StateSources.{Source, ComesFrom, IsAnswerSeen}
 
 -- the place after an answer
 abbrev pub place_after : ℕ → Option ℕ → ℕ
@@ -118,6 +120,40 @@ pub record IsBrokenOff (from : Source) (orders : List Order) (at : ℕ) (fault :
   pub are : AreAnswered from (take (at - 1) orders) answers text old mid
   pub stays : new.place ≡ mid.place
   pub breaks : BreaksOff from order fault text mid new before after
+
+-- A console has not ended, and an order fits its run. There are keepers with so many slots.
+pub record AwaitsOrder (c : ConsoleState) (next : Order) (counts : List ℕ) : Type 0 where
+  pub lasts : c.ended ≡ false
+  pub order : IsOrder c.plan.count next
+  pub room : HaveRoom (span c.plan) c.plan.slots counts
+
+-- likewise for the orders of a script
+pub record AwaitsOrders (c : ConsoleState) (list : List Order) (counts : List ℕ) : Type 0 where
+  pub lasts : c.ended ≡ false
+  pub few : length list < 2 ^ 32
+  pub orders : (i : ℕ) (order : Order) → slice_get list i ≡ Some order → IsOrder c.plan.count order
+  pub room : HaveRoom (span c.plan) c.plan.slots counts
+
+-- The sink failed after a part of the text of an answer. The order was looked for and reached.
+pub record MissesText (from : Source) (order : Order) (old new : Moment) (before after : Option (List ℕ)) : Type 0 where
+  pub answer : Option ℕ
+  pub piece : List ℕ
+  pub seen : IsAnswerSeen from old.place order answer
+  pub says : IsTextOf from answer piece
+  pub wrote : new.writes ≡ raised old.writes 1
+  pub part : Tells before after (AddsPrefix piece)
+  pub takes : Takes from.plan (effort_of from.plan old.place order answer) old.steps new.steps old.calls new.calls
+
+-- What an order that writes to a sink leaves, and which refusals it can't have. A refusal wrote nothing, unless the sink
+-- failed.
+pub record LeavesOrder {K T : Type 0} (seen : Ghosts K) (order : Order) (result : Result T RunFault) (c c' : ConsoleState) (ks ls : List K)
+    (old new : Moment) (before after : Option (List ℕ)) : Type 0 where
+  pub missed : result ≡ Err Visitor → MissesText (source_of c (told_by seen ks)) order old new before after
+  pub unwritten : OnErr result (result ≢ Err Visitor → (after ≡ before) × (new.writes ≡ old.writes))
+  pub took_until : IfErr result (λ fault. TookUntil (source_of c (told_by seen ks)) c.place order fault old.steps new.steps old.calls new.calls)
+  pub leaves : LeavesConsole result c c'
+  pub spared : AreSpared seen c result ks
+  pub keepers : LeavesKeepers seen (length c.plan.slots) result ks ls
 
 -- so a script ended: all orders were answered, or those before the refused one
 pub record AreAnsweredBy (from : Source) (orders : List Order) (result : Result (Unit {0}) Stop) (old new : Moment)

@@ -1,15 +1,16 @@
 // The words of an order: its command and its operand.
 ghost use Rattle.std.specs.Prelude.{◌≡◌};
 ghost use Rattle.plan_types.specs.declared.limits.TheConstants.{MOST_STEPS};
-ghost use Rattle.line_texts.specs.Reading.{number_of as number_in};
+ghost use Rattle.line_texts.specs.Parsers.{number_of as number_in};
 ghost use Rattle.reverse_console.specs.Script.{order_with as order_of_command};
 ghost use Rattle.reverse_console.specs.ScriptFaults.{rule_of as rule_of_command};
-ghost use Rattle.reverse_console.specs.ScriptReading.{command_of as command_in, operand_of as operand_in, is_given};
+ghost use Rattle.reverse_console.specs.ScriptParser.{command_of as command_in, operand_of as operand_in, is_given};
 
 use crate::fault::Rule;
 use crate::order::Order;
 use line_texts::address_of;
 use plan_types::MOST_STEPS;
+use rv_pages::LAST_WORD;
 
 // What an order begins with.
 #[derive(Clone, Copy)]
@@ -24,7 +25,7 @@ pub(crate) enum Command {
 }
 
 // The command that a word names.
-#[tactic(auto, unfolding(crate::specs::ScriptReading::command_of))]
+#[tactic(auto, unfolding(crate::specs::ScriptParser::command_of))]
 pub(crate) fn command_of(word: &[u8]) -> Option<Command>
     ensures { result ≡ command_in word.now }
 {
@@ -68,8 +69,8 @@ pub(crate) fn may_be_given(order: &Order, count: u32) -> bool
 {
     match *order {
         Order::Goto(k) => k <= count,
-        Order::BackChange(word) => word <= 0xfffffffc,
-        Order::BackWrite(word) => word <= 0xfffffffc,
+        Order::BackChange(word) => word <= LAST_WORD,
+        Order::BackWrite(word) => word <= LAST_WORD,
         _ => true,
     }
 }

@@ -1,33 +1,33 @@
 // A console.
-ghost use Rattle.std.specs.Prelude.{◌≡◌, ◌≢◌, ◌-◌, ◌*◌, ◌<◌, ◌≤◌, ◌↔◌, ℕ, List, true, false, length, map, max, Option, Some, None, Ok, Err, IfOk, OnErr, IsErrOf};
+ghost use Rattle.std.specs.Prelude.{◌≡◌, ◌≢◌, ◌<◌, ◌≤◌, ◌↔◌, ℕ, List, true, false, length, map, max, Option, Err, IfOk, OnErr, IsErrOf};
 ghost use Rattle.plan_types.specs.declared.limits.TheConstants.{MOST_STEPS};
-ghost use Rattle.keepers.specs.Told.{Images};
+ghost use Rattle.keepers.specs.Claims.{Images};
 ghost use Rattle.level_book.specs.BookCosts.{slots_of, total_room};
 ghost use Rattle.rv_machine.specs.MachineState.{MachineState, IsMachineState};
 ghost use Rattle.rv_machine.specs.States.{state_number};
-ghost use Rattle.reverse_runner.specs.After.{VisitorAfter};
+ghost use Rattle.reverse_runner.specs.CallOutcome.{VisitorAfter};
 ghost use Rattle.reverse_runner.specs.Desks.{KeepersAre};
 ghost use Rattle.reverse_runner.specs.KeepersSeen.{told_by, calls_to, HaveRoom};
 ghost use Rattle.reverse_runner.specs.Rooms.{image_room, rooms_by, AreRoomy};
 ghost use Rattle.reverse_console.specs.Answer.{IsAnswer, IsOrder};
-ghost use Rattle.reverse_console.specs.ConsoleState.{source_of};
+ghost use Rattle.reverse_console.specs.ConsoleState.{plan_of, source_of};
 ghost use Rattle.reverse_console.specs.Costs.{PutsMarks, looking, BreaksLooking};
 ghost use Rattle.reverse_console.specs.Marks.{span};
-ghost use Rattle.reverse_console.specs.Handling.{IsReady, source, Gets, Looks};
+ghost use Rattle.reverse_console.specs.MarkInvariant.{IsReady, source, Gets, Looks};
 ghost use Rattle.reverse_console.specs.OrderResults.{IsPerformed, IsPerformedIn, LeavesConsole, LeavesKeepers};
-ghost use Rattle.reverse_console.specs.Seen.{ComesFrom, IsAnswerSeen};
-ghost use Rattle.reverse_console.specs.Standing.{Stands, MarksTell, KeepsMarks};
+ghost use Rattle.reverse_console.specs.StateSources.{ComesFrom, IsAnswerSeen};
+ghost use Rattle.reverse_console.specs.MarksOfRun.{Stands, MarksTell, KeepsMarks};
 ghost use Rattle.reverse_console.specs.declared.order.Order.{Order as AnOrder};
 
 use crate::going::{go, set_marks};
+use crate::marked_run::MarkedRun;
 use crate::marks::Marks;
 use crate::order::{Order, Sought};
 use crate::seeking::{first_after, last_before};
 use input_journal::Journal;
 use keepers::Keeper;
-use level_book::Book;
 use reverse_runner::{Desk, RunFault, Visitor};
-use rv_machine::{State, Steps};
+use rv_machine::Steps;
 use std::alloc::Global;
 use std::marker::Model;
 use std::sync::ledger::Ledger;
@@ -60,37 +60,38 @@ impl Console {
     /// A console at state 0.
     pub fn begin<K: Keeper, L: Ledger>(
         alloc: Global,
-        start: State,
-        journal: Journal,
-        count: u32,
-        book: Book,
+        run: MarkedRun,
         keepers: &mut Vec<K>,
         steps: &mut Steps<L>,
     ) -> Result<Console, RunFault>
-        requires count { count ≤ MOST_STEPS }
-        requires slots { 1 ≤ total_room book (max count 1) }
-        requires room { HaveRoom (max count 1) (slots_of book) (map K.slot_count keepers.old.items) }
+        requires count { run.count ≤ MOST_STEPS }
+        requires slots { 1 ≤ total_room run.book (max run.count 1) }
+        requires room { HaveRoom (max run.count 1) (slots_of run.book) (map K.slot_count keepers.old.items) }
 
         // It is at state 0, and represents the run over keepers that claim their content.
-        ensures begun { IfOk result (λ c. (c.plan ≡ (record { slots = slots_of book; count = count })) × (c.journal ≡ journal) × (c.place ≡ 0)
-            × (c.ended ≡ false)) }
-        ensures stands { MarksTell (record { slots = slots_of book; count = count }) (told_by K.Storage keepers.old.items) →
-            IfOk result (λ c. Stands start c (told_by K.Storage keepers.new.items)) }
+        ensures begun { IfOk result (λ c. (c.plan ≡ plan_of run) × (c.journal ≡ run.journal) × (c.place ≡ 0) × (c.ended ≡ false)) }
+        ensures stands { MarksTell (plan_of run) (told_by K.Storage keepers.old.items) →
+            IfOk result (λ c. Stands run.start c (told_by K.Storage keepers.new.items)) }
 
         // It keeps the length and digest of each mark's image, over any keepers.
-        ensures marks { IfOk result (λ c. KeepsMarks start (source_of c (told_by K.Storage keepers.new.items))) }
+        ensures marks { IfOk result (λ c. KeepsMarks run.start (source_of c (told_by K.Storage keepers.new.items))) }
 
         // What it takes: each mark is put on its level.
-        ensures puts { PutsMarks (record { slots = slots_of book; count = count }) result steps.old steps.new (calls_to K.Storage keepers.old.items)
-            (calls_to K.Storage keepers.new.items) }
+        ensures puts { PutsMarks (plan_of run) result steps.old steps.new (calls_to K.Storage keepers.old.items) (calls_to K.Storage keepers.new.items) }
 
         // Over keepers with room for the images it runs out of memory only before anything else is done.
-        ensures roomy { AreRoomy (image_room start) (length (slots_of book)) (rooms_by K.Storage keepers.old.items) → result ≡ Err RunFault.Memory →
-            (keepers.new ≡ keepers.old) × (steps.new ≡ steps.old) }
+        ensures roomy { AreRoomy (image_room run.start) (length (slots_of run.book)) (rooms_by K.Storage keepers.old.items) →
+            result ≡ Err RunFault.Memory → (keepers.new ≡ keepers.old) × (steps.new ≡ steps.old) }
 
         // What it leaves of the keepers. Those past the levels of the book are unchanged.
-        ensures kept { KeepersAre K.Storage (λ k. k < length (slots_of book)) result keepers.old.items keepers.new.items }
+        ensures kept { KeepersAre K.Storage (λ k. k < length (slots_of run.book)) result keepers.old.items keepers.new.items }
     {
+        let MarkedRun {
+            start,
+            journal,
+            count,
+            book,
+        } = run;
         let marks = Marks::new(book, count);
         marks.are_roomy();
         marks.have_room();

@@ -1,18 +1,15 @@
 // Setting marks, and reaching a state from its mark.
-ghost use Rattle.std.specs.Prelude.{◌≡◌, ◌≢◌, ◌+◌, ◌-◌, ◌<◌, ◌≤◌, [], ◌∷◌, length, map, Ok, Err, OnOk, IfErr};
+ghost use Rattle.std.specs.Prelude.{◌≡◌, ◌≢◌, ◌+◌, ◌<◌, ◌≤◌, [], ◌∷◌, map, Ok, Err, OnOk, IfErr};
 ghost use Rattle.rv_machine.specs.MachineState.{MachineState};
 ghost use Rattle.rv_machine.specs.States.{state_number};
-ghost use Rattle.reverse_runner.specs.After.{VisitorAfter};
-ghost use Rattle.reverse_runner.specs.Desks.{KeepersAre};
-ghost use Rattle.reverse_runner.specs.KeepersSeen.{told_by, calls_to, HaveRoom};
+ghost use Rattle.reverse_runner.specs.CallOutcome.{VisitorAfter};
+ghost use Rattle.reverse_runner.specs.KeepersSeen.{told_by, calls_to};
 ghost use Rattle.reverse_runner.specs.SessionState.{SamePages};
-ghost use Rattle.reverse_runner.specs.Rooms.{image_room, rooms_by, AreRoomy, AreShort};
-ghost use Rattle.reverse_runner.specs.DeskFields.{Fits};
 ghost use Rattle.reverse_console.specs.Costs.{PutsMarks, way};
-ghost use Rattle.reverse_console.specs.Marks.{span, stride, marked, mark_count, mark_of};
-ghost use Rattle.reverse_console.specs.Handling.{AreSet, AreKept, StandAt, PutsMark, SetsMark, IsReady, source, Gets};
+ghost use Rattle.reverse_console.specs.Marks.{stride, marked, mark_count, mark_of};
+ghost use Rattle.reverse_console.specs.MarkInvariant.{AreSet, AreKept, StandAt, PutsMark, SetsMark, MaySet, LeavesDesk, IsReady, source, Gets};
 ghost use Rattle.reverse_console.specs.Refusals.{IsNotGot};
-ghost use Rattle.reverse_console.specs.Seen.{ComesFrom};
+ghost use Rattle.reverse_console.specs.StateSources.{ComesFrom};
 
 use crate::marks::Marks;
 use input_journal::Journal;
@@ -29,17 +26,12 @@ fn set_mark<K: Keeper>(
     keepers: &mut Vec<K>,
 ) -> Result<(), RunFault>
     requires known { mark < mark_count marks.now }
-    requires set { AreSet marks.now mark desk.old.store }
-    requires room { HaveRoom (span marks.now) marks.now.slots (map K.slot_count keepers.old.items) }
-    requires fits { Fits desk.old }
+    requires may_set { MaySet marks.now mark desk.old (map K.slot_count keepers.old.items) }
     ensures sets { SetsMark marks.now mark desk.old.work result desk.old.store desk.new.store (told_by K.Storage keepers.old.items)
         (told_by K.Storage keepers.new.items) }
     ensures work { desk.new.work ≡ desk.old.work }
-    ensures fits { Fits desk.new }
     ensures puts { PutsMark marks.now mark result (calls_to K.Storage keepers.old.items) (calls_to K.Storage keepers.new.items) }
-    ensures are { KeepersAre K.Storage (λ k. k < length marks.now.slots) result keepers.old.items keepers.new.items }
-    ensures short { AreShort (image_room desk.old.work) desk.old.store → OnOk result (AreShort (image_room desk.old.work) desk.new.store) }
-    ensures roomy { AreRoomy (image_room desk.old.work) (length marks.now.slots) (rooms_by K.Storage keepers.old.items) → result ≢ Err RunFault.Memory }
+    ensures leaves { LeavesDesk K.Storage marks.now result desk.old desk.new keepers.old.items keepers.new.items }
 {
     marks.are_roomy();
     marks.have_room();
@@ -57,18 +49,13 @@ fn set_next<K: Keeper, L: Ledger>(
     steps: &mut Steps<L>,
 ) -> Result<(), RunFault>
     requires known { mark < mark_count marks.now }
-    requires set { AreSet marks.now mark desk.old.store }
-    requires room { HaveRoom (span marks.now) marks.now.slots (map K.slot_count keepers.old.items) }
-    requires fits { Fits desk.old }
+    requires may_set { MaySet marks.now mark desk.old (map K.slot_count keepers.old.items) }
     ensures sets { SetsMark marks.now mark desk.new.work result desk.old.store desk.new.store (told_by K.Storage keepers.old.items)
         (told_by K.Storage keepers.new.items) }
     ensures work { desk.new.work ≡ state_number desk.old.work journal.now (stride marks.now) }
-    ensures fits { Fits desk.new }
     ensures counted { steps.new ≡ steps.old + stride marks.now }
     ensures puts { PutsMark marks.now mark result (calls_to K.Storage keepers.old.items) (calls_to K.Storage keepers.new.items) }
-    ensures are { KeepersAre K.Storage (λ k. k < length marks.now.slots) result keepers.old.items keepers.new.items }
-    ensures short { AreShort (image_room desk.old.work) desk.old.store → OnOk result (AreShort (image_room desk.old.work) desk.new.store) }
-    ensures roomy { AreRoomy (image_room desk.old.work) (length marks.now.slots) (rooms_by K.Storage keepers.old.items) → result ≢ Err RunFault.Memory }
+    ensures leaves { LeavesDesk K.Storage marks.now result desk.old desk.new keepers.old.items keepers.new.items }
 {
     desk.advance(journal, marks.stride(), steps);
     set_mark(desk, marks, mark, keepers)
@@ -82,19 +69,14 @@ pub(crate) fn set_marks<K: Keeper, L: Ledger>(
     keepers: &mut Vec<K>,
     steps: &mut Steps<L>,
 ) -> Result<(), RunFault>
-    requires set { AreSet marks.now 0 desk.old.store }
-    requires room { HaveRoom (span marks.now) marks.now.slots (map K.slot_count keepers.old.items) }
-    requires fits { Fits desk.old }
+    requires may_set { MaySet marks.now 0 desk.old (map K.slot_count keepers.old.items) }
     ensures set { OnOk result (AreSet marks.now (mark_count marks.now) desk.new.store) }
     ensures stand { StandAt desk.old.work journal.now marks.now 0 desk.old.store (told_by K.Storage keepers.old.items) →
         OnOk result (StandAt desk.old.work journal.now marks.now (mark_count marks.now) desk.new.store (told_by K.Storage keepers.new.items)) }
     ensures kept { OnOk result (AreKept desk.old.work journal.now marks.now (mark_count marks.now) desk.new.store) }
     ensures machine { SamePages desk.new.work desk.old.work }
-    ensures fits { Fits desk.new }
     ensures puts { PutsMarks marks.now result steps.old steps.new (calls_to K.Storage keepers.old.items) (calls_to K.Storage keepers.new.items) }
-    ensures are { KeepersAre K.Storage (λ k. k < length marks.now.slots) result keepers.old.items keepers.new.items }
-    ensures short { AreShort (image_room desk.old.work) desk.old.store → OnOk result (AreShort (image_room desk.old.work) desk.new.store) }
-    ensures roomy { AreRoomy (image_room desk.old.work) (length marks.now.slots) (rooms_by K.Storage keepers.old.items) → result ≢ Err RunFault.Memory }
+    ensures leaves { LeavesDesk K.Storage marks.now result desk.old desk.new keepers.old.items keepers.new.items }
 {
     marks.have_room();
     set_mark(desk, marks, 0, keepers)?;

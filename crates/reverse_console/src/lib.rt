@@ -6,9 +6,9 @@
 //!
 //! - `Marks`: where the marks are.
 //! - `Answer`: what an order answers.
-//! - `Seen`: what it answers by the fetched bytes.
+//! - `StateSources`: what it answers by the fetched bytes.
 //! - `Costs`: what an order takes.
-//! - `Standing`: when a console represents a run.
+//! - `MarksOfRun`: when a console represents a run.
 //! - `ScriptWords`, `Script`: which bytes are a script.
 //! - `ScriptFaults`: the first fault of other bytes.
 //! - `ScriptAnswers`: what is written for a script.
@@ -20,14 +20,15 @@ mod fault;
 mod going;
 pub mod laws;
 mod line;
+mod marked_run;
 mod marks;
-mod memory_word;
 mod order;
 mod reading;
 mod script;
 mod seeking;
 
 pub use crate::console::Console;
+pub use crate::marked_run::MarkedRun;
 pub use crate::order::Order;
 pub use crate::reading::read_orders;
 pub use crate::script::{Stop, answer_all};

@@ -2,7 +2,7 @@
 ghost use Rattle.std.specs.Prelude.{◌≡◌, ◌<◌, ◌^◌, ◌+◌, length};
 ghost use Rattle.reverse_console.specs.ScriptWords.{begins_comment as comment_begins};
 ghost use Rattle.line_texts.specs.Tokens.{words as words_of};
-ghost use Rattle.reverse_console.specs.ScriptReading.{line_of, not_command as not_a_command, given as given_with};
+ghost use Rattle.reverse_console.specs.ScriptParser.{line_of, not_command as not_a_command, given as given_with};
 
 use crate::command::{Command, command_of, may_be_given, operand_of, order_with, rule_of};
 use crate::fault::{LineFault, Rule};
@@ -10,7 +10,7 @@ use crate::order::Order;
 use line_texts::{Token, Words};
 
 // The order of a line, if any, in a run of so many steps.
-#[tactic(auto, unfolding(crate::specs::ScriptReading::line_of))]
+#[tactic(auto, unfolding(crate::specs::ScriptParser::line_of))]
 pub(crate) fn line(bytes: &[u8], count: u32) -> Result<Option<Order>, LineFault>
     requires { length bytes.now < 2 ^ 31 }
     ensures { result ≡ line_of count (length bytes.now + 1) (words_of 1 bytes.now) }
@@ -60,7 +60,7 @@ fn not_command(column: u32) -> LineFault
 }
 
 // The order of a command with its operand.
-#[tactic(auto, unfolding(crate::specs::ScriptReading::given))]
+#[tactic(auto, unfolding(crate::specs::ScriptParser::given))]
 fn given(command: Command, operand: Token, count: u32) -> Result<Order, LineFault>
     ensures { result ≡ given_with count command operand.entry.column operand.entry.text.now }
 {

@@ -1,5 +1,5 @@
 // From a script to its orders.
-ghost use Rattle.std.specs.Prelude.{◌≡◌, ◌≢◌, ◌⊎◌, ◌≤◌, ◌<◌, ◌^◌, ◌++◌, ℕ, List, [], length, slice_get, Some, MatchResult, IfOk, IfErr, OnOk};
+ghost use Rattle.std.specs.Prelude.{◌≡◌, ◌≢◌, ◌⊎◌, ◌≤◌, ◌<◌, ◌^◌, ◌++◌, ℕ, List, length, slice_get, Some, MatchResult, IfOk, IfErr, OnOk};
 ghost use Rattle.std.specs.Vec.{vec_len};
 ghost use Rattle.std.specs.Option.{option_to_list};
 ghost use Rattle.plan_types.specs.declared.limits.TheConstants.{MOST_STEPS};
@@ -8,8 +8,8 @@ ghost use Rattle.line_texts.specs.declared.fault.Fault.{Fault as AFault};
 ghost use Rattle.reverse_console.specs.Answer.{IsOrder};
 ghost use Rattle.reverse_console.specs.Script.{IsScript};
 ghost use Rattle.reverse_console.specs.ScriptFaults.{HasFirstFault};
-ghost use Rattle.reverse_console.specs.ScriptReading.{script_of};
-ghost use Rattle.line_texts.specs.Reading.{GivesUnlessMemory};
+ghost use Rattle.reverse_console.specs.ScriptParser.{script_of};
+ghost use Rattle.line_texts.specs.Parsers.{GivesUnlessMemory};
 
 use crate::line::line;
 use crate::order::Order;
@@ -38,7 +38,7 @@ pub fn read_orders(alloc: Global, bytes: &[u8], count: u32) -> Result<Vec<Order>
     read_lines(alloc, bytes, count)
 }
 
-#[tactic(auto, unfolding(crate::specs::ScriptReading::script_of))]
+#[tactic(auto, unfolding(crate::specs::ScriptParser::script_of))]
 fn read_lines(alloc: Global, bytes: &[u8], count: u32) -> Result<Vec<Order>, Fault>
     requires { length bytes.now < 2 ^ 31 }
     ensures read { GivesUnlessMemory (λ orders. orders.items) result (script_of count bytes.now) }

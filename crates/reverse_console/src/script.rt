@@ -1,20 +1,14 @@
 // How the orders of a script are answered in a sink.
-ghost use Rattle.std.specs.Prelude.{◌≡◌, ◌≢◌, ◌+◌, ◌++◌, ◌<◌, ◌^◌, ℕ, List, false, length, map, slice_get, Option, Some, Ok, Err, IfOk, IfErr, OnOk, OnErr};
-ghost use Rattle.keepers.specs.Counts.{raised};
-ghost use Rattle.keepers.specs.Told.{Tells, AddsPrefix};
+ghost use Rattle.std.specs.Prelude.{◌≡◌, ◌++◌, ℕ, List, false, length, map, Option, IfOk, OnOk};
+ghost use Rattle.keepers.specs.Claims.{Tells};
 ghost use Rattle.rv_machine.specs.MachineState.{MachineState, IsMachineState};
-ghost use Rattle.reverse_runner.specs.After.{FaultsAfter};
-ghost use Rattle.reverse_runner.specs.KeepersSeen.{told_by, calls_to, HaveRoom};
-ghost use Rattle.reverse_console.specs.Answer.{IsOrder};
+ghost use Rattle.reverse_runner.specs.CallOutcome.{FaultsAfter};
+ghost use Rattle.reverse_runner.specs.KeepersSeen.{told_by, calls_to};
 ghost use Rattle.reverse_console.specs.Causes.{fault_of};
 ghost use Rattle.reverse_console.specs.ConsoleState.{GoesOn, source_of};
-ghost use Rattle.reverse_console.specs.Costs.{effort_of, Takes, TookUntil};
-ghost use Rattle.reverse_console.specs.Marks.{span};
-ghost use Rattle.reverse_console.specs.OrderResults.{LeavesConsole, LeavesKeepers, AreSpared};
-ghost use Rattle.reverse_console.specs.ScriptAnswers.{moment, IsTextOf, IsOrderShown, IsAnswered, AreAnsweredBy, AreAnsweredIn};
-ghost use Rattle.reverse_console.specs.Seen.{IsAnswerSeen};
-ghost use Rattle.reverse_console.specs.Standing.{Stands};
-ghost use Rattle.reverse_console.specs.declared.order.Order.{Order as AnOrder};
+ghost use Rattle.reverse_console.specs.OrderResults.{LeavesKeepers, AreSpared};
+ghost use Rattle.reverse_console.specs.ScriptAnswers.{moment, AwaitsOrder, AwaitsOrders, LeavesOrder, IsOrderShown, IsAnswered, AreAnsweredBy, AreAnsweredIn};
+ghost use Rattle.reverse_console.specs.MarksOfRun.{Stands};
 
 use crate::console::Console;
 use crate::order::Order;
@@ -38,27 +32,14 @@ fn show<K: Keeper, O: Sink, L: Ledger>(
     out: &mut O,
     steps: &mut Steps<L>,
 ) -> Result<bool, RunFault>
-    requires lasts { console.old.ended ≡ false }
-    requires order { IsOrder console.old.plan.count order.now }
-    requires room { HaveRoom (span console.old.plan) console.old.plan.slots (map K.slot_count keepers.old.items) }
+    requires { AwaitsOrder console.old order.now (map K.slot_count keepers.old.items) }
     ensures shown { IfOk result (λ found. IsOrderShown (source_of console.old (told_by K.Storage keepers.old.items)) order.now found
         (moment console.old steps.old (calls_to K.Storage keepers.old.items) (O.call_count out.old))
         (moment console.new steps.new (calls_to K.Storage keepers.new.items) (O.call_count out.new)) (O.told out.old) (O.told out.new)) }
-    ensures missed { result ≡ Err RunFault.Visitor → (n : ℕ) × ((piece : List ℕ)
-        × (IsAnswerSeen (source_of console.old (told_by K.Storage keepers.old.items)) console.old.place order.now (Some n)
-        × IsTextOf (source_of console.old (told_by K.Storage keepers.old.items)) (Some n) piece
-        × (O.call_count out.new ≡ raised (O.call_count out.old) 1)
-        × Tells (O.told out.old) (O.told out.new) (AddsPrefix piece)
-        × Takes console.old.plan (effort_of console.old.plan console.old.place order.now (Some n)) steps.old steps.new
-        (calls_to K.Storage keepers.old.items) (calls_to K.Storage keepers.new.items))) }
-    ensures unwritten { OnErr result (result ≢ Err RunFault.Visitor → (O.told out.new ≡ O.told out.old) × (O.call_count out.new ≡ O.call_count out.old)) }
-    ensures took_until { IfErr result (λ fault. TookUntil (source_of console.old (told_by K.Storage keepers.old.items)) console.old.place order.now fault
-        steps.old steps.new (calls_to K.Storage keepers.old.items)
-        (calls_to K.Storage keepers.new.items)) }
-    ensures leaves { LeavesConsole result console.old console.new }
-    ensures spared { AreSpared K.Storage console.old result keepers.old.items }
     ensures faults { FaultsAfter O.fault_count result out.old out.new }
-    ensures keepers { LeavesKeepers K.Storage (length console.old.plan.slots) result keepers.old.items keepers.new.items }
+    ensures leaves { LeavesOrder K.Storage order.now result console.old console.new keepers.old.items keepers.new.items
+        (moment console.old steps.old (calls_to K.Storage keepers.old.items) (O.call_count out.old))
+        (moment console.new steps.new (calls_to K.Storage keepers.new.items) (O.call_count out.new)) (O.told out.old) (O.told out.new) }
 {
     let mut writer = LineWriter::new(out);
     console.perform(order, keepers, &mut writer, steps)
@@ -72,29 +53,16 @@ fn answer_line<K: Keeper, O: Sink, L: Ledger>(
     out: &mut O,
     steps: &mut Steps<L>,
 ) -> Result<(), RunFault>
-    requires lasts { console.old.ended ≡ false }
-    requires order { IsOrder console.old.plan.count order.now }
-    requires room { HaveRoom (span console.old.plan) console.old.plan.slots (map K.slot_count keepers.old.items) }
+    requires { AwaitsOrder console.old order.now (map K.slot_count keepers.old.items) }
     ensures answered { OnOk result ((answer : Option ℕ) × ((text : List ℕ)
         × (IsAnswered (source_of console.old (told_by K.Storage keepers.old.items)) order.now answer text
         (moment console.old steps.old (calls_to K.Storage keepers.old.items) (O.call_count out.old))
         (moment console.new steps.new (calls_to K.Storage keepers.new.items) (O.call_count out.new))
         × Tells (O.told out.old) (O.told out.new) (λ x y. y ≡ x ++ text)))) }
-    ensures missed { result ≡ Err RunFault.Visitor → (answer : Option ℕ) × ((piece : List ℕ)
-        × (IsAnswerSeen (source_of console.old (told_by K.Storage keepers.old.items)) console.old.place order.now answer
-        × IsTextOf (source_of console.old (told_by K.Storage keepers.old.items)) answer piece
-        × (O.call_count out.new ≡ raised (O.call_count out.old) 1)
-        × Tells (O.told out.old) (O.told out.new) (AddsPrefix piece)
-        × Takes console.old.plan (effort_of console.old.plan console.old.place order.now answer) steps.old steps.new
-        (calls_to K.Storage keepers.old.items) (calls_to K.Storage keepers.new.items))) }
-    ensures unwritten { OnErr result (result ≢ Err RunFault.Visitor → (O.told out.new ≡ O.told out.old) × (O.call_count out.new ≡ O.call_count out.old)) }
-    ensures took_until { IfErr result (λ fault. TookUntil (source_of console.old (told_by K.Storage keepers.old.items)) console.old.place order.now fault
-        steps.old steps.new (calls_to K.Storage keepers.old.items)
-        (calls_to K.Storage keepers.new.items)) }
-    ensures leaves { LeavesConsole result console.old console.new }
-    ensures spared { AreSpared K.Storage console.old result keepers.old.items }
     ensures faults { FaultsAfter O.fault_count result out.old out.new }
-    ensures keepers { LeavesKeepers K.Storage (length console.old.plan.slots) result keepers.old.items keepers.new.items }
+    ensures leaves { LeavesOrder K.Storage order.now result console.old console.new keepers.old.items keepers.new.items
+        (moment console.old steps.old (calls_to K.Storage keepers.old.items) (O.call_count out.old))
+        (moment console.new steps.new (calls_to K.Storage keepers.new.items) (O.call_count out.new)) (O.told out.old) (O.told out.new) }
 {
     let found = show(console, order, keepers, out, steps)?;
     if found {
@@ -114,10 +82,7 @@ pub fn answer_all<K: Keeper, O: Sink, L: Ledger>(
     out: &mut O,
     steps: &mut Steps<L>,
 ) -> Result<(), Stop>
-    requires lasts { console.old.ended ≡ false }
-    requires few { length orders.now < 2 ^ 32 }
-    requires orders { (i : ℕ) (order : AnOrder) → slice_get orders.now i ≡ Some order → IsOrder console.old.plan.count order }
-    requires room { HaveRoom (span console.old.plan) console.old.plan.slots (map K.slot_count keepers.old.items) }
+    requires { AwaitsOrders console.old orders.now (map K.slot_count keepers.old.items) }
 
     // What was answered and written, by the fetched bytes.
     ensures answers { AreAnsweredBy (source_of console.old (told_by K.Storage keepers.old.items)) orders.now result

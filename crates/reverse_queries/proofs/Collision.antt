@@ -3,35 +3,35 @@ use Rattle.std.proofs.Common.{◌≡◌, ◌⊎◌, inl, inr, ℕ, zero, suc, �
 use Rattle.std.proofs.lemmas.Bool.{cases_eq, cases_lt, cases_Bool}
 use Rattle.std.proofs.lemmas.List.{map-append}
 use Rattle.std.proofs.lemmas.List.Elements.{Contains-append_left, Contains-append_right}
-use Rattle.keepers.specs.Told.{Images}
+use Rattle.keepers.specs.Claims.{Images}
 use Rattle.plan_types.specs.declared.action.Action.{Action}
 use Rattle.plan_types.specs.declared.action.Action.TheVariants.{Forward, Reverse, Copy, Move, EndForward, EndReverse}
 use Rattle.level_book.specs.declared.book.Slots.{Slots}
 use Rattle.level_book.specs.Configuration.{Configuration, start}
 use Rattle.level_book.specs.Moves.{Goes}
 use Rattle.level_book.specs.Valid.{Leads, Valid}
-use Rattle.schedule_rules.specs.Reached.{IsSound}
-use Rattle.schedule_rules.proofs.Reaching.{sound_on, sound_start}
+use Rattle.schedule_rules.specs.Reachability.{IsSound}
+use Rattle.schedule_rules.proofs.Reachability.{sound_on, sound_start}
 use Rattle.input_journal.specs.Form.{IsRecorded}
 use Rattle.rv_pages.specs.Memory.{byte_at}
 use Rattle.rv_machine.specs.MachineState.{MachineState, IsMachineState}
 use Rattle.rv_machine.specs.States.{state_number}
 use Rattle.rv_machine.specs.StepTable.{written}
-use Rattle.reverse_runner.specs.Acts.{Holdings, Acts}
+use Rattle.reverse_runner.specs.ActionEffects.{Holdings, Acts}
 use Rattle.reverse_runner.specs.Collision.{StandsByDigests, Collides}
-use Rattle.reverse_runner.specs.Handed.{numbers_from, handed_by, handed}
-use Rattle.reverse_runner.specs.LevelsStand.{IsLaidOut}
+use Rattle.reverse_runner.specs.StateOrder.{numbers_from, handed_by, handed}
+use Rattle.reverse_runner.specs.HoldingsOfRun.{IsLaidOut}
 use Rattle.reverse_runner.specs.SessionState.{holdings_of}
-use Rattle.reverse_runner.specs.Standing.{begun}
+use Rattle.reverse_runner.specs.SessionOfRun.{begun}
 use Rattle.reverse_runner.specs.Units.{unit_states}
 use Rattle.reverse_runner.proofs.Collision.{stand_or_collide, begun_by_digests}
-use Rattle.reverse_runner.proofs.HoldingsAfter.{laid_out_after}
+use Rattle.reverse_runner.proofs.HoldingsInvariant.{laid_out_after}
 use Rattle.reverse_runner.proofs.RoomLeft.{begun_is_laid_out}
 use Rattle.reverse_queries.specs.Collision.{CollidesOn}
 use Rattle.reverse_queries.specs.Queries.{WritesIn, WritesWord, Differ, ChangesIn, ChangesWord, IsLast, hands_out, front_to, up_to}
-use Rattle.reverse_queries.specs.OnTheWay.{HaveOut, GoesThrough}
+use Rattle.reverse_queries.specs.HoldingsTrace.{HaveOut, GoesThrough}
 use Rattle.reverse_queries.proofs.Numbers.{head_same, rest_same}
-use Rattle.reverse_queries.proofs.Turning.{on_tape, Turns, turns_start, turns_on, left, left_at_end, left_before, hands_of}
+use Rattle.reverse_queries.proofs.ReversalOrder.{on_tape, Turns, turns_start, turns_on, left, left_at_end, left_before, hands_of}
 
 -- where what is held stands by the digests, the states of the run have those that are handed out
 pub out_by_digests : (first : MachineState) (unit steps : ℕ) (slots : List Slots) (journal : List (List ℕ)) (c : Configuration) (a : Action) (d : Configuration) (held : Holdings) → Goes steps slots c a d → IsSound steps slots c →

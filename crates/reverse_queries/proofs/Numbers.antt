@@ -3,8 +3,8 @@ use Rattle.std.proofs.Common.{◌≡◌, ℕ, zero, suc, ◌+◌, ◌<◌, ◌�
 use Rattle.std.specs.Option.{option_map}
 use Rattle.std.proofs.lemmas.Option.{none-some, same_Some, slice_get-map}
 use Rattle.rv_machine.specs.MachineState.{MachineState}
-use Rattle.reverse_runner.specs.Handed.{numbers_from}
-use Rattle.reverse_runner.specs.Performed.{GetsAll}
+use Rattle.reverse_runner.specs.StateOrder.{numbers_from}
+use Rattle.reverse_runner.specs.VisitorCalls.{GetsAll}
 
 rest_of : {A : Type 0} → List A → List A
 rest_of [] = []

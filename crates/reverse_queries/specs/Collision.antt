@@ -2,7 +2,7 @@
 use Rattle.std.specs.Prelude.{◌≡◌, ℕ, ◌+◌, List, slice_get, Some}
 use Rattle.plan_types.specs.declared.action.Action.{Action}
 use Rattle.rv_machine.specs.MachineState.{MachineState}
-use Rattle.reverse_runner.specs.Acts.{Holdings}
+use Rattle.reverse_runner.specs.ActionEffects.{Holdings}
 use Rattle.reverse_runner.specs.Collision.{Collides}
 
 -- While a list was performed, an action fetched a collision. The state's image differs from that of the state with its

@@ -1,7 +1,7 @@
-pub mod Asked
+pub mod QuestionEffects
 pub mod Collision
-pub mod Finding
-pub mod OnTheWay
-pub mod Performing
-pub mod Picking
+pub mod FinderModel
+pub mod HoldingsTrace
+pub mod ListPerformance
+pub mod PickVisitor
 pub mod Queries

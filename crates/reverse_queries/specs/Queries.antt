@@ -1,10 +1,10 @@
 -- What is asked of a run: the steps that write or change a word, and the last of them. Also how much of a list is
 -- performed for an answer. A word is the four bytes from an address on. Steps are those of the machine. A step of the
 -- list is a unit of so many of them.
-use Rattle.std.specs.Prelude.{◌≢◌, ℕ, ◌+◌, ◌*◌, ◌==◌, ◌<◌, ◌≤◌, ◌&&◌, leb, ltb, Bool, false, cond, List, [], ◌∷◌, Option, None, Some, Any}
+use Rattle.std.specs.Prelude.{◌≢◌, ℕ, ◌+◌, ◌*◌, ◌==◌, ◌<◌, ◌≤◌, ◌&&◌, leb, ltb, Bool, false, cond, List, [], ◌∷◌, slice_index_or, Option, None, Some, Any}
 use Rattle.plan_types.specs.declared.action.Action.{Action}
 use Rattle.plan_types.specs.declared.action.Action.TheVariants.{Reverse, EndForward}
-use Rattle.rv_pages.specs.Memory.{byte_at}
+use Rattle.rv_pages.specs.Memory.{Memory, byte_at}
 use Rattle.rv_machine.specs.MachineState.{MachineState}
 use Rattle.rv_machine.specs.States.{state_number}
 use Rattle.rv_machine.specs.StepTable.{written}
@@ -21,6 +21,14 @@ WritesWord first journal word m = WritesIn (state_number first journal) journal 
 abbrev pub Differ : Option ℕ → Option ℕ → Type 0
 Differ (Some before) (Some after) = before ≢ after
 Differ _ _ = ⊥
+
+-- the bytes of the word at an address, where they are mapped
+abbrev pub word_bytes : Memory → ℕ → List (Option ℕ)
+word_bytes m word = byte_at m word ∷ byte_at m (word + 1) ∷ byte_at m (word + 2) ∷ byte_at m (word + 3) ∷ []
+
+-- one of four bytes differs
+abbrev pub SomeDiffer : List (Option ℕ) → List (Option ℕ) → Type 0
+SomeDiffer before after = (k : ℕ) × ((k < 4) × Differ (slice_index_or before k None) (slice_index_or after k None))
 
 -- a byte of the word differs between state m and state m + 1
 abbrev pub ChangesIn : (ℕ → MachineState) → ℕ → ℕ → Type 0

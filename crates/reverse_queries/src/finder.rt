@@ -1,5 +1,6 @@
 // Looks for a step of a run in the states that a session gives.
 ghost use Rattle.std.specs.Prelude.{◌≤◌};
+ghost use Rattle.rv_pages.specs.declared.pages.TheConstants.{LAST_WORD};
 
 // What a step must do to a word.
 #[derive(Clone, Copy)]
@@ -20,5 +21,5 @@ pub(crate) struct Finder {
     // The bytes of the word in the previous state that it got.
     pub later: [Option<u8>; 4],
     pub answer: Option<u32>,
-    ghost in_range: { word ≤ 0xFFFFFFFC },
+    ghost in_range: { word ≤ LAST_WORD },
 }

@@ -1,6 +1,6 @@
 // Laws of performed lists. Each function does nothing; its contract is the law.
 ghost use Rattle.std.specs.Prelude.{◌≡◌, ◌⊎◌, ℕ, ◌*◌, ◌≤◌, List, Option, Contains};
-ghost use Rattle.keepers.specs.Told.{Images};
+ghost use Rattle.keepers.specs.Claims.{Images};
 ghost use Rattle.plan_types.specs.declared.action.Action.{Action};
 ghost use Rattle.level_book.specs.declared.book.Slots.{Slots};
 ghost use Rattle.level_book.specs.Configuration.{Configuration, start};
@@ -8,15 +8,15 @@ ghost use Rattle.level_book.specs.Valid.{Leads, Valid};
 ghost use Rattle.input_journal.specs.Form.{IsRecorded};
 ghost use Rattle.rv_machine.specs.MachineState.{MachineState, IsMachineState};
 ghost use Rattle.rv_machine.specs.States.{state_number};
-ghost use Rattle.reverse_runner.specs.Acts.{Holdings};
+ghost use Rattle.reverse_runner.specs.ActionEffects.{Holdings};
 ghost use Rattle.reverse_runner.specs.Collision.{StandsByDigests};
-ghost use Rattle.reverse_runner.specs.Handed.{handed};
+ghost use Rattle.reverse_runner.specs.StateOrder.{handed};
 ghost use Rattle.reverse_runner.specs.SessionState.{holdings_of};
-ghost use Rattle.reverse_runner.specs.Standing.{begun};
+ghost use Rattle.reverse_runner.specs.SessionOfRun.{begun};
 ghost use Rattle.reverse_runner.specs.Units.{unit_states};
 ghost use Rattle.reverse_queries.specs.Collision.{CollidesOn};
 ghost use Rattle.reverse_queries.specs.Queries.{WritesIn, ChangesIn, WritesWord, ChangesWord, IsLast, front_to, up_to};
-ghost use Rattle.reverse_queries.specs.OnTheWay.{GoesThrough};
+ghost use Rattle.reverse_queries.specs.HoldingsTrace.{GoesThrough};
 
 /// Over any keepers, let a list be performed from the start of a run. Each state given is the run's with its number,
 /// and the held images are right by their digests. Otherwise an action fetched a collision: an image other than the

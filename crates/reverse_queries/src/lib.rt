@@ -5,14 +5,16 @@
 //! In `specs/`:
 //!
 //! - `Queries`: what is asked, and how much of a list is performed.
-//! - `Performing`: what that does to a session.
-//! - `OnTheWay`: which states are given on the way.
+//! - `ListPerformance`: what that does to a session.
+//! - `HoldingsTrace`: which states are given on the way.
 #![tactic(auto)]
 
 mod finder;
 mod finding;
 pub mod laws;
+mod memory_word;
 mod picked;
 mod queries;
 
+pub use crate::memory_word::{bytes_of_word, some_differ};
 pub use crate::queries::{last_change, last_write, state_at};

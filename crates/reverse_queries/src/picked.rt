@@ -1,6 +1,6 @@
 // A visitor that passes on one of the states that it gets.
-ghost use Rattle.std.specs.Prelude.{◌≡◌, ◌≢◌, false};
-ghost use Rattle.reverse_queries.specs.Picking.{PassesOn};
+ghost use Rattle.std.specs.Prelude.{◌≡◌, false};
+ghost use Rattle.reverse_queries.specs.PickVisitor.{PassesOn};
 
 use input_journal::Journal;
 use reverse_runner::{KnownState, VisitFault, Visitor};

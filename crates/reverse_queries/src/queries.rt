@@ -1,16 +1,15 @@
 // The questions on a run.
-ghost use Rattle.std.specs.Prelude.{◌≡◌, ◌≢◌, ◌+◌, ◌*◌, ◌≤◌, ◌<◌, ℕ, List, false, length, map, slice_get, Some, Err, IfOk, IfErr, OnOk, OnErr};
-ghost use Rattle.rv_machine.specs.MachineState.{MachineState, IsMachineState};
-ghost use Rattle.reverse_runner.specs.After.{Stays, VisitorAfter};
+ghost use Rattle.std.specs.Prelude.{◌*◌, ◌≤◌, ◌<◌, length, map, IfErr, OnOk};
+ghost use Rattle.rv_pages.specs.declared.pages.TheConstants.{LAST_WORD};
+ghost use Rattle.reverse_runner.specs.CallOutcome.{Stays, VisitorAfter};
 ghost use Rattle.reverse_runner.specs.Desks.{KeepersAre};
-ghost use Rattle.reverse_runner.specs.KeepersSeen.{told_by, calls_to, HaveRoom};
+ghost use Rattle.reverse_runner.specs.KeepersSeen.{told_by, calls_to};
 ghost use Rattle.reverse_runner.specs.Rooms.{rooms_by};
 ghost use Rattle.reverse_runner.specs.SessionState.{holdings_of};
-ghost use Rattle.reverse_runner.specs.Standing.{StandsAt};
-ghost use Rattle.reverse_queries.specs.Queries.{WritesIn, ChangesIn, WritesWord, ChangesWord, IsLast, front_to, up_to};
-ghost use Rattle.reverse_queries.specs.Asked.{Performed, IsSpared};
-ghost use Rattle.reverse_queries.specs.OnTheWay.{IsFoundOn};
-ghost use Rattle.reverse_queries.specs.Performing.{AwaitsList, GetsState, MissesState, RefusedIn};
+ghost use Rattle.reverse_queries.specs.Queries.{WritesIn, ChangesIn, front_to};
+ghost use Rattle.reverse_queries.specs.QuestionEffects.{Performed, IsSpared, FindsLast};
+ghost use Rattle.reverse_queries.specs.HoldingsTrace.{IsFoundOn};
+ghost use Rattle.reverse_queries.specs.ListPerformance.{AwaitsList, GetsState, MissesState, RefusedIn};
 
 use crate::finder::Sought;
 use crate::finding::find_last;
@@ -31,8 +30,7 @@ pub fn state_at<K: Keeper, V: Visitor, L: Ledger>(
     visitor: &mut V,
     steps: &mut Steps<L>,
 ) -> Result<(), RunFault>
-    requires awaits { AwaitsList session.old list.now }
-    requires room { HaveRoom session.old.situation.steps session.old.situation.slots (map K.slot_count keepers.old.items) }
+    requires awaits { AwaitsList session.old list.now (map K.slot_count keepers.old.items) }
     requires place { place ≤ session.old.unit * session.old.situation.steps }
 
     // The visitor gets one state under this number, among those given on the way. If the session is at its start, that
@@ -76,33 +74,10 @@ pub fn last_write<K: Keeper, L: Ledger>(
     word: u32,
     steps: &mut Steps<L>,
 ) -> Result<Option<u32>, RunFault>
-    requires awaits { AwaitsList session.old list.now }
-    requires room { HaveRoom session.old.situation.steps session.old.situation.slots (map K.slot_count keepers.old.items) }
-    requires word { word ≤ 0xFFFFFFFC }
-
-    // The answer, if the session is at its start.
-    ensures answer { (first : MachineState) → IsMachineState first → StandsAt first session.old (told_by K.Storage keepers.old.items) →
-        IfOk result (IsLast (WritesWord first session.old.journal word) (session.old.unit * session.old.situation.steps)) }
-
-    // The answer by the states that were given on the way, also if the session isn't at its start.
-    ensures found { IfOk result (λ answer. IsFoundOn
-        (λ states. IsLast (WritesIn states session.old.journal word) (session.old.unit * session.old.situation.steps) answer) session.old.unit
-        session.old.situation.steps session.old.journal (up_to session.old.unit session.old.situation.steps answer list.now)
-        (holdings_of session.old (told_by K.Storage keepers.old.items)) (holdings_of session.new (told_by K.Storage keepers.new.items))) }
-
-    // What was performed for it.
-    ensures performed { IfOk result (λ answer. Performed session.old (up_to session.old.unit session.old.situation.steps answer list.now) session.new steps.old
-        steps.new (calls_to K.Storage keepers.old.items)
-        (calls_to K.Storage keepers.new.items)) }
-    ensures stays { OnOk result (Stays session.old (told_by K.Storage keepers.old.items) session.new (told_by K.Storage keepers.new.items)) }
-
-    // The session after a refusal, and its cause.
-    ensures refused { IfErr result (λ fault. RefusedIn (λ action held. ⊥) list.now fault session.old session.new (told_by K.Storage keepers.old.items)
-        steps.old steps.new (calls_to K.Storage keepers.old.items)
-        (calls_to K.Storage keepers.new.items)) }
-    ensures not_visitor { result ≢ Err RunFault.Visitor }
-    ensures spared { IsSpared result session.old (told_by K.Storage keepers.old.items) (rooms_by K.Storage keepers.old.items) }
-    ensures kept { KeepersAre K.Storage (λ k. k < length session.old.situation.slots) result keepers.old.items keepers.new.items }
+    requires awaits { AwaitsList session.old list.now (map K.slot_count keepers.old.items) }
+    requires word { word ≤ LAST_WORD }
+    ensures { FindsLast K.Storage (λ states. WritesIn states session.old.journal word) result list.now session.old session.new keepers.old.items keepers.new.items
+        steps.old steps.new }
 {
     find_last(session, list, keepers, Sought::Write, word, steps)
 }
@@ -116,33 +91,10 @@ pub fn last_change<K: Keeper, L: Ledger>(
     word: u32,
     steps: &mut Steps<L>,
 ) -> Result<Option<u32>, RunFault>
-    requires awaits { AwaitsList session.old list.now }
-    requires room { HaveRoom session.old.situation.steps session.old.situation.slots (map K.slot_count keepers.old.items) }
-    requires word { word ≤ 0xFFFFFFFC }
-
-    // The answer, if the session is at its start.
-    ensures answer { (first : MachineState) → IsMachineState first → StandsAt first session.old (told_by K.Storage keepers.old.items) →
-        IfOk result (IsLast (ChangesWord first session.old.journal word) (session.old.unit * session.old.situation.steps)) }
-
-    // The answer by the states that were given on the way, also if the session isn't at its start.
-    ensures found { IfOk result (λ answer. IsFoundOn
-        (λ states. IsLast (ChangesIn states word) (session.old.unit * session.old.situation.steps) answer) session.old.unit
-        session.old.situation.steps session.old.journal (up_to session.old.unit session.old.situation.steps answer list.now)
-        (holdings_of session.old (told_by K.Storage keepers.old.items)) (holdings_of session.new (told_by K.Storage keepers.new.items))) }
-
-    // What was performed for it.
-    ensures performed { IfOk result (λ answer. Performed session.old (up_to session.old.unit session.old.situation.steps answer list.now) session.new steps.old
-        steps.new (calls_to K.Storage keepers.old.items)
-        (calls_to K.Storage keepers.new.items)) }
-    ensures stays { OnOk result (Stays session.old (told_by K.Storage keepers.old.items) session.new (told_by K.Storage keepers.new.items)) }
-
-    // The session after a refusal, and its cause.
-    ensures refused { IfErr result (λ fault. RefusedIn (λ action held. ⊥) list.now fault session.old session.new (told_by K.Storage keepers.old.items)
-        steps.old steps.new (calls_to K.Storage keepers.old.items)
-        (calls_to K.Storage keepers.new.items)) }
-    ensures not_visitor { result ≢ Err RunFault.Visitor }
-    ensures spared { IsSpared result session.old (told_by K.Storage keepers.old.items) (rooms_by K.Storage keepers.old.items) }
-    ensures kept { KeepersAre K.Storage (λ k. k < length session.old.situation.slots) result keepers.old.items keepers.new.items }
+    requires awaits { AwaitsList session.old list.now (map K.slot_count keepers.old.items) }
+    requires word { word ≤ LAST_WORD }
+    ensures { FindsLast K.Storage (λ states. ChangesIn states word) result list.now session.old session.new keepers.old.items keepers.new.items
+        steps.old steps.new }
 {
     find_last(session, list, keepers, Sought::Change, word, steps)
 }

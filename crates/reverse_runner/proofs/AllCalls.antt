@@ -5,7 +5,7 @@ use Rattle.plan_types.specs.declared.action.Dest.{Dest}
 use Rattle.plan_types.specs.declared.action.Dest.TheVariants.{Work, Level}
 use Rattle.plan_types.specs.declared.action.Action.TheVariants.{Copy, Move}
 use Rattle.reverse_runner.specs.KeepersSeen.{Calls, calls_of, RiseBy, RiseByAtMost, Called, CalledAtMost}
-use Rattle.reverse_runner.specs.Touching.{one_put, one_get}
+use Rattle.reverse_runner.specs.KeeperCallEffects.{one_put, one_get}
 
 -- these calls and then those
 abbrev pub calls_then : Calls → Calls → Calls

@@ -9,7 +9,7 @@ use Rattle.std.proofs.lemmas.Slice.Eq.{bytes_eq-Decides}
 use Rattle.std.proofs.lemmas.List.{get_or-set_same, get_or-set_other}
 use Rattle.std.proofs.lemmas.Option.{same_Some, none-some}
 use Rattle.sha2.specs.Sha256.{sha256}
-use Rattle.keepers.specs.Told.{Images}
+use Rattle.keepers.specs.Claims.{Images}
 use Rattle.plan_types.specs.declared.action.Keep.TheVariants.{Nothing, Store, Tape}
 use Rattle.plan_types.specs.declared.action.Dest.TheVariants.{Work, Level}
 use Rattle.plan_types.specs.declared.action.Action.{Action}
@@ -18,32 +18,32 @@ use Rattle.level_book.specs.declared.book.Slots.{Slots}
 use Rattle.level_book.specs.declared.book.Slots.TheVariants.{Count}
 use Rattle.level_book.specs.Configuration.{Configuration, start, held_on}
 use Rattle.level_book.specs.Moves.{Goes}
-use Rattle.schedule_rules.specs.Reached.{IsSound}
+use Rattle.schedule_rules.specs.Reachability.{IsSound}
 use Rattle.input_journal.specs.Form.{IsRecorded}
 use Rattle.rv_pages.specs.Memory.{page_numbers}
 use Rattle.rv_machine.specs.MachineState.{MachineState, IsMachineState}
 use Rattle.rv_machine.specs.States.{state_number}
 use Rattle.rv_machine.proofs.Runs.{state_number_keeps_pages}
-use Rattle.rv_machine.proofs.Staying.{number_is_state}
+use Rattle.rv_machine.proofs.StateInvariant.{number_is_state}
 use Rattle.state_image.specs.Image.{image}
-use Rattle.state_image.proofs.Telling.{image_tells}
+use Rattle.state_image.proofs.ImageInjectivity.{image_tells}
 use Rattle.image_store.specs.declared.shelf.Kept.{Kept}
 use Rattle.image_store.specs.Pairs.{pair_at}
 use Rattle.image_store.specs.Shelves.{ShelfState}
 use Rattle.image_store.specs.Calls.{kept_in}
-use Rattle.image_store.proofs.Sharing.{is_within}
+use Rattle.image_store.proofs.SlotAllocation.{is_within}
 use Rattle.reverse_runner.specs.Units.{unit_states}
-use Rattle.reverse_runner.specs.Acts.{Holdings, IsDecoded, Acts}
-use Rattle.reverse_runner.specs.LevelsStand.{IsLaidOut}
+use Rattle.reverse_runner.specs.ActionEffects.{Holdings, IsDecoded, Acts}
+use Rattle.reverse_runner.specs.HoldingsOfRun.{IsLaidOut}
 use Rattle.reverse_runner.specs.Collision.{KeepsDigests, StandsByDigests, taken_in, Collides}
 use Rattle.reverse_runner.specs.SessionState.{holdings_of}
-use Rattle.reverse_runner.specs.Standing.{begun}
+use Rattle.reverse_runner.specs.SessionOfRun.{begun}
 use Rattle.reverse_runner.proofs.RoomLeft.{has_place}
 use Rattle.reverse_runner.proofs.Rooms.{none_on}
-use Rattle.reverse_runner.proofs.LevelsFollow.{LevelFact, Gains, Loses, StoredAreGood, FetchedAreGood, levels_follow}
-use Rattle.reverse_runner.proofs.LevelsAfter.{LaidOut, laid_gains, laid_loses, fetched_within}
-use Rattle.reverse_runner.proofs.StandingAfter.{advanced, stayed}
-use Rattle.reverse_runner.proofs.HoldingsAfter.{tape_after}
+use Rattle.reverse_runner.proofs.LevelFacts.{LevelFact, Gains, Loses, StoredAreGood, FetchedAreGood, levels_follow}
+use Rattle.reverse_runner.proofs.LevelsInvariant.{LaidOut, laid_gains, laid_loses, fetched_within}
+use Rattle.reverse_runner.proofs.StatesInvariant.{advanced, stayed}
+use Rattle.reverse_runner.proofs.HoldingsInvariant.{tape_after}
 
 -- two lists of bytes are one, or two
 same_bytes : (xs ys : List ℕ) → (xs ≡ ys) ⊎ (xs ≢ ys)

@@ -2,24 +2,24 @@
 use Rattle.std.proofs.Common.{◌≡◌, ◌≢◌, ℕ, vec_len, IfOk, List, [], length, set, Vec, Result, Ok, Err, Option, Some, None, IsSome, IfErr, OnOk, OnErr, refl, sym, ◌∙◌, ap, subst, arith}
 use Rattle.std.proofs.Math.ListN.{length-set}
 use Rattle.std.proofs.lemmas.List.{get_or-set_other, set-get_or}
-use Rattle.keepers.specs.Told.{Images}
+use Rattle.keepers.specs.Claims.{Images}
 use Rattle.keepers.specs.declared.storage.Storage.{Ghosts}
 use Rattle.image_store.specs.declared.shelf.Kept.{Kept}
 use Rattle.image_store.specs.declared.shelf.StoreFault.{StoreFault}
 use Rattle.image_store.specs.declared.shelf.StoreFault.TheVariants as store
 use Rattle.image_store.specs.Calls.{IsKept, IsNotKept, IsGot, IsFreed, IsNotFreed}
 use Rattle.image_store.specs.Shelves.{ShelfState, level_of, kept_at}
-use Rattle.image_store.specs.Standing.{LevelStands}
+use Rattle.image_store.specs.StoredImages.{LevelStands}
 use Rattle.image_store.specs.StoreCalls.{KeepsPair, FetchesPair, ReleasesPair}
 use Rattle.reverse_runner.specs.declared.fault.RunFault.{RunFault}
 use Rattle.reverse_runner.specs.declared.fault.RunFault.TheVariants.{Damaged, Memory}
 use Rattle.reverse_runner.specs.Desks.{answer_on, CallsAt}
 use Rattle.reverse_runner.specs.DeskGives.{KeepGives, FetchGives, ReleaseGives}
 use Rattle.reverse_runner.specs.KeepersSeen.{by_number, told_by}
-use Rattle.reverse_runner.specs.Touching.{fault_on, IsKeeping, IsFetching}
+use Rattle.reverse_runner.specs.KeeperCallEffects.{fault_on, IsKeeping, IsFetching}
 use Rattle.reverse_runner.proofs.OneKeeper.{some_kept, damage_is, never_damage}
 use Rattle.reverse_runner.proofs.Rooms.{memory_is, roomy_is, short_kept, short_released, short_same}
-use Rattle.reverse_runner.proofs.Touched.{put_at, get_at, free_at, keepers_are, told_else, told_there, told_same}
+use Rattle.reverse_runner.proofs.KeeperCalls.{put_at, get_at, free_at, keepers_are, told_else, told_there, told_same}
 
 module _ {A : Type 0} (k : ℕ) where
   -- a fact about an answer of the store is one about that of the session

@@ -6,13 +6,13 @@ use Rattle.std.proofs.Math.Seq.{map-set_same}
 use Rattle.std.proofs.lemmas.Bool.{false≢true, cases_eq, cases_lt, ne_eqb}
 use Rattle.std.proofs.lemmas.List.{get_or-set_same, get_or-set_other}
 use Rattle.std.proofs.lemmas.Option.{slice_get-get_or, slice_get_past}
-use Rattle.keepers.specs.Told.{Location}
+use Rattle.keepers.specs.Claims.{Location}
 use Rattle.keepers.specs.declared.storage.Storage.{Ghosts}
 use Rattle.keepers.specs.Counts.{raised}
 use Rattle.image_store.specs.declared.shelf.StoreFault.{StoreFault}
 use Rattle.image_store.specs.declared.shelf.StoreFault.TheVariants as store
 use Rattle.reverse_runner.specs.KeepersSeen.{by_number, calls_to, one_if, Called}
-use Rattle.reverse_runner.specs.Touching.{one_put, one_get, one_free, Remain, OthersRemain, IsKeeping, fault_on}
+use Rattle.reverse_runner.specs.KeeperCallEffects.{one_put, one_get, one_free, Remain, OthersRemain, IsKeeping, fault_on}
 use Rattle.reverse_runner.specs.declared.fault.RunFault.TheVariants.{Damaged}
 
 raised_none : (a : ℕ) → a ≡ raised a 0

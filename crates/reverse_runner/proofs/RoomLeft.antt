@@ -14,19 +14,19 @@ use Rattle.level_book.specs.declared.book.Slots.TheVariants.{Count, Unlimited}
 use Rattle.level_book.specs.BookCosts.{least}
 use Rattle.level_book.specs.Configuration.{start, held_on}
 use Rattle.level_book.specs.Moves.{HasRoom}
-use Rattle.keepers.specs.Told.{Images}
+use Rattle.keepers.specs.Claims.{Images}
 use Rattle.rv_machine.specs.MachineState.{MachineState}
 use Rattle.rv_machine.specs.States.{state_number}
 use Rattle.state_image.specs.Image.{image}
 use Rattle.image_store.specs.declared.shelf.Kept.{Kept}
 use Rattle.image_store.specs.Pairs.{pair_at, held}
 use Rattle.image_store.specs.Shelves.{ShelfState, level_of, no_pairs, no_pairs_on}
-use Rattle.image_store.specs.Standing.{LevelStands, LevelAlone}
-use Rattle.image_store.proofs.Sharing.{held_more, no_pair}
+use Rattle.image_store.specs.StoredImages.{LevelStands, LevelAlone}
+use Rattle.image_store.proofs.SlotAllocation.{held_more, no_pair}
 use Rattle.image_store.proofs.Levels.{stands_empty, alone_empty}
 use Rattle.reverse_runner.specs.Units.{unit_states}
-use Rattle.reverse_runner.specs.Acts.{TapeState}
-use Rattle.reverse_runner.specs.LevelsStand.{Numbers, AreImages, HoldingsStandAt, AreAlone, IsLevelLaidOut, IsLaidOut}
+use Rattle.reverse_runner.specs.ActionEffects.{TapeState}
+use Rattle.reverse_runner.specs.HoldingsOfRun.{Numbers, AreImages, HoldingsStandAt, AreAlone, IsLevelLaidOut, IsLaidOut}
 
 -- a pair that isn't held
 not_held : (o : Option Kept) → is_some o ≡ false → o ≡ None

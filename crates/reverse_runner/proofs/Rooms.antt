@@ -4,6 +4,7 @@ use Rattle.std.proofs.lemmas.Bool.{cases_eq, cases_lt}
 use Rattle.std.proofs.lemmas.List.{get_or-set_same, get_or-set_other}
 use Rattle.level_book.specs.declared.book.Slots.{Slots}
 use Rattle.rv_machine.specs.MachineState.{MachineState}
+use Rattle.state_image.specs.declared.layout.TheConstants.{PAGES, PAGE_FIELD}
 use Rattle.image_store.specs.declared.shelf.Kept.{Kept}
 use Rattle.image_store.specs.declared.shelf.StoreFault.{StoreFault}
 use Rattle.image_store.specs.declared.shelf.StoreFault.TheVariants as store
@@ -13,7 +14,7 @@ use Rattle.image_store.specs.Shelves.{ShelfState, level_of, kept_at, no_pairs_on
 use Rattle.reverse_runner.specs.declared.fault.RunFault.TheVariants.{Memory}
 use Rattle.reverse_runner.specs.Rooms.{image_room, IsRoomy, AreRoomy, SameRooms, AreShort}
 use Rattle.reverse_runner.specs.SessionState.{SamePages}
-use Rattle.reverse_runner.specs.Touching.{fault_on}
+use Rattle.reverse_runner.specs.KeeperCallEffects.{fault_on}
 
 some_is : {X : Type 0} (x y : X) → Some x ≡ Some y → x ≡ y
 some_is x y e = cc
@@ -37,7 +38,7 @@ memory_is level store.Memory e = refl
 
 -- two states with the same pages have images of the same room
 pub same_room : (s t : MachineState) → SamePages s t → image_room s ≡ image_room t
-same_room s t e = ap (λ (l : List ℕ). 164 + 4100 * length l) e
+same_room s t e = ap (λ (l : List ℕ). PAGES + PAGE_FIELD * length l) e
 
 -- a pair that is set among the pairs of a level
 pair_set : (pairs : List (Option Kept)) (n m : ℕ) (o : Option Kept) (kept : Kept) → pair_at (slice_set pairs n o) m ≡ Some kept → ((m ≡ n) × (o ≡ Some kept)) ⊎ (pair_at pairs m ≡ Some kept)

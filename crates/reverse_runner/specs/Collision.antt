@@ -10,8 +10,8 @@ use Rattle.rv_machine.specs.MachineState.{MachineState}
 use Rattle.state_image.specs.Image.{image}
 use Rattle.image_store.specs.declared.shelf.Kept.{Kept}
 use Rattle.image_store.specs.Shelves.{ShelfState, kept_at}
-use Rattle.reverse_runner.specs.Acts.{Holdings}
-use Rattle.reverse_runner.specs.LevelsStand.{IsUnit}
+use Rattle.reverse_runner.specs.ActionEffects.{Holdings}
+use Rattle.reverse_runner.specs.HoldingsOfRun.{IsUnit}
 use Rattle.reverse_runner.specs.Units.{unit_states}
 
 -- for each pair a store keeps the SHA-256 of the image of its state

@@ -1,25 +1,41 @@
--- What a call on an image of level k does to a store, to its keepers and to a buffer.
-use Rattle.std.specs.Prelude.{◌≡◌, ◌≢◌, ℕ, ◌<◌, ◌≤◌, ◌^◌, List, length, Vec, Result, Err, Some, IfOk, IfErr, OnOk, OnErr}
+-- What a call on an image of level k wants, and what it does to a store, to its keepers and to a buffer.
+use Rattle.std.specs.Prelude.{◌≡◌, ◌≢◌, ℕ, ◌<◌, ◌≤◌, ◌^◌, List, length, Vec, Result, Err, None, Some, IfOk, IfErr, OnOk, OnErr}
 use Rattle.std.specs.Vec.{vec_len, vec_capacity}
 use Rattle.sha2.specs.Sha256.{sha256}
-use Rattle.keepers.specs.Told.{Images}
+use Rattle.keepers.specs.Claims.{Images}
 use Rattle.keepers.specs.declared.storage.Storage.{Ghosts}
 use Rattle.image_store.specs.declared.shelf.Kept.{Kept}
+use Rattle.image_store.specs.Pairs.{held}
 use Rattle.image_store.specs.Calls.{IsNotKept, IsNotFreed}
 use Rattle.image_store.specs.Shelves.{ShelfState, level_of, kept_at}
-use Rattle.image_store.specs.Standing.{LevelStands}
+use Rattle.image_store.specs.StoredImages.{LevelStands}
 use Rattle.reverse_runner.specs.declared.fault.RunFault.{RunFault}
 use Rattle.reverse_runner.specs.declared.fault.RunFault.TheVariants.{Damaged, Memory}
-use Rattle.reverse_runner.specs.Acts.{Levels, IsAsBefore, IsFetched, Keeps, Releases}
+use Rattle.reverse_runner.specs.ActionEffects.{Levels, IsAsBefore, IsFetched, Keeps, Releases}
 use Rattle.reverse_runner.specs.Desks.{KeepersAre}
-use Rattle.reverse_runner.specs.KeepersSeen.{told_by, calls_to, Called}
+use Rattle.reverse_runner.specs.KeepersSeen.{by_number, told_by, calls_to, Called}
 use Rattle.reverse_runner.specs.Rooms.{IsRoomy, rooms_by, AreShort}
-use Rattle.reverse_runner.specs.Touching.{one_put, one_get, one_free, IsKeeping, IsFetching, IsOther}
+use Rattle.reverse_runner.specs.KeeperCallEffects.{one_put, one_get, one_free, IsKeeping, IsFetching, IsOther}
+
+-- Level k has a store and a keeper, which has as many slots.
+pub record IsOnLevel {K : Type 0} (g : Ghosts K) (k : ℕ) (store : List ShelfState) (ks : List K) : Type 0 where
+  pub there : k < length ks
+  pub level : k < length store
+  pub slots : (level_of store k).room ≤ by_number 0 g.slot_count ks k
 
 module _ {K : Type 0} (g : Ghosts K) (k n : ℕ) where
   -- the levels of a store over what these keepers claim
   abbrev pub levels_on : List ShelfState → List K → Levels
   levels_on store ks = record { store = store; told = told_by g ks }
+
+  -- Pair n may be kept: the level doesn't hold it, and has a free slot. The bytes in the buffer have this digest.
+  pub record MayKeep {Z : Type 0} (buffer : Vec ℕ Z) (hash : List ℕ) (store : List ShelfState) (ks : List K) : Type 0 where
+    pub on : IsOnLevel g k store ks
+    pub number : n < length (level_of store k).pairs
+    pub new : kept_at store k n ≡ None
+    pub room : held (level_of store k).pairs < (level_of store k).room
+    pub size : vec_len buffer < 2 ^ 32
+    pub digest : hash ≡ sha256 buffer.items
 
   -- The bytes of a buffer are kept as pair n. After a refusal the slot that was tried may hold anything.
   pub record KeepGives {Z : Type 0} (buffer : Vec ℕ Z) (r : Result (Unit {0}) RunFault) (old new : List ShelfState) (ks ls : List K) : Type 0 where

@@ -6,7 +6,7 @@ use Rattle.image_store.specs.declared.shelf.StoreFault.{StoreFault}
 use Rattle.reverse_runner.specs.declared.fault.RunFault.{RunFault}
 use Rattle.reverse_runner.specs.declared.fault.RunFault.TheVariants.{Keeper}
 use Rattle.reverse_runner.specs.KeepersSeen.{by_number}
-use Rattle.reverse_runner.specs.Touching.{fault_on}
+use Rattle.reverse_runner.specs.KeeperCallEffects.{fault_on}
 
 -- what a call on the storage of level k answers, by what its store answers
 abbrev pub answer_on : {A : Type 0} → ℕ → Result A StoreFault → Result A RunFault

@@ -1,15 +1,15 @@
 -- When no action runs out of memory: how much room the keepers need, and how long stored images are.
-use Rattle.std.specs.Prelude.{◌≡◌, ℕ, ◌+◌, ◌*◌, ◌<◌, ◌≤◌, List, length, Option, None, Some}
+use Rattle.std.specs.Prelude.{◌≡◌, ℕ, ◌<◌, ◌≤◌, List, Option, None, Some}
 use Rattle.keepers.specs.declared.storage.Storage.{Ghosts}
-use Rattle.rv_pages.specs.Memory.{page_numbers}
 use Rattle.rv_machine.specs.MachineState.{MachineState}
+use Rattle.state_image.specs.ImageForm.{memory_room}
 use Rattle.image_store.specs.declared.shelf.Kept.{Kept}
 use Rattle.image_store.specs.Shelves.{ShelfState, kept_at}
 use Rattle.reverse_runner.specs.KeepersSeen.{by_number}
 
 -- the most bytes of an image of a state with this one's pages
 abbrev pub image_room : MachineState → ℕ
-image_room s = 164 + 4100 * length (page_numbers s.memory)
+image_room s = memory_room s.memory
 
 -- a keeper, or none, has a room of at least so many bytes
 abbrev pub IsRoomy : ℕ → Option ℕ → Type 0

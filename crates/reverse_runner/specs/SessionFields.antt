@@ -2,7 +2,7 @@
 use Rattle.std.specs.Prelude.{◌≡◌, false}
 use Rattle.reverse_runner.specs.declared.session.Session.TheInside.{Inside}
 use Rattle.reverse_runner.specs.SessionState.{SessionState}
-use Rattle.reverse_runner.specs.LevelsStand.{IsLaidOut}
+use Rattle.reverse_runner.specs.HoldingsOfRun.{IsLaidOut}
 use Rattle.reverse_runner.specs.Rooms.{image_room, AreShort}
 use Rattle.reverse_runner.specs.Workspaces.{IsInOrder, tape_in, HasUnits}
 

@@ -1,14 +1,14 @@
 -- The model of a session: its configuration, its states, the pairs of its levels, and whether it has ended.
 use Rattle.std.specs.Prelude.{◌≡◌, ℕ, Bool, List, Option, refl}
 use Rattle.std.specs.Coded.{Coded, code_by, coded×, coded_ℕ, coded_bool, coded_list, coded_option}
-use Rattle.keepers.specs.Told.{Images}
+use Rattle.keepers.specs.Claims.{Images}
 use Rattle.schedule_rules.specs.Situation.{Situation, situation_code}
 use Rattle.rv_pages.specs.Memory.{page_numbers}
 use Rattle.rv_machine.specs.MachineState.{MachineState}
 use Rattle.rv_machine.specs.StateCode.{state_code}
 use Rattle.image_store.specs.declared.shelf.Kept.{Kept}
 use Rattle.image_store.specs.Shelves.{ShelfState}
-use Rattle.reverse_runner.specs.Acts.{TapeState, Levels, Holdings}
+use Rattle.reverse_runner.specs.ActionEffects.{TapeState, Levels, Holdings}
 
 pub record SessionState : Type 0 where
   -- the steps, the slots of the book, and the configuration

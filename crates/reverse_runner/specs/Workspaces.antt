@@ -1,19 +1,27 @@
 -- No public clause cites this file. What a workspace holds, and what holds of it.
-use Rattle.std.specs.Prelude.{◌≡◌, ℕ, ◌+◌, ◌*◌, ◌≤◌, List, length, Option, MatchOption}
+use Rattle.std.specs.Prelude.{◌≡◌, ℕ, ◌*◌, ◌≤◌, List, length, Option, MatchOption, Result, Contains}
 use Rattle.std.specs.Vec.{vec_capacity}
+use Rattle.plan_types.specs.declared.action.Action.{Action}
 use Rattle.plan_types.specs.declared.limits.TheConstants.{MOST_STEPS}
-use Rattle.keepers.specs.Told.{Images}
+use Rattle.keepers.specs.Claims.{Images}
+use Rattle.keepers.specs.declared.storage.Storage.{Ghosts}
 use Rattle.level_book.specs.declared.book.Slots.{Slots}
 use Rattle.level_book.specs.Configuration.{Configuration}
-use Rattle.schedule_rules.specs.Reached.{IsSound}
+use Rattle.level_book.specs.Rules.{levels_named}
+use Rattle.schedule_rules.specs.Reachability.{IsSound}
+use Rattle.schedule_rules.specs.Situation.{Situation}
+use Rattle.input_journal.specs.Form.{IsRecorded}
 use Rattle.rv_pages.specs.Memory.{page_numbers}
-use Rattle.unit_undo.specs.Leading.{LeadsBack, led_back, IsMadeFor}
+use Rattle.unit_undo.specs.UndoTrail.{LeadsBack, led_back, IsMadeFor}
 use Rattle.unit_digests.specs.Digests.{states_of, AreDigests}
+use Rattle.reverse_runner.specs.declared.fault.RunFault.{RunFault}
 use Rattle.reverse_runner.specs.declared.workspace.Workspace.{Workspace}
-use Rattle.reverse_runner.specs.Acts.{TapeState, Levels, Holdings}
-use Rattle.reverse_runner.specs.KeepersSeen.{HaveRoom}
-use Rattle.reverse_runner.specs.LevelsStand.{IsLaidOut}
-use Rattle.reverse_runner.specs.Rooms.{image_room, AreShort}
+use Rattle.reverse_runner.specs.ActionOutcome.{ActionEnds, HasReason, IsSafe}
+use Rattle.reverse_runner.specs.Desks.{KeepersAre}
+use Rattle.reverse_runner.specs.ActionEffects.{TapeState, Levels, Holdings}
+use Rattle.reverse_runner.specs.KeepersSeen.{HaveRoom, calls_to, told_by}
+use Rattle.reverse_runner.specs.HoldingsOfRun.{IsLaidOut}
+use Rattle.reverse_runner.specs.Rooms.{image_room, rooms_by, AreShort}
 use Rattle.reverse_runner.specs.SessionState.{SamePages}
 
 -- its levels over what the keepers claim, and all that it holds
@@ -45,7 +53,7 @@ pub record IsInOrder (w : Workspace) : Type 0 where
   pub known : AreDigests w.known.items (states_of w.undo.entries w.tape)
   pub some : 1 ≤ w.undo.unit
   pub room : w.undo.unit ≤ vec_capacity w.known
-  pub buffer : 164 + 4100 * length (page_numbers w.desk.work.memory) ≤ vec_capacity w.desk.buffer
+  pub buffer : image_room w.desk.work ≤ vec_capacity w.desk.buffer
 
 -- A workspace stays in order. Its states map the same pages as before. No stored image becomes longer than one of the
 -- state in work can be.
@@ -68,3 +76,15 @@ pub record HasUnits (unit : ℕ) (journal : List (List ℕ)) (steps : ℕ) (c : 
   pub made : IsMadeFor journal w.undo
   pub same : w.undo.unit ≡ unit
   pub small : unit * steps ≤ MOST_STEPS
+
+-- How an action ended: what it did or left, the cause of a refusal, which refusals can't happen, and what is left of the
+-- keepers. The workspace stays in order.
+pub record Ends {K A : Type 0} (g : Ghosts K) (result : Result A RunFault) (unit : ℕ) (journal : List (List ℕ)) (s : Situation) (action : Action)
+    (old new : Workspace) (ks ls : List K) (steps steps' : ℕ) : Type 0 where
+  pub does : ActionEnds result unit journal action (holdings_in old (told_by g ks)) (holdings_in new (told_by g ls)) steps steps'
+      (calls_to g ks) (calls_to g ls)
+  pub caused : HasReason result action (holdings_in old (told_by g ks)) (told_by g ls)
+  pub spared : IsRecorded journal → AreShort (image_room old.desk.work) old.desk.store →
+      IsSafe result journal unit s.at (holdings_in old (told_by g ks)) (length s.slots) (rooms_by g ks)
+  pub kept : KeepersAre g (λ k. Contains (levels_named action) k) result ks ls
+  pub order : StaysInOrder old new

@@ -1,18 +1,13 @@
 // What an action does to the states and the images of a session.
-ghost use Rattle.std.specs.Prelude.{◌≡◌, ◌≢◌, ℕ, List, length, map, Err, OnOk, OnErr, IfErr, IsTrue, Contains};
+ghost use Rattle.std.specs.Prelude.{◌≡◌, ◌≢◌, ℕ, List, map, Err, OnOk, OnErr, IfErr, IsTrue};
 ghost use Rattle.level_book.specs.Configuration.{Configuration};
 ghost use Rattle.level_book.specs.Moves.{Goes};
-ghost use Rattle.level_book.specs.Rules.{rule, levels_named};
-ghost use Rattle.input_journal.specs.Form.{IsRecorded};
-ghost use Rattle.reverse_runner.specs.Acted.{ActionEnds, Acted, Leaves, HasReason, IsSafe};
-ghost use Rattle.reverse_runner.specs.After.{VisitorAfter};
-ghost use Rattle.reverse_runner.specs.Desks.{KeepersAre};
-ghost use Rattle.reverse_runner.specs.KeepersSeen.{told_by, calls_to};
-ghost use Rattle.reverse_runner.specs.Handed.{handed_by};
-ghost use Rattle.reverse_runner.specs.Performed.{states_out, HandsOut, calls_keepers};
-ghost use Rattle.reverse_runner.specs.Rooms.{image_room, rooms_by, AreShort};
-ghost use Rattle.reverse_runner.specs.Touching.{IsOfStorage};
-ghost use Rattle.reverse_runner.specs.Workspaces.{IsReady, HasUnits, StaysInOrder, tape_in, levels_in, holdings_in};
+ghost use Rattle.level_book.specs.Rules.{rule};
+ghost use Rattle.reverse_runner.specs.CallOutcome.{VisitorAfter};
+ghost use Rattle.reverse_runner.specs.StateOrder.{handed_by};
+ghost use Rattle.reverse_runner.specs.VisitorCalls.{states_out, HandsOut, calls_keepers};
+ghost use Rattle.reverse_runner.specs.KeeperCallEffects.{IsOfStorage};
+ghost use Rattle.reverse_runner.specs.Workspaces.{IsReady, HasUnits, Ends, tape_in};
 
 use crate::fault::RunFault;
 use crate::visitor::{Visitor, hand_out};
@@ -38,15 +33,8 @@ pub(crate) fn act<K: Keeper, V: Visitor, L: Ledger>(
     requires ready { IsReady config.now.steps config.now.slots config.now.at space.old (map K.slot_count keepers.old.items) }
     requires units { HasUnits unit journal.now config.now.steps config.now.at space.old }
     requires allowed { rule config.now.steps config.now.slots config.now.at action.now ≡ 0 }
-    ensures does { ActionEnds result unit journal.now action.now
-        (holdings_in space.old (told_by K.Storage keepers.old.items)) (holdings_in space.new (told_by K.Storage keepers.new.items)) steps.old steps.new
-        (calls_to K.Storage keepers.old.items) (calls_to K.Storage keepers.new.items) }
-    ensures caused { HasReason result action.now (holdings_in space.old (told_by K.Storage keepers.old.items)) (told_by K.Storage keepers.new.items) }
-    ensures spared { IsRecorded journal.now → AreShort (image_room space.old.desk.work) space.old.desk.store →
-        IsSafe result journal.now unit config.now.at (holdings_in space.old (told_by K.Storage keepers.old.items)) (length config.now.slots)
-        (rooms_by K.Storage keepers.old.items) }
-    ensures kept { KeepersAre K.Storage (λ k. Contains (levels_named action.now) k) result keepers.old.items keepers.new.items }
-    ensures order { StaysInOrder space.old space.new }
+    ensures ends { Ends K.Storage result unit journal.now config.now action.now space.old space.new keepers.old.items keepers.new.items
+        steps.old steps.new }
     ensures units { (d : Configuration) → Goes config.now.steps config.now.slots config.now.at action.now d →
         OnOk result (HasUnits unit journal.now config.now.steps d space.new) }
     ensures lasting { result ≢ Err RunFault.Ended }
@@ -81,16 +69,8 @@ fn forward<K: Keeper, L: Ledger>(
     requires ready { IsReady config.now.steps config.now.slots config.now.at space.old (map K.slot_count keepers.old.items) }
     requires units { HasUnits unit journal.now config.now.steps config.now.at space.old }
     requires allowed { rule config.now.steps config.now.slots config.now.at (Action.Forward from to keep) ≡ 0 }
-    ensures does { ActionEnds result unit journal.now (Action.Forward from to keep)
-        (holdings_in space.old (told_by K.Storage keepers.old.items)) (holdings_in space.new (told_by K.Storage keepers.new.items)) steps.old steps.new
-        (calls_to K.Storage keepers.old.items) (calls_to K.Storage keepers.new.items) }
-    ensures caused { HasReason result (Action.Forward from to keep) (holdings_in space.old (told_by K.Storage keepers.old.items))
-        (told_by K.Storage keepers.new.items) }
-    ensures spared { IsRecorded journal.now → AreShort (image_room space.old.desk.work) space.old.desk.store →
-        IsSafe result journal.now unit config.now.at (holdings_in space.old (told_by K.Storage keepers.old.items)) (length config.now.slots)
-        (rooms_by K.Storage keepers.old.items) }
-    ensures kept { KeepersAre K.Storage (λ k. Contains (levels_named (Action.Forward from to keep)) k) result keepers.old.items keepers.new.items }
-    ensures order { StaysInOrder space.old space.new }
+    ensures ends { Ends K.Storage result unit journal.now config.now (Action.Forward from to keep) space.old space.new
+        keepers.old.items keepers.new.items steps.old steps.new }
     ensures units { (d : Configuration) → Goes config.now.steps config.now.slots config.now.at (Action.Forward from to keep) d →
         OnOk result (HasUnits unit journal.now config.now.steps d space.new) }
     ensures stores { OnErr result (IsTrue (calls_keepers (Action.Forward from to keep))) }
@@ -98,11 +78,11 @@ fn forward<K: Keeper, L: Ledger>(
 {
     let count = unit * (to - from);
     match keep {
-        Keep::Nothing => space.advance(journal, count, steps),
+        Keep::Nothing => space.desk.advance(journal, count, steps),
         Keep::Store(level) => {
-            let digest = space.encode();
-            space.keep(keepers, level, from, &digest)?;
-            space.advance(journal, count, steps);
+            let digest = space.desk.encode();
+            space.desk.keep(keepers, level, from, &digest)?;
+            space.desk.advance(journal, count, steps);
         }
         Keep::Tape => space.advance_on_tape(journal, count, steps),
     }
@@ -120,26 +100,15 @@ fn copy<K: Keeper>(
 ) -> Result<(), RunFault>
     requires ready { IsReady config.now.steps config.now.slots config.now.at space.old (map K.slot_count keepers.old.items) }
     requires allowed { rule config.now.steps config.now.slots config.now.at (Action.Copy n from dest) ≡ 0 }
-    ensures acted { (unit : ℕ) (journal : List (List ℕ)) (steps : ℕ) → OnOk result (Acted unit journal (Action.Copy n from dest)
-        (holdings_in space.old (told_by K.Storage keepers.old.items)) (holdings_in space.new (told_by K.Storage keepers.new.items)) steps steps
-        (calls_to K.Storage keepers.old.items) (calls_to K.Storage keepers.new.items)) }
-    ensures leaves { (steps : ℕ) → OnErr result (Leaves (Action.Copy n from dest)
-        (levels_in space.old (told_by K.Storage keepers.old.items)) (told_by K.Storage keepers.new.items) steps steps
-        (calls_to K.Storage keepers.old.items) (calls_to K.Storage keepers.new.items)) }
-    ensures caused { HasReason result (Action.Copy n from dest) (holdings_in space.old (told_by K.Storage keepers.old.items))
-        (told_by K.Storage keepers.new.items) }
-    ensures spared { (unit : ℕ) (journal : List (List ℕ)) → IsRecorded journal → AreShort (image_room space.old.desk.work) space.old.desk.store →
-        IsSafe result journal unit config.now.at (holdings_in space.old (told_by K.Storage keepers.old.items)) (length config.now.slots)
-        (rooms_by K.Storage keepers.old.items) }
-    ensures kept { KeepersAre K.Storage (λ k. Contains (levels_named (Action.Copy n from dest)) k) result keepers.old.items keepers.new.items }
-    ensures order { StaysInOrder space.old space.new }
+    ensures ends { (unit : ℕ) (journal : List (List ℕ)) (steps : ℕ) → Ends K.Storage result unit journal config.now (Action.Copy n from dest)
+        space.old space.new keepers.old.items keepers.new.items steps steps }
     ensures fault { IfErr result IsOfStorage }
     ensures undo { space.new.undo ≡ space.old.undo }
 {
-    let digest = space.fetch(keepers, from, n)?;
+    let digest = space.desk.fetch(keepers, from, n)?;
     match dest {
-        Dest::Work => space.decode(from, &digest),
-        Dest::Level(to) => space.keep(keepers, to, n, &digest),
+        Dest::Work => space.desk.decode(from, &digest),
+        Dest::Level(to) => space.desk.keep(keepers, to, n, &digest),
     }
 }
 
@@ -154,22 +123,11 @@ fn move_<K: Keeper>(
 ) -> Result<(), RunFault>
     requires ready { IsReady config.now.steps config.now.slots config.now.at space.old (map K.slot_count keepers.old.items) }
     requires allowed { rule config.now.steps config.now.slots config.now.at (Action.Move n from dest) ≡ 0 }
-    ensures acted { (unit : ℕ) (journal : List (List ℕ)) (steps : ℕ) → OnOk result (Acted unit journal (Action.Move n from dest)
-        (holdings_in space.old (told_by K.Storage keepers.old.items)) (holdings_in space.new (told_by K.Storage keepers.new.items)) steps steps
-        (calls_to K.Storage keepers.old.items) (calls_to K.Storage keepers.new.items)) }
-    ensures leaves { (steps : ℕ) → OnErr result (Leaves (Action.Move n from dest)
-        (levels_in space.old (told_by K.Storage keepers.old.items)) (told_by K.Storage keepers.new.items) steps steps
-        (calls_to K.Storage keepers.old.items) (calls_to K.Storage keepers.new.items)) }
-    ensures caused { HasReason result (Action.Move n from dest) (holdings_in space.old (told_by K.Storage keepers.old.items))
-        (told_by K.Storage keepers.new.items) }
-    ensures spared { (unit : ℕ) (journal : List (List ℕ)) → IsRecorded journal → AreShort (image_room space.old.desk.work) space.old.desk.store →
-        IsSafe result journal unit config.now.at (holdings_in space.old (told_by K.Storage keepers.old.items)) (length config.now.slots)
-        (rooms_by K.Storage keepers.old.items) }
-    ensures kept { KeepersAre K.Storage (λ k. Contains (levels_named (Action.Move n from dest)) k) result keepers.old.items keepers.new.items }
-    ensures order { StaysInOrder space.old space.new }
+    ensures ends { (unit : ℕ) (journal : List (List ℕ)) (steps : ℕ) → Ends K.Storage result unit journal config.now (Action.Move n from dest)
+        space.old space.new keepers.old.items keepers.new.items steps steps }
     ensures fault { IfErr result IsOfStorage }
     ensures undo { space.new.undo ≡ space.old.undo }
 {
     copy(space, config, keepers, n, from, dest)?;
-    space.release(keepers, from, n)
+    space.desk.release(keepers, from, n)
 }

@@ -1,18 +1,13 @@
 // What a session or a console works with: a state of the machine, and the images on its levels.
-ghost use Rattle.std.specs.Prelude.{◌≡◌, ◌+◌, ◌<◌, ◌≤◌, ◌^◌, length, IfOk, IfErr, OnOk, IsSome, None};
-ghost use Rattle.std.specs.Vec.{vec_len};
+ghost use Rattle.std.specs.Prelude.{◌≡◌, ◌+◌, IfOk, IfErr, OnOk, IsSome};
 ghost use Rattle.sha2.specs.Sha256.{sha256};
 ghost use Rattle.level_book.specs.BookCosts.{slots_of};
 ghost use Rattle.rv_machine.specs.States.{state_number};
-ghost use Rattle.state_image.specs.Image.{image};
-ghost use Rattle.image_store.specs.Pairs.{held};
-ghost use Rattle.image_store.specs.Shelves.{level_of, kept_at, no_pairs_on};
-ghost use Rattle.reverse_runner.specs.Acts.{IsDecoded};
-ghost use Rattle.reverse_runner.specs.DeskGives.{KeepGives, FetchGives, ReleaseGives};
-ghost use Rattle.reverse_runner.specs.KeepersSeen.{by_number};
-ghost use Rattle.reverse_runner.specs.Rooms.{image_room};
+ghost use Rattle.image_store.specs.Shelves.{kept_at, no_pairs_on};
+ghost use Rattle.reverse_runner.specs.ActionEffects.{IsDecoded};
+ghost use Rattle.reverse_runner.specs.DeskGives.{IsOnLevel, MayKeep, KeepGives, FetchGives, ReleaseGives};
 ghost use Rattle.reverse_runner.specs.SessionState.{SamePages};
-ghost use Rattle.reverse_runner.specs.Standing.{IsNoImage};
+ghost use Rattle.reverse_runner.specs.SessionOfRun.{IsNoImage};
 
 use crate::fault::RunFault;
 use crate::known_state::KnownState;
@@ -35,7 +30,7 @@ pub struct Desk {
 }
 
 impl Desk {
-    ghost use Rattle.reverse_runner.specs.DeskFields.{Fits};
+    ghost use Rattle.reverse_runner.specs.DeskFields.{Fits, IsEncoded};
 
     /// A desk with a state in work and no images. Each level has room for those of a run of so many steps.
     pub fn begin(alloc: Global, start: State, book: &Book, steps: u32) -> Result<Desk, AllocError>
@@ -66,13 +61,7 @@ impl Desk {
     /// Writes the image of the state in work into the buffer, and returns its digest.
     pub fn encode(&mut self) -> [u8; 32]
         requires { Fits self.old }
-        ensures digest { result ≡ sha256 self.new.buffer.items }
-        ensures image { self.new.buffer.items ≡ image self.old.work }
-        ensures short { vec_len self.new.buffer < 2 ^ 32 }
-        ensures few { vec_len self.new.buffer ≤ image_room self.old.work }
-        ensures work { self.new.work ≡ self.old.work }
-        ensures store { self.new.store ≡ self.old.store }
-        ensures fits { Fits self.new }
+        ensures { IsEncoded self.old self.new result }
     {
         encode_image(self.work.state(), &mut self.buffer);
         match self.work.known() {
@@ -110,14 +99,7 @@ impl Desk {
         n: u32,
         digest: &[u8; 32],
     ) -> Result<(), RunFault>
-        requires there { level < vec_len keepers.old }
-        requires level { level < length self.old.store }
-        requires number { n < length (level_of self.old.store level).pairs }
-        requires new { kept_at self.old.store level n ≡ None }
-        requires room { held (level_of self.old.store level).pairs < (level_of self.old.store level).room }
-        requires size { vec_len self.old.buffer < 2 ^ 32 }
-        requires digest { digest.now ≡ sha256 self.old.buffer.items }
-        requires slots { (level_of self.old.store level).room ≤ by_number 0 K.slot_count keepers.old.items level }
+        requires { MayKeep K.Storage level n self.old.buffer digest.now self.old.store keepers.old.items }
         ensures keeps { KeepGives K.Storage level n self.old.buffer result self.old.store self.new.store keepers.old.items keepers.new.items }
         ensures states { (self.new.work ≡ self.old.work) × (self.new.buffer ≡ self.old.buffer) }
     {
@@ -136,10 +118,8 @@ impl Desk {
         level: u8,
         n: u32,
     ) -> Result<[u8; 32], RunFault>
-        requires there { level < vec_len keepers.old }
-        requires level { level < length self.old.store }
+        requires on { IsOnLevel K.Storage level self.old.store keepers.old.items }
         requires held { IsSome (kept_at self.old.store level n) }
-        requires slots { (level_of self.old.store level).room ≤ by_number 0 K.slot_count keepers.old.items level }
         ensures fetches { FetchGives K.Storage level n self.old.buffer self.new.buffer result self.old.store self.new.store keepers.old.items keepers.new.items }
         ensures states { (self.new.work ≡ self.old.work) × (self.new.store ≡ self.old.store) }
     {
@@ -157,10 +137,8 @@ impl Desk {
         level: u8,
         n: u32,
     ) -> Result<(), RunFault>
-        requires there { level < vec_len keepers.old }
-        requires level { level < length self.old.store }
+        requires on { IsOnLevel K.Storage level self.old.store keepers.old.items }
         requires held { IsSome (kept_at self.old.store level n) }
-        requires slots { (level_of self.old.store level).room ≤ by_number 0 K.slot_count keepers.old.items level }
         ensures releases { ReleaseGives K.Storage level n result self.old.store self.new.store keepers.old.items keepers.new.items }
         ensures states { (self.new.work ≡ self.old.work) × (self.new.buffer ≡ self.old.buffer) }
     {

@@ -7,20 +7,20 @@ ghost use Rattle.level_book.specs.Configuration.{Configuration, held_on};
 ghost use Rattle.level_book.specs.CostFold.{is_write};
 ghost use Rattle.level_book.specs.Moves.{Goes};
 ghost use Rattle.level_book.specs.Valid.{Valid};
-ghost use Rattle.schedule_rules.specs.Reached.{IsSound};
+ghost use Rattle.schedule_rules.specs.Reachability.{IsSound};
 ghost use Rattle.input_journal.specs.Form.{IsRecorded};
 ghost use Rattle.rv_machine.specs.MachineState.{MachineState, IsMachineState};
-ghost use Rattle.keepers.specs.Told.{Images};
-ghost use Rattle.image_store.specs.Standing.{IsToldAnd};
-ghost use Rattle.reverse_runner.specs.Acts.{Holdings, Acts};
+ghost use Rattle.keepers.specs.Claims.{Images};
+ghost use Rattle.image_store.specs.StoredImages.{IsToldAnd};
+ghost use Rattle.reverse_runner.specs.ActionEffects.{Holdings, Acts};
 ghost use Rattle.reverse_runner.specs.Collision.{StandsByDigests, Collides};
-ghost use Rattle.reverse_runner.specs.LevelsStand.{HoldingsStandAt, AreAlone, IsLaidOut};
-ghost use Rattle.reverse_runner.specs.HoldsJust.{HoldsJust};
+ghost use Rattle.reverse_runner.specs.HoldingsOfRun.{HoldingsStandAt, AreAlone, IsLaidOut};
+ghost use Rattle.reverse_runner.specs.KeeperContents.{HoldsJust};
 ghost use Rattle.reverse_runner.specs.KeepersSeen.{is_release};
-ghost use Rattle.reverse_runner.specs.Left.{Spares, MayLeave, HoldsBesides, HoldsAllBut};
-ghost use Rattle.reverse_runner.specs.Standing.{pair_read};
+ghost use Rattle.reverse_runner.specs.RefusalResidue.{Spares, MayLeave, HoldsBesides, HoldsAllBut};
+ghost use Rattle.reverse_runner.specs.SessionOfRun.{pair_read};
 ghost use Rattle.reverse_runner.specs.Units.{unit_states};
-ghost use Rattle.reverse_runner.specs.Handed.{handed, countdown};
+ghost use Rattle.reverse_runner.specs.StateOrder.{handed, countdown};
 
 /// A valid list gives the visitor all states from the last to state 0, each once.
 pub fn valid_lists_hand_out_all()

@@ -4,9 +4,9 @@
 //!
 //! In `specs/`:
 //!
-//! - `Handed`: which states a list gives.
-//! - `Acts`: what an action does, by the fetched bytes.
-//! - `Standing`: at which configuration of a run a session is.
+//! - `StateOrder`: which states a list gives.
+//! - `ActionEffects`: what an action does, by the fetched bytes.
+//! - `SessionOfRun`: at which configuration of a run a session is.
 #![tactic(auto)]
 
 mod acting;

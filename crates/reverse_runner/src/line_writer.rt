@@ -1,7 +1,7 @@
 // The visitor that writes lines.
 ghost use Rattle.std.specs.Prelude.{◌≡◌, ◌≤◌, [], ◌∷◌, ◌++◌, OnOk, OnErr};
 ghost use Rattle.keepers.specs.Counts.{raised, Rose};
-ghost use Rattle.keepers.specs.Told.{Tells, AddsPrefix};
+ghost use Rattle.keepers.specs.Claims.{Tells, AddsPrefix};
 ghost use Rattle.state_image.specs.Line.{line};
 
 use crate::known_state::KnownState;

@@ -1,22 +1,22 @@
 // A session: a run that the actions of a schedule go over.
-ghost use Rattle.std.specs.Prelude.{◌≡◌, ◌≢◌, ◌*◌, ◌<◌, ◌≤◌, ◌↔◌, ℕ, true, false, length, map, Option, Some, Err, IfOk, OnOk, OnErr, IsErrOf, IsSome, Contains};
+ghost use Rattle.std.specs.Prelude.{◌≡◌, ◌*◌, ◌<◌, ◌≤◌, ◌↔◌, ℕ, true, false, length, map, Option, Some, Err, IfOk, OnOk, IsErrOf, IsSome, Contains};
 ghost use Rattle.std.specs.FinMap as finmap;
 ghost use Rattle.std.specs.List.{AllByRecursion};
 ghost use Rattle.unit_digests.specs.Digests.{HasPages};
 ghost use Rattle.plan_types.specs.declared.limits.TheConstants.{MOST_STEPS};
 ghost use Rattle.level_book.specs.BookCosts.{slots_of};
 ghost use Rattle.level_book.specs.Rules.{rule, levels_named};
-ghost use Rattle.keepers.specs.Told.{Images};
-ghost use Rattle.reverse_runner.specs.Acted.{ActionEnds, HasReason, IsSafe};
-ghost use Rattle.reverse_runner.specs.After.{Stays, VisitorAfter};
+ghost use Rattle.keepers.specs.Claims.{Images};
+ghost use Rattle.reverse_runner.specs.ActionOutcome.{ActionEnds, HasReason, IsSafe};
+ghost use Rattle.reverse_runner.specs.CallOutcome.{Stays, VisitorAfter};
 ghost use Rattle.reverse_runner.specs.Desks.{KeepersAre};
 ghost use Rattle.reverse_runner.specs.KeepersSeen.{told_by, calls_to, HaveRoom};
-ghost use Rattle.reverse_runner.specs.LevelsStand.{AreAlone};
-ghost use Rattle.reverse_runner.specs.Handed.{handed_by};
-ghost use Rattle.reverse_runner.specs.Performed.{states_out, HandsOut};
+ghost use Rattle.reverse_runner.specs.HoldingsOfRun.{AreAlone};
+ghost use Rattle.reverse_runner.specs.StateOrder.{handed_by};
+ghost use Rattle.reverse_runner.specs.VisitorCalls.{states_out, HandsOut};
 ghost use Rattle.reverse_runner.specs.Rooms.{rooms_by};
-ghost use Rattle.reverse_runner.specs.SessionState.{SamePages, levels_of, holdings_of};
-ghost use Rattle.reverse_runner.specs.Standing.{begun, SessionAfter, StandsAt};
+ghost use Rattle.reverse_runner.specs.SessionState.{levels_of, holdings_of};
+ghost use Rattle.reverse_runner.specs.SessionOfRun.{begun, SessionAfter, StandsAt};
 
 use crate::acting::act;
 use crate::fault::RunFault;

@@ -1,34 +1,23 @@
 // What a session works with: its desk, and its tape.
-ghost use Rattle.std.specs.Prelude.{◌≡◌, ◌≢◌, ◌+◌, ◌*◌, ◌<◌, ◌≤◌, ◌^◌, ◌∷◌, ℕ, List, [], length, map, Err, IfOk, IfErr, OnOk, OnErr, IsSome, None, Some};
-ghost use Rattle.std.specs.Vec.{vec_len, vec_capacity};
+ghost use Rattle.std.specs.Prelude.{◌≡◌, ◌+◌, ◌<◌, ◌≤◌, ◌^◌, ◌∷◌, ℕ, [], length, Err, IfOk, OnOk, OnErr};
+ghost use Rattle.std.specs.Vec.{vec_capacity};
 ghost use Rattle.level_book.specs.BookCosts.{slots_of};
-ghost use Rattle.rv_machine.specs.MachineState.{MachineState, IsMachineState};
 ghost use Rattle.rv_machine.specs.States.{state_number};
 ghost use Rattle.unit_undo.specs.UndoState.{begun as begun_undo};
 ghost use Rattle.std.specs.List.{AllByRecursion};
-ghost use Rattle.unit_undo.specs.Leading.{IsMadeFor, LeadsBack, led_back, states_below};
+ghost use Rattle.unit_undo.specs.UndoTrail.{IsMadeFor, LeadsBack, states_below};
 ghost use Rattle.unit_digests.specs.Digests.{states_of, AreDigests, IsKnown, HasPages};
-ghost use Rattle.state_image.specs.Image.{image};
-ghost use Rattle.image_store.specs.Pairs.{held};
-ghost use Rattle.image_store.specs.Shelves.{level_of, kept_at, no_pairs_on};
-ghost use Rattle.keepers.specs.Counts.{Rose};
-ghost use Rattle.reverse_runner.specs.Acts.{IsDecoded};
-ghost use Rattle.reverse_runner.specs.DeskGives.{KeepGives, FetchGives, ReleaseGives};
-ghost use Rattle.reverse_runner.specs.KeepersSeen.{by_number};
-ghost use Rattle.reverse_runner.specs.Handed.{numbers_from};
-ghost use Rattle.reverse_runner.specs.After.{VisitorAfter};
-ghost use Rattle.reverse_runner.specs.Performed.{HandsOut};
-ghost use Rattle.reverse_runner.specs.Rooms.{image_room};
+ghost use Rattle.image_store.specs.Shelves.{no_pairs_on};
+ghost use Rattle.reverse_runner.specs.StateOrder.{numbers_from};
+ghost use Rattle.reverse_runner.specs.CallOutcome.{VisitorAfter};
+ghost use Rattle.reverse_runner.specs.VisitorCalls.{HandsOut};
 ghost use Rattle.reverse_runner.specs.SessionState.{SamePages};
-ghost use Rattle.reverse_runner.specs.Standing.{IsNoImage};
-ghost use Rattle.sha2.specs.Sha256.{sha256};
 
 use crate::desk::Desk;
 use crate::fault::RunFault;
 use crate::known_state::KnownState;
 use crate::visitor::{Visitor, hand_out};
 use input_journal::Journal;
-use keepers::Keeper;
 use level_book::Book;
 use rv_machine::{State, Steps};
 use std::alloc::{AllocError, Global};
@@ -76,20 +65,6 @@ impl Workspace {
             undo,
             known,
         })
-    }
-
-    /// Takes so many steps of the machine.
-    pub fn advance<L: Ledger>(&mut self, journal: &Journal, count: u32, steps: &mut Steps<L>)
-        ensures work { self.new.desk.work ≡ state_number self.old.desk.work journal.now count }
-        ensures pages { SamePages self.old.desk.work self.new.desk.work }
-        ensures tape { self.new.tape ≡ self.old.tape }
-        ensures undo { self.new.undo ≡ self.old.undo }
-        ensures known { self.new.known ≡ self.old.known }
-        ensures store { self.new.desk.store ≡ self.old.desk.store }
-        ensures buffer { self.new.desk.buffer ≡ self.old.desk.buffer }
-        ensures counted { steps.new ≡ steps.old + count }
-    {
-        self.desk.advance(journal, count, steps);
     }
 
     /// Takes the machine steps of a unit, and puts the states before them on the tape.
@@ -165,96 +140,6 @@ impl Workspace {
     {
         self.undo.is_short();
         digesters.digest(rt, self.tape.state(), &self.undo, &mut self.known);
-    }
-
-    /// Writes the image of the state in work into the buffer, and returns its digest.
-    pub fn encode(&mut self) -> [u8; 32]
-        requires { IsInOrder self.old }
-        ensures digest { result ≡ sha256 self.new.desk.buffer.items }
-        ensures image { self.new.desk.buffer.items ≡ image self.old.desk.work }
-        ensures short { vec_len self.new.desk.buffer < 2 ^ 32 }
-        ensures few { vec_len self.new.desk.buffer ≤ image_room self.old.desk.work }
-        ensures work { self.new.desk.work ≡ self.old.desk.work }
-        ensures tape { self.new.tape ≡ self.old.tape }
-        ensures undo { self.new.undo ≡ self.old.undo }
-        ensures store { self.new.desk.store ≡ self.old.desk.store }
-        ensures fits { IsInOrder self.new }
-    {
-        self.desk.encode()
-    }
-
-    /// Makes the state in work that of the image in the buffer. The image came from a level and has this digest.
-    pub fn decode(&mut self, level: u8, digest: &[u8; 32]) -> Result<(), RunFault>
-        requires fits { IsInOrder self.old }
-        requires digest { digest.now ≡ sha256 self.old.desk.buffer.items }
-        ensures decoded { OnOk result (IsDecoded self.old.desk.work self.new.desk.work self.old.desk.buffer.items) }
-        ensures damaged { IfErr result (λ fault. (fault ≡ RunFault.Damaged level (sha256 self.old.desk.buffer.items) (sha256 self.old.desk.buffer.items))
-            × IsNoImage self.old.desk.work self.old.desk.buffer.items) }
-        ensures tape { self.new.tape ≡ self.old.tape }
-        ensures undo { self.new.undo ≡ self.old.undo }
-        ensures store { self.new.desk.store ≡ self.old.desk.store }
-        ensures fits { IsInOrder self.new }
-    {
-        self.desk.decode(level, digest)
-    }
-
-    /// Keeps the bytes in the buffer, which have this digest, on a level.
-    pub fn keep<K: Keeper>(
-        &mut self,
-        keepers: &mut Vec<K>,
-        level: u8,
-        n: u32,
-        digest: &[u8; 32],
-    ) -> Result<(), RunFault>
-        requires there { level < vec_len keepers.old }
-        requires level { level < length self.old.desk.store }
-        requires number { n < length (level_of self.old.desk.store level).pairs }
-        requires new { kept_at self.old.desk.store level n ≡ None }
-        requires room { held (level_of self.old.desk.store level).pairs < (level_of self.old.desk.store level).room }
-        requires size { vec_len self.old.desk.buffer < 2 ^ 32 }
-        requires digest { digest.now ≡ sha256 self.old.desk.buffer.items }
-        requires slots { (level_of self.old.desk.store level).room ≤ by_number 0 K.slot_count keepers.old.items level }
-        ensures keeps { KeepGives K.Storage level n self.old.desk.buffer result self.old.desk.store self.new.desk.store keepers.old.items keepers.new.items }
-        ensures states { (self.new.desk.work ≡ self.old.desk.work) × (self.new.tape ≡ self.old.tape) × (self.new.desk.buffer ≡ self.old.desk.buffer)
-            × (self.new.undo ≡ self.old.undo) × (self.new.known ≡ self.old.known) }
-    {
-        self.desk.keep(keepers, level, n, digest)
-    }
-
-    /// Gets the bytes of a held pair into the buffer, and returns their digest.
-    pub fn fetch<K: Keeper>(
-        &mut self,
-        keepers: &mut Vec<K>,
-        level: u8,
-        n: u32,
-    ) -> Result<[u8; 32], RunFault>
-        requires there { level < vec_len keepers.old }
-        requires level { level < length self.old.desk.store }
-        requires held { IsSome (kept_at self.old.desk.store level n) }
-        requires slots { (level_of self.old.desk.store level).room ≤ by_number 0 K.slot_count keepers.old.items level }
-        ensures fetches { FetchGives K.Storage level n self.old.desk.buffer self.new.desk.buffer result self.old.desk.store self.new.desk.store keepers.old.items keepers.new.items }
-        ensures states { (self.new.desk.work ≡ self.old.desk.work) × (self.new.tape ≡ self.old.tape) × (self.new.desk.store ≡ self.old.desk.store)
-            × (self.new.undo ≡ self.old.undo) × (self.new.known ≡ self.old.known) }
-    {
-        self.desk.fetch(keepers, level, n)
-    }
-
-    /// Releases a held pair.
-    pub fn release<K: Keeper>(
-        &mut self,
-        keepers: &mut Vec<K>,
-        level: u8,
-        n: u32,
-    ) -> Result<(), RunFault>
-        requires there { level < vec_len keepers.old }
-        requires level { level < length self.old.desk.store }
-        requires held { IsSome (kept_at self.old.desk.store level n) }
-        requires slots { (level_of self.old.desk.store level).room ≤ by_number 0 K.slot_count keepers.old.items level }
-        ensures releases { ReleaseGives K.Storage level n result self.old.desk.store self.new.desk.store keepers.old.items keepers.new.items }
-        ensures states { (self.new.desk.work ≡ self.old.desk.work) × (self.new.tape ≡ self.old.tape) × (self.new.desk.buffer ≡ self.old.desk.buffer)
-            × (self.new.undo ≡ self.old.undo) × (self.new.known ≡ self.old.known) }
-    {
-        self.desk.release(keepers, level, n)
     }
 }
 

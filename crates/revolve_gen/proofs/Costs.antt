@@ -11,7 +11,7 @@ use Rattle.level_book.specs.BookCosts.{BookCosts, total_room}
 use Rattle.level_book.specs.CostFold.{is_write, is_read, forward, reversed, writes, reads, cost}
 use Rattle.revolve_gen.specs.Stack.{stack_step, held_after, place, place_written, place_read, written, read, times, enough, places_used, on_level, placed}
 use Rattle.revolve_gen.specs.Multistage.{place_cost, sum_below, either, CostIsByPlaces}
-use Rattle.revolve_gen.proofs.Stacked.{levels_free, first_of_both, second_of_both}
+use Rattle.revolve_gen.proofs.StackPlaces.{levels_free, first_of_both, second_of_both}
 
 -- sums over the numbers below a bound
 pub below_same : (n : ℕ) (f g : ℕ → ℕ) → ((p : ℕ) → p < n → f p ≡ g p) → sum_below n f ≡ sum_below n g

@@ -6,7 +6,7 @@ use Rattle.level_book.specs.declared.book.Slots.TheVariants.{Count, Unlimited}
 use Rattle.level_book.specs.BookCosts.{both}
 use Rattle.revolve_gen.specs.Places.{level_at, HasMore, first_slots}
 use Rattle.revolve_gen.specs.Laws.{IsFirstLevel, LevelAtIsFirst}
-use Rattle.revolve_gen.proofs.Placing.{at_first, at_later}
+use Rattle.revolve_gen.proofs.SlotPlaces.{at_first, at_later}
 
 -- slots without a limit are more than each place
 unlimited_more : (slots : List Slots) (p : ℕ) → HasMore (fold both Unlimited slots) p

@@ -12,7 +12,7 @@ use Rattle.binomials.specs.Advances.{split, least_advances}
 use Rattle.binomials.specs.Laws.{IsStretch}
 use Rattle.revolve_gen.specs.Places.{level_at, first_slots, HasMore, IsRoomy}
 use Rattle.revolve_gen.specs.Plans.{HasPlan}
-use Rattle.revolve_gen.specs.Written.{one_step, fresh, held, revolve, revolve_list}
+use Rattle.revolve_gen.specs.RevolveList.{one_step, fresh, held, revolve, revolve_list}
 
 -- The two rules for a stretch of l steps from b, for one step and for more. The bounds on the recursion are the steps.
 -- A stretch is split after fewer than l steps, and then has a slot.

@@ -1,8 +1,8 @@
 pub mod Places
-pub mod Written
+pub mod RevolveList
 pub mod Part
 pub mod Plans
 pub mod Laws
-pub mod Owed
+pub mod Remainder
 pub mod Stack
 pub mod Multistage

@@ -12,7 +12,7 @@ use Rattle.level_book.specs.CostFold.{forward, reversed, cost}
 use Rattle.revolve_gen.specs.Places.{places_on}
 use Rattle.revolve_gen.specs.Plans.{HasPlan}
 use Rattle.revolve_gen.specs.Stack.{written, read, times, places_used, placed}
-use Rattle.revolve_gen.specs.Written.{revolve}
+use Rattle.revolve_gen.specs.RevolveList.{revolve}
 
 -- a level has slots for so many places
 abbrev pub HasPlaces : Slots → ℕ → Type 0

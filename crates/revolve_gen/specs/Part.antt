@@ -3,7 +3,7 @@ use Rattle.std.specs.Prelude.{ℕ, zero, suc, Bool, cond, List, [], ◌∷◌}
 use Rattle.plan_types.specs.declared.action.Action.{Action}
 use Rattle.plan_types.specs.declared.action.Action.TheVariants.{EndForward}
 use Rattle.level_book.specs.declared.book.Slots.{Slots}
-use Rattle.revolve_gen.specs.Written.{fresh}
+use Rattle.revolve_gen.specs.RevolveList.{fresh}
 
 -- The actions of a stretch of so many steps from b with c slots. The stack of images is empty. `first`: no step was
 -- taped yet. A stretch of no steps has only the end of the way forward.

@@ -4,7 +4,7 @@
 //!
 //! In `specs/`:
 //!
-//! - `Written`: the two rules by which a list is written.
+//! - `RevolveList`: the two rules by which a list is written.
 //! - `Places`: the levels of its images.
 //! - `Plans`: where there is no list.
 //! - `Stack`: what actions do to a stack of images.

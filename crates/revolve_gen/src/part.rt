@@ -28,7 +28,7 @@ impl Model for StretchStream {
     ghost use Rattle.std.specs.Prelude.{◌≤◌, vec_capacity};
     ghost use Rattle.revolve_gen.specs.Places.{level_at};
     ghost use Rattle.revolve_gen.specs.Part.{Coming};
-    ghost use Rattle.revolve_gen.specs.Owed.{owed, IsOwing};
+    ghost use Rattle.revolve_gen.specs.Remainder.{owed, IsOwing};
 
     ghost Value = { Coming };
 

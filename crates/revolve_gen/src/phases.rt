@@ -6,7 +6,7 @@ ghost use Rattle.binomials.specs.Laws.{IsSplit};
 ghost use Rattle.revolve_gen.specs.Places.{level_at};
 ghost use Rattle.revolve_gen.specs.Part.{stretch};
 ghost use Rattle.revolve_gen.specs.Plans.{HasPlan};
-ghost use Rattle.revolve_gen.specs.Owed.{owed, IsOwing};
+ghost use Rattle.revolve_gen.specs.Remainder.{owed, IsOwing};
 
 use crate::places::Places;
 use crate::stretch::{Phase, Stretch};

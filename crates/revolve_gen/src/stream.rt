@@ -2,7 +2,7 @@
 ghost use Rattle.std.specs.Prelude.{◌≡◌, ◌≤◌, [], ◌∷◌, MatchOption, IfOk, IfErr, OnOk, vec_len, vec_capacity};
 ghost use Rattle.plan_types.specs.declared.limits.TheConstants.{MOST_STEPS};
 ghost use Rattle.level_book.specs.BookCosts.{total_room};
-ghost use Rattle.revolve_gen.specs.Written.{revolve_list};
+ghost use Rattle.revolve_gen.specs.RevolveList.{revolve_list};
 ghost use Rattle.revolve_gen.specs.Plans.{HasPlan, IsFault};
 
 use crate::fault::GenFault;
@@ -33,7 +33,7 @@ impl Model for Revolve {
 
 impl Revolve {
     /// The list for so many steps. Its stack uses the reserved room. It takes no memory.
-    #[tactic(auto, using(crate::proofs::Owing::whole_stretch))]
+    #[tactic(auto, using(crate::proofs::RemainderSteps::whole_stretch))]
     pub fn over(steps: u32, book: &Book, room: Vec<Stretch>) -> Revolve
         requires short { steps ≤ MOST_STEPS }
         requires plan { HasPlan steps (total_room book.now steps) }

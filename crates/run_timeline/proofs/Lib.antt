@@ -1,9 +1,9 @@
 pub mod Overlap
-pub mod Keeping
-pub mod Noting
-pub mod Marking
-pub mod Walking
-pub mod Hitting
-pub mod Trailing
-pub mod Ending
-pub mod Collecting
+pub mod PageIndices
+pub mod LastWatcher
+pub mod RunMarks
+pub mod Walks
+pub mod StopHits
+pub mod UndoTrail
+pub mod MoveEnds
+pub mod OutputCollector

@@ -1,9 +1,9 @@
 -- No public clause cites this file. The meaning of a timeline's fields, and their invariant.
 use Rattle.std.specs.Prelude.{◌≡◌, length}
-use Rattle.unit_undo.specs.Leading.{IsMadeFor}
+use Rattle.unit_undo.specs.UndoTrail.{IsMadeFor}
 use Rattle.run_timeline.specs.declared.timeline.Timeline.TheInside.{Inside}
 use Rattle.run_timeline.specs.TimelineState.{TimelineState}
-use Rattle.run_timeline.specs.Trail.{Trails}
+use Rattle.run_timeline.specs.UndoTrail.{Trails}
 
 abbrev pub timeline_state : Inside → TimelineState
 timeline_state t = record { run = t.walk.run; place = t.walk.place; reached = t.walk.reached; room = t.walk.room; trail = length t.undo.entries }

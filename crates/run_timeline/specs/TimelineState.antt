@@ -1,6 +1,7 @@
 -- A timeline: a run, and a place in it.
 use Rattle.std.specs.Prelude.{ℕ, ◌+◌, ◌*◌, ◌/◌, ◌^◌, ◌≤◌, max, min, refl}
 use Rattle.std.specs.Coded.{Coded, code_by, coded×, coded_ℕ}
+use Rattle.run_timeline.specs.declared.timeline.TheConstants.{MARK_PAGE_BYTES, MARK_REST_BYTES}
 use Rattle.run_timeline.specs.Moves.{Run}
 use Rattle.run_timeline.specs.WalkState.{run_code}
 
@@ -19,10 +20,10 @@ pub record TimelineState : Type 0 where
 abbrev pub IsFew : TimelineState → ℕ → Type 0
 IsFew t n = n * t.room ≤ max t.room (2 * t.reached)
 
--- How many states fit into so many bytes. Each takes its pages, with an index of four bytes for each, and 512 bytes
--- more. There are at least two, and at most 2 ^ 20.
+-- How many states fit into so many bytes. Each takes its pages, each with its index, and some bytes more. There are at
+-- least two, and at most 2 ^ 20.
 abbrev pub marks_for : ℕ → ℕ → ℕ
-marks_for bytes pages = max 2 (min (2 ^ 20) (bytes / (4100 * pages + 512)))
+marks_for bytes pages = max 2 (min (2 ^ 20) (bytes / (MARK_PAGE_BYTES * pages + MARK_REST_BYTES)))
 
 -- a timeline's code for comparisons: the tuple of its fields
 abbrev pub timeline_code : Coded TimelineState

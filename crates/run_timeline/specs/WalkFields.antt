@@ -3,7 +3,7 @@ use Rattle.std.specs.Prelude.{◌≡◌, ℕ, ◌<◌, ◌≤◌, true, length}
 use Rattle.rv_machine.specs.States.{state_number}
 use Rattle.rv_machine.specs.StepTable.{is_running}
 use Rattle.run_timeline.specs.declared.walk.Walk.TheInside.{Inside}
-use Rattle.run_timeline.specs.Keeping.{AreMarks, Spans}
+use Rattle.run_timeline.specs.RunMarks.{AreMarks, Spans}
 use Rattle.run_timeline.specs.WalkState.{WalkState}
 
 abbrev pub walk_state : Inside → WalkState

@@ -39,7 +39,7 @@ impl Collector {
 
 impl Watch for Collector {
     ghost use Rattle.std.specs.Prelude.{⊤};
-    ghost use Rattle.run_timeline.specs.Collecting.{IsCollected};
+    ghost use Rattle.run_timeline.specs.OutputCollector.{IsCollected};
 
     ghost can_note = { λ _ _ _. ⊤ };
 

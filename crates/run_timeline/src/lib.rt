@@ -14,4 +14,4 @@ mod timeline;
 mod walk;
 
 pub use crate::stops::{Hit, Part, Range, Step, Stops};
-pub use crate::timeline::Timeline;
+pub use crate::timeline::{MARK_PAGE_BYTES, MARK_REST_BYTES, Timeline};

@@ -1,9 +1,8 @@
 // How the steps of a run are observed.
 ghost use Rattle.std.specs.Prelude.{◌≡◌, ℕ, ◌+◌, ◌<◌, ◌≤◌, ◌^◌, false, is_some};
-ghost use Rattle.rv_pages.specs.Memory.{page_numbers};
 ghost use Rattle.rv_machine.specs.States.{state_number};
-ghost use Rattle.rv_machine.specs.Watching.{Ends, GoesOn};
-ghost use Rattle.run_timeline.specs.Seeing.{breaks_at, is_hit, seen, writes_from, IsLastSeen};
+ghost use Rattle.rv_machine.specs.Watchers.{Ends, GoesOn};
+ghost use Rattle.run_timeline.specs.StepObservations.{breaks_at, is_hit, seen, writes_from, IsLastSeen};
 
 use crate::stops::{Hit, Stops};
 use input_journal::Journal;
@@ -102,7 +101,7 @@ struct Last<'a> {
 
 impl<'a> Watch for Last<'a> {
     ghost use Rattle.std.specs.Prelude.{◌+◌, ◌<◌, ◌^◌};
-    ghost use Rattle.run_timeline.specs.Looking.{IsNotedLast};
+    ghost use Rattle.run_timeline.specs.LastWatcher.{IsNotedLast};
 
     ghost can_note = { λ last _ _. last.at + 1 < 2 ^ 32 };
 

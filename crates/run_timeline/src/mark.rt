@@ -1,5 +1,5 @@
 // A kept state of a run.
-ghost use Rattle.std.specs.Prelude.{◌≡◌, ℕ, ◌*◌, ◌≤◌, ◌<◌, IfOk, length, slice_index};
+ghost use Rattle.std.specs.Prelude.{◌≡◌, ◌*◌, ◌≤◌, ◌<◌, IfOk, length};
 ghost use Rattle.std.specs.Vec.{vec_capacity};
 ghost use Rattle.rv_pages.specs.Memory.{Memory, page_numbers, IsMemory};
 ghost use Rattle.rv_machine.specs.MachineState.{MachineState};

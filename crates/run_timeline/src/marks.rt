@@ -1,5 +1,5 @@
 // The marks of a run: states at equal distances.
-ghost use Rattle.std.specs.Prelude.{◌≡◌, ℕ, ◌+◌, ◌-◌, ◌*◌, ◌<◌, ◌≤◌, ◌^◌, List, IfOk, length, max, min, replicate, slice_index_or, vec_len};
+ghost use Rattle.std.specs.Prelude.{◌≡◌, ℕ, ◌+◌, ◌-◌, ◌*◌, ◌<◌, ◌≤◌, ◌^◌, IfOk, length, max, min, slice_index_or, vec_len};
 ghost use Rattle.rv_pages.specs.Memory.{page_numbers};
 ghost use Rattle.rv_machine.specs.MachineState.{MachineState};
 ghost use Rattle.run_timeline.specs.Mark.{HaveRoom};
@@ -25,7 +25,7 @@ pub(crate) struct Marks {
 
 impl Marks {
     ghost use Rattle.run_timeline.specs.Mark.{IsMarkOf};
-    ghost use Rattle.run_timeline.specs.Keeping.{AreMarks, Spans, next_mark};
+    ghost use Rattle.run_timeline.specs.RunMarks.{AreMarks, Spans, next_mark};
 
     // Room for so many states. The first state is the one mark.
     pub fn begin(alloc: Global, first: &State, capacity: u32) -> Result<Marks, AllocError>

@@ -1,7 +1,7 @@
 // Moves over a run.
 ghost use Rattle.std.specs.Prelude.{◌≡◌, ◌⊎◌, ℕ, ◌+◌, ◌*◌, ◌<◌, ◌≤◌, ⊤, max, true};
 ghost use Rattle.run_timeline.specs.Moves.{is_end as is_end_of, EndsForward, EndsBackward, CameOn, step_ahead, steps_of};
-ghost use Rattle.run_timeline.specs.Parts.{MatchPart};
+ghost use Rattle.run_timeline.specs.MoveParts.{MatchPart};
 ghost use Rattle.run_timeline.specs.WalkState.{IsFew};
 
 use crate::stops::{Hit, Part, Step, Stops};

@@ -6,7 +6,7 @@ ghost use Rattle.input_journal.specs.Form.{IsRecorded};
 ghost use Rattle.rv_machine.specs.MachineState.{IsMachineState};
 ghost use Rattle.rv_machine.specs.Output.{outputs};
 ghost use Rattle.run_timeline.specs.Moves.{state as state_of, IsPlace, is_end as is_end_of, EndsForward, EndsBackward, CameOn, CameBack, step_ahead, step_behind, steps_of, watched as watched_of};
-ghost use Rattle.run_timeline.specs.Parts.{MatchPart};
+ghost use Rattle.run_timeline.specs.MoveParts.{MatchPart};
 ghost use Rattle.run_timeline.specs.TimelineState.{IsFew, marks_for as marks_of_budget};
 
 use crate::stops::{Hit, Part, Step, Stops};
@@ -18,10 +18,11 @@ use std::marker::Model;
 use std::sync::ledger::Ledger;
 use unit_undo::Undo;
 
-// The bytes that a mark takes: those of each page with its index, and the rest of a state.
-const PAGE_BYTES: u64 = 4100;
+/// The bytes that a kept state takes for each of its pages, with the page's index.
+pub const MARK_PAGE_BYTES: u64 = 4100;
 
-const REST_BYTES: u64 = 512;
+/// The bytes that it takes beside its pages.
+pub const MARK_REST_BYTES: u64 = 512;
 
 // The most marks of a timeline.
 const MOST_MARKS: u64 = 0x10_0000;
@@ -305,6 +306,6 @@ fn marks_for(budget_bytes: u64, pages: u32) -> u32
     ensures value { result ≡ marks_of_budget budget_bytes pages }
     ensures some { 2 ≤ result }
 {
-    let each = PAGE_BYTES * pages as u64 + REST_BYTES;
+    let each = MARK_PAGE_BYTES * pages as u64 + MARK_REST_BYTES;
     (budget_bytes / each).clamp(2, MOST_MARKS) as u32
 }

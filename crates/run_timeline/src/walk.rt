@@ -5,12 +5,12 @@ ghost use Rattle.input_journal.specs.Form.{IsRecorded};
 ghost use Rattle.rv_machine.specs.MachineState.{IsMachineState};
 ghost use Rattle.rv_machine.specs.Output.{outputs};
 ghost use Rattle.rv_machine.specs.StepTable.{is_running};
-ghost use Rattle.rv_machine.specs.Watching.{Ends, GoesOn};
-ghost use Rattle.unit_undo.specs.Leading.{IsMadeFor};
+ghost use Rattle.rv_machine.specs.Watchers.{Ends, GoesOn};
+ghost use Rattle.unit_undo.specs.UndoTrail.{IsMadeFor};
 ghost use Rattle.run_timeline.specs.declared.stops.Hit.TheVariants.{Watch};
 ghost use Rattle.run_timeline.specs.Moves.{state as state_of, IsPlace, is_end as is_end_of, broken, watched as watched_of};
-ghost use Rattle.run_timeline.specs.Seeing.{is_hit, seen, IsLastSeen};
-ghost use Rattle.run_timeline.specs.Trail.{Trails};
+ghost use Rattle.run_timeline.specs.StepObservations.{is_hit, seen, IsLastSeen};
+ghost use Rattle.run_timeline.specs.UndoTrail.{Trails};
 ghost use Rattle.run_timeline.specs.WalkState.{IsFew};
 
 use crate::collector::Collector;

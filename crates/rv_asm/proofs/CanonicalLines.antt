@@ -7,24 +7,24 @@ use Rattle.std.specs.Map.{lookup}
 use Rattle.rv_decode.specs.declared.instruction.Inst.{Inst}
 use Rattle.rv_decode.specs.Rows.{decoded}
 use Rattle.rv_decode.specs.Words.{word_of}
-use Rattle.rv_decode.proofs.Reading.{read}
-use Rattle.rv_decode.proofs.Telling.{only as only_word}
+use Rattle.rv_decode.proofs.EncodingRoundTrip.{read}
+use Rattle.rv_decode.proofs.EncodingUniqueness.{only as only_word}
 use Rattle.rv_asm.specs.declared.table.Format.{Format}
 use Rattle.rv_asm.specs.declared.table.Format.TheVariants.{Word}
 use Rattle.rv_asm.specs.declared.table.Want.{Want}
 use Rattle.rv_asm.specs.declared.table.Operands.{Operands}
 use Rattle.rv_asm.specs.declared.table.Code.{Code}
 use Rattle.rv_asm.specs.Table.{Statement, instruction, bare, Row, wants, rows, named}
-use Rattle.rv_asm.specs.Packing.{packed, is_base, IsBase, InFormat, takes}
-use Rattle.rv_asm.specs.Coding.{code_row, entries, coded, code_table, encoded}
+use Rattle.rv_asm.specs.PackedWords.{packed, is_base, IsBase, InFormat, takes}
+use Rattle.rv_asm.specs.Encoder.{code_row, entries, coded, code_table, encoded}
 use Rattle.rv_asm.specs.Canonical.{unpacked, operands_text, IsSpelled, IsCanonical}
 use Rattle.line_texts.specs.Numbers.{hex_word}
 use Rattle.line_texts.proofs.Steps.{which, both, itself, other_bytes}
-use Rattle.rv_asm.proofs.InRange.{at_most}
+use Rattle.rv_asm.proofs.OperandRanges.{at_most}
 use Rattle.rv_asm.specs.Laws.{OneLine, SomeLine}
 use Rattle.rv_asm.proofs.Names.{name_of, name_in}
-use Rattle.rv_asm.proofs.Ties.{base_of, HasStatement, Alike, AreAlike, named_alike, named_name}
-use Rattle.rv_asm.proofs.Unpacked.{unpacked_in, taken_packed, packed_base, base_takes}
+use Rattle.rv_asm.proofs.RowAgreement.{base_of, HasStatement, Alike, AreAlike, named_alike, named_name}
+use Rattle.rv_asm.proofs.WordOperands.{unpacked_in, taken_packed, packed_base, base_takes}
 
 -- ---- tables
 

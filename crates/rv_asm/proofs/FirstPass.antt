@@ -7,7 +7,7 @@ use Rattle.rv_asm.specs.declared.label.Label.{Label}
 use Rattle.rv_asm.specs.Tokens.{tokens}
 use Rattle.line_texts.specs.Lines.{lines}
 use Rattle.rv_asm.specs.Source.{label_in, words_in, labels_of, names_in}
-use Rattle.rv_asm.specs.Coding.{code_table}
+use Rattle.rv_asm.specs.Encoder.{code_table}
 use Rattle.line_texts.proofs.Steps.{which}
 
 or_none : (o : Option Label) → option_or o None ≡ o

@@ -12,10 +12,10 @@ use Rattle.rv_asm.specs.declared.table.Operands.{Operands}
 use Rattle.rv_asm.specs.declared.table.Want.TheVariants.{Mark}
 use Rattle.line_texts.specs.Tokens.{Token}
 use Rattle.rv_asm.specs.Table.{named}
-use Rattle.rv_asm.specs.Reading.{Names, not_instruction, taken, said, instruction_of, unlabelled_of, begins_label, behind_label, is_bare_name, is_earlier, line_of}
+use Rattle.rv_asm.specs.LineMeaning.{Names, not_instruction, taken, said, instruction_of, unlabelled_of, begins_label, behind_label, is_bare_name, is_earlier, line_of}
 use Rattle.line_texts.specs.Cursors.{text_in, column_in}
 use Rattle.rv_asm.specs.Source.{words_in}
-use Rattle.rv_asm.specs.Coding.{code_row, coded, entries, code_table, behind, next_of}
+use Rattle.rv_asm.specs.Encoder.{code_row, coded, entries, code_table, behind, next_of}
 use Rattle.rv_asm.proofs.CanonicalLines.{named_code}
 
 some_of : (o : Option Code) → is_some (option_map (λ (c : Code). code_row c) o) ≡ is_some o

@@ -5,11 +5,11 @@ use Rattle.rv_asm.specs.declared.fault.LineFault.{LineFault}
 use Rattle.rv_asm.specs.Tokens.{tokens}
 use Rattle.line_texts.specs.Tokens.{Token}
 use Rattle.rv_asm.specs.Table.{named}
-use Rattle.rv_asm.specs.Reading.{Names, behind_label, line_of}
+use Rattle.rv_asm.specs.LineMeaning.{Names, behind_label, line_of}
 use Rattle.line_texts.specs.Cursors.{text_in}
 use Rattle.rv_asm.specs.Source.{fault_at, words_in}
-use Rattle.rv_asm.specs.Coding.{code_table, lines_from}
-use Rattle.rv_asm.proofs.Alike.{step_ok, step_err, step_end}
+use Rattle.rv_asm.specs.Encoder.{code_table, lines_from}
+use Rattle.rv_asm.proofs.TableEquivalence.{step_ok, step_err, step_end}
 
 pub pass_ok : (names : Names) (words more : List ℕ) (number place : ℕ) (bytes : List ℕ) (ls old : List (List ℕ)) (found : Option ℕ) → old ≡ bytes ∷ ls → place ≡ length words →
     Ok found ≡ line_of code_table names number place (length bytes + 1) (tokens 1 bytes) → more ≡ words ++ option_to_list found →

@@ -1,11 +1,11 @@
 pub mod Tokens
 pub mod Numbers
 pub mod Table
-pub mod Reading
+pub mod LineMeaning
 pub mod Source
 pub mod Canonical
 pub mod Laws
 pub mod Bytes
-pub mod Named
-pub mod Packing
-pub mod Coding
+pub mod LabelMap
+pub mod PackedWords
+pub mod Encoder

@@ -13,7 +13,7 @@ use Rattle.rv_asm.specs.Tokens.{tokens}
 use Rattle.line_texts.specs.Tokens.{Token}
 use Rattle.line_texts.specs.Lines.{lines}
 use Rattle.rv_asm.specs.Table.{Statement, Table, rows, named, IsWordOf}
-use Rattle.rv_asm.specs.Reading.{Names, begins_label, behind_label, line_of}
+use Rattle.rv_asm.specs.LineMeaning.{Names, begins_label, behind_label, line_of}
 use Rattle.line_texts.specs.Cursors.{text_in}
 
 -- ---- labels

@@ -2,7 +2,7 @@
 -- end of its line.
 use Rattle.std.specs.Prelude.{ℕ, ◌==◌, Bool, ◌||◌, List, take}
 use Rattle.std.specs.Char.{is_ascii_alphanumeric}
-use Rattle.line_texts.specs.Reading.{length_before}
+use Rattle.line_texts.specs.Parsers.{length_before}
 use Rattle.line_texts.specs.Tokens as texts
 
 abbrev pub is_run_byte : ℕ → Bool

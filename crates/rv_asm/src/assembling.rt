@@ -7,9 +7,9 @@ ghost use Rattle.line_texts.specs.declared.fault.Fault.{Fault};
 ghost use Rattle.rv_asm.specs.Tokens.{tokens as tokens_of};
 ghost use Rattle.line_texts.specs.Lines.{lines as lines_in};
 ghost use Rattle.rv_asm.specs.Source.{label_in, words_in, names_in, Means, HasFault};
-ghost use Rattle.rv_asm.specs.Named.{names_at};
-ghost use Rattle.rv_asm.specs.Coding.{code_table, lines_from, source_of};
-ghost use Rattle.line_texts.specs.Reading.{GivesUnlessMemory};
+ghost use Rattle.rv_asm.specs.LabelMap.{names_at};
+ghost use Rattle.rv_asm.specs.Encoder.{code_table, lines_from, source_of};
+ghost use Rattle.line_texts.specs.Parsers.{GivesUnlessMemory};
 
 use crate::label::{Label, Labels};
 use crate::line::{line, take_colon, words};
@@ -35,7 +35,7 @@ pub fn assemble(alloc: Global, text: &[u8]) -> Result<Vec<u32>, Fault>
     assembled(alloc, text)
 }
 
-#[tactic(auto, unfolding(crate::specs::Coding::source_of))]
+#[tactic(auto, unfolding(crate::specs::Encoder::source_of))]
 fn assembled(alloc: Global, text: &[u8]) -> Result<Vec<u32>, Fault>
     requires { length text.now < 2 ^ 31 }
     ensures { GivesUnlessMemory (λ words. words.items) result (source_of code_table text.now) }

@@ -2,7 +2,7 @@
 ghost use Rattle.std.specs.Prelude.{◌≡◌, ℕ, List, Some, None, OnOk, if◌then◌else◌};
 ghost use Rattle.std.specs.Str.{bytes_eq};
 ghost use Rattle.std.specs.Option.{option_or};
-ghost use Rattle.rv_asm.specs.Named.{names_at};
+ghost use Rattle.rv_asm.specs.LabelMap.{names_at};
 
 use std::alloc::{AllocError, Global};
 use std::collections::HashMap;

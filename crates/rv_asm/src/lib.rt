@@ -6,7 +6,7 @@
 //!
 //! - `Tokens`, `Numbers`: what bytes spell.
 //! - `Table`: the instructions, and their operands.
-//! - `Reading`: what a line means.
+//! - `LineMeaning`: what a line means.
 //! - `Source`: which words a text means, and its first fault.
 //! - `Canonical`: the line of a word.
 //! - `Laws`: what the definitions imply.

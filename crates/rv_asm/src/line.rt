@@ -3,11 +3,11 @@ ghost use Rattle.std.specs.Prelude.{◌≡◌, ◌<◌, ◌^◌, ◌+◌, ◌&&�
 ghost use Rattle.rv_asm.specs.Tokens.{tokens as tokens_of};
 ghost use Rattle.rv_asm.specs.Numbers.{is_name as is_a_name};
 ghost use Rattle.rv_asm.specs.Table.{named as row_named};
-ghost use Rattle.rv_asm.specs.Reading.{begins_label, is_earlier as earlier, said as said_of, line_of};
+ghost use Rattle.rv_asm.specs.LineMeaning.{begins_label, is_earlier as earlier, said as said_of, line_of};
 ghost use Rattle.line_texts.specs.Cursors.{column_in, token_of};
-ghost use Rattle.rv_asm.specs.Named.{names_at};
-ghost use Rattle.rv_asm.specs.Packing.{IsBase};
-ghost use Rattle.rv_asm.specs.Coding.{code_row, code_table, behind};
+ghost use Rattle.rv_asm.specs.LabelMap.{names_at};
+ghost use Rattle.rv_asm.specs.PackedWords.{IsBase};
+ghost use Rattle.rv_asm.specs.Encoder.{code_row, code_table, behind};
 
 use crate::fault::{LineFault, Rule};
 use crate::label::Labels;
@@ -22,7 +22,7 @@ use line_texts::Token;
 const MOST_WORDS: u32 = 1_048_576;
 
 // The word of a line, if any, after so many words.
-#[tactic(auto, unfolding(crate::specs::Reading::line_of))]
+#[tactic(auto, unfolding(crate::specs::LineMeaning::line_of))]
 pub(crate) fn line(
     bytes: &[u8],
     labels: &Labels,

@@ -3,11 +3,11 @@ ghost use Rattle.std.specs.Prelude.{◌≡◌, IsTrue, [], ◌∷◌, drop, Ok, 
 ghost use Rattle.std.specs.List.{AllByRecursion};
 ghost use Rattle.std.specs.Str.{bytes_eq};
 ghost use Rattle.rv_asm.specs.Numbers.{begins_letter as letter_begins, register_of as register_value};
-ghost use Rattle.rv_asm.specs.Reading.{put as put_in, bits_of as number_bits, is_within as within, is_even as even, distance as distance_of, number_in as number_said, target_in as target_said, put_number as number_put, put_register as register_put, taken as taken_of, operands_of, no_operands, not_instruction};
+ghost use Rattle.rv_asm.specs.LineMeaning.{put as put_in, bits_of as number_bits, is_within as within, is_even as even, distance as distance_of, number_in as number_said, target_in as target_said, put_number as number_put, put_register as register_put, taken as taken_of, operands_of, no_operands, not_instruction};
 ghost use Rattle.line_texts.specs.Cursors.{text_in, column_in};
 ghost use Rattle.rv_asm.specs.Bytes.{IsMark};
-ghost use Rattle.rv_asm.specs.Named.{names_at};
-ghost use Rattle.rv_asm.specs.Coding.{next_of, IsOf32Bits, IsNarrow, IsOperand};
+ghost use Rattle.rv_asm.specs.LabelMap.{names_at};
+ghost use Rattle.rv_asm.specs.Encoder.{next_of, IsOf32Bits, IsNarrow, IsOperand};
 
 use crate::fault::{LineFault, Rule};
 use crate::label::Labels;
@@ -16,7 +16,7 @@ use crate::table::{Field, Operands, Want};
 use crate::tokens::SourceTokens;
 
 // The operands that the tokens of a line mean, one for each want, in the word with this number.
-#[tactic(auto, unfolding(crate::specs::Reading::operands_of))]
+#[tactic(auto, unfolding(crate::specs::LineMeaning::operands_of))]
 pub(crate) fn operands(
     wants: &[Want],
     tokens: &mut SourceTokens,
@@ -82,7 +82,7 @@ fn next_operand(
 }
 
 // The operands unchanged, if the next token is this byte.
-#[tactic(auto, unfolding(crate::specs::Reading::taken))]
+#[tactic(auto, unfolding(crate::specs::LineMeaning::taken))]
 fn mark(
     byte: u8,
     tokens: &mut SourceTokens,
@@ -103,7 +103,7 @@ fn mark(
 }
 
 // Adds a token's value to the operands, or returns the rule that it breaks.
-#[tactic(auto, unfolding(crate::specs::Reading::taken))]
+#[tactic(auto, unfolding(crate::specs::LineMeaning::taken))]
 fn taken(
     want: Want,
     text: &[u8],
@@ -224,7 +224,7 @@ fn is_even(number: Signed) -> bool
 }
 
 // The number that a text means, or the rule that it breaks.
-#[tactic(auto, unfolding(crate::specs::Reading::number_in))]
+#[tactic(auto, unfolding(crate::specs::LineMeaning::number_in))]
 fn number_in(text: &[u8]) -> Result<Signed, Rule>
     ensures { result ≡ number_said text.now }
 {
@@ -236,7 +236,7 @@ fn number_in(text: &[u8]) -> Result<Signed, Rule>
 }
 
 // The distance that a text means in the word with this number.
-#[tactic(auto, unfolding(crate::specs::Reading::target_in))]
+#[tactic(auto, unfolding(crate::specs::LineMeaning::target_in))]
 fn target_in(text: &[u8], place: u32, labels: &Labels) -> Result<Signed, Rule>
     ensures { result ≡ target_said (names_at labels.now.by_name) place text.now }
 {

@@ -1,7 +1,7 @@
 // The word of operands, by the formats.
 ghost use Rattle.std.specs.Prelude.{◌≡◌, ◌+◌, ◌*◌, ◌/◌, ◌%◌, ◌^◌, ◌<◌};
 ghost use Rattle.rv_asm.specs.declared.table.Format.TheVariants as formats;
-ghost use Rattle.rv_asm.specs.Packing.{packed as packed_of, IsBase, IsSmall, IsWide, InFormat};
+ghost use Rattle.rv_asm.specs.PackedWords.{packed as packed_of, IsBase, IsSmall, IsWide, InFormat};
 
 use crate::table::{Code, Format, Operands};
 

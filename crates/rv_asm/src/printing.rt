@@ -1,9 +1,9 @@
 // The canonical line of a word.
-ghost use Rattle.std.specs.Prelude.{◌≡◌, ◌≤◌, ◌+◌, ◌++◌, length, map, find, Some, None, MatchOption};
+ghost use Rattle.std.specs.Prelude.{◌≡◌, ◌≤◌, ◌+◌, ◌++◌, length, find, Some, None, MatchOption};
 ghost use Rattle.rv_asm.specs.Canonical.{IsCanonical, register_in, printed_want, signed_text, operands_text};
 ghost use Rattle.line_texts.specs.Numbers.{hex_word};
-ghost use Rattle.rv_asm.specs.Packing.{takes};
-ghost use Rattle.rv_asm.specs.Coding.{entries};
+ghost use Rattle.rv_asm.specs.PackedWords.{takes};
+ghost use Rattle.rv_asm.specs.Encoder.{entries};
 
 use crate::table::{Code, Field, Format, Operands, TABLE, Want, wants};
 use crate::unpacking::{is_word_of, unpacked};
@@ -28,7 +28,7 @@ pub fn disassemble(word: u32, line: &mut Line)
 }
 
 // The name of the instruction that a word means, and what the table has there.
-#[tactic(auto, unfolding(crate::specs::Coding::entries))]
+#[tactic(auto, unfolding(crate::specs::Encoder::entries))]
 fn row_of(word: u32) -> Option<(&'static [u8], Code)>
     ensures row { MatchOption result
         (find (λ k. takes k.1.format k.1.base word) entries ≡ None)

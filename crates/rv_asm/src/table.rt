@@ -3,7 +3,7 @@ ghost use Rattle.std.specs.Prelude.{◌≡◌, map};
 ghost use Rattle.std.specs.Str.{bytes_eq};
 ghost use Rattle.std.specs.Map.{lookup};
 ghost use Rattle.rv_asm.specs.Table.{wants as wants_of};
-ghost use Rattle.rv_asm.specs.Coding.{code_of, coded};
+ghost use Rattle.rv_asm.specs.Encoder.{code_of, coded};
 
 // The registers of an instruction, by their fields.
 #[derive(Clone, Copy)]
@@ -188,7 +188,7 @@ pub(crate) const TABLE: [(&[u8], Format, u32); 49] = [
 ];
 
 // What the table has at a name.
-#[tactic(auto, unfolding(crate::specs::Coding::coded, crate::specs::Coding::entries))]
+#[tactic(auto, unfolding(crate::specs::Encoder::coded, crate::specs::Encoder::entries))]
 pub(crate) fn named(name: &[u8]) -> Option<Code>
     ensures { result ≡ coded name.now }
 {

@@ -1,5 +1,5 @@
 pub mod Groups
-pub mod Parts
-pub mod Ranging
-pub mod Reading
-pub mod Telling
+pub mod WordFields
+pub mod FieldRanges
+pub mod EncodingRoundTrip
+pub mod EncodingUniqueness

@@ -1,7 +1,7 @@
 // From an instruction to its word.
 ghost use Rattle.std.specs.Prelude.{◌≡◌, ℕ, ◌%◌, ◌^◌, ◌<◌, Some};
 ghost use Rattle.rv_decode.specs.Rows.{decoded};
-ghost use Rattle.rv_decode.specs.Ranges.{HasRanges, IsSigned};
+ghost use Rattle.rv_decode.specs.Ranges.{HasRanges};
 ghost use Rattle.rv_decode.specs.Words.{word_of, IsOperation, word_r, word_i, word_s, word_b, word_u, word_j};
 
 use crate::instruction::Inst;

@@ -1,9 +1,9 @@
 pub mod Causes
-pub mod Changing
-pub mod Fitting
+pub mod StepCases
+pub mod ProductWords
 pub mod UpperWords
 pub mod Runs
-pub mod Staying
+pub mod StateInvariant
 pub mod Stores
-pub mod Writing
-pub mod Counting
+pub mod MemoryWrites
+pub mod OutputCount

@@ -2,7 +2,7 @@
 use Rattle.std.proofs.Common.{◌≡◌, ◌==◌, ◌+◌, ◌%◌, ℕ, zero, suc, add-one, add-zero, add-suc, ap, Bool, true, false, cond, ◌||◌, List, length, slice_get, refl, ◌∙◌, Option, None, Some, is_some}
 use Rattle.std.specs.Prelude.{nat_le}
 use Rattle.rv_pages.specs.Memory.{page_numbers, wrapped, word_at, bytes_at, number_at, with_bytes, with_number}
-use Rattle.rv_pages.proofs.Reading.{some_mapped}
+use Rattle.rv_pages.proofs.MemoryReads.{some_mapped}
 use Rattle.rv_pages.proofs.Stores.{with_bytes_numbers}
 use Rattle.rv_decode.specs.declared.instruction.Inst.{Inst}
 use Rattle.rv_decode.specs.Rows.{decoded}

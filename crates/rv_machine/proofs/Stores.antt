@@ -5,7 +5,7 @@ use Rattle.std.proofs.lemmas.List.Elements.{All-cons, All-nil}
 use Rattle.std.specs.List.{All}
 use Rattle.std.specs.Option.{option_map}
 use Rattle.rv_pages.specs.Memory.{Memory, bytes_at, number_at, low_bytes, with_number, page_numbers, IsMapped, IsMemory}
-use Rattle.rv_pages.proofs.Reading.{some_mapped}
+use Rattle.rv_pages.proofs.MemoryReads.{some_mapped}
 use Rattle.rv_pages.proofs.Stores.{with_bytes_numbers, with_bytes_memory}
 
 length-low_bytes : (n value : ℕ) → length (low_bytes n value) ≡ n

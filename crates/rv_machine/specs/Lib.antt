@@ -8,7 +8,7 @@ pub mod StateChanges
 pub mod SystemCalls
 pub mod StepTable
 pub mod States
-pub mod Watching
+pub mod Watchers
 pub mod StateFields
 pub mod StepChanges
 pub mod Output

@@ -1,5 +1,5 @@
 // How a system call changes a state.
-ghost use Rattle.std.specs.Prelude.{◌≡◌, ◌+◌, ◌<◌, ◌≤◌, ◌^◌, if◌then◌else◌, [], length, slice_get, Some};
+ghost use Rattle.std.specs.Prelude.{◌≡◌, ◌+◌, ◌<◌, ◌^◌, if◌then◌else◌, [], length, slice_get, Some};
 ghost use Rattle.input_journal.specs.Form.{IsShort};
 ghost use Rattle.rv_pages.specs.Memory.{bytes_at, page_numbers};
 ghost use Rattle.rv_machine.specs.StateChanges.{addresses};

@@ -7,7 +7,7 @@ ghost use Rattle.rv_machine.specs.StepTable.{effect_at_pc, is_running, register_
 ghost use Rattle.rv_machine.specs.SystemCalls.{are_mapped};
 ghost use Rattle.rv_machine.specs.Output.{output};
 ghost use Rattle.rv_machine.specs.CodePage.{IsFound};
-ghost use Rattle.rv_machine.specs.Watching.{IsNext};
+ghost use Rattle.rv_machine.specs.Watchers.{IsNext};
 
 use crate::calls::{ANSWER, span_read, span_sent};
 use crate::code_page::CodePage;

@@ -1,11 +1,12 @@
 // One step of the machine.
 ghost use Rattle.std.specs.Prelude.{◌≡◌, ◌+◌, ◌≤◌, ◌<◌, ◌↔◌, ℕ, Any, IsTrue, List, None, Some, cond, not};
 ghost use Rattle.rv_pages.specs.Memory.{bytes_at, page_numbers};
+ghost use Rattle.rv_pages.specs.declared.pages.TheConstants.{LAST_WORD};
 ghost use Rattle.rv_machine.specs.StateChanges.{addresses};
 ghost use Rattle.rv_machine.specs.States.{state_number};
 ghost use Rattle.rv_machine.specs.StepTable.{next, effect_at_pc, is_running, register_changed, written};
 ghost use Rattle.rv_machine.specs.Output.{output};
-ghost use Rattle.rv_machine.specs.Watching.{AreNoted, CanNote, Ends, GoesOn, IsNext};
+ghost use Rattle.rv_machine.specs.Watchers.{AreNoted, CanNote, Ends, GoesOn, IsNext};
 
 use crate::changes::trap;
 use crate::code_page::CodePage;
@@ -170,7 +171,7 @@ fn take_without_effect(state: &mut State)
 
 /// Whether the next step writes any of the four bytes from `word` on, even with an unchanged value.
 pub fn wrote(state: &State, journal: &Journal, word: u32) -> bool
-    requires { word ≤ 0xFFFFFFFC }
+    requires { word ≤ LAST_WORD }
     ensures { IsTrue result ↔ Any (λ at. (word ≤ at) × (at < word + 4)) (written state.now journal.now) }
 {
     let changes = next_changes(state, journal);
@@ -197,7 +198,7 @@ pub fn next_output(state: &State) -> Span
 // Whether so many addresses from `at` on overlap the four from `word` on, modulo 2 ^ 32. Then the first of the four is
 // among them, or the first of them is among the four.
 fn meets(at: u32, count: u32, word: u32) -> bool
-    requires { word ≤ 0xFFFFFFFC }
+    requires { word ≤ LAST_WORD }
     ensures { IsTrue result ↔ Any (λ a. (word ≤ a) × (a < word + 4)) (addresses at count) }
 {
     count > 0 && (word.wrapping_sub(at) < count || at.wrapping_sub(word) < 4)

@@ -1,7 +1,7 @@
 // Watchers of the steps of a machine.
 ghost use Rattle.std.specs.Prelude.{◌≡◌, ℕ, Bool, List, IsTrue, false, true};
 ghost use Rattle.rv_machine.specs.MachineState.{MachineState};
-ghost use Rattle.rv_machine.specs.Watching.{IsNext};
+ghost use Rattle.rv_machine.specs.Watchers.{IsNext};
 
 use crate::next::Next;
 use crate::state::State;

@@ -2,7 +2,7 @@
 use Rattle.std.proofs.Common.{inl, inr, ◌≡◌, ℕ, ◌+◌, ◌*◌, ◌/◌, ◌%◌, ◌^◌, ◌<◌, ◌==◌, ◌&&◌, Bool, true, false, cond, refl, sym, ap, ◌∙◌, arith, ℤ, pos, ◌+ℤ◌, List, Option, is_some}
 use Rattle.std.proofs.lemmas.Bool.{ne_eqb, eq-eqb, cases_eq, and_parts, eqb-true, false_from_ne_true}
 use Rattle.rv_pages.specs.Memory.{Memory, wrapped, number_at, with_number}
-use Rattle.rv_pages.proofs.Whole.{number_below}
+use Rattle.rv_pages.proofs.MemoryInvariant.{number_below}
 use Rattle.rv_decode.specs.declared.instruction.Inst.{Inst}
 use Rattle.rv_decode.specs.Formats as machine
 use Rattle.rv_decode.specs.Rows as decode
@@ -16,7 +16,7 @@ use Rattle.rv_manual.specs.Changes.{x, loads, stores, address}
 use Rattle.rv_manual.specs.Formats.{Row, takes, r_type, i_type, shift_type, load_type, s_type, b_type, u_type, j_type, jump_to_register, fence, environment}
 use Rattle.rv_manual.proofs.Numbers.{sum}
 use Rattle.rv_manual.proofs.Immediates.{rd_is, rs1_is, rs2_is, i_is, s_is, b_is, u_is, j_is}
-use Rattle.rv_manual.proofs.Stepping.{loaded, stored, x_small, gives_is, jumps_is, branches_is, loads_is, stores_is}
+use Rattle.rv_manual.proofs.FormatSteps.{loaded, stored, x_small, gives_is, jumps_is, branches_is, loads_is, stores_is}
 
 -- the two rows take the same words, and do the same to a state
 pub record Agrees (mine : Row) (theirs : decode.Row) : Type 0 where

@@ -1,7 +1,7 @@
 -- The fields of a word, and the words of its immediates.
 use Rattle.std.proofs.Common.{◌≡◌, ℕ, ◌+◌, ◌*◌, ◌/◌, ◌%◌, ◌^◌, ◌<◌, inl, inr, ◌∙◌, arith}
 use Rattle.rv_decode.specs.Formats as machine
-use Rattle.rv_decode.proofs.Parts.{sign_cases}
+use Rattle.rv_decode.proofs.WordFields.{sign_cases}
 use Rattle.rv_manual.specs.Integers.{word_of}
 use Rattle.rv_manual.specs.Fields.{bits, rd, rs1, rs2, i_immediate, s_immediate, b_immediate, u_immediate, j_immediate}
 use Rattle.rv_manual.proofs.Numbers.{difference}

@@ -1,9 +1,9 @@
 pub mod Numbers
 pub mod Immediates
-pub mod Computing
+pub mod OperationResults
 pub mod Bitwise
-pub mod Accessing
-pub mod Stepping
+pub mod LoadsAndStores
+pub mod FormatSteps
 pub mod Agreement
 pub mod Rows
-pub mod Whole
+pub mod ManualEquivalence

@@ -19,9 +19,9 @@ use Rattle.rv_manual.specs.Formats.{Row, takes}
 use Rattle.rv_manual.specs.Listing.{listing, upper_immediates, jumping, branching, loading, storing, register_immediate, register_register, products, system}
 use Rattle.rv_manual.specs.NextState.{is_listed, by_rows}
 use Rattle.rv_manual.proofs.Numbers.{sum}
-use Rattle.rv_manual.proofs.Computing.{add_is, sub_is, sll_is, slt_is, sltu_is, srl_is, sra_is, mul_is, mulh_is, mulhsu_is, mulhu_is, div_is, divu_is, rem_is, remu_is, less_is, greater_or_equal_is, greater_or_equal_unsigned_is}
+use Rattle.rv_manual.proofs.OperationResults.{add_is, sub_is, sll_is, slt_is, sltu_is, srl_is, sra_is, mul_is, mulh_is, mulhsu_is, mulhu_is, div_is, divu_is, rem_is, remu_is, less_is, greater_or_equal_is, greater_or_equal_unsigned_is}
 use Rattle.rv_manual.proofs.Bitwise.{xor_is, or_is, and_is}
-use Rattle.rv_manual.proofs.Accessing.{byte_is, halfword_is, word_is, with_byte_is, with_halfword_is, with_word_is, sign_8, sign_16, sign_32}
+use Rattle.rv_manual.proofs.LoadsAndStores.{byte_is, halfword_is, word_is, with_byte_is, with_halfword_is, with_word_is, sign_8, sign_16, sign_32}
 use Rattle.rv_manual.proofs.Agreement.{Agrees, r_agrees, i_agrees, shift_agrees, load_agrees, s_agrees, b_agrees, u_agrees, j_agrees, jump_to_register_agrees, fence_agrees, environment_agrees}
 
 -- rows beside rows

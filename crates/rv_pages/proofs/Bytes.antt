@@ -8,8 +8,8 @@ use Rattle.std.specs.List.{enumerate_from}
 use Rattle.std.specs.List.Sorted.{IsStrictlySortedBy}
 use Rattle.std.specs.Ordering.{nat_cmp}
 use Rattle.rv_pages.specs.Memory.{page_bytes}
-use Rattle.rv_pages.specs.Kept.{entries_kept, memory_kept, AreKept}
-use Rattle.rv_pages.proofs.Ordered.{kept_entries}
+use Rattle.rv_pages.specs.PageLayout.{entries_kept, memory_kept, AreKept}
+use Rattle.rv_pages.proofs.EntryOrder.{kept_entries}
 
 abbrev pub bytes_in : ℕ → ℕ → List (ℕ × ℕ) → List ℕ
 bytes_in size page es = map (λ e. e.1) (filter (λ e. e.0 / size == page) es)

@@ -5,8 +5,8 @@ use Rattle.std.proofs.lemmas.Bool.{eq-eqb, ne_eqb}
 use Rattle.std.proofs.lemmas.Nat.{mod-mul-add, div-mul-add}
 use Rattle.std.specs.List.{enumerate_from, filter_map, cons_option}
 use Rattle.rv_pages.specs.Memory.{Memory, page_numbers}
-use Rattle.rv_pages.specs.Kept.{entries_kept, memory_kept, AreKept}
-use Rattle.rv_pages.proofs.Ordered.{kept_entries}
+use Rattle.rv_pages.specs.PageLayout.{entries_kept, memory_kept, AreKept}
+use Rattle.rv_pages.proofs.EntryOrder.{kept_entries}
 
 -- the number of the page that an address begins, if it begins one
 abbrev pub number_at : ℕ → ℕ → Option ℕ

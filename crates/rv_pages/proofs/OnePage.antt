@@ -5,9 +5,9 @@ use Rattle.std.proofs.lemmas.List.Elements.{All-from_get_or}
 use Rattle.std.specs.List.{All}
 use borrow.Rule.Slice.PartMut.{put_mid, post_of}
 use Rattle.rv_pages.specs.Memory.{page_bytes}
-use Rattle.rv_pages.specs.Kept.{memory_kept, AreKept}
+use Rattle.rv_pages.specs.PageLayout.{memory_kept, AreKept}
 use Rattle.rv_pages.proofs.Bytes.{kept_bytes}
-use Rattle.rv_pages.proofs.Written.{kept_written, byte_written, length_written, mid_inside}
+use Rattle.rv_pages.proofs.PageWrites.{kept_written, byte_written, length_written, mid_inside}
 
 module _ (numbers bytes part : List ℕ) (h : AreKept numbers bytes) (i : ℕ) (below : i < length numbers) (whole : length part ≡ 4096) where
   abbrev After : List ℕ

@@ -11,11 +11,11 @@ use Rattle.std.specs.FinMap.Entries.{by_order}
 use Rattle.std.specs.FinMap.{get, insert, put, entries, len, entries-insert, len-insert, len-entries}
 use Rattle.std.specs.declared.cmp.Ordering.TheVariants.{Less, Equal, Greater}
 use Rattle.rv_pages.specs.Memory.{Memory, wrapped, byte_at, with_bytes, page_numbers, page_bytes, IsMapped, IsMemory}
-use Rattle.rv_pages.specs.Kept.{memory_kept, AreKept}
-use Rattle.rv_pages.proofs.Ordered.{get_not_kept}
-use Rattle.rv_pages.proofs.Storing.{memory_set, kept_set, some_inserted}
-use Rattle.rv_pages.proofs.Whole.{made_of, kept_is_memory}
-use Rattle.rv_pages.proofs.Written.{somewhere}
+use Rattle.rv_pages.specs.PageLayout.{memory_kept, AreKept}
+use Rattle.rv_pages.proofs.EntryOrder.{get_not_kept}
+use Rattle.rv_pages.proofs.MemoryWrites.{memory_set, kept_set, some_inserted}
+use Rattle.rv_pages.proofs.MemoryInvariant.{made_of, kept_is_memory}
+use Rattle.rv_pages.proofs.PageWrites.{somewhere}
 
 -- a new value at a key that is there leaves the keys as they are
 keys_put : (k v : ℕ) (es : List (ℕ × ℕ)) → length (put nat_cmp k v es) ≡ length es → map (λ e. e.0) (put nat_cmp k v es) ≡ map (λ e. e.0) es

@@ -1,4 +1,4 @@
 pub mod Memory
 pub mod Tables
 pub mod Marks
-pub mod Kept
+pub mod PageLayout

@@ -8,4 +8,4 @@ mod marks;
 mod pages;
 mod tables;
 
-pub use crate::pages::{PAGE, Pages};
+pub use crate::pages::{LAST_WORD, PAGE, Pages};

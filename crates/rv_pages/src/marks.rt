@@ -1,5 +1,5 @@
 // Marks of the pages that were written.
-ghost use Rattle.std.specs.Prelude.{◌≡◌, ◌≢◌, ℕ, ◌<◌, ◌≤◌, length, max};
+ghost use Rattle.std.specs.Prelude.{◌≡◌, ◌≢◌, ℕ, ◌<◌, length, max};
 ghost use Rattle.rv_pages.specs.Marks.{mark_of, IsNextMark};
 
 // The bits of a word, and the words for as many marks as there may be pages.

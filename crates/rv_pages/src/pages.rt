@@ -14,6 +14,9 @@ use std::marker::Model;
 /// The bytes of a page.
 pub const PAGE: usize = 4096;
 
+/// The address of the last word of memory: a word there or below ends within the addresses.
+pub const LAST_WORD: u32 = 0xffff_fffc;
+
 // The size of a page, as an address.
 const SIZE: u32 = 4096;
 
@@ -21,9 +24,9 @@ const SIZE: u32 = 4096;
 const NUMBERS: u32 = 0x10_0000;
 
 // Where in a page the last whole half and the last whole word begin.
-const LAST_HALF: usize = 4094;
+const LAST_HALF_IN_PAGE: usize = 4094;
 
-const LAST_WORD: usize = 4092;
+const LAST_WORD_IN_PAGE: usize = 4092;
 
 /// Memory of mapped pages. Only `map` and `clone` take memory, and make the zeros of all pages. After that, a page that
 /// was never written costs nothing: `copy_from` doesn't copy it, and `next_touched` skips it.
@@ -42,7 +45,7 @@ impl Model for Pages {
     ghost use Rattle.std.specs.Coded.{coded_ℕ};
     ghost use Rattle.std.specs.FinMap as finmap;
     ghost use Rattle.rv_pages.specs.Memory.{Memory};
-    ghost use Rattle.rv_pages.specs.Kept.{ArePages, memory_kept};
+    ghost use Rattle.rv_pages.specs.PageLayout.{ArePages, memory_kept};
 
     ghost Value = { Memory };
 
@@ -103,7 +106,7 @@ impl Pages {
         ensures { result ≡ number_at self.now at 2 }
     {
         let offset = (at % SIZE) as usize;
-        if offset > LAST_HALF {
+        if offset > LAST_HALF_IN_PAGE {
             return self.split_half(at);
         }
         let start = self.tables.place_of(at / SIZE)? * PAGE + offset;
@@ -116,7 +119,7 @@ impl Pages {
         ensures { result ≡ word_at self.now at }
     {
         let offset = (at % SIZE) as usize;
-        if offset > LAST_WORD {
+        if offset > LAST_WORD_IN_PAGE {
             return self.split_word(at);
         }
         let start = self.tables.place_of(at / SIZE)? * PAGE + offset;

@@ -11,8 +11,8 @@ use Rattle.schedule_rules.specs.declared.config.Config.TheInside.{Inside}
 use Rattle.schedule_rules.specs.declared.config.LevelHeld.{LevelHeld}
 use Rattle.schedule_rules.specs.declared.positions.Positions.{Positions}
 use Rattle.schedule_rules.specs.Situation.{Situation}
-use Rattle.schedule_rules.specs.Kept.{situation_of, IsKept}
-use Rattle.schedule_rules.specs.HasBits.{HasBits}
+use Rattle.schedule_rules.specs.ConfigModel.{situation_of, IsKept}
+use Rattle.schedule_rules.specs.BitRoom.{HasBits}
 use Rattle.schedule_rules.specs.Levels.{slots_kept, images_kept, HasBit}
 use Rattle.schedule_rules.specs.Bits.{set_of}
 use Rattle.schedule_rules.proofs.BitsLemmas.{word_of_member}

@@ -1,9 +1,9 @@
 pub mod BitsLemmas
 pub mod LevelLemmas
-pub mod Moving
+pub mod MovesByRules
 pub mod EmptyLevels
-pub mod Reaching
-pub mod Judging
-pub mod Lawful
-pub mod Standing
-pub mod Breaking
+pub mod Reachability
+pub mod VerdictReasons
+pub mod RuleLaws
+pub mod ConfigInvariant
+pub mod Decidability

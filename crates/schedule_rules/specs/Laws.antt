@@ -7,7 +7,7 @@ use Rattle.level_book.specs.Configuration.{Configuration}
 use Rattle.level_book.specs.Moves.{Goes}
 use Rattle.level_book.specs.Rules.{rule}
 use Rattle.level_book.specs.Valid.{Valid, BrokenAt}
-use Rattle.schedule_rules.specs.Reached.{IsReached, IsSound}
+use Rattle.schedule_rules.specs.Reachability.{IsReached, IsSound}
 
 -- Let no more be left to reverse than there are steps. Then an action breaks no rule exactly if it leads somewhere.
 -- Every reachable configuration is like that, since it is sound.

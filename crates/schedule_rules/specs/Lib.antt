@@ -1,10 +1,10 @@
 pub mod Bits
 pub mod Situation
 pub mod Levels
-pub mod Kept
+pub mod ConfigModel
 pub mod Verdicts
-pub mod After
-pub mod HasBits
-pub mod Reached
-pub mod Judged
+pub mod Transitions
+pub mod BitRoom
+pub mod Reachability
+pub mod VerdictMeaning
 pub mod Laws

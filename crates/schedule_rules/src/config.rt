@@ -8,9 +8,9 @@ ghost use Rattle.level_book.specs.Rules.{rule, is_full, target};
 ghost use Rattle.std.specs.List.{AllByRecursion};
 ghost use Rattle.plan_types.specs.declared.limits.TheConstants.{MOST_STEPS};
 ghost use Rattle.schedule_rules.specs.Levels.{slots_kept, images_kept, HasBit};
-ghost use Rattle.schedule_rules.specs.Reached.{IsReached, IsSound};
+ghost use Rattle.schedule_rules.specs.Reachability.{IsReached, IsSound};
 ghost use Rattle.schedule_rules.specs.Verdicts.{refusal};
-ghost use Rattle.schedule_rules.specs.HasBits.{HasBits};
+ghost use Rattle.schedule_rules.specs.BitRoom.{HasBits};
 
 use crate::positions::Positions;
 use level_book::{Book, Slots};
@@ -51,7 +51,7 @@ impl Model for Config {
 
     ghost coded = { situation_code };
 
-    ghost use Rattle.schedule_rules.specs.Kept.{situation_of, IsKept};
+    ghost use Rattle.schedule_rules.specs.ConfigModel.{situation_of, IsKept};
 
     ghost view = { situation_of };
 

@@ -1,8 +1,8 @@
 // Whether a whole list is valid.
-ghost use Rattle.std.specs.Prelude.{◌≡◌, ◌≤◌, ℕ, length, IfOk};
+ghost use Rattle.std.specs.Prelude.{◌≡◌, ◌≤◌, ℕ, IfOk};
 ghost use Rattle.plan_types.specs.declared.limits.TheConstants.{MOST_STEPS};
 ghost use Rattle.level_book.specs.BookCosts.{slots_of};
-ghost use Rattle.schedule_rules.specs.Judged.{Judges};
+ghost use Rattle.schedule_rules.specs.VerdictMeaning.{Judges};
 
 use crate::config::{Broken, Config};
 use level_book::Book;

@@ -1,3 +1,3 @@
-pub mod Covering
-pub mod Marking
-pub mod Stepping
+pub mod SegmentCovers
+pub mod MarkExtension
+pub mod StepExtension

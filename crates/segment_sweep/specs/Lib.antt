@@ -1,3 +1,3 @@
-pub mod Covering
-pub mod Found
+pub mod SegmentResults
+pub mod LastMatch
 pub mod MarkedRun

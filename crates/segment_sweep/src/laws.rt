@@ -1,6 +1,6 @@
 // Laws of the search. Each function does nothing; its contract is the law.
 ghost use Rattle.std.specs.Prelude.{◌≡◌, ℕ, ◌+◌, ◌*◌, ◌<◌, ◌≤◌, Option};
-ghost use Rattle.segment_sweep.specs.Found.{Quest, Found};
+ghost use Rattle.segment_sweep.specs.LastMatch.{Quest, Found};
 ghost use Rattle.segment_sweep.specs.MarkedRun.{segment_width, last_start};
 
 /// Each quest has one answer: the last place, or that there is none.

@@ -5,8 +5,8 @@ ghost use Rattle.plan_types.specs.declared.limits.TheConstants.{MOST_STEPS};
 ghost use Rattle.sha2.specs.Sha256.{sha256};
 ghost use Rattle.rv_machine.specs.States.{state_number};
 ghost use Rattle.state_image.specs.Image.{image};
-ghost use Rattle.segment_sweep.specs.Found.{Quest};
-ghost use Rattle.segment_sweep.specs.Covering.{Covers, CoversSegment, IsWord, IsQuest, no_quest};
+ghost use Rattle.segment_sweep.specs.LastMatch.{Quest};
+ghost use Rattle.segment_sweep.specs.SegmentResults.{Covers, CoversSegment, IsWord, IsQuest, no_quest};
 
 use crate::marks::Marks;
 use input_journal::Journal;

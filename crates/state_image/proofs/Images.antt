@@ -14,9 +14,9 @@ use Rattle.rv_machine.specs.declared.status.Status.TheVariants.{Running, Exited,
 use Rattle.rv_machine.specs.MachineState.{MachineState, IsStatus, IsMachineState}
 use Rattle.state_image.specs.Image.{image, header, pages_stored, page_field, is_stored, status_kind, status_value}
 use Rattle.state_image.specs.ImageForm.{part, number_at, is_value, page_count, page_start, page_number, page_part, rises, first_unmapped}
-use Rattle.state_image.specs.Decoded.{IsRight, IsRightPage}
-use Rattle.state_image.proofs.Telling.{kind_below, value_below}
-use Rattle.state_image.proofs.Finding.{none_first, listed}
+use Rattle.state_image.specs.Decoder.{IsRight, IsRightPage}
+use Rattle.state_image.proofs.ImageInjectivity.{kind_below, value_below}
+use Rattle.state_image.proofs.FirstWrongField.{none_first, listed}
 use Rattle.state_image.proofs.Members.{Mem, mem_at, place_of}
 
 -- ---- numbers in joined lists

@@ -1,8 +1,11 @@
 -- The form of an image, as a table of its fields in their order. The form is our own; its numbers are little-endian.
+-- The constants of src/layout.rt are the places where the fields start, and their lengths.
 use Rattle.std.specs.Prelude.{◌≡◌, ◌<◌, ◌≤◌, ℕ, zero, suc, ◌+◌, ◌-◌, ◌*◌, ◌%◌, ◌==◌, ◌&&◌, ◌||◌, Bool, true, not, nat_lt, nat_le, nat_eq, if◌then◌else◌, List, [], ◌∷◌, ◌++◌, map, find, length, take, drop, Option, None, Some, codes}
 use Rattle.std.specs.List.{list_all, list_any, range_with_len, starts_with}
 use Rattle.std.specs.Int.{from_le_bytes, w32}
+use Rattle.rv_pages.specs.Memory.{Memory, page_numbers}
 use Rattle.rv_machine.specs.MachineState.{trap_causes}
+use Rattle.state_image.specs.declared.layout.TheConstants.{WORD, LONG, LETTERS, VERSION, PC, REGISTERS, REGISTER_BYTES, KIND, VALUE, ITEM, OFFSET, WRITTEN, COUNT, PAGES, PAGE_FIELD}
 
 -- a field: its start, its length, and a test on all the bytes of whether it is right
 pub record Field : Type 0 where
@@ -16,7 +19,7 @@ part bytes at size = take size (drop at bytes)
 
 -- the number of four bytes at a place
 abbrev pub number_at : List ℕ → ℕ → ℕ
-number_at bytes at = from_le_bytes w32 (part bytes at 4)
+number_at bytes at = from_le_bytes w32 (part bytes at WORD)
 
 -- a value that fits a status: 0 if it runs, an exit code, or a cause of traps
 abbrev pub is_value : ℕ → ℕ → Bool
@@ -25,43 +28,43 @@ is_value (suc zero) value = nat_le value 255
 is_value (suc (suc kind)) value = list_any (λ cause. cause == value) trap_causes
 
 abbrev pub magic : Field
-magic = record { start = 0; size = 4; right = λ bytes. starts_with nat_eq bytes (codes "RVST") }
+magic = record { start = LETTERS; size = WORD; right = λ bytes. starts_with nat_eq bytes (codes "RVST") }
 
 abbrev pub version : Field
-version = record { start = 4; size = 4; right = λ bytes. number_at bytes 4 == 1 }
+version = record { start = VERSION; size = WORD; right = λ bytes. number_at bytes VERSION == 1 }
 
 abbrev pub pc : Field
-pc = record { start = 8; size = 4; right = λ bytes. number_at bytes 8 % 4 == 0 }
+pc = record { start = PC; size = WORD; right = λ bytes. number_at bytes PC % 4 == 0 }
 
 -- x1 to x31
 abbrev pub registers : Field
-registers = record { start = 12; size = 124; right = λ bytes. true }
+registers = record { start = REGISTERS; size = REGISTER_BYTES; right = λ bytes. true }
 
 abbrev pub kind : Field
-kind = record { start = 136; size = 4; right = λ bytes. nat_le (number_at bytes 136) 2 }
+kind = record { start = KIND; size = WORD; right = λ bytes. nat_le (number_at bytes KIND) 2 }
 
 abbrev pub value : Field
-value = record { start = 140; size = 4; right = λ bytes. is_value (number_at bytes 136) (number_at bytes 140) }
+value = record { start = VALUE; size = WORD; right = λ bytes. is_value (number_at bytes KIND) (number_at bytes VALUE) }
 
 abbrev pub item : Field
-item = record { start = 144; size = 4; right = λ bytes. true }
+item = record { start = ITEM; size = WORD; right = λ bytes. true }
 
 abbrev pub offset : Field
-offset = record { start = 148; size = 4; right = λ bytes. true }
+offset = record { start = OFFSET; size = WORD; right = λ bytes. true }
 
 abbrev pub written : Field
-written = record { start = 152; size = 8; right = λ bytes. true }
+written = record { start = WRITTEN; size = LONG; right = λ bytes. true }
 
 -- how many pages follow
 abbrev pub count : Field
-count = record { start = 160; size = 4; right = λ bytes. nat_le (number_at bytes 160) 4096 }
+count = record { start = COUNT; size = WORD; right = λ bytes. nat_le (number_at bytes COUNT) 4096 }
 
 abbrev pub page_count : List ℕ → ℕ
-page_count bytes = number_at bytes 160
+page_count bytes = number_at bytes COUNT
 
 -- where the field of page k starts
 abbrev pub page_start : ℕ → ℕ
-page_start k = 164 + 4100 * k
+page_start k = PAGES + PAGE_FIELD * k
 
 -- the number of page k
 abbrev pub page_number : List ℕ → ℕ → ℕ
@@ -79,7 +82,7 @@ rises bytes k = k == 0 || nat_lt (page_number bytes (k - 1)) (page_number bytes 
 abbrev pub page : ℕ → Field
 page k = record {
   start = page_start k;
-  size = 4100;
+  size = PAGE_FIELD;
   right = λ bytes. rises bytes k && nat_lt (page_number bytes k) 1048576 && not (list_all (λ b. b == 0) (page_part bytes k));
 }
 
@@ -89,6 +92,10 @@ header_fields = magic ∷ version ∷ pc ∷ registers ∷ kind ∷ value ∷ it
 
 abbrev pub fields : List ℕ → List Field
 fields bytes = header_fields ++ map page (range_with_len 0 (page_count bytes))
+
+-- the most bytes of an image of a state with these mapped pages
+abbrev pub memory_room : Memory → ℕ
+memory_room m = PAGES + PAGE_FIELD * length (page_numbers m)
 
 -- a field isn't all there, or isn't right
 abbrev pub is_wrong : List ℕ → Field → Bool

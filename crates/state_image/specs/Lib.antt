@@ -1,6 +1,6 @@
-pub mod Decoded
+pub mod Decoder
 pub mod Image
 pub mod ImageForm
-pub mod Marked
+pub mod StoredPages
 pub mod Line
-pub mod Feed
+pub mod HashInput

@@ -2,16 +2,15 @@
 ghost use Rattle.std.specs.Prelude.{◌≡◌, ◌↔◌, ℕ, ◌+◌, ◌≤◌, ◌<◌, false, true, length, slice_index, slice_index_or, None, Some, IfNone, Ok, Err, OnOk, OnErr};
 ghost use Rattle.rv_pages.specs.Memory.{page_numbers, page_bytes, IsZeroPage};
 ghost use Rattle.rv_machine.specs.MachineState.{MachineState, IsMachineState, IsStatus};
+ghost use Rattle.state_image.specs.declared.layout.TheConstants.{KIND, VALUE, ITEM};
 ghost use Rattle.state_image.specs.Image.{image, status_kind, status_value};
 ghost use Rattle.state_image.specs.ImageForm.{number_at, first_wrong, first_unmapped, is_value, page_count, page_number, page_part, page_start};
-ghost use Rattle.state_image.specs.Decoded.{AreRegistersOf, IsUnnamed, AreMapped, MarksNamed, IsMemoryOf, IsRight, IsStateOf};
+ghost use Rattle.state_image.specs.Decoder.{AreRegistersOf, IsUnnamed, AreMapped, MarksNamed, IsRight, IsStateOf};
 
 use crate::fault::ImageFault;
-use crate::form::{
-    COUNT, ITEM, KIND, OFFSET, PC, REGISTERS, VALUE, WRITTEN, first_wrong, long_at, number_at,
-    page_start,
-};
+use crate::form::{first_wrong, long_at, number_at, page_start};
 use crate::image::MAX_PAGES;
+use crate::layout::{COUNT, ITEM, KIND, OFFSET, PC, REGISTERS, VALUE, WRITTEN};
 use rv_machine::{State, Status};
 use rv_pages::{PAGE, Pages};
 
@@ -82,7 +81,7 @@ fn take_state(bytes: &[u8], named: &[bool], state: &mut State)
 
 // The registers of an image.
 fn registers_in(bytes: &[u8]) -> [u32; 32]
-    requires { 136 ≤ length bytes.now }
+    requires { KIND ≤ length bytes.now }
     ensures { AreRegistersOf bytes.now result }
 {
     let mut x = [0; 32];
@@ -94,11 +93,11 @@ fn registers_in(bytes: &[u8]) -> [u32; 32]
 
 // The status of an image.
 fn status_in(bytes: &[u8]) -> Status
-    requires there { 144 ≤ length bytes.now }
-    requires kind { number_at bytes.now 136 ≤ 2 }
-    requires value { is_value (number_at bytes.now 136) (number_at bytes.now 140) ≡ true }
-    ensures kind { status_kind result ≡ number_at bytes.now 136 }
-    ensures value { status_value result ≡ number_at bytes.now 140 }
+    requires there { ITEM ≤ length bytes.now }
+    requires kind { number_at bytes.now KIND ≤ 2 }
+    requires value { is_value (number_at bytes.now KIND) (number_at bytes.now VALUE) ≡ true }
+    ensures kind { status_kind result ≡ number_at bytes.now KIND }
+    ensures value { status_value result ≡ number_at bytes.now VALUE }
     ensures right { IsStatus result }
 {
     let value = number_at(bytes, VALUE);

@@ -1,34 +1,14 @@
 // Whether bytes are an image, field by field.
-ghost use Rattle.std.specs.Prelude.{◌≡◌, ◌+◌, ◌<◌, ◌≤◌, ◌++◌, ◌∷◌, [], not, find, length, None};
+ghost use Rattle.std.specs.Prelude.{◌≡◌, ◌+◌, ◌<◌, ◌≤◌, ◌∷◌, [], find, length, None};
 ghost use Rattle.std.specs.Int.{from_le_bytes, w64};
+ghost use Rattle.state_image.specs.declared.layout.TheConstants.{PAGES};
 ghost use Rattle.state_image.specs.ImageForm.{part, number_at, is_value, magic, version, pc, registers, kind, value, item, offset, written, count, header_fields, page, page_start, page_count, rises, is_wrong, start_or, first_wrong};
 
 use crate::image::is_zero;
+use crate::layout::{
+    COUNT, ITEM, KIND, LETTERS, OFFSET, PAGE_FIELD, PAGES, PC, REGISTERS, VALUE, VERSION, WRITTEN,
+};
 use byteorder::{ByteOrder, LittleEndian};
-
-// Where the fields of an image start.
-const VERSION: usize = 4;
-
-pub(crate) const PC: usize = 8;
-
-pub(crate) const REGISTERS: usize = 12;
-
-pub(crate) const KIND: usize = 136;
-
-pub(crate) const VALUE: usize = 140;
-
-pub(crate) const ITEM: usize = 144;
-
-pub(crate) const OFFSET: usize = 148;
-
-pub(crate) const WRITTEN: usize = 152;
-
-pub(crate) const COUNT: usize = 160;
-
-const PAGES: usize = 164;
-
-// The bytes of a page with its number.
-const PAGE_FIELD: usize = 4100;
 
 // The most pages of an image, and as many numbers of pages as there are.
 const MOST_PAGES: u32 = 4096;
@@ -55,7 +35,7 @@ pub(crate) fn first_wrong(bytes: &[u8]) -> Option<usize>
 // Where the first wrong field before the pages starts.
 fn wrong_in_header(bytes: &[u8]) -> Option<usize>
     ensures value { result ≡ start_or (find (is_wrong bytes.now) header_fields) None }
-    ensures whole { result ≡ None → 164 ≤ length bytes.now }
+    ensures whole { result ≡ None → PAGES ≤ length bytes.now }
     ensures few { result ≡ None → page_count bytes.now ≤ 4096 }
 {
     if let Some(at) = wrong_in_front(bytes) {
@@ -72,7 +52,7 @@ fn wrong_in_front(bytes: &[u8]) -> Option<usize>
     ensures { result ≡ start_or (find (is_wrong bytes.now) (magic ∷ version ∷ pc ∷ registers ∷ [])) None }
 {
     if bytes.len() < VERSION || !bytes.starts_with(b"RVST") {
-        return Some(0);
+        return Some(LETTERS);
     }
     if bytes.len() < PC || number_at(bytes, VERSION) != 1 {
         return Some(VERSION);
@@ -102,7 +82,7 @@ fn wrong_in_status(bytes: &[u8]) -> Option<usize>
 // Where the place in the input, the number of bytes written, or the number of pages is wrong first.
 fn wrong_in_rest(bytes: &[u8]) -> Option<usize>
     ensures value { result ≡ start_or (find (is_wrong bytes.now) (item ∷ offset ∷ written ∷ count ∷ [])) None }
-    ensures whole { result ≡ None → 164 ≤ length bytes.now }
+    ensures whole { result ≡ None → PAGES ≤ length bytes.now }
     ensures few { result ≡ None → page_count bytes.now ≤ 4096 }
 {
     if bytes.len() < OFFSET {

@@ -4,8 +4,8 @@ ghost use Rattle.std.specs.List.{flat_map, list_all};
 ghost use Rattle.std.specs.Int.{to_le_bytes, w32};
 ghost use Rattle.sha2.specs.Hashers.{Holds256};
 ghost use Rattle.sha2.specs.Sha256.{sha256};
-ghost use Rattle.state_image.specs.Feed.{Feeds};
-ghost use Rattle.state_image.specs.Marked.{MarksStored};
+ghost use Rattle.state_image.specs.HashInput.{Feeds};
+ghost use Rattle.state_image.specs.StoredPages.{MarksStored};
 ghost use Rattle.state_image.specs.Image.{image, header, status_kind, status_value, pages_stored, page_field};
 
 use rv_machine::{State, Status};

@@ -10,10 +10,12 @@ mod form;
 mod image;
 pub mod image_laws;
 pub mod laws;
+mod layout;
 mod text;
 
 pub use crate::decoding::decode_image;
 pub use crate::encoding::{append_image, encode_image, max_image};
 pub use crate::fault::ImageFault;
 pub use crate::image::image_digest;
+pub use crate::layout::{PAGE_FIELD, PAGES};
 pub use crate::text::{line_front, push_digest};

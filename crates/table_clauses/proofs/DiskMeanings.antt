@@ -8,13 +8,13 @@ use Rattle.disk_gen.specs.DiskRows.{DiskRows, disk_tables_in}
 use Rattle.table_clauses.specs.declared.entry.Entry.{Entry as Place}
 use Rattle.table_clauses.specs.declared.search.LevelCosts.{LevelCosts}
 use Rattle.table_clauses.specs.declared.disk.DiskColumns.{DiskColumns}
-use Rattle.table_clauses.specs.Broken.{Breaks, DiskBreaks, FreshFails, HeldFails, DiskFreshFails, DiskHeldFails, IsFirst, fast_of}
+use Rattle.table_clauses.specs.ClauseFailures.{Breaks, DiskBreaks, FreshFails, HeldFails, DiskFreshFails, DiskHeldFails, IsFirst, fast_of}
 use Rattle.table_clauses.specs.Splits.{at_step}
 use Rattle.table_clauses.specs.Columns.{AreCosts, Finds, InLevel}
 use Rattle.table_clauses.specs.DiskColumns.{AreDiskColumns, DiskFreshColumnFails, DiskHeldColumnFails, InDiskFreshColumn, InDiskHeldColumn, InDiskColumns}
 use Rattle.table_clauses.proofs.Meanings.{above_same}
 use Rattle.table_clauses.proofs.Places.{widen, before_table}
-use Rattle.table_clauses.proofs.DiskUnbroken.{disk_none_under}
+use Rattle.table_clauses.proofs.DiskNoFailures.{disk_none_under}
 
 -- ---- the first place of tables Fd and Hd
 

@@ -1,8 +1,8 @@
 pub mod Places
-pub mod Pushing
+pub mod ColumnExtension
 pub mod BelowSplits
-pub mod Unbroken
+pub mod NoFailures
 pub mod Meanings
-pub mod DiskUnbroken
+pub mod DiskNoFailures
 pub mod DiskMeanings
-pub mod Deciding
+pub mod Decidability

@@ -10,7 +10,7 @@ use Rattle.table_clauses.specs.declared.search.LevelCosts.{LevelCosts}
 use Rattle.table_clauses.specs.declared.search.Pair.{Pair}
 use Rattle.table_clauses.specs.declared.search.FreshColumns.{FreshColumns}
 use Rattle.table_clauses.specs.declared.search.HeldColumns.{HeldColumns}
-use Rattle.table_clauses.specs.Broken.{IsAbove, Breaks, FreshFails, HeldFails, IsFirst}
+use Rattle.table_clauses.specs.ClauseFailures.{IsAbove, Breaks, FreshFails, HeldFails, IsFirst}
 use Rattle.table_clauses.specs.Splits.{at_step, IsColumn}
 use Rattle.table_clauses.specs.Columns.{AreCosts, AreFreshColumns, AreHeldColumns, AreLong, AreLongHeld, IsPair, IsPairBefore, IsFaster, BeforeSplitFails, StoredFails, FreshColumnFails, HeldColumnFails, InFreshColumn, InHeldColumn, InLevel}
 use Rattle.table_clauses.proofs.Places.{column_next, column_more}

@@ -2,7 +2,7 @@
 use Rattle.std.proofs.Common.{◌≡◌, ℕ, ◌+◌, ◌<◌, ◌≤◌, arith, inl, inr, sym, ◌∙◌, subst}
 use Rattle.std.proofs.lemmas.Bool.{cases_lt}
 use Rattle.table_clauses.specs.declared.entry.Entry.{Entry as Place}
-use Rattle.table_clauses.specs.Broken.{ComesBefore, IsFirst}
+use Rattle.table_clauses.specs.ClauseFailures.{ComesBefore, IsFirst}
 use Rattle.table_clauses.specs.Columns.{InTable, InLevel, InColumn}
 
 pub before_table : (p q : Place) → ComesBefore p q → p.table ≤ q.table

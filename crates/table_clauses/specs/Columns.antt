@@ -10,7 +10,7 @@ use Rattle.table_clauses.specs.declared.search.LevelCosts.{LevelCosts}
 use Rattle.table_clauses.specs.declared.search.Pair.{Pair}
 use Rattle.table_clauses.specs.declared.search.FreshColumns.{FreshColumns}
 use Rattle.table_clauses.specs.declared.search.HeldColumns.{HeldColumns}
-use Rattle.table_clauses.specs.Broken.{IsAbove, IsFirst}
+use Rattle.table_clauses.specs.ClauseFailures.{IsAbove, IsFirst}
 use Rattle.table_clauses.specs.Splits.{at_step, AreBelowSplits, IsColumn, SplitFails}
 
 -- ---- which clause fails, over columns

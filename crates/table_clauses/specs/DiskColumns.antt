@@ -6,7 +6,7 @@ use Rattle.disk_gen.specs.DiskRows.{DiskRows, disk_tables_in}
 use Rattle.table_clauses.specs.declared.entry.Entry.{Entry as Place}
 use Rattle.table_clauses.specs.declared.search.LevelCosts.{LevelCosts}
 use Rattle.table_clauses.specs.declared.disk.DiskColumns.{DiskColumns}
-use Rattle.table_clauses.specs.Broken.{IsAbove}
+use Rattle.table_clauses.specs.ClauseFailures.{IsAbove}
 use Rattle.table_clauses.specs.Splits.{at_step, AreBelowSplits, IsColumn, SplitFails}
 use Rattle.table_clauses.specs.Columns.{InColumn}
 

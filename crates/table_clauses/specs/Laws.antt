@@ -4,7 +4,7 @@ use Rattle.level_book.specs.BookCosts.{BookCosts}
 use Rattle.level_book.specs.UnderTable.{Tables, IsUnderTable}
 use Rattle.level_book.specs.DiskUnderTable.{DiskTables, IsDiskUnderTable}
 use Rattle.table_clauses.specs.declared.entry.Entry.{Entry as Place}
-use Rattle.table_clauses.specs.Broken.{Breaks, DiskBreaks, IsFirst}
+use Rattle.table_clauses.specs.ClauseFailures.{Breaks, DiskBreaks, IsFirst}
 
 -- Tables are an under-table exactly if no clause fails at any place.
 abbrev pub UnderWhereNoneFails : ℕ → BookCosts → Tables → Type 0

@@ -1,4 +1,4 @@
-pub mod Broken
+pub mod ClauseFailures
 pub mod Splits
 pub mod Columns
 pub mod DiskColumns

@@ -4,7 +4,7 @@ use Rattle.level_book.specs.UnderTable.{Entry, number, IsAtMost, sum_of}
 use Rattle.cost_tables.specs.declared.cost.Cost.{Cost}
 use Rattle.cost_tables.specs.declared.cost.Cost.TheVariants.{Number}
 use Rattle.cost_tables.specs.TableRows.{value_of}
-use Rattle.table_clauses.specs.Broken.{IsAbove}
+use Rattle.table_clauses.specs.ClauseFailures.{IsAbove}
 
 -- the entry of a column for so many steps, from 1 on; it isn't used for 0 steps
 abbrev pub at_step : List Cost → ℕ → Entry

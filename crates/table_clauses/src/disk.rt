@@ -1,8 +1,8 @@
 // Tables over memory and an unlimited disk.
-ghost use Rattle.std.specs.Prelude.{◌≡◌, ℕ, ◌^◌, ◌<◌, ◌≤◌, IfOk, MatchOption};
+ghost use Rattle.std.specs.Prelude.{◌^◌, ◌<◌, ◌≤◌, IfOk, MatchOption};
 ghost use Rattle.level_book.specs.DiskUnderTable.{IsDiskUnderTable};
 ghost use Rattle.disk_gen.specs.DiskRows.{AreDiskSized, disk_tables_in};
-ghost use Rattle.table_clauses.specs.Broken.{DiskBreaks, IsFirst};
+ghost use Rattle.table_clauses.specs.ClauseFailures.{DiskBreaks, IsFirst};
 ghost use Rattle.table_clauses.specs.Columns.{AreCheap, AreCosts, IsFirstClause, Finds};
 ghost use Rattle.table_clauses.specs.Splits.{IsColumn};
 ghost use Rattle.table_clauses.specs.DiskColumns.{AreDiskColumns, AreDiskSplits, AreLongDisk, DiskFreshColumnFails, DiskHeldColumnFails, InDiskFreshColumn, InDiskHeldColumn, InDiskColumns};

@@ -2,7 +2,7 @@
 //! `level_book`, `cost_tables` and `disk_gen`. `bound_cert`, `requests`, `reversal` and `reversal_cli` use it. Anyone
 //! may make the tables. There are tables over several levels, and tables over memory and an unlimited disk.
 //! `level_book` defines under-tables in `specs/UnderTable.antt` and `specs/DiskUnderTable.antt`. Here
-//! `specs/Broken.antt` says which clause fails where, and which place comes first.
+//! `specs/ClauseFailures.antt` says which clause fails where, and which place comes first.
 #![tactic(auto)]
 
 mod column;

@@ -3,7 +3,7 @@ ghost use Rattle.std.specs.Prelude.{◌≡◌, ℕ, ◌-◌, ◌^◌, ◌<◌, �
 ghost use Rattle.level_book.specs.BookCosts.{room};
 ghost use Rattle.level_book.specs.UnderTable.{IsUnderTable};
 ghost use Rattle.cost_tables.specs.TableRows.{AreFor, tables_in};
-ghost use Rattle.table_clauses.specs.Broken.{Breaks, IsFirst};
+ghost use Rattle.table_clauses.specs.ClauseFailures.{Breaks, IsFirst};
 ghost use Rattle.table_clauses.specs.Columns.{AreCosts, AreFreshColumns, AreHeldColumns, AreSplits, AreSplitsAt, AreSplitsOf, IsFaster, IsPair, IsPairBefore, Finds, InTable, InLevel};
 ghost use Rattle.table_clauses.specs.Splits.{IsColumn};
 

@@ -21,7 +21,7 @@ mod speed;
 mod sum;
 mod walk;
 
-use case_files::{CaseFault, Cases, Inputs, inputs_of, run_files};
+use case_files::{CaseFault, Cases, Inputs, read_inputs, run_files};
 use rv_machine::Steps;
 use serde_json::Value;
 use speed::measure;
@@ -29,7 +29,7 @@ use std::alloc::{AllocError, Global};
 use std::marker::Brand;
 use std::process::ExitCode;
 use std::sync::ledger::{Blank, Ledger};
-use std::{env, fs, io};
+use std::{env, io};
 use walk::{Walk, walk_of};
 
 fn main(rt: HostRuntime) -> ExitCode {
@@ -66,12 +66,10 @@ impl Cases for Runs {
 
 // Whether all walks of these files passed.
 fn run_walks(rt: &HostRuntime, name: &str, files: &[String]) -> io::Result<bool> {
-    let text = fs::read_to_string(rt, name)?;
-    let Ok(inputs) = inputs_of(rt.alloc(), text.as_str()) else {
-        println!(rt; "{name} has no inputs")?;
-        return Ok(false);
-    };
-    run_files(rt, &Runs { inputs }, files)
+    match read_inputs(rt, name)? {
+        Some(inputs) => run_files(rt, &Runs { inputs }, files),
+        None => Ok(false),
+    }
 }
 
 // The first deviation of a walk.

@@ -3,7 +3,7 @@ ghost use Rattle.std.specs.Prelude.{◌≡◌, ◌<◌};
 
 use case_files::program_of;
 use input_journal::Journal;
-use run_timeline::{Hit, Range, Stops, Timeline};
+use run_timeline::{Hit, MARK_PAGE_BYTES, MARK_REST_BYTES, Range, Stops, Timeline};
 use rv_machine::{State, Steps, advance};
 use std::alloc::{AllocError, Global};
 use std::marker::Brand;
@@ -101,7 +101,9 @@ fn measure_moves<L: Ledger>(
 
 // The bytes of so many marks of states with so many pages.
 fn budget_for(marks: u32, pages: u32) -> u64 {
-    let each = (pages as u64).saturating_mul(4100).saturating_add(512);
+    let each = (pages as u64)
+        .saturating_mul(MARK_PAGE_BYTES)
+        .saturating_add(MARK_REST_BYTES);
     each.saturating_mul(marks as u64)
 }
 

@@ -1,2 +1,2 @@
-pub mod Dealing
-pub mod Walking
+pub mod WorkDivision
+pub mod DigestWalks

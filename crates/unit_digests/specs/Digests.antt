@@ -5,7 +5,7 @@ use Rattle.rv_machine.specs.MachineState.{MachineState}
 use Rattle.sha2.specs.Sha256.{sha256}
 use Rattle.state_image.specs.Image.{image}
 use Rattle.unit_undo.specs.Entry.{Entry}
-use Rattle.unit_undo.specs.Leading.{led_back}
+use Rattle.unit_undo.specs.UndoTrail.{led_back}
 
 -- the states that entries lead back over, from the state after them, in the order of the run
 abbrev pub states_of : List Entry → MachineState → List MachineState

@@ -1,9 +1,9 @@
 // Workers that take digests.
-ghost use Rattle.std.specs.Prelude.{◌≡◌, ◌⊎◌, ℕ, ◌+◌, ◌*◌, ◌≤◌, ◌<◌, IfOk, length};
+ghost use Rattle.std.specs.Prelude.{◌≡◌, ◌⊎◌, ℕ, ◌*◌, ◌≤◌, ◌<◌, IfOk, length};
 ghost use Rattle.std.specs.Vec.{vec_capacity};
 ghost use Rattle.std.specs.List.{AllByRecursion};
-ghost use Rattle.rv_pages.specs.Memory.{page_numbers};
-ghost use Rattle.unit_undo.specs.Leading.{LeadsBack, led_back};
+ghost use Rattle.state_image.specs.ImageForm.{memory_room};
+ghost use Rattle.unit_undo.specs.UndoTrail.{LeadsBack, led_back};
 ghost use Rattle.unit_digests.specs.declared.digesters.TheConstants.{STATE_BYTES};
 ghost use Rattle.unit_digests.specs.Digests.{states_of, AreDigests, IsKnown, HasPages};
 
@@ -31,7 +31,7 @@ impl Model for Digesters {
 
     ghost Value = { List (List ℕ) };
 
-    ghost use Rattle.unit_digests.specs.Dealing.{pages_mapped, IsTeam};
+    ghost use Rattle.unit_digests.specs.WorkDivision.{pages_mapped, IsTeam};
 
     ghost view = { pages_mapped };
 
@@ -49,10 +49,10 @@ impl Digesters {
     ) -> Result<Digesters, AllocError>
         ensures pages { IfOk result (λ digesters. AllByRecursion (HasPages start.now) digesters) }
         ensures few { IfOk result (λ digesters. length digesters ≤ workers) }
-        ensures bytes { IfOk result (λ digesters. length digesters * (164 + 4100 * length (page_numbers start.now.memory)) ≤ STATE_BYTES) }
+        ensures bytes { IfOk result (λ digesters. length digesters * memory_room start.now.memory ≤ STATE_BYTES) }
         ensures none { (unit ≤ 1) ⊎ (workers ≤ 1) → IfOk result (λ digesters. length digesters ≡ 0) }
         ensures most { 2 ≤ unit → 2 ≤ workers → IfOk result (λ digesters. (n : ℕ) → n ≤ workers →
-            n * (164 + 4100 * length (page_numbers start.now.memory)) ≤ STATE_BYTES → n ≤ length digesters) }
+            n * memory_room start.now.memory ≤ STATE_BYTES → n ≤ length digesters) }
     {
         let count = digester_count(start, unit, workers);
         let mut all = Vec::with_capacity(alloc, count as usize)?;
@@ -122,10 +122,10 @@ impl Digesters {
 // The number of workers, limited by the unit and the memory of their states.
 fn digester_count(start: &State, unit: u32, workers: u32) -> u32
     ensures few { result ≤ workers }
-    ensures bytes { result * (164 + 4100 * length (page_numbers start.now.memory)) ≤ STATE_BYTES }
+    ensures bytes { result * memory_room start.now.memory ≤ STATE_BYTES }
     ensures none { (unit ≤ 1) ⊎ (workers ≤ 1) → result ≡ 0 }
     ensures most { 2 ≤ unit → 2 ≤ workers → (n : ℕ) → n ≤ workers →
-        n * (164 + 4100 * length (page_numbers start.now.memory)) ≤ STATE_BYTES → n ≤ result }
+        n * memory_room start.now.memory ≤ STATE_BYTES → n ≤ result }
 {
     if unit > 1 && workers > 1 {
         workers.min(STATE_BYTES / max_image(start))

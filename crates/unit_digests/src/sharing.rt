@@ -1,15 +1,15 @@
 // Takes the digests of a unit's states in parallel. The states are assigned beforehand. Each worker moves into its
 // thread and comes back with its digests. So no worker sees what another one changes.
-ghost use Rattle.std.specs.Prelude.{◌≡◌, ℕ, ◌+◌, ◌*◌, min, ◌≤◌, ◌<◌, [], ◌∷◌, ◌++◌, List, Some, IfOk, length, map, slice_get};
+ghost use Rattle.std.specs.Prelude.{◌≡◌, ℕ, ◌+◌, min, ◌≤◌, ◌<◌, [], ◌∷◌, ◌++◌, List, Some, IfOk, length, map, slice_get};
 ghost use Rattle.std.specs.Vec.{vec_len, vec_capacity};
 ghost use Rattle.std.specs.List.{AllByRecursion};
 ghost use denote.Param.Send.{IsSync};
 ghost use Rattle.rv_pages.specs.Memory.{page_numbers};
 ghost use Rattle.rv_machine.specs.MachineState.{MachineState};
 ghost use Rattle.unit_undo.specs.declared.undo.TheConstants.{MOST_ENTRIES};
-ghost use Rattle.unit_undo.specs.Leading.{LeadsBack, led_back};
+ghost use Rattle.unit_undo.specs.UndoTrail.{LeadsBack, led_back};
 ghost use Rattle.unit_digests.specs.Digests.{states_of, AreDigests, IsKnown, HasPages};
-ghost use Rattle.unit_digests.specs.Dealing.{mapped, IsTaken, HasTaken, HasShare, HasRoom, part_of, IsDealtOut};
+ghost use Rattle.unit_digests.specs.WorkDivision.{mapped, IsTaken, HasTaken, HasShare, HasRoom, part_of, IsDealtOut};
 
 use plan_types::Gate;
 use rv_machine::State;

@@ -1,5 +1,5 @@
 use Rattle.std.proofs.Common.{◌≡◌, ℕ, List, Option, ap, subst, inl, inr}
-use Rattle.keepers.specs.Told.{Files}
+use Rattle.keepers.specs.Claims.{Files}
 use Rattle.keepers.specs.declared.stdout_sink.StdoutSink.{StdoutSink}
 use Rattle.requests.specs.Request.{words_of}
 use Rattle.reversal_program.specs.Run.{IsRun}

@@ -1,7 +1,7 @@
 use Rattle.level_book.specs.BookCosts.{names_of}
 use Rattle.std.proofs.Common.{sym, subst, List, ℕ}
 use Rattle.std.proofs.lemmas.Option.{IfSome_then}
-use Rattle.action_text.specs.Written.{IsActionAt}
+use Rattle.action_text.specs.CanonicalPrefix.{IsActionAt}
 use Rattle.action_text.proofs.canonical.action_at.Goals as goal
 
 pub returns-in-Some : goal.returns-in-Some

@@ -1,5 +1,5 @@
 use Rattle.std.proofs.Common.{rules}
-use Rattle.action_text.proofs.Written.{eight_there}
+use Rattle.action_text.proofs.CanonicalSpelling.{eight_there}
 use Rattle.action_text.proofs.canonical.behind_eight.Goals as goal
 
 pub returns : goal.returns

@@ -1,5 +1,5 @@
 use Rattle.std.proofs.Common.{rules}
-use Rattle.action_text.proofs.Written.{four_there}
+use Rattle.action_text.proofs.CanonicalSpelling.{four_there}
 use Rattle.action_text.proofs.canonical.behind_four.Goals as goal
 
 pub returns : goal.returns

@@ -1,5 +1,5 @@
 use Rattle.level_book.specs.BookCosts.{names_of}
-use Rattle.action_text.proofs.Written.{work_written, goes_to_level}
+use Rattle.action_text.proofs.CanonicalSpelling.{work_written, goes_to_level}
 use Rattle.action_text.proofs.canonical.dest_at.Goals as goal
 
 pub returns-in-Some : goal.returns-in-Some

@@ -1,6 +1,6 @@
 use Rattle.level_book.specs.BookCosts.{names_of}
 use Rattle.std.proofs.lemmas.Option.{IfSome_then}
-use Rattle.action_text.proofs.Written.{tape_written, nothing_written}
+use Rattle.action_text.proofs.CanonicalSpelling.{tape_written, nothing_written}
 use Rattle.action_text.proofs.canonical.keep_at.Goals as goal
 
 pub returns-in_default : goal.returns-in_default

@@ -1,6 +1,6 @@
 use Rattle.std.proofs.Common.{sym, ap, ◌∙◌}
 use Rattle.action_text.specs.Bytes.{behind_front}
-use Rattle.action_text.proofs.Written.{level_written}
+use Rattle.action_text.proofs.CanonicalSpelling.{level_written}
 use Rattle.action_text.proofs.canonical.level_at.Goals as goal
 
 pub returns-then-not-starts_run : goal.returns-then-not-starts_run

@@ -1,5 +1,5 @@
 use Rattle.level_book.specs.BookCosts.{names_of}
-use Rattle.action_text.proofs.Written.{move_written}
+use Rattle.action_text.proofs.CanonicalSpelling.{move_written}
 use Rattle.action_text.proofs.canonical.move_at.Goals as goal
 
 pub returns : goal.returns

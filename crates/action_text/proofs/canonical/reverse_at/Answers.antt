@@ -1,4 +1,4 @@
-use Rattle.action_text.proofs.Written.{reverse_written, last_true}
+use Rattle.action_text.proofs.CanonicalSpelling.{reverse_written, last_true}
 use Rattle.action_text.proofs.canonical.reverse_at.Goals as goal
 
 pub returns : goal.returns

@@ -1,5 +1,5 @@
 use Rattle.level_book.specs.BookCosts.{names_of}
-use Rattle.action_text.proofs.Written.{store_written}
+use Rattle.action_text.proofs.CanonicalSpelling.{store_written}
 use Rattle.action_text.proofs.canonical.store_at.Goals as goal
 
 pub returns : goal.returns

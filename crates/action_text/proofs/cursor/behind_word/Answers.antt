@@ -1,6 +1,6 @@
 use Rattle.std.proofs.Common.{◌≡◌, None, Some, sym, ap, ◌∙◌}
 use Rattle.action_text.specs.Tokens.{starts_run}
-use Rattle.action_text.proofs.Fronts.{word_front, word_longer, front_differs, begun_with, not_begun_with}
+use Rattle.action_text.proofs.FirstRun.{word_front, word_longer, front_differs, begun_with, not_begun_with}
 use Rattle.action_text.proofs.cursor.behind_word.Goals as goal
 
 pub returns-in_err-behind : goal.returns-in_err-behind

@@ -1,4 +1,4 @@
-use Rattle.action_text.proofs.Whole.{schedule_or_fault}
+use Rattle.action_text.proofs.WholeText.{schedule_or_fault}
 use Rattle.action_text.proofs.laws.bytes_are_a_schedule_or_have_a_fault.Goals as goal
 
 pub returns : goal.returns

@@ -1,4 +1,4 @@
-use Rattle.action_text.proofs.Whole.{one_first_fault, schedule_faultless}
+use Rattle.action_text.proofs.WholeText.{one_first_fault, schedule_faultless}
 use Rattle.action_text.proofs.laws.faults_are_unique.Goals as goal
 
 pub returns-clause-one : goal.returns-clause-one

@@ -1,9 +1,9 @@
 use Rattle.std.proofs.Common.{◌≡◌, false, sym, ap, ◌∙◌, refl}
 use Rattle.std.proofs.lemmas.Result.{err_from_is_err_and}
 use Rattle.level_book.specs.BookCosts.{names_of}
-use Rattle.action_text.specs.Reading.{says_nothing, profiled}
-use Rattle.line_texts.specs.Reading.{◌>>=◌}
-use Rattle.action_text.proofs.LineOf.{line_kindless, line_of_kind, action_some}
+use Rattle.action_text.specs.Parser.{says_nothing, profiled}
+use Rattle.line_texts.specs.Parsers.{◌>>=◌}
+use Rattle.action_text.proofs.LineCases.{line_kindless, line_of_kind, action_some}
 use Rattle.action_text.proofs.line.line_by_tokens.Goals as goal
 
 pub returns-in_default-clause-value : goal.returns-in_default-clause-value

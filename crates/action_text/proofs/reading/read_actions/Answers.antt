@@ -1,5 +1,5 @@
 use Rattle.level_book.specs.BookCosts.{names_of}
-use Rattle.action_text.proofs.Whole.{found, only, refused, first}
+use Rattle.action_text.proofs.WholeText.{found, only, refused, first}
 use Rattle.action_text.proofs.reading.read_actions.Goals as goal
 
 pub returns-clause-found : goal.returns-clause-found

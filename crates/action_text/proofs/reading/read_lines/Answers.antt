@@ -1,12 +1,12 @@
 use Rattle.std.proofs.Common.{◌≡◌, ◌+◌, ℕ, List, [], true, eqb, length, refl, sym, ap, ◌∙◌, arith}
 use Rattle.plan_types.specs.declared.action.Action.{Action}
 use Rattle.level_book.specs.BookCosts.{names_of}
-use Rattle.action_text.specs.Rest.{Rest}
+use Rattle.action_text.specs.CursorState.{Rest}
 use Rattle.line_texts.specs.Lines.{lines}
-use Rattle.action_text.specs.Reading.{has_line, next_line, here_of}
+use Rattle.action_text.specs.Parser.{has_line, next_line, here_of}
 use Rattle.action_text.proofs.ManyLines.{here_err, here_ok, lines_end, lines_next, one_line_less, first_line_here}
-use Rattle.line_texts.proofs.Seen.{lines_few}
-use Rattle.action_text.proofs.Seen.{lines_are}
+use Rattle.line_texts.proofs.NextToken.{lines_few}
+use Rattle.action_text.proofs.NextToken.{lines_are}
 use Rattle.action_text.proofs.reading.read_lines.Goals as goal
 
 pub lines-init : goal.lines-init

@@ -1,7 +1,7 @@
 use Rattle.std.proofs.Common.{◌≡◌, ◌+◌, length}
 use Rattle.level_book.specs.BookCosts.{names_of}
 use Rattle.line_texts.specs.Lines.{lines}
-use Rattle.action_text.specs.Reading.{here_of, reading}
+use Rattle.action_text.specs.Parser.{here_of, reading}
 use Rattle.action_text.proofs.reading.read_lines.Given as goal
 
 -- what is read from here on, behind the list so far, is what is read from the start

@@ -1,9 +1,9 @@
 use Rattle.std.proofs.Common.{◌≡◌, ◌≤◌, List, ℕ, true, false, length, sym, ap, subst, ◌∙◌, arith}
 use Rattle.std.specs.Str.{bytes_eq}
 use Rattle.action_text.specs.Bytes.{IsWord}
-use Rattle.action_text.specs.Rest.{Rest}
+use Rattle.action_text.specs.CursorState.{Rest}
 use Rattle.action_text.specs.Tokens.{starts_run}
-use Rattle.action_text.specs.Reading.{text_at, behind}
+use Rattle.action_text.specs.Parser.{text_at, behind}
 use Rattle.action_text.proofs.LevelWords.{level_is_word, level_found_here, none_below_more, no_level_found}
 use Rattle.action_text.proofs.words.take_level.Goals as goal
 

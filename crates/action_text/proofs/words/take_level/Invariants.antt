@@ -1,5 +1,5 @@
 use Rattle.std.proofs.Common.{◌≡◌}
-use Rattle.action_text.specs.Reading.{text_at}
+use Rattle.action_text.specs.Parser.{text_at}
 use Rattle.action_text.proofs.LevelWords.{NoneBelow}
 use Rattle.action_text.proofs.words.take_level.Given as goal
 

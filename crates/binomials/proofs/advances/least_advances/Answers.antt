@@ -1,5 +1,5 @@
 use Rattle.std.proofs.Common.{ℕ, ◌-◌, ◌*◌, ◌<◌, arith, mul-lt-mul_of_pos_right}
-use Rattle.binomials.proofs.Advancing.{with_slot, advances_greatest}
+use Rattle.binomials.proofs.LeastAdvances.{with_slot, advances_greatest}
 use Rattle.binomials.proofs.advances.least_advances.Goals as goal
 
 pub returns-clause-value : goal.returns-clause-value

@@ -1,5 +1,5 @@
 use Rattle.std.proofs.Common.{arith}
-use Rattle.binomials.proofs.Advancing.{with_slot, repeats_between}
+use Rattle.binomials.proofs.LeastAdvances.{with_slot, repeats_between}
 use Rattle.binomials.proofs.advances.repeats.Goals as goal
 
 pub returns-clause-value : goal.returns-clause-value

@@ -1,9 +1,9 @@
 use Rattle.std.proofs.Common.{ℕ, ◌≡◌, ◌-◌, ◌≤◌, ◌<◌, max, sym, subst, arith}
 use Rattle.binomials.specs.Advances.{split}
-use Rattle.binomials.specs.Climbed.{IsClimb}
+use Rattle.binomials.specs.ClimbState.{IsClimb}
 use Rattle.binomials.specs.declared.climb.Climb.{Climb}
 use Rattle.binomials.specs.Laws.{IsSplit}
-use Rattle.binomials.proofs.Advancing.{with_slot, split_is, split_least}
+use Rattle.binomials.proofs.LeastAdvances.{with_slot, split_is, split_least}
 use Rattle.binomials.proofs.advances.split.Goals as goal
 
 -- the value at which the code arrives

@@ -1,4 +1,4 @@
-use Rattle.binomials.proofs.Advancing.{advances_greatest}
+use Rattle.binomials.proofs.LeastAdvances.{advances_greatest}
 use Rattle.binomials.proofs.laws.advances_are_greatest.Goals as goal
 
 pub returns : goal.returns

@@ -1,4 +1,4 @@
-use Rattle.bound_cert.proofs.Certified.{disk_accepted}
+use Rattle.bound_cert.proofs.PlanCertificates.{disk_accepted}
 use Rattle.bound_cert.proofs.Texts.{disk_has_text}
 use Rattle.bound_cert.proofs.certifying.certify_disk.Goals as goal
 

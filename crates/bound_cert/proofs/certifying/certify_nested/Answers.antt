@@ -1,5 +1,5 @@
 use Rattle.std.proofs.Common.{arith}
-use Rattle.bound_cert.proofs.Certified.{nested_accepted}
+use Rattle.bound_cert.proofs.PlanCertificates.{nested_accepted}
 use Rattle.bound_cert.proofs.Texts.{nested_has_text}
 use Rattle.bound_cert.proofs.certifying.certify_nested.Goals as goal
 

@@ -1,11 +1,11 @@
 use Rattle.std.proofs.Common.{◌≡◌, ℕ, List, sym, subst}
 use Rattle.plan_types.specs.declared.action.Action.{Action}
 use Rattle.level_book.specs.declared.book.Level.{Level}
-use Rattle.revolve_gen.proofs.Extending.{multistage_valid}
+use Rattle.revolve_gen.proofs.MultistageValidity.{multistage_valid}
 use Rattle.multistage_gen.specs.Plan.{Plan}
 use Rattle.multistage_gen.specs.Threshold.{AreSavings}
 use Rattle.bound_cert.specs.Thresholds.{IsGreatestSlow}
-use Rattle.bound_cert.proofs.Fitting.{placed_member, plan_threshold, planned_fits}
+use Rattle.bound_cert.proofs.ThresholdFit.{placed_member, plan_threshold, planned_fits}
 use Rattle.bound_cert.proofs.certifying.certify_places.Goals as goal
 
 -- what is seen of the levels and savings is what the plan has

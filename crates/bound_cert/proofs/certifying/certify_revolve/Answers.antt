@@ -1,8 +1,8 @@
 use Rattle.std.proofs.Common.{◌+◌, refl, arith}
 use Rattle.std.proofs.Math.Nat.{mul-le-mul}
-use Rattle.bound_cert.proofs.Certified.{few_accepted, many_accepted}
-use Rattle.bound_cert.proofs.Accepting.{none_fewer}
-use Rattle.revolve_gen.specs.Written.{revolve_list}
+use Rattle.bound_cert.proofs.PlanCertificates.{few_accepted, many_accepted}
+use Rattle.bound_cert.proofs.VerdictUniqueness.{none_fewer}
+use Rattle.revolve_gen.specs.RevolveList.{revolve_list}
 use Rattle.cert_text.specs.declared.certificate.Certificate.TheVariants.{Revolve}
 use Rattle.bound_cert.proofs.certifying.certify_revolve.Goals as goal
 

@@ -1,7 +1,7 @@
 use Rattle.std.proofs.Common.{arith}
 use Rattle.std.proofs.lemmas.Result.{IfOk-weaker}
 use Rattle.bound_cert.specs.Verdicts.{IsVerdict}
-use Rattle.bound_cert.proofs.Accepting.{least_exactly, not_exactly, least_is_least, least_is_cheapest, least_is_nested, least_is_disk}
+use Rattle.bound_cert.proofs.VerdictUniqueness.{least_exactly, not_exactly, least_is_least, least_is_cheapest, least_is_nested, least_is_disk}
 use Rattle.bound_cert.proofs.checking.check_certificate.Goals as goal
 
 pub returns-in-Valid-clause-accepted : goal.returns-in-Valid-clause-accepted

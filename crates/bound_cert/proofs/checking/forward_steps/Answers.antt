@@ -1,5 +1,5 @@
 use Rattle.std.proofs.Common.{arith}
-use Rattle.bound_cert.proofs.Tallied.{valid_tallied}
+use Rattle.bound_cert.proofs.CountableLists.{valid_tallied}
 use Rattle.bound_cert.proofs.checking.forward_steps.Goals as goal
 
 pub tally-requires-clause-plain : goal.tally-requires-clause-plain

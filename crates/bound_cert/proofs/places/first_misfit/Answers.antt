@@ -1,4 +1,4 @@
-use Rattle.bound_cert.proofs.Fitting.{below_first, above_first}
+use Rattle.bound_cert.proofs.ThresholdFit.{below_first, above_first}
 use Rattle.bound_cert.proofs.places.first_misfit.Goals as goal
 
 pub returns-in-Some : goal.returns-in-Some

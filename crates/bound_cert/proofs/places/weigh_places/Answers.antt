@@ -1,9 +1,9 @@
 use Rattle.std.proofs.Common.{length, subst, sym, ap, ◌∙◌, refl, arith}
 use Rattle.class_rules.specs.PlaceLevels.{HasPlaceLevels}
-use Rattle.class_rules.proofs.Classing.{at_some}
+use Rattle.class_rules.proofs.ClassByLevels.{at_some}
 use Rattle.multistage_gen.specs.Threshold.{AreSavings}
 use Rattle.bound_cert.specs.Thresholds.{AreOn}
-use Rattle.bound_cert.proofs.Fitting.{two_levels, few_places, fitting}
+use Rattle.bound_cert.proofs.ThresholdFit.{two_levels, few_places, fitting}
 use Rattle.bound_cert.proofs.places.weigh_places.Goals as goal
 
 pub first_misfit-requires-clause-each : goal.first_misfit-requires-clause-each

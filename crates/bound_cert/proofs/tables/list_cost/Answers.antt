@@ -1,5 +1,5 @@
 use Rattle.std.proofs.Common.{arith}
-use Rattle.bound_cert.proofs.Tallied.{valid_tallied}
+use Rattle.bound_cert.proofs.CountableLists.{valid_tallied}
 use Rattle.bound_cert.proofs.tables.list_cost.Goals as goal
 
 pub tally-counts-requires-clause-plain : goal.tally-counts-requires-clause-plain

@@ -3,7 +3,7 @@ use Rattle.std.specs.List.{range_with_len, flat_map}
 use Rattle.std.proofs.lemmas.Result.{err_from_is_err_and}
 use Rattle.cost_tables.specs.TableRows.{fastest}
 use Rattle.cert_text.specs.WordLines.{level_lines}
-use Rattle.cert_text.specs.Wanted.{column_wants}
+use Rattle.cert_text.specs.Grammar.{column_wants}
 use Rattle.cert_text.proofs.ReadTables.{fault_in_levels}
 use Rattle.cert_text.proofs.ReadDisk.{fresh_fault, held_fault, last_fault, parts_are, disk_done}
 use Rattle.cert_text.proofs.disk.read_disk.Goals as goal

@@ -1,4 +1,4 @@
-use Rattle.cert_text.proofs.Spelled.{joined}
+use Rattle.cert_text.proofs.CanonicalRoundTrip.{joined}
 use Rattle.cert_text.proofs.laws.pieces_join.Goals as goal
 
 pub returns : goal.returns

@@ -1,4 +1,4 @@
-use Rattle.cert_text.proofs.Sized.{disk_sized_has_text}
+use Rattle.cert_text.proofs.TextExistence.{disk_sized_has_text}
 use Rattle.cert_text.proofs.laws.sized_disk_tables_have_a_text.Goals as goal
 
 pub returns : goal.returns

@@ -1,9 +1,9 @@
 use Rattle.std.proofs.Common.{[], ◌∷◌}
 use Rattle.std.specs.Prelude.{codes}
-use Rattle.cert_text.specs.Wanted.{this_word}
-use Rattle.cert_text.specs.Left.{number_of_rule}
-use Rattle.cert_text.proofs.Going.{line_done, line_wrong, behind_line}
-use Rattle.cert_text.proofs.Tabled.{says_word}
+use Rattle.cert_text.specs.Grammar.{this_word}
+use Rattle.cert_text.specs.ReaderState.{number_of_rule}
+use Rattle.cert_text.proofs.ReaderSteps.{line_done, line_wrong, behind_line}
+use Rattle.cert_text.proofs.EntryLines.{says_word}
 use Rattle.cert_text.proofs.nested.read_end.Goals as goal
 
 pub returns-in-Ok : goal.returns-in-Ok

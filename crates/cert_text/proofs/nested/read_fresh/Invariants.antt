@@ -2,7 +2,7 @@ use Rattle.std.proofs.Common.{◌≡◌}
 use Rattle.std.specs.Prelude.{codes}
 use Rattle.cost_tables.specs.TableRows.{tables_in}
 use Rattle.cert_text.specs.Rows.{KeepsFresh}
-use Rattle.cert_text.proofs.Filling.{RowsSoFar}
+use Rattle.cert_text.proofs.ReadRows.{RowsSoFar}
 use Rattle.cert_text.proofs.nested.read_fresh.Given as goal
 
 -- the rows so far were read and put into the tables

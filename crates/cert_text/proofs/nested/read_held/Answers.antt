@@ -2,10 +2,10 @@ use Rattle.std.proofs.Common.{◌≡◌, ℕ, List, [], ◌∷◌, length, map, 
 use Rattle.std.specs.Prelude.{codes, decimal}
 use Rattle.std.proofs.lemmas.Result.{err_from_is_err_and}
 use Rattle.cost_tables.specs.TableRows.{tables_in}
-use Rattle.cert_text.specs.Wanted.{row_wants}
-use Rattle.cert_text.specs.Left.{IsAmong}
+use Rattle.cert_text.specs.Grammar.{row_wants}
+use Rattle.cert_text.specs.ReaderState.{IsAmong}
 use Rattle.cert_text.specs.Rows.{Reads, cost_word}
-use Rattle.cert_text.proofs.Filling.{no_row, row_more, row_wrong, keeps_held, keeps_held_more}
+use Rattle.cert_text.proofs.ReadRows.{no_row, row_more, row_wrong, keeps_held, keeps_held_more}
 use Rattle.cert_text.proofs.nested.read_held.Goals as goal
 
 pub loop-m-init : goal.loop-m-init

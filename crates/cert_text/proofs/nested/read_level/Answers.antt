@@ -1,5 +1,5 @@
 use Rattle.std.proofs.lemmas.Result.{err_from_is_err_and}
-use Rattle.cert_text.proofs.Filling.{level_end, level_wrong}
+use Rattle.cert_text.proofs.ReadRows.{level_end, level_wrong}
 use Rattle.cert_text.proofs.nested.read_level.Goals as goal
 
 pub returns-in_err-read_fresh : goal.returns-in_err-read_fresh

@@ -1,6 +1,6 @@
 use Rattle.std.proofs.Common.{arith, length}
 use Rattle.std.proofs.lemmas.Result.{err_from_is_err_and}
-use Rattle.cert_text.proofs.Filling.{no_level, level_more, levels_wrong}
+use Rattle.cert_text.proofs.ReadRows.{no_level, level_more, levels_wrong}
 use Rattle.cert_text.proofs.nested.read_levels.Goals as goal
 
 pub loop-k-init : goal.loop-k-init

@@ -1,4 +1,4 @@
-use Rattle.cert_text.proofs.Filling.{LevelsSoFar}
+use Rattle.cert_text.proofs.ReadRows.{LevelsSoFar}
 use Rattle.cert_text.proofs.nested.read_levels.Given as goal
 
 -- the levels so far were read

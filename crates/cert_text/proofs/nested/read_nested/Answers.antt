@@ -3,7 +3,7 @@ use Rattle.std.specs.Prelude.{codes}
 use Rattle.std.specs.List.{range_with_len, flat_map}
 use Rattle.std.proofs.lemmas.Result.{err_from_is_err_and}
 use Rattle.cert_text.specs.WordLines.{level_lines}
-use Rattle.cert_text.specs.Wanted.{this_word}
+use Rattle.cert_text.specs.Grammar.{this_word}
 use Rattle.cert_text.proofs.ReadTables.{fault_in_levels, fault_at_end}
 use Rattle.cert_text.proofs.nested.read_nested.Goals as goal
 

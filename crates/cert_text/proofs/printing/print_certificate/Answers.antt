@@ -1,7 +1,7 @@
-use Rattle.keepers.specs.Writing.{seen}
+use Rattle.keepers.specs.LineWrites.{seen}
 use Rattle.cert_text.specs.Canonical.{pieces, canonical}
-use Rattle.cert_text.proofs.Putting.{added_told, stopped_told}
-use Rattle.cert_text.proofs.Spelled.{joined}
+use Rattle.cert_text.proofs.WordWrites.{added_told, stopped_told}
+use Rattle.cert_text.proofs.CanonicalRoundTrip.{joined}
 use Rattle.cert_text.proofs.printing.print_certificate.Goals as goal
 
 pub returns-clause-ok : goal.returns-clause-ok

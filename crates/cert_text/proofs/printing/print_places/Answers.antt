@@ -1,10 +1,10 @@
 use Rattle.std.proofs.Common.{[], ◌∷◌}
 use Rattle.std.specs.Prelude.{codes, decimal}
-use Rattle.keepers.specs.Writing.{seen, StopsIn}
-use Rattle.keepers.proofs.Adding.{err_always, stopped_before}
+use Rattle.keepers.specs.LineWrites.{seen, StopsIn}
+use Rattle.keepers.proofs.LineSequences.{err_always, stopped_before}
 use Rattle.cert_text.specs.declared.certificate.Certificate.TheVariants.{Places}
 use Rattle.cert_text.specs.Canonical.{pieces, pieces_from}
-use Rattle.cert_text.proofs.Putting.{put_then, stop_then, line_stopped, one_line_ended, one_line_stopped}
+use Rattle.cert_text.proofs.WordWrites.{put_then, stop_then, line_stopped, one_line_ended, one_line_stopped}
 use Rattle.cert_text.proofs.printing.print_places.Goals as goal
 
 pub returns-in_err-word-clause-stopped : goal.returns-in_err-word-clause-stopped

@@ -2,12 +2,12 @@ use Rattle.std.proofs.Common.{◌≡◌, List, ℕ, [], ◌∷◌, ◌++◌, ref
 use Rattle.std.specs.Prelude.{codes}
 use Rattle.std.specs.List.{range_with_len, flat_map}
 use Rattle.disk_gen.specs.DiskRows.{disk_tables_in}
-use Rattle.keepers.specs.Writing.{seen, StopsIn}
-use Rattle.keepers.proofs.Adding.{err_always, none_added}
+use Rattle.keepers.specs.LineWrites.{seen, StopsIn}
+use Rattle.keepers.proofs.LineSequences.{err_always, none_added}
 use Rattle.cert_text.specs.declared.certificate.Certificate.TheVariants.{Disk}
 use Rattle.cert_text.specs.WordLines.{row_line, level_lines}
 use Rattle.cert_text.specs.Canonical.{pieces}
-use Rattle.cert_text.proofs.PuttingRows.{written_then, writes_stopped, last_written, last_stopped}
+use Rattle.cert_text.proofs.RowWrites.{written_then, writes_stopped, last_written, last_stopped}
 use Rattle.cert_text.proofs.printing_disk.print_disk.Goals as goal
 
 pub returns-in_err-print_word-clause-stopped : goal.returns-in_err-print_word-clause-stopped

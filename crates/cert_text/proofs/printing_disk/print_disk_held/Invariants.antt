@@ -1,7 +1,7 @@
 use Rattle.disk_gen.specs.DiskRows.{disk_tables_in}
-use Rattle.keepers.specs.Writing.{seen}
-use Rattle.cert_text.specs.Printing.{Puts}
-use Rattle.cert_text.proofs.PuttingRows.{entry_words}
+use Rattle.keepers.specs.LineWrites.{seen}
+use Rattle.cert_text.specs.LineWrites.{Puts}
+use Rattle.cert_text.proofs.RowWrites.{entry_words}
 use Rattle.cert_text.proofs.printing_disk.print_disk_held.Given as goal
 
 -- the entries so far were put behind the words before them

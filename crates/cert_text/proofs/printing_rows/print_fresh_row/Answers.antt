@@ -2,11 +2,11 @@ use Rattle.std.proofs.Common.{ℕ, List, [], ◌∷◌, arith}
 use Rattle.std.specs.Prelude.{codes, decimal}
 use Rattle.level_book.specs.UnderTable.{Entry}
 use Rattle.cost_tables.specs.TableRows.{tables_in}
-use Rattle.keepers.specs.Writing.{seen, StopsIn}
-use Rattle.keepers.proofs.Adding.{err_always}
+use Rattle.keepers.specs.LineWrites.{seen, StopsIn}
+use Rattle.keepers.proofs.LineSequences.{err_always}
 use Rattle.cert_text.specs.WordLines.{row_line}
-use Rattle.cert_text.specs.Printing.{writes}
-use Rattle.cert_text.proofs.PuttingRows.{put_none, put_entry, head_stopped, entry_stopped, entry_words, row_ended, row_stopped}
+use Rattle.cert_text.specs.LineWrites.{writes}
+use Rattle.cert_text.proofs.RowWrites.{put_none, put_entry, head_stopped, entry_stopped, entry_words, row_ended, row_stopped}
 use Rattle.cert_text.proofs.printing_rows.print_fresh_row.Goals as goal
 
 pub loop-l-init : goal.loop-l-init

@@ -2,11 +2,11 @@ use Rattle.std.proofs.Common.{ℕ, arith}
 use Rattle.std.specs.Prelude.{codes, slice_index_or}
 use Rattle.level_book.specs.UnderTable.{Entry}
 use Rattle.cost_tables.specs.TableRows.{tables_in}
-use Rattle.keepers.specs.Writing.{seen, StopsIn}
-use Rattle.keepers.proofs.Adding.{err_always}
+use Rattle.keepers.specs.LineWrites.{seen, StopsIn}
+use Rattle.keepers.proofs.LineSequences.{err_always}
 use Rattle.cert_text.specs.WordLines.{row_lines}
-use Rattle.cert_text.specs.Printing.{writes}
-use Rattle.cert_text.proofs.PuttingRows.{no_rows, rows_more, rows_stopped}
+use Rattle.cert_text.specs.LineWrites.{writes}
+use Rattle.cert_text.proofs.RowWrites.{no_rows, rows_more, rows_stopped}
 use Rattle.cert_text.proofs.printing_rows.print_held.Goals as goal
 
 pub loop-m-init : goal.loop-m-init

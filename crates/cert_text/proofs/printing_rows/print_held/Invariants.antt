@@ -1,8 +1,8 @@
 use Rattle.std.specs.Prelude.{codes}
 use Rattle.cost_tables.specs.TableRows.{tables_in}
-use Rattle.keepers.specs.Writing.{seen, AddsLines}
+use Rattle.keepers.specs.LineWrites.{seen, AddsLines}
 use Rattle.cert_text.specs.WordLines.{row_lines}
-use Rattle.cert_text.specs.Printing.{writes}
+use Rattle.cert_text.specs.LineWrites.{writes}
 use Rattle.cert_text.proofs.printing_rows.print_held.Given as goal
 
 -- the lines so far were written

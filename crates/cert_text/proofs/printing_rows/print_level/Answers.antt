@@ -1,11 +1,11 @@
 use Rattle.std.proofs.Common.{◌+◌, refl, [], ◌++◌}
 use Rattle.std.specs.Prelude.{codes, slice_index_or}
 use Rattle.cost_tables.specs.TableRows.{tables_in}
-use Rattle.keepers.specs.Writing.{seen, StopsIn}
-use Rattle.keepers.proofs.Adding.{err_always, none_added}
+use Rattle.keepers.specs.LineWrites.{seen, StopsIn}
+use Rattle.keepers.proofs.LineSequences.{err_always, none_added}
 use Rattle.cert_text.specs.WordLines.{row_lines, level_lines}
-use Rattle.cert_text.specs.Printing.{writes}
-use Rattle.cert_text.proofs.PuttingRows.{writes_stopped, last_written, last_stopped}
+use Rattle.cert_text.specs.LineWrites.{writes}
+use Rattle.cert_text.proofs.RowWrites.{writes_stopped, last_written, last_stopped}
 use Rattle.cert_text.proofs.printing_rows.print_level.Goals as goal
 
 pub returns-in_err-print_fresh-clause-stopped : goal.returns-in_err-print_fresh-clause-stopped

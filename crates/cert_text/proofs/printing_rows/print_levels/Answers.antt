@@ -1,10 +1,10 @@
 use Rattle.std.proofs.Common.{length, arith}
 use Rattle.std.specs.List.{range_with_len, flat_map}
-use Rattle.keepers.specs.Writing.{seen, StopsIn}
-use Rattle.keepers.proofs.Adding.{err_always, none_added}
+use Rattle.keepers.specs.LineWrites.{seen, StopsIn}
+use Rattle.keepers.proofs.LineSequences.{err_always, none_added}
 use Rattle.cert_text.specs.WordLines.{level_lines}
-use Rattle.cert_text.specs.Printing.{writes}
-use Rattle.cert_text.proofs.PuttingRows.{levels_more, levels_stopped}
+use Rattle.cert_text.specs.LineWrites.{writes}
+use Rattle.cert_text.proofs.RowWrites.{levels_more, levels_stopped}
 use Rattle.cert_text.proofs.printing_rows.print_levels.Goals as goal
 
 pub loop-k-init : goal.loop-k-init

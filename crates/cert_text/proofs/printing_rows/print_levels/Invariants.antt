@@ -1,7 +1,7 @@
 use Rattle.std.specs.List.{range_with_len, flat_map}
-use Rattle.keepers.specs.Writing.{seen, AddsLines}
+use Rattle.keepers.specs.LineWrites.{seen, AddsLines}
 use Rattle.cert_text.specs.WordLines.{level_lines}
-use Rattle.cert_text.specs.Printing.{writes}
+use Rattle.cert_text.specs.LineWrites.{writes}
 use Rattle.cert_text.proofs.printing_rows.print_levels.Given as goal
 
 -- the lines of the levels so far were written

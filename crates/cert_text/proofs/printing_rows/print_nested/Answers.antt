@@ -1,12 +1,12 @@
 use Rattle.std.proofs.Common.{List, ℕ, [], ◌∷◌, ◌++◌, refl, length}
 use Rattle.std.specs.Prelude.{codes}
 use Rattle.std.specs.List.{range_with_len, flat_map}
-use Rattle.keepers.specs.Writing.{seen, StopsIn}
-use Rattle.keepers.proofs.Adding.{err_always, none_added}
+use Rattle.keepers.specs.LineWrites.{seen, StopsIn}
+use Rattle.keepers.proofs.LineSequences.{err_always, none_added}
 use Rattle.cert_text.specs.declared.certificate.Certificate.TheVariants.{Nested}
 use Rattle.cert_text.specs.WordLines.{level_lines}
 use Rattle.cert_text.specs.Canonical.{pieces}
-use Rattle.cert_text.proofs.PuttingRows.{written_then, writes_stopped, last_written, last_stopped}
+use Rattle.cert_text.proofs.RowWrites.{written_then, writes_stopped, last_written, last_stopped}
 use Rattle.cert_text.proofs.printing_rows.print_nested.Goals as goal
 
 pub returns-in_err-print_word-clause-stopped : goal.returns-in_err-print_word-clause-stopped

@@ -1,9 +1,9 @@
 use Rattle.std.proofs.Common.{[], ◌∷◌}
-use Rattle.keepers.specs.Writing.{seen, StopsIn}
-use Rattle.keepers.proofs.Adding.{err_always}
-use Rattle.cert_text.specs.Printing.{writes}
-use Rattle.cert_text.proofs.Putting.{one_line_ended, one_line_stopped}
-use Rattle.cert_text.proofs.PuttingRows.{head_stopped}
+use Rattle.keepers.specs.LineWrites.{seen, StopsIn}
+use Rattle.keepers.proofs.LineSequences.{err_always}
+use Rattle.cert_text.specs.LineWrites.{writes}
+use Rattle.cert_text.proofs.WordWrites.{one_line_ended, one_line_stopped}
+use Rattle.cert_text.proofs.RowWrites.{head_stopped}
 use Rattle.cert_text.proofs.printing_rows.print_word.Goals as goal
 
 pub returns-in_err-word-clause-stopped : goal.returns-in_err-word-clause-stopped

@@ -1,10 +1,10 @@
 use Rattle.std.proofs.Common.{[], ◌∷◌}
 use Rattle.std.specs.Prelude.{decimal}
-use Rattle.keepers.specs.Writing.{seen}
-use Rattle.keepers.proofs.Adding.{err_always}
-use Rattle.cert_text.specs.Printing.{StopsAt}
-use Rattle.cert_text.proofs.Putting.{put_then, stop_then}
-use Rattle.cert_text.proofs.PuttingRows.{put_last, stop_last, stop_before}
+use Rattle.keepers.specs.LineWrites.{seen}
+use Rattle.keepers.proofs.LineSequences.{err_always}
+use Rattle.cert_text.specs.LineWrites.{StopsAt}
+use Rattle.cert_text.proofs.WordWrites.{put_then, stop_then}
+use Rattle.cert_text.proofs.RowWrites.{put_last, stop_last, stop_before}
 use Rattle.cert_text.proofs.printing_rows.put_head.Goals as goal
 
 pub returns-in_err-word-clause-stopped : goal.returns-in_err-word-clause-stopped

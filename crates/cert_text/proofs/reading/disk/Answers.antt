@@ -4,7 +4,7 @@ use Rattle.cert_text.specs.declared.kind.Kind.TheVariants.{Disk}
 use Rattle.cert_text.specs.MarkedLines.{CertificateLine}
 use Rattle.cert_text.specs.Words.{words_of, end_of}
 use Rattle.cert_text.specs.Faults.{first_column}
-use Rattle.cert_text.specs.Left.{IsAt, IsSizedFault}
+use Rattle.cert_text.specs.ReaderState.{IsAt, IsSizedFault}
 use Rattle.cert_text.proofs.reading.disk.Goals as goal
 
 pub returns-then-not-fits : goal.returns-then-not-fits

@@ -3,10 +3,10 @@ use Rattle.cert_text.specs.declared.kind.Kind.{Kind}
 use Rattle.cert_text.specs.declared.kind.Kind.TheVariants as kind
 use Rattle.cert_text.specs.MarkedLines.{CertificateLine}
 use Rattle.cert_text.specs.Words.{words_of, end_of}
-use Rattle.cert_text.specs.Wanted.{kind_word}
+use Rattle.cert_text.specs.Grammar.{kind_word}
 use Rattle.cert_text.specs.Faults.{first_column}
-use Rattle.cert_text.specs.Left.{Takes}
-use Rattle.cert_text.proofs.Rest.{no_certificate, no_kind, answered, sized}
+use Rattle.cert_text.specs.ReaderState.{Takes}
+use Rattle.cert_text.proofs.TextMeaning.{no_certificate, no_kind, answered, sized}
 use Rattle.cert_text.proofs.reading.read.Goals as goal
 
 pub returns-in-Err : goal.returns-in-Err

@@ -1,8 +1,8 @@
 use Rattle.std.proofs.Common.{refl, [], ◌∷◌}
 use Rattle.std.specs.Prelude.{decimal}
 use Rattle.std.proofs.lemmas.Result.{err_from_is_err_and}
-use Rattle.cert_text.specs.Wanted.{number_to, greatest}
-use Rattle.cert_text.proofs.Rest.{wrong_later}
+use Rattle.cert_text.specs.Grammar.{number_to, greatest}
+use Rattle.cert_text.proofs.TextMeaning.{wrong_later}
 use Rattle.cert_text.proofs.reading.repeats.Goals as goal
 
 pub returns-in_err-k : goal.returns-in_err-k

@@ -1,7 +1,7 @@
 use Rattle.std.proofs.Common.{ℕ, ap, ◌∙◌}
 use Rattle.line_texts.specs.declared.fault.Fault.TheVariants.{At}
 use Rattle.cert_text.specs.Faults.{first_column}
-use Rattle.cert_text.specs.Left.{left}
+use Rattle.cert_text.specs.ReaderState.{left}
 use Rattle.cert_text.proofs.reading.too_large.Goals as goal
 
 pub returns : goal.returns

@@ -1,7 +1,7 @@
 use Rattle.std.proofs.Common.{length}
 use Rattle.std.specs.Prelude.{replicate}
 use Rattle.std.proofs.lemmas.Result.{err_from_is_err_and}
-use Rattle.cert_text.specs.Wanted.{an_entry}
+use Rattle.cert_text.specs.Grammar.{an_entry}
 use Rattle.cert_text.proofs.rows.column_words.Goals as goal
 
 pub returns-in_err-this_word : goal.returns-in_err-this_word

@@ -1,6 +1,6 @@
 use Rattle.std.proofs.Common.{arith, length}
 use Rattle.std.proofs.lemmas.Result.{err_from_is_err_and}
-use Rattle.cert_text.proofs.Going.{entry_wrong, entries_end}
+use Rattle.cert_text.proofs.ReaderSteps.{entry_wrong, entries_end}
 use Rattle.cert_text.proofs.rows.entries.Goals as goal
 
 pub returns-in_err-row : goal.returns-in_err-row

@@ -1,4 +1,4 @@
-use Rattle.cert_text.proofs.Going.{ReadsEntries}
+use Rattle.cert_text.proofs.ReaderSteps.{ReadsEntries}
 use Rattle.cert_text.proofs.rows.entries.Given as goal
 
 -- the entries so far were read

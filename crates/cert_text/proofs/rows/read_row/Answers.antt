@@ -1,9 +1,9 @@
 use Rattle.std.proofs.Common.{length, map, [], ◌∷◌}
 use Rattle.std.specs.Prelude.{decimal}
-use Rattle.cert_text.specs.Wanted.{row_wants}
-use Rattle.cert_text.specs.Left.{number_of_rule}
+use Rattle.cert_text.specs.Grammar.{row_wants}
+use Rattle.cert_text.specs.ReaderState.{number_of_rule}
 use Rattle.cert_text.specs.Rows.{cost_word}
-use Rattle.cert_text.proofs.Going.{line_done, line_wrong}
+use Rattle.cert_text.proofs.ReaderSteps.{line_done, line_wrong}
 use Rattle.cert_text.proofs.rows.read_row.Goals as goal
 
 pub returns-in-Ok : goal.returns-in-Ok

@@ -1,8 +1,8 @@
 use Rattle.std.proofs.Common.{refl, length, ◌∷◌}
 use Rattle.std.specs.Prelude.{decimal, replicate}
 use Rattle.std.proofs.lemmas.Result.{err_from_is_err_and}
-use Rattle.cert_text.specs.Wanted.{this_word, an_entry}
-use Rattle.cert_text.proofs.Rest.{wrong_later}
+use Rattle.cert_text.specs.Grammar.{this_word, an_entry}
+use Rattle.cert_text.proofs.TextMeaning.{wrong_later}
 use Rattle.cert_text.proofs.rows.row_words.Goals as goal
 
 pub returns-in_err-this_word : goal.returns-in_err-this_word

@@ -1,4 +1,4 @@
-use Rattle.class_rules.proofs.Deciding.{disk_or_not}
+use Rattle.class_rules.proofs.Decidability.{disk_or_not}
 use Rattle.class_rules.proofs.laws.disk_or_not.Goals as goal
 
 pub returns : goal.returns

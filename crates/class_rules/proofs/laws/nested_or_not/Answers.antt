@@ -1,4 +1,4 @@
-use Rattle.class_rules.proofs.Deciding.{nested_or_not}
+use Rattle.class_rules.proofs.Decidability.{nested_or_not}
 use Rattle.class_rules.proofs.laws.nested_or_not.Goals as goal
 
 pub returns : goal.returns

@@ -5,8 +5,8 @@ use Rattle.plan_types.specs.declared.action.Action.{Action}
 use Rattle.revolve_gen.specs.declared.stack.StackStep.{StackStep}
 use Rattle.revolve_gen.specs.declared.stack.StackStep.TheVariants.{Stay}
 use Rattle.revolve_gen.specs.Stack.{stack_step, held_after, place, on_level}
-use Rattle.class_rules.specs.Walked.{level_named, Agrees}
-use Rattle.class_rules.proofs.Walking.{Walked, walk_start, too_long, walk_end, walk_noted, walk_stayed}
+use Rattle.class_rules.specs.LevelInference.{level_named, Agrees}
+use Rattle.class_rules.proofs.RevolveComparison.{Walked, walk_start, too_long, walk_end, walk_noted, walk_stayed}
 use Rattle.class_rules.proofs.multistage.levels_of.Goals.{else-not-stays-via-then-not-stays+in_ok-note+else-not-branch, else-not-stays-via-else-not-stays}
 use Rattle.class_rules.proofs.multistage.levels_of.Goals as goal
 

@@ -1,5 +1,5 @@
 use Rattle.std.proofs.Common.{drop}
-use Rattle.class_rules.proofs.Walking.{Walked}
+use Rattle.class_rules.proofs.RevolveComparison.{Walked}
 use Rattle.class_rules.proofs.multistage.levels_of.Given as goal
 
 abbrev pub invariant-loop-action : goal.invariant-loop-action

@@ -1,8 +1,8 @@
 use Rattle.std.proofs.Common.{◌≡◌, ◌⊎◌, ℕ, zero, suc, ◌<◌, ◌≤◌, true, [], length, refl, subst, sym, ap, ◌∙◌, inl, inr, arith, true≢false}
 use Rattle.level_book.specs.BookCosts.{slots_of, total_room}
 use Rattle.revolve_gen.specs.Plans.{HasPlan}
-use Rattle.class_rules.specs.Walked.{Fit}
-use Rattle.class_rules.proofs.Classing.{not_in_class, in_class, fits_in_class, at_some, at_none}
+use Rattle.class_rules.specs.LevelInference.{Fit}
+use Rattle.class_rules.proofs.ClassByLevels.{not_in_class, in_class, fits_in_class, at_some, at_none}
 use Rattle.class_rules.proofs.multistage.place_levels.Goals as goal
 
 -- what the first test leaves is that there is a plan

@@ -1,7 +1,7 @@
 use Rattle.std.proofs.Common.{get_or, arith, ◌∙◌}
 use Rattle.plan_types.specs.declared.action.Keep.TheVariants.{Nothing}
 use Rattle.plan_types.specs.declared.action.Action.TheVariants.{Forward}
-use Rattle.cost_fold.proofs.Tallying.{whole, can_at, steps_of-le, counted_more, room_so_far, all_fit}
+use Rattle.cost_fold.proofs.CountBounds.{whole, can_at, steps_of-le, counted_more, room_so_far, all_fit}
 use Rattle.cost_fold.proofs.counting.tally.Goals as goal
 
 pub add-requires-clause-plain : goal.add-requires-clause-plain

@@ -1,5 +1,5 @@
 use Rattle.std.proofs.Common.{◌≡◌, ◌*◌, ◌≤◌, length, take}
-use Rattle.cost_fold.proofs.Tallying.{AreSoFar}
+use Rattle.cost_fold.proofs.CountBounds.{AreSoFar}
 use Rattle.cost_fold.proofs.counting.tally.Given as goal
 
 -- the counts are those of the actions so far

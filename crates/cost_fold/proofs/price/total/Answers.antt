@@ -1,7 +1,7 @@
 use Rattle.std.proofs.Common.{take, ◌≡◌, ap, arith, ◌∙◌}
 use Rattle.std.proofs.lemmas.List.{take_all}
 use Rattle.cost_fold.specs.CountsOf.{price}
-use Rattle.cost_fold.proofs.Pricing.{price_more, level_fits, price-cost}
+use Rattle.cost_fold.proofs.LevelCosts.{price_more, level_fits, price-cost}
 use Rattle.cost_fold.proofs.price.total.Goals as goal
 
 pub loop-k-preserved : goal.loop-k-preserved

@@ -1,6 +1,6 @@
 use Rattle.std.proofs.Common.{◌∙◌, [], ◌∷◌, ◌++◌}
-use Rattle.keepers.specs.Writing.{seen}
-use Rattle.keepers.proofs.Adding.{write_stopped}
+use Rattle.keepers.specs.LineWrites.{seen}
+use Rattle.keepers.proofs.LineSequences.{write_stopped}
 use Rattle.cost_report.proofs.lines.end_line.Goals as goal
 
 pub returns-clause-stopped : goal.returns-clause-stopped

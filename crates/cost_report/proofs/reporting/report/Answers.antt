@@ -1,11 +1,11 @@
 use Rattle.std.proofs.Common.{[], ◌∷◌, ◌++◌, ap}
 use Rattle.std.specs.Prelude.{codes}
 use Rattle.std.specs.List.{concat}
-use Rattle.keepers.specs.Told.{Tells, AddsPrefix}
+use Rattle.keepers.specs.Claims.{Tells, AddsPrefix}
 use Rattle.cost_fold.specs.CountsOf.{price}
 use Rattle.cost_report.specs.Report.{count_line, step_lines, level_lines, report_lines}
-use Rattle.keepers.specs.Writing.{seen, StopsIn}
-use Rattle.keepers.proofs.Adding.{added_then, stopped_then, stopped_before, stopped_prefix, err_always, last_told, last_stopped, last_prefix}
+use Rattle.keepers.specs.LineWrites.{seen, StopsIn}
+use Rattle.keepers.proofs.LineSequences.{added_then, stopped_then, stopped_before, stopped_prefix, err_always, last_told, last_stopped, last_prefix}
 use Rattle.cost_report.proofs.reporting.report.Goals as goal
 
 pub returns-in_err-write_steps-clause-stopped : goal.returns-in_err-write_steps-clause-stopped

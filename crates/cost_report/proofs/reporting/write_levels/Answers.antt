@@ -1,8 +1,8 @@
 use Rattle.std.proofs.Common.{ℕ, ◌+◌, List, [], ◌∷◌, ◌++◌, map, take, sym, ap, subst, ◌∙◌}
 use Rattle.std.specs.List.{enumerate_from}
 use Rattle.cost_report.specs.Report.{level_line, level_lines}
-use Rattle.keepers.specs.Writing.{seen, AddsLines, StopsIn}
-use Rattle.keepers.proofs.Adding.{added_then, stopped_then, stopped_before, err_always}
+use Rattle.keepers.specs.LineWrites.{seen, AddsLines, StopsIn}
+use Rattle.keepers.proofs.LineSequences.{added_then, stopped_then, stopped_before, err_always}
 use Rattle.cost_report.proofs.LevelLines.{lines_more, lines_from}
 use Rattle.cost_report.proofs.reporting.write_levels.Goals as goal
 

@@ -1,7 +1,7 @@
 use Rattle.std.proofs.Common.{map, take}
 use Rattle.std.specs.List.{enumerate_from}
 use Rattle.cost_report.specs.Report.{level_line}
-use Rattle.keepers.specs.Writing.{seen, AddsLines}
+use Rattle.keepers.specs.LineWrites.{seen, AddsLines}
 use Rattle.cost_report.proofs.reporting.write_levels.Given as goal
 
 -- the lines of the levels so far were added

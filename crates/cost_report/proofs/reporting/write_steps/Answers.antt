@@ -1,8 +1,8 @@
 use Rattle.std.proofs.Common.{refl, [], ◌∷◌}
 use Rattle.std.specs.Prelude.{codes}
 use Rattle.cost_report.specs.Report.{count_line, step_lines}
-use Rattle.keepers.specs.Writing.{seen, StopsIn}
-use Rattle.keepers.proofs.Adding.{added_then, stopped_then, stopped_before, err_always, last_stopped}
+use Rattle.keepers.specs.LineWrites.{seen, StopsIn}
+use Rattle.keepers.proofs.LineSequences.{added_then, stopped_then, stopped_before, err_always, last_stopped}
 use Rattle.cost_report.proofs.reporting.write_steps.Goals as goal
 
 pub returns-in_err-write_count-clause-stopped : goal.returns-in_err-write_count-clause-stopped

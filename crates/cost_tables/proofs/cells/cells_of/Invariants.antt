@@ -1,5 +1,5 @@
 use Rattle.std.proofs.Common.{take}
-use Rattle.cost_tables.specs.Built.{AreCellsOf}
+use Rattle.cost_tables.specs.TableInvariant.{AreCellsOf}
 use Rattle.cost_tables.proofs.cells.cells_of.Given as goal
 
 abbrev pub invariant-loop-row : goal.invariant-loop-row

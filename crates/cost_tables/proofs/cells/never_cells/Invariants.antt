@@ -1,5 +1,5 @@
 use Rattle.std.proofs.Common.{◌≡◌, All, length}
-use Rattle.cost_tables.specs.Built.{IsNeverCells}
+use Rattle.cost_tables.specs.TableInvariant.{IsNeverCells}
 use Rattle.cost_tables.proofs.cells.never_cells.Given as goal
 
 abbrev pub invariant-loop : goal.invariant-loop

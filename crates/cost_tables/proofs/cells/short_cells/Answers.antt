@@ -5,7 +5,7 @@ use Rattle.cost_tables.specs.declared.cost.Cost.{Cost}
 use Rattle.cost_tables.specs.declared.cells.Cells.{Cells}
 use Rattle.cost_tables.specs.TableRows.{value_of}
 use Rattle.cost_tables.specs.Shapes.{IsShort}
-use Rattle.cost_tables.specs.Built.{AreShortCells}
+use Rattle.cost_tables.specs.TableInvariant.{AreShortCells}
 use Rattle.cost_tables.proofs.cells.short_cells.Goals as goal
 
 pub loop-cells-preserved : goal.loop-cells-preserved

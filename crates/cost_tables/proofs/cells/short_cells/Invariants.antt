@@ -1,5 +1,5 @@
 use Rattle.std.proofs.Common.{All, take}
-use Rattle.cost_tables.specs.Built.{AreShortCells}
+use Rattle.cost_tables.specs.TableInvariant.{AreShortCells}
 use Rattle.cost_tables.proofs.cells.short_cells.Given as goal
 
 abbrev pub invariant-loop-cells : goal.invariant-loop-cells

@@ -3,7 +3,7 @@ use Rattle.std.specs.declared.alloc.Global.{Global}
 use Rattle.std.proofs.lemmas.List.{take_all}
 use Rattle.std.proofs.lemmas.List.Elements.{All-more}
 use Rattle.cost_tables.specs.declared.cells.Cells.{Cells}
-use Rattle.cost_tables.specs.Built.{AreShortCells}
+use Rattle.cost_tables.specs.TableInvariant.{AreShortCells}
 use Rattle.cost_tables.proofs.cells.short_levels.Goals as goal
 
 pub loop-rows-preserved : goal.loop-rows-preserved

@@ -1,7 +1,7 @@
 use Rattle.std.proofs.Common.{◌≡◌, ℕ, ◌+◌, ◌-◌, ◌^◌, ◌≤◌, length, get_or, sym, ◌∙◌, subst}
 use Rattle.cost_tables.specs.Entries.{least_of}
 use Rattle.cost_tables.specs.Rows.{partial_in}
-use Rattle.cost_tables.proofs.InColumns.{column_more, started, least_never}
+use Rattle.cost_tables.proofs.NumberColumns.{column_more, started, least_never}
 use Rattle.cost_tables.proofs.columns.slot_piece.Goals as goal
 
 pub loop-q-preserved : goal.loop-q-preserved

@@ -1,7 +1,7 @@
 use Rattle.std.proofs.Common.{◌≡◌, ℕ, ◌+◌, ◌-◌, ◌<◌, min, length, get_or, take, drop, ap, ◌∙◌, arith}
 use Rattle.std.proofs.lemmas.List.{get_or-take, get_or-drop, length-take}
 use Rattle.cost_tables.specs.Entries.{least_of}
-use Rattle.cost_tables.proofs.InColumns.{least_same}
+use Rattle.cost_tables.proofs.NumberColumns.{least_same}
 use Rattle.cost_tables.proofs.columns.started_cost.Goals as goal
 
 pub returns : goal.returns

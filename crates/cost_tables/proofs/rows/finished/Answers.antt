@@ -2,8 +2,8 @@ use Rattle.std.proofs.Common.{◌≡◌, ℕ, ◌+◌, ◌-◌, ◌≤◌, ◌^�
 use Rattle.cost_tables.specs.Entries.{fresh_in, held_in, least_after}
 use Rattle.cost_tables.specs.Rows.{split_in, partial_in}
 use Rattle.cost_tables.proofs.Splits.{split_never}
-use Rattle.cost_tables.proofs.Pushing.{fresh_low_in, held_low_in}
-use Rattle.cost_tables.proofs.Pieces.{piece_more, three_parts}
+use Rattle.cost_tables.proofs.RowExtension.{fresh_low_in, held_low_in}
+use Rattle.cost_tables.proofs.RowPieces.{piece_more, three_parts}
 use Rattle.cost_tables.proofs.rows.finished.Goals as goal
 
 pub least_cost-before-requires-clause-fresh : goal.least_cost-before-requires-clause-fresh

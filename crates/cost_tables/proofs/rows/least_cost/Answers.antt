@@ -3,7 +3,7 @@ use Rattle.std.proofs.lemmas.List.Elements.{All-get_or}
 use Rattle.cost_tables.specs.declared.rows.Row.{Row}
 use Rattle.cost_tables.specs.Entries.{fresh_in, held_in}
 use Rattle.cost_tables.proofs.RowReads.{reads_fresh, reads_held}
-use Rattle.cost_tables.proofs.Pieces.{after_more}
+use Rattle.cost_tables.proofs.RowPieces.{after_more}
 use Rattle.cost_tables.proofs.Splits.{step_costs, min_step}
 use Rattle.cost_tables.proofs.rows.least_cost.Goals as goal
 use Rattle.cost_tables.proofs.rows.least_cost.Goals.{then-cost-least, else-cost-least}

@@ -1,7 +1,7 @@
 use Rattle.std.proofs.Common.{◌≡◌, ℕ, List, ◌+◌, ◌-◌, subst, sym, ap, ◌∙◌, get_or, length, arith}
 use Rattle.cost_tables.specs.declared.rows.Row.{Row}
 use Rattle.cost_tables.specs.Rows.{IsNextRow, AreRows, split_in}
-use Rattle.cost_tables.proofs.Pushing.{level_more}
+use Rattle.cost_tables.proofs.RowExtension.{level_more}
 use Rattle.cost_tables.proofs.rows.push_row.Goals as goal
 
 pub returns-clause-rows : goal.returns-clause-rows

@@ -3,7 +3,7 @@ use Rattle.std.specs.declared.alloc.AllocError.{AllocError}
 use Rattle.std.specs.Result.{IfOk}
 use Rattle.cost_tables.specs.declared.rows.Row.{Row}
 use Rattle.cost_tables.specs.Rows.{partial_in, cut_of, row_in, IsPiece, AreStarted}
-use Rattle.cost_tables.proofs.Pieces.{piece_same, partial_same, piece_of_row}
+use Rattle.cost_tables.proofs.RowPieces.{piece_same, partial_same, piece_of_row}
 use Rattle.cost_tables.proofs.rows.push_rows.Goals as goal
 
 -- a worker's piece of one row

@@ -2,7 +2,7 @@ use Rattle.std.proofs.Common.{◌≡◌, ℕ, List, ◌++◌, ◌+◌, arith, sy
 use Rattle.std.specs.declared.alloc.AllocError.{AllocError}
 use Rattle.std.specs.Result.{IfOk}
 use Rattle.cost_tables.specs.Rows.{IsPiece, cut_of, row_in}
-use Rattle.cost_tables.proofs.Pieces.{pieces_joined, cut_next, cut_end}
+use Rattle.cost_tables.proofs.RowPieces.{pieces_joined, cut_next, cut_end}
 use Rattle.cost_tables.proofs.sharing.joined.Goals as goal
 
 pub loop-part-preserved : goal.loop-part-preserved

@@ -1,10 +1,10 @@
 use Rattle.std.proofs.Common.{ℕ, arith, sym, ◌∙◌, subst, get_or, false}
 use Rattle.cost_tables.specs.TableRows.{TableRows}
-use Rattle.cost_tables.proofs.Building.{read_level}
-use Rattle.hrevolve_gen.specs.Reading.{IsMore}
+use Rattle.cost_tables.proofs.LevelExtension.{read_level}
+use Rattle.hrevolve_gen.specs.ReadableTables.{IsMore}
 use Rattle.hrevolve_gen.proofs.PartReads.{if_ok}
 use Rattle.std.specs.Result.{IfOk}
-use Rattle.disk_gen.specs.DiskReading.{IsHeldMore, IsDiskMore}
+use Rattle.disk_gen.specs.ReadableDiskTables.{IsHeldMore, IsDiskMore}
 use Rattle.disk_gen.proofs.DiskReads.{some_fresh, more_fast, more_split}
 use Rattle.disk_gen.proofs.disk_reading.+write_disk_fresh.Goals as goal
 
@@ -15,9 +15,9 @@ returns-then-is_fast_fresh t c =
     let own = c.disk_fresh-own.ensures in
     let yes = c.is_fast_fresh.ensures.yes c.if-is_fast_fresh.true in
     let room = get_or tables.fast.rooms 0 0 in
-    let V : TableRows → Type 0 = λ v. IfOk c.write_fresh.result (λ _. IsMore book v false 0 a.b a.l c.room-room.result old new) in
+    let V : TableRows → Type 0 = λ v. IfOk c.write_fresh.result (λ _. IsMore book v false 0 a.b a.l c.room.result old new) in
     let R : ℕ → Type 0 = λ m. IfOk c.write_fresh.result (λ _. IsMore book tables.fast false 0 a.b a.l m old new) in
-    if_ok c.write_fresh.result (IsMore book tables.fast false 0 a.b a.l room old new) (IsDiskMore book tables a.b a.l old new) (subst R c.room-room.ensures (subst V c.fast.ensures.value c.write_fresh.ensures))
+    if_ok c.write_fresh.result (IsMore book tables.fast false 0 a.b a.l room old new) (IsDiskMore book tables a.b a.l old new) (subst R c.room.ensures (subst V c.fast.ensures.value c.write_fresh.ensures))
     (more_fast book tables c.requires.ready a.b a.l old new (sym own ∙ yes))
 
 pub fresh_split-j-requires-clause-some : goal.fresh_split-j-requires-clause-some

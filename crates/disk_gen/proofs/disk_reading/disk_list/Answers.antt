@@ -7,11 +7,11 @@ use Rattle.level_book.specs.DiskClass.{Disk}
 use Rattle.level_book.specs.DiskUnderTable.{disk_top_entry}
 use Rattle.level_book.specs.UnderTable.{number}
 use Rattle.disk_gen.specs.DiskRows.{disk_tables_in}
-use Rattle.disk_gen.specs.DiskWritten.{IsDiskWritten}
-use Rattle.disk_gen.proofs.DiskExact.{fast_exact, disk_exact}
+use Rattle.disk_gen.specs.DiskRevolveList.{IsDiskWritten}
+use Rattle.disk_gen.proofs.DiskExactness.{fast_exact, disk_exact}
 use Rattle.disk_gen.proofs.DiskReads.{can_read_disk, if_all}
 use Rattle.disk_gen.proofs.DiskCosts.{top_some, written_disk_costs}
-use Rattle.disk_gen.proofs.DiskWhole.{written_in_class}
+use Rattle.disk_gen.proofs.DiskMembership.{written_in_class}
 use Rattle.disk_gen.proofs.disk_reading.disk_list.Goals as goal
 
 pub whole_list-requires : goal.whole_list-requires

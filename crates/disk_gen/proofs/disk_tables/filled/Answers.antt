@@ -3,12 +3,12 @@ use Rattle.std.proofs.lemmas.List.{length-take, length-map}
 use Rattle.cost_tables.specs.TableRows.{fastest, tables_in, value_of}
 use Rattle.cost_tables.specs.declared.cost.Cost.{Cost}
 use Rattle.cost_tables.specs.Entries.{entry}
-use Rattle.cost_tables.proofs.Fastest.{same_room}
-use Rattle.cost_tables.proofs.Building.{read_level}
+use Rattle.cost_tables.proofs.FastestLevel.{same_room}
+use Rattle.cost_tables.proofs.LevelExtension.{read_level}
 use Rattle.disk_gen.specs.declared.disk_tables.DiskTables.TheInside.{Inside}
-use Rattle.disk_gen.specs.DiskBuilt.{IsHeldColumn, IsFreshColumn}
-use Rattle.disk_gen.proofs.DiskFilling.{filled_greatest}
-use Rattle.disk_gen.proofs.DiskNevers.{fastest_low}
+use Rattle.disk_gen.specs.DiskInvariant.{IsHeldColumn, IsFreshColumn}
+use Rattle.disk_gen.proofs.DiskRowExtension.{filled_greatest}
+use Rattle.disk_gen.proofs.DiskNeverTables.{fastest_low}
 use Rattle.disk_gen.proofs.disk_tables.filled.Goals as goal
 
 same_count : (costs : List Cost) (numbers : List ℕ) → map value_of costs ≡ map entry numbers → length costs ≡ length numbers

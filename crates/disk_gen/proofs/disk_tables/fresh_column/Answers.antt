@@ -1,8 +1,8 @@
 use Rattle.std.proofs.Common.{◌≡◌, ℕ, List, ◌+◌, ◌≤◌, ◌^◌, min, length, get_or, arith, sym, ap, ◌∙◌, subst}
 use Rattle.cost_tables.specs.Entries.{never_in_memory, least_split}
-use Rattle.cost_tables.proofs.Pushing.{pushed}
+use Rattle.cost_tables.proofs.RowExtension.{pushed}
 use Rattle.cost_tables.proofs.Splits.{split_never}
-use Rattle.disk_gen.proofs.DiskFilling.{at, fresh_more}
+use Rattle.disk_gen.proofs.DiskRowExtension.{at, fresh_more}
 use Rattle.disk_gen.proofs.disk_tables.fresh_column.Goals as goal
 
 pub overflow_add-write : goal.overflow_add-write

@@ -1,5 +1,5 @@
 use Rattle.std.proofs.Common.{◌≡◌, length}
-use Rattle.disk_gen.specs.DiskBuilt.{IsFreshColumn}
+use Rattle.disk_gen.specs.DiskInvariant.{IsFreshColumn}
 use Rattle.disk_gen.proofs.disk_tables.fresh_column.Given as goal
 
 abbrev pub invariant-loop-r : goal.invariant-loop-r

@@ -1,5 +1,5 @@
 use Rattle.std.proofs.Common.{◌≡◌, length}
-use Rattle.disk_gen.specs.DiskBuilt.{IsHeldColumn}
+use Rattle.disk_gen.specs.DiskInvariant.{IsHeldColumn}
 use Rattle.disk_gen.proofs.disk_tables.held_column.Given as goal
 
 abbrev pub invariant-loop-r : goal.invariant-loop-r

@@ -1,5 +1,5 @@
 use Rattle.std.proofs.Common.{◌≡◌, ◌++◌, length}
-use Rattle.disk_gen.specs.Periodic.{periodic_list}
+use Rattle.disk_gen.specs.PeriodicList.{periodic_list}
 use Rattle.disk_gen.specs.Plans.{HasPeriodicPlan}
 use Rattle.disk_gen.proofs.periodic.periodic_list.Given as goal
 

@@ -3,8 +3,8 @@ use Rattle.plan_types.specs.declared.action.Dest.TheVariants.{Work}
 use Rattle.plan_types.specs.declared.action.Action.TheVariants.{Move}
 use Rattle.revolve_gen.specs.Part.{Coming}
 use Rattle.disk_gen.specs.declared.phase.Phase.TheVariants.{Back}
-use Rattle.disk_gen.specs.Owed.{owed_behind, IsOwing}
-use Rattle.disk_gen.proofs.Owing.{load, load_fits, load_owing}
+use Rattle.disk_gen.specs.Remainder.{owed_behind, IsOwing}
+use Rattle.disk_gen.proofs.RemainderSteps.{load, load_fits, load_owing}
 use Rattle.disk_gen.proofs.phase.load_newest.Goals as goal
 
 pub begin-requires-clause-plan : goal.begin-requires-clause-plan

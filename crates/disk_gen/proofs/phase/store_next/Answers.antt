@@ -3,8 +3,8 @@ use Rattle.plan_types.specs.declared.action.Keep.TheVariants.{Store}
 use Rattle.plan_types.specs.declared.action.Action.TheVariants.{Forward}
 use Rattle.revolve_gen.specs.Part.{Coming}
 use Rattle.disk_gen.specs.declared.phase.Phase.TheVariants.{Ahead, Back}
-use Rattle.disk_gen.specs.Owed.{owed_behind, IsOwing}
-use Rattle.disk_gen.proofs.Owing.{store_more, store_last, store_fits, more_owing, last_owing}
+use Rattle.disk_gen.specs.Remainder.{owed_behind, IsOwing}
+use Rattle.disk_gen.proofs.RemainderSteps.{store_more, store_last, store_fits, more_owing, last_owing}
 use Rattle.disk_gen.proofs.phase.store_next.Goals as goal
 
 pub returns-then-left-gt1-clause-written : goal.returns-then-left-gt1-clause-written

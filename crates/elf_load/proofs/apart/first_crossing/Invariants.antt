@@ -1,5 +1,5 @@
 use Rattle.std.proofs.Common.{ℕ, ◌<◌}
-use Rattle.elf_load.specs.Reading.{segment_at, Cross}
+use Rattle.elf_load.specs.HeaderFields.{segment_at, Cross}
 use Rattle.elf_load.proofs.apart.first_crossing.Given as goal
 
 abbrev pub invariant-loop-place : goal.invariant-loop-place

@@ -1,5 +1,5 @@
 use Rattle.std.proofs.Common.{refl}
-use Rattle.elf_load.proofs.Crossing.{apart_by_neighbours}
+use Rattle.elf_load.proofs.SegmentOverlaps.{apart_by_neighbours}
 use Rattle.elf_load.proofs.apart.first_overlap.Goals as goal
 
 pub returns-then-neighbours_are_apart : goal.returns-then-neighbours_are_apart

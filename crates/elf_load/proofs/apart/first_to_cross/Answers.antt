@@ -1,5 +1,5 @@
 use Rattle.std.proofs.Common.{◌+◌}
-use Rattle.elf_load.proofs.Crossing.{segments_behind, first_pair, none_more}
+use Rattle.elf_load.proofs.SegmentOverlaps.{segments_behind, first_pair, none_more}
 use Rattle.elf_load.proofs.apart.first_to_cross.Goals as goal
 
 pub returns-in-Some : goal.returns-in-Some

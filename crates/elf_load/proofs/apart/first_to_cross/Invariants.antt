@@ -1,5 +1,5 @@
 use Rattle.std.proofs.Common.{ℕ, ◌<◌, length}
-use Rattle.elf_load.specs.Reading.{segment_at, Cross}
+use Rattle.elf_load.specs.HeaderFields.{segment_at, Cross}
 use Rattle.elf_load.proofs.apart.first_to_cross.Given as goal
 
 abbrev pub invariant-loop-a : goal.invariant-loop-a

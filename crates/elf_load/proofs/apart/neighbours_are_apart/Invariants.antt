@@ -1,5 +1,5 @@
 use Rattle.std.proofs.Common.{ℕ, ◌+◌, ◌<◌, ◌≤◌}
-use Rattle.elf_load.specs.Reading.{segment_at}
+use Rattle.elf_load.specs.HeaderFields.{segment_at}
 use Rattle.elf_load.proofs.apart.neighbours_are_apart.Given as goal
 
 abbrev pub invariant-loop-k : goal.invariant-loop-k

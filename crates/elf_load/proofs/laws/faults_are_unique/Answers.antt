@@ -1,4 +1,4 @@
-use Rattle.elf_load.proofs.Once.{one_fault, programs_have_no_fault}
+use Rattle.elf_load.proofs.StartUniqueness.{one_fault, programs_have_no_fault}
 use Rattle.elf_load.proofs.laws.faults_are_unique.Goals as goal
 
 pub returns-clause-one : goal.returns-clause-one

@@ -1,4 +1,4 @@
-use Rattle.elf_load.proofs.Once.{one_raw_fault, raw_programs_have_no_fault}
+use Rattle.elf_load.proofs.StartUniqueness.{one_raw_fault, raw_programs_have_no_fault}
 use Rattle.elf_load.proofs.laws.raw_faults_are_unique.Goals as goal
 
 pub returns-clause-one : goal.returns-clause-one

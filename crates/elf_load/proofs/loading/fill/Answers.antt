@@ -2,7 +2,7 @@ use Rattle.std.proofs.Common.{◌≡◌, ℕ, ◌+◌, ◌-◌, ◌≤◌, List,
 use Rattle.std.proofs.lemmas.List.{length-take, length-drop, get_or_default}
 use Rattle.rv_pages.specs.Memory.{IsMapped, with_bytes}
 use Rattle.elf_load.specs.declared.segment.Segment.{Segment}
-use Rattle.elf_load.proofs.Filling.{filled_more, all_still_mapped}
+use Rattle.elf_load.proofs.LoadedMemory.{filled_more, all_still_mapped}
 use Rattle.elf_load.proofs.loading.fill.Goals as goal
 
 pub loop-segment-preserved : goal.loop-segment-preserved

@@ -2,7 +2,7 @@ use Rattle.std.proofs.Common.{◌≡◌, map, take}
 use Rattle.std.specs.List.{All}
 use Rattle.rv_pages.specs.Memory.{IsMapped}
 use Rattle.elf_load.specs.Program.{with_pieces}
-use Rattle.elf_load.specs.Reading.{piece_in}
+use Rattle.elf_load.specs.HeaderFields.{piece_in}
 use Rattle.elf_load.specs.declared.segment.Segment.{Segment}
 use Rattle.elf_load.proofs.loading.fill.Given as goal
 

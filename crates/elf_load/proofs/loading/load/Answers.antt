@@ -1,6 +1,6 @@
 use Rattle.elf_load.specs.Elf.{IsProgram}
 use Rattle.elf_load.specs.Faults.{FirstFault}
-use Rattle.elf_load.proofs.Once.{one_start, one_fault, programs_have_no_fault, only_start, only_fault}
+use Rattle.elf_load.proofs.StartUniqueness.{one_start, one_fault, programs_have_no_fault, only_start, only_fault}
 use Rattle.elf_load.proofs.loading.load.Goals as goal
 
 pub returns-clause-only : goal.returns-clause-only

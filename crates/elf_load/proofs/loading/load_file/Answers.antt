@@ -9,9 +9,9 @@ use Rattle.elf_load.specs.declared.segment.Segment.{Segment}
 use Rattle.elf_load.specs.Program.{Piece, AreMapped, stack_start, with_pieces, start_at}
 use Rattle.elf_load.specs.Elf.{loads, pieces, e_entry}
 use Rattle.elf_load.specs.Faults.{FirstFault}
-use Rattle.elf_load.specs.Reading.{segments_of, segment_at, piece_in, AreApart, IsPagesFault}
-use Rattle.elf_load.proofs.Files.{segments_some, segments_below, segments_inside, segments_sized, segments_differ, none_share, pages_fault, entry_fault, pieces_are}
-use Rattle.elf_load.proofs.Filling.{segments_zeroed}
+use Rattle.elf_load.specs.HeaderFields.{segments_of, segment_at, piece_in, AreApart, IsPagesFault}
+use Rattle.elf_load.proofs.LoadSegments.{segments_some, segments_below, segments_inside, segments_sized, segments_differ, none_share, pages_fault, entry_fault, pieces_are}
+use Rattle.elf_load.proofs.LoadedMemory.{segments_zeroed}
 use Rattle.elf_load.proofs.loading.load_file.Goals as goal
 
 pub returns-in_err-header-clause-refused : goal.returns-in_err-header-clause-refused

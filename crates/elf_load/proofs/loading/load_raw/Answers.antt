@@ -1,6 +1,6 @@
 use Rattle.elf_load.specs.Raw.{IsRawProgram}
 use Rattle.elf_load.specs.Faults.{FirstRawFault}
-use Rattle.elf_load.proofs.Once.{one_raw_start, one_raw_fault, raw_programs_have_no_fault, only_start, only_fault}
+use Rattle.elf_load.proofs.StartUniqueness.{one_raw_start, one_raw_fault, raw_programs_have_no_fault, only_start, only_fault}
 use Rattle.elf_load.proofs.loading.load_raw.Goals as goal
 
 pub returns-clause-only : goal.returns-clause-only

@@ -11,8 +11,8 @@ use Rattle.elf_load.specs.Program.{start_at}
 use Rattle.elf_load.specs.Raw.{AreWords}
 use Rattle.elf_load.specs.Faults.{FirstRawFault}
 use Rattle.elf_load.specs.Spans.{pages_from}
-use Rattle.elf_load.proofs.Raws.{raw_spans, raw_mapped, raw_few, raw_low, raw_zeroed}
-use Rattle.elf_load.proofs.Spanning.{pages_below}
+use Rattle.elf_load.proofs.RawPages.{raw_spans, raw_mapped, raw_few, raw_low, raw_zeroed}
+use Rattle.elf_load.proofs.MappedPages.{pages_below}
 use Rattle.elf_load.proofs.loading.load_words.Goals as goal
 
 some_bytes : (n : ℕ) → (n == 0) ≡ false → 0 < n

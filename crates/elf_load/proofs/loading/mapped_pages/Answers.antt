@@ -7,9 +7,9 @@ use Rattle.elf_load.specs.declared.fault.ElfFault.TheVariants.{TooLarge, Memory}
 use Rattle.elf_load.specs.declared.pages.Span.{Span}
 use Rattle.elf_load.specs.declared.segment.Segment.{Segment}
 use Rattle.elf_load.specs.Program.{AreMapped}
-use Rattle.elf_load.specs.Reading.{piece_in, AreApart, IsPagesFault}
+use Rattle.elf_load.specs.HeaderFields.{piece_in, AreApart, IsPagesFault}
 use Rattle.elf_load.specs.Spans.{pages_from, span_of, stack_span}
-use Rattle.elf_load.proofs.Spanning.{segments_mapped, spans_low, sorted_some, pages_below}
+use Rattle.elf_load.proofs.MappedPages.{segments_mapped, spans_low, sorted_some, pages_below}
 use Rattle.elf_load.proofs.loading.mapped_pages.Goals as goal
 
 pub returns-in-Some-clause-refused : goal.returns-in-Some-clause-refused

@@ -3,9 +3,9 @@ use Rattle.std.proofs.lemmas.Bool.{false≢true}
 use Rattle.std.specs.Global.{Vec}
 use Rattle.elf_load.specs.declared.segment.Segment.{Segment}
 use Rattle.elf_load.specs.Elf.{header_at, is_load}
-use Rattle.elf_load.specs.Reading.{segment_of}
-use Rattle.elf_load.proofs.Before.{before_segments}
-use Rattle.elf_load.proofs.Loads.{header_is, some_load, none_load, sound_fits, fits_sound, passed_fits, read, read_load, read_other, fit_more}
+use Rattle.elf_load.specs.HeaderFields.{segment_of}
+use Rattle.elf_load.proofs.FaultPrecedence.{before_segments}
+use Rattle.elf_load.proofs.HeaderScan.{header_is, some_load, none_load, sound_fits, fits_sound, passed_fits, read, read_load, read_other, fit_more}
 use Rattle.elf_load.proofs.segment.read_segments.Goals as goal
 use Rattle.elf_load.proofs.segment.read_segments.Goals.{in-Some+else-not-is_sound+else-is_err, in_default}
 

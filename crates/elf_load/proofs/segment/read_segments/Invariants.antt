@@ -1,7 +1,7 @@
 use Rattle.std.proofs.Common.{◌≡◌, ℕ, ◌<◌, filter}
 use Rattle.std.specs.List.{range_with_len}
 use Rattle.elf_load.specs.Elf.{is_load, header_at, IsSoundIfLoaded}
-use Rattle.elf_load.specs.Reading.{segments_of}
+use Rattle.elf_load.specs.HeaderFields.{segments_of}
 use Rattle.elf_load.proofs.segment.read_segments.Given as goal
 
 abbrev pub invariant-loop-index : goal.invariant-loop-index

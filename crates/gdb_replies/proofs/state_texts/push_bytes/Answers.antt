@@ -1,5 +1,5 @@
 use Rattle.std.proofs.Common.{◌+◌, sym, ◌∙◌, append_assoc, append-nil}
-use Rattle.gdb_replies.proofs.Shown.{mapped_none, mapped_some, mapped_end}
+use Rattle.gdb_replies.proofs.MemoryDigits.{mapped_none, mapped_some, mapped_end}
 use Rattle.gdb_replies.proofs.state_texts.push_bytes.Goals as goal
 
 pub returns-in_default : goal.returns-in_default

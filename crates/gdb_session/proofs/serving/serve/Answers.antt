@@ -1,14 +1,14 @@
 use Rattle.std.proofs.Common.{◌+◌, ◌∙◌, Err, ap, arith}
 use Rattle.std.proofs.lemmas.Result.{err_from_is_err_and}
-use Rattle.keepers.specs.Told.{Tells}
+use Rattle.keepers.specs.Claims.{Tells}
 use Rattle.gdb_line.specs.Talk.{Talk}
 use Rattle.gdb_session.specs.Conversation.{Serves, ServesPartly, IsTooLong}
-use Rattle.gdb_session.specs.Serving.{talker}
+use Rattle.gdb_session.specs.ServerState.{talker}
 use Rattle.gdb_session.specs.Turns.{GoesOn, IsFed, Continues, Concludes, Fails, Feeds, Overflows}
-use Rattle.gdb_session.proofs.Answering.{begins_at, serves_partly}
-use Rattle.gdb_session.proofs.Feeding.{begins_fed}
-use Rattle.gdb_session.proofs.Telling.{tells_here, tells_so, tells_then}
-use Rattle.gdb_session.proofs.Wheres.{at_any_err, where_here, where_then, where_told, fails_alike}
+use Rattle.gdb_session.proofs.ItemAnswers.{begins_at, serves_partly}
+use Rattle.gdb_session.proofs.TurnCounts.{begins_fed}
+use Rattle.gdb_session.proofs.LineClaims.{tells_here, tells_so, tells_then}
+use Rattle.gdb_session.proofs.ServeFaults.{at_any_err, where_here, where_then, where_told, fails_alike}
 use Rattle.gdb_session.proofs.serving.serve.Goals as goal
 
 pub loop-init : goal.loop-init

@@ -1,6 +1,6 @@
 use Rattle.std.proofs.Common.{◌≡◌, ◌≤◌, []}
-use Rattle.keepers.specs.Told.{Tells, WhereTold}
-use Rattle.gdb_session.specs.Serving.{talker}
+use Rattle.keepers.specs.Claims.{Tells, WhereTold}
+use Rattle.gdb_session.specs.ServerState.{talker}
 use Rattle.gdb_session.specs.Turns.{GoesOn, IsFed}
 use Rattle.gdb_session.proofs.serving.serve.Given as goal
 

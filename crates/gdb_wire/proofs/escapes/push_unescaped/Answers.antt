@@ -1,7 +1,7 @@
 use Rattle.std.proofs.Common.{◌≡◌, ◌≢◌, ◌≤◌, ◌+◌, ◌++◌, ◌∷◌, [], ◌⊎◌, length, drop, get_or, arith, sym, ap, ◌∙◌, append_assoc, inl, inr}
 use Rattle.std.proofs.lemmas.Grind.{common_steps}
 use Rattle.gdb_wire.specs.Escapes.{unescaped}
-use Rattle.gdb_wire.proofs.Unescaping.{plain}
+use Rattle.gdb_wire.proofs.UnescapedBodies.{plain}
 use Rattle.gdb_wire.proofs.escapes.push_unescaped.Goals as goal
 use Rattle.gdb_wire.proofs.escapes.push_unescaped.Goals.{else-at-body-via-then-at-body+else-body-at-eq125, else-at-body-via-else-at-body}
 

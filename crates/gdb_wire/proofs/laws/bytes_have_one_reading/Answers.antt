@@ -1,4 +1,4 @@
-use Rattle.gdb_wire.proofs.Readings.{one_reading, some_reading}
+use Rattle.gdb_wire.proofs.ItemDecomposition.{one_reading, some_reading}
 use Rattle.gdb_wire.proofs.laws.bytes_have_one_reading.Goals as goal
 
 pub returns-clause-one : goal.returns-clause-one

@@ -1,4 +1,4 @@
-use Rattle.gdb_wire.proofs.Replying.{escapes_come_back, replies_are_items}
+use Rattle.gdb_wire.proofs.ReplyPackets.{escapes_come_back, replies_are_items}
 use Rattle.gdb_wire.proofs.laws.replies_are_read_again.Goals as goal
 
 pub returns-clause-escapes : goal.returns-clause-escapes

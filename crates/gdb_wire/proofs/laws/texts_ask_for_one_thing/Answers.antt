@@ -1,4 +1,4 @@
-use Rattle.gdb_wire.proofs.Asking.{one_request, some_request}
+use Rattle.gdb_wire.proofs.ParserCorrectness.{one_request, some_request}
 use Rattle.gdb_wire.proofs.laws.texts_ask_for_one_thing.Goals as goal
 
 pub returns-clause-one : goal.returns-clause-one

@@ -1,5 +1,5 @@
 use Rattle.std.proofs.Common.{◌≡◌, ◌<◌, ◌^◌, drop}
-use Rattle.gdb_wire.specs.RequestReading.{number_behind}
+use Rattle.gdb_wire.specs.RequestParser.{number_behind}
 use Rattle.gdb_wire.proofs.number.number.Given as goal
 
 -- what is read from here on is what is read from the start

@@ -1,6 +1,6 @@
 use Rattle.std.proofs.Common.{◌+◌, sym, ap, ◌∙◌}
 use Rattle.std.proofs.lemmas.List.{take_rest}
-use Rattle.gdb_wire.specs.RequestReading.{number_of}
+use Rattle.gdb_wire.specs.RequestParser.{number_of}
 use Rattle.gdb_wire.proofs.Numbers.{numbers_none, numbers_at}
 use Rattle.gdb_wire.proofs.number.numbers.Goals as goal
 

@@ -1,9 +1,9 @@
 use Rattle.std.proofs.Common.{◌≡◌, sym, subst}
 use Rattle.std.proofs.lemmas.Result.{IfOk-weaker}
 use Rattle.gdb_wire.specs.Requests.{IsRequest}
-use Rattle.gdb_wire.specs.RequestReading.{request_of}
+use Rattle.gdb_wire.specs.RequestParser.{request_of}
 use Rattle.gdb_wire.specs.declared.request.Request.{Request}
-use Rattle.gdb_wire.proofs.Asking.{request_is}
+use Rattle.gdb_wire.proofs.ParserCorrectness.{request_is}
 use Rattle.gdb_wire.proofs.reading.read_request.Goals as goal
 
 pub returns-clause-read : goal.returns-clause-read

@@ -1,6 +1,6 @@
 use Rattle.std.proofs.Common.{◌≢◌, ℕ, ◌<◌, ◌≤◌}
 use Rattle.cost_tables.specs.TableRows.{tables_in, value_of}
-use Rattle.hrevolve_gen.specs.Reading.{split_cost}
+use Rattle.hrevolve_gen.specs.ReadableTables.{split_cost}
 use Rattle.hrevolve_gen.proofs.entries.split.Given as goal
 
 abbrev pub invariant-loop-j : goal.invariant-loop-j

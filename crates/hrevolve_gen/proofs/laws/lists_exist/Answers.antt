@@ -1,4 +1,4 @@
-use Rattle.hrevolve_gen.proofs.Existing.{list_exists}
+use Rattle.hrevolve_gen.proofs.ListExistence.{list_exists}
 use Rattle.hrevolve_gen.proofs.laws.lists_exist.Goals as goal
 
 pub returns : goal.returns

@@ -1,4 +1,4 @@
-use Rattle.hrevolve_gen.proofs.Greatest.{plan_unique}
+use Rattle.hrevolve_gen.proofs.PlanUniqueness.{plan_unique}
 use Rattle.hrevolve_gen.proofs.laws.plans_are_unique.Goals as goal
 
 pub returns : goal.returns

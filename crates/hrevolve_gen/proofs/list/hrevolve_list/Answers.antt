@@ -6,7 +6,7 @@ use Rattle.level_book.specs.UnderTable.{number, never, top_entry}
 use Rattle.cost_tables.specs.TableRows.{tables_in}
 use Rattle.hrevolve_gen.proofs.NoPlans.{top_none, never_of}
 use Rattle.hrevolve_gen.proofs.PartReads.{few_steps, can_read, some_of}
-use Rattle.hrevolve_gen.proofs.Whole.{written_costs, written_nested}
+use Rattle.hrevolve_gen.proofs.NestedLists.{written_costs, written_nested}
 use Rattle.hrevolve_gen.proofs.list.hrevolve_list.Goals as goal
 
 pub has_list-requires : goal.has_list-requires

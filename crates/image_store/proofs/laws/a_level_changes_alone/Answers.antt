@@ -1,9 +1,9 @@
 use Rattle.std.proofs.Common.{◌≡◌, ℕ, ◌<◌, cond, [], Option, length, set, inl, inr, sym, ◌∙◌, ap, subst, eq-eqb}
 use Rattle.std.proofs.lemmas.Bool.{cases_eq, ne_eqb}
 use Rattle.std.proofs.lemmas.List.{get_or-set_same, get_or-set_other, length-set}
-use Rattle.keepers.specs.Told.{Images}
+use Rattle.keepers.specs.Claims.{Images}
 use Rattle.image_store.specs.Shelves.{ShelfState, level_of}
-use Rattle.image_store.specs.Standing.{LevelStands, LevelAlone, at_level}
+use Rattle.image_store.specs.StoredImages.{LevelStands, LevelAlone, at_level}
 use Rattle.image_store.proofs.laws.a_level_changes_alone.Goals as goal
 
 none_there : ShelfState

@@ -1,4 +1,4 @@
-use Rattle.input_journal.proofs.Unique.{journal_or_fault}
+use Rattle.input_journal.proofs.JournalUniqueness.{journal_or_fault}
 use Rattle.input_journal.proofs.laws.bytes_are_a_journal_or_have_a_fault.Goals as goal
 
 pub returns : goal.returns

@@ -1,4 +1,4 @@
-use Rattle.input_journal.proofs.Unique.{one_fault, no_fault}
+use Rattle.input_journal.proofs.JournalUniqueness.{one_fault, no_fault}
 use Rattle.input_journal.proofs.laws.faults_are_unique.Goals as goal
 
 pub returns-clause-one : goal.returns-clause-one

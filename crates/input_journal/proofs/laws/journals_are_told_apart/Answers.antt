@@ -1,4 +1,4 @@
-use Rattle.input_journal.proofs.Unique.{one_spelling}
+use Rattle.input_journal.proofs.JournalUniqueness.{one_spelling}
 use Rattle.input_journal.proofs.laws.journals_are_told_apart.Goals as goal
 
 pub returns : goal.returns

@@ -3,10 +3,10 @@ use Rattle.std.proofs.lemmas.Result.{err_from_is_err_and}
 use Rattle.std.proofs.lemmas.List.{map_push}
 use Rattle.std.proofs.lemmas.Grind.{common_steps}
 use Rattle.input_journal.specs.declared.journal.Part.{Part}
-use Rattle.input_journal.specs.Reading.{items_at, reading}
+use Rattle.input_journal.specs.Parser.{items_at, reading}
 use Rattle.input_journal.specs.Parts.{item_in, items_in, IsPart, AreParts}
 use Rattle.input_journal.proofs.Items.{with_front, with_none, goes_on, ends, is_done, is_trailing}
-use Rattle.input_journal.proofs.Whole.{items_next}
+use Rattle.input_journal.proofs.WholeJournals.{items_next}
 use Rattle.input_journal.proofs.Views.{parts_more}
 use Rattle.input_journal.proofs.reading.find_parts.Goals as goal
 

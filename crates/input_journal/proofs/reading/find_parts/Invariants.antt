@@ -1,6 +1,6 @@
 use Rattle.std.proofs.Common.{◌≡◌, ◌≤◌, ◌-◌, drop, length}
 use Rattle.input_journal.specs.Parts.{items_in, AreParts}
-use Rattle.input_journal.specs.Reading.{items_at, reading}
+use Rattle.input_journal.specs.Parser.{items_at, reading}
 use Rattle.input_journal.proofs.Items.{with_front}
 use Rattle.input_journal.proofs.reading.find_parts.Given as goal
 

@@ -2,7 +2,7 @@ use Rattle.std.proofs.Common.{ℕ, List, arith}
 use Rattle.std.specs.Global.{Vec}
 use Rattle.input_journal.specs.Parts.{items_in}
 use Rattle.input_journal.specs.declared.journal.Part.{Part}
-use Rattle.input_journal.proofs.Unique.{found, only, refused, first}
+use Rattle.input_journal.proofs.JournalUniqueness.{found, only, refused, first}
 use Rattle.input_journal.proofs.reading.read_parts.Goals as goal
 
 abbrev view : List ℕ → Vec Part → List (List ℕ)

@@ -1,7 +1,7 @@
 use Rattle.std.proofs.Common.{◌≡◌, ◌≤◌, ◌<◌, ◌-◌, ℕ, length, take, arith, refl, subst}
 use Rattle.std.specs.Io.KnownBytes.{Consumes}
 use Rattle.std.proofs.lemmas.Slice.{take-put_mid_below}
-use Rattle.keepers.proofs.Known.{consumes_more, consumes_kept, room_stays, room_read, read_full, read_end}
+use Rattle.keepers.proofs.ReadsAndWrites.{consumes_more, consumes_kept, room_stays, room_read, read_full, read_end}
 use Rattle.keepers.proofs.transfer.read_first.Goals as goal
 use Rattle.keepers.proofs.transfer.read_first.Goals.{in-Ok, in-Err+else-ne}
 

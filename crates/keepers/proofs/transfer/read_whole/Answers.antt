@@ -1,6 +1,6 @@
 use Rattle.std.proofs.Common.{◌≡◌, ◌≤◌, ◌+◌, ◌++◌, length, take, arith}
 use Rattle.std.proofs.lemmas.Grind.{common_steps}
-use Rattle.keepers.proofs.Known.{consumes_more, consumes_kept, consumes_begins}
+use Rattle.keepers.proofs.ReadsAndWrites.{consumes_more, consumes_kept, consumes_begins}
 use Rattle.keepers.proofs.transfer.read_whole.Goals as goal
 use Rattle.keepers.proofs.transfer.read_whole.Goals.{in-Ok+else-count-left+else-is_err, in-Err+else-ne}
 

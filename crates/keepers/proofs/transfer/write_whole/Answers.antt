@@ -1,6 +1,6 @@
 use Rattle.std.proofs.Common.{arith}
 use Rattle.std.proofs.lemmas.Grind.{common_steps}
-use Rattle.keepers.proofs.Known.{taken_more, appends_more, appends_kept}
+use Rattle.keepers.proofs.ReadsAndWrites.{taken_more, appends_more, appends_kept}
 use Rattle.keepers.proofs.transfer.write_whole.Goals as goal
 use Rattle.keepers.proofs.transfer.write_whole.Goals.{in-Ok, in-Err+else-ne}
 

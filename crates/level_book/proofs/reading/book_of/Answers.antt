@@ -1,8 +1,8 @@
 use Rattle.std.proofs.Common.{map, take, length}
 use Rattle.serde_json.specs.View.{view}
-use Rattle.level_book.proofs.Faultless.{faultless}
+use Rattle.level_book.proofs.FaultlessEntries.{faultless}
 use Rattle.level_book.proofs.LevelNames.{levels_named}
-use Rattle.level_book.proofs.Rising.{levels_rise}
+use Rattle.level_book.proofs.CostOrder.{levels_rise}
 use Rattle.level_book.proofs.reading.book_of.Goals as goal
 
 pub levels_of-requires-clause-faultless : goal.levels_of-requires-clause-faultless

@@ -1,5 +1,5 @@
 use Rattle.serde_json.specs.View.{view}
-use Rattle.level_book.proofs.Refusing.{refused_by}
+use Rattle.level_book.proofs.TextRefusals.{refused_by}
 use Rattle.level_book.proofs.reading.read_book.Goals as goal
 
 pub returns-in-Ok-clause-refused : goal.returns-in-Ok-clause-refused

@@ -1,5 +1,5 @@
 use Rattle.std.proofs.Common.{arith}
-use Rattle.unit_undo.proofs.Leading.{can_go, gone}
+use Rattle.unit_undo.proofs.UndoTrail.{can_go, gone}
 use Rattle.library_tests.proofs.digest_tests.check_digests.Goals as goal
 
 pub back-requires : goal.back-requires

@@ -1,5 +1,5 @@
 use Rattle.std.proofs.Common.{length}
-use Rattle.unit_undo.specs.Leading.{LeadsBack, led_back}
+use Rattle.unit_undo.specs.UndoTrail.{LeadsBack, led_back}
 use Rattle.library_tests.proofs.digest_tests.check_digests.Given as goal
 
 abbrev pub invariant-loop-rt : goal.invariant-loop-rt

@@ -1,7 +1,7 @@
 use Rattle.std.proofs.Common.{sym, subst}
 use Rattle.rv_machine.specs.MachineState.{MachineState}
-use Rattle.unit_undo.specs.Leading.{LeadsBack, led_back}
-use Rattle.unit_undo.proofs.Leading.{leads_there}
+use Rattle.unit_undo.specs.UndoTrail.{LeadsBack, led_back}
+use Rattle.unit_undo.proofs.UndoTrail.{leads_there}
 use Rattle.library_tests.proofs.digest_tests.take_digests.Goals as goal
 
 pub known_before-requires-clause-back : goal.known_before-requires-clause-back

@@ -1,7 +1,7 @@
 use Rattle.std.proofs.Common.{◌≡◌, ◌+◌, length, sym, ap, ◌∙◌, arith}
 use Rattle.unit_undo.specs.Entry.{Entry}
 use Rattle.unit_undo.specs.UndoState.{UndoState}
-use Rattle.unit_undo.proofs.Leading.{can_go, gone}
+use Rattle.unit_undo.proofs.UndoTrail.{can_go, gone}
 use Rattle.library_tests.proofs.undo_tests.go_back.Goals as goal
 
 pub back-requires : goal.back-requires

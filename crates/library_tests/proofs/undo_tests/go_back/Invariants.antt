@@ -1,5 +1,5 @@
 use Rattle.std.proofs.Common.{◌≡◌, length}
-use Rattle.unit_undo.specs.Leading.{LeadsBack, led_back}
+use Rattle.unit_undo.specs.UndoTrail.{LeadsBack, led_back}
 use Rattle.library_tests.proofs.undo_tests.go_back.Given as goal
 
 abbrev pub invariant-loop-undo : goal.invariant-loop-undo

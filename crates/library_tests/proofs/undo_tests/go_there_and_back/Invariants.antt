@@ -1,5 +1,5 @@
 use Rattle.std.proofs.Common.{◌≡◌}
-use Rattle.unit_undo.specs.Leading.{IsMadeFor}
+use Rattle.unit_undo.specs.UndoTrail.{IsMadeFor}
 use Rattle.library_tests.proofs.undo_tests.go_there_and_back.Given as goal
 
 abbrev pub invariant-loop : goal.invariant-loop

@@ -5,8 +5,8 @@ use Rattle.rv_machine.specs.StepTable.{next}
 use Rattle.rv_machine.proofs.Runs.{state_number-add-one}
 use Rattle.unit_undo.specs.Entry.{Undoes}
 use Rattle.unit_undo.specs.UndoState.{UndoState, HasRoomFor}
-use Rattle.unit_undo.specs.Leading.{HasSteps, IsMadeFor}
-use Rattle.unit_undo.proofs.Leading.{fits, pushed}
+use Rattle.unit_undo.specs.UndoTrail.{HasSteps, IsMadeFor}
+use Rattle.unit_undo.proofs.UndoTrail.{fits, pushed}
 use Rattle.library_tests.proofs.undo_tests.take.Goals as goal
 
 pub push-requires : goal.push-requires

@@ -1,6 +1,6 @@
 use Rattle.std.proofs.Common.{◌≡◌, ◌∷◌}
 use Rattle.rv_machine.specs.States.{state_number}
-use Rattle.unit_undo.specs.Leading.{HasSteps}
+use Rattle.unit_undo.specs.UndoTrail.{HasSteps}
 use Rattle.library_tests.proofs.undo_tests.take.Given as goal
 
 abbrev pub invariant-loop : goal.invariant-loop

@@ -1,5 +1,5 @@
 use Rattle.std.proofs.Common.{◌≡◌, ◌≤◌, length}
-use Rattle.line_texts.specs.Reading.{without_blanks}
+use Rattle.line_texts.specs.Parsers.{without_blanks}
 use Rattle.line_texts.proofs.blank.after_blanks.Given as goal
 
 abbrev pub invariant-loop-rest : goal.invariant-loop-rest

@@ -1,5 +1,5 @@
 use Rattle.std.proofs.Common.{◌≡◌, length}
-use Rattle.line_texts.specs.Reading.{digits_at}
+use Rattle.line_texts.specs.Parsers.{digits_at}
 use Rattle.line_texts.proofs.number.digits.Given as goal
 
 -- what is read from here on is what is read from the start

@@ -5,7 +5,7 @@ use Rattle.std.specs.Cmp.Lexicographic.{slice_cmp, pointwise}
 use Rattle.std.specs.FinMap as finmap
 use Rattle.std.specs.FinMap.{get-empty}
 use Rattle.memory_disk.specs.Changes.{files_after}
-use Rattle.memory_disk.proofs.Found.{bytes_of, found_here, found_later}
+use Rattle.memory_disk.proofs.FileSearch.{bytes_of, found_here, found_later}
 use Rattle.memory_disk.proofs.MemoryDisk.find.Goals as goal
 
 pub loop-change-init : goal.loop-change-init

@@ -1,5 +1,5 @@
 use Rattle.std.proofs.Common.{◌++◌, sym, ap}
-use Rattle.keepers.specs.Told.{bytes_in}
+use Rattle.keepers.specs.Claims.{bytes_in}
 use Rattle.memory_disk.specs.Changes.{files_after}
 use Rattle.memory_disk.proofs.MemoryDiskDisk.read_whole.Goals as goal
 

@@ -1,4 +1,4 @@
-use Rattle.multistage_gen.proofs.Existing.{plan_exists}
+use Rattle.multistage_gen.proofs.PlanExistence.{plan_exists}
 use Rattle.multistage_gen.proofs.laws.plans_exist.Goals as goal
 
 pub returns : goal.returns

@@ -2,7 +2,7 @@ use Rattle.std.proofs.Common.{◌≡◌, ◌+◌, ◌-◌, ◌<◌, ◌≤◌, �
 use Rattle.std.specs.List.{AllByRecursion}
 use Rattle.multistage_gen.specs.declared.numbers.Stretches.{Stretches}
 use Rattle.multistage_gen.specs.Numbers.{AreAscending}
-use Rattle.multistage_gen.proofs.Ascending.{ascending_insert, ascending_put}
+use Rattle.multistage_gen.proofs.StretchOrder.{ascending_insert, ascending_put}
 use Rattle.multistage_gen.proofs.numbers.add.Goals.{else-behind-gt0-via-then-behind-gt0+else-index-steps, else-behind-gt0-via-else-behind-gt0}
 use Rattle.multistage_gen.proofs.numbers.add.Goals as goal
 

@@ -2,8 +2,8 @@ use Rattle.std.proofs.Common.{◌≡◌, ◌∷◌, ◌++◌, ◌+◌, ◌-◌, 
 use Rattle.std.proofs.lemmas.Grind.{common_steps}
 use Rattle.multistage_gen.specs.declared.numbers.Stretches.{Stretches}
 use Rattle.multistage_gen.specs.Numbers.{steps_of, count_of, AreAscending}
-use Rattle.multistage_gen.proofs.Ascending.{ascending_front}
-use Rattle.multistage_gen.proofs.Weighed.{AreHeld, all_held, count_few_begun, taken_short, taken_few, taken_slot, above_few, fewer_left, fewer_held, one_taken, split_taken, place_counted}
+use Rattle.multistage_gen.proofs.StretchOrder.{ascending_front}
+use Rattle.multistage_gen.proofs.StretchTraffic.{AreHeld, all_held, count_few_begun, taken_short, taken_few, taken_slot, above_few, fewer_left, fewer_held, one_taken, split_taken, place_counted}
 use Rattle.multistage_gen.proofs.numbers.count_place.Goals as goal
 
 pub count_of-writes-requires : goal.count_of-writes-requires

@@ -1,5 +1,5 @@
 use Rattle.multistage_gen.specs.Numbers.{steps_of, AreAscending}
-use Rattle.multistage_gen.proofs.Weighed.{AreHeld}
+use Rattle.multistage_gen.proofs.StretchTraffic.{AreHeld}
 use Rattle.multistage_gen.proofs.numbers.count_place.Given as goal
 
 -- those that are still held, those that are begun above, and the visits so far

@@ -1,7 +1,7 @@
 use Rattle.std.proofs.Common.{◌≡◌, ◌-◌, ◌<◌, suc, ℕ, drop, get_or, ap, subst, arith}
 use Rattle.std.specs.List.{AllByRecursion}
 use Rattle.multistage_gen.specs.declared.numbers.Stretches.{Stretches}
-use Rattle.multistage_gen.proofs.Ascending.{drop_back, none_before}
+use Rattle.multistage_gen.proofs.StretchOrder.{drop_back, none_before}
 use Rattle.multistage_gen.proofs.numbers.first_above.Goals as goal
 
 pub loop-index-preserved : goal.loop-index-preserved

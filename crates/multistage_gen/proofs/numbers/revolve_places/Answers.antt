@@ -3,7 +3,7 @@ use Rattle.std.proofs.lemmas.Grind.{common_steps}
 use Rattle.multistage_gen.specs.declared.traffic.PlaceTraffic.{PlaceTraffic}
 use Rattle.multistage_gen.specs.declared.numbers.Stretches.{Stretches}
 use Rattle.multistage_gen.specs.Numbers.{AreCounted}
-use Rattle.multistage_gen.proofs.Weighed.{free_slot, place_more, all_counted}
+use Rattle.multistage_gen.proofs.StretchTraffic.{free_slot, place_more, all_counted}
 use Rattle.multistage_gen.proofs.numbers.revolve_places.Goals as goal
 
 pub loop-alloc-init : goal.loop-alloc-init

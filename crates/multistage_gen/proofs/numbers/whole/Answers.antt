@@ -1,7 +1,7 @@
 use Rattle.std.proofs.Common.{[], ◌++◌, ◌∷◌, Vec, Global, inl, inr, sym, ap, subst, ◌∙◌, arith}
 use Rattle.multistage_gen.specs.declared.numbers.Stretches.{Stretches}
 use Rattle.multistage_gen.specs.Numbers.{AreAscending}
-use Rattle.multistage_gen.proofs.Weighed.{all_begun}
+use Rattle.multistage_gen.proofs.StretchTraffic.{all_begun}
 use Rattle.multistage_gen.proofs.numbers.whole.Goals.{then-steps-gt1+in_ok-push, else-steps-gt1}
 use Rattle.multistage_gen.proofs.numbers.whole.Goals as goal
 

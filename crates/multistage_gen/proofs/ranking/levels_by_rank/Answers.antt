@@ -3,7 +3,7 @@ use Rattle.std.specs.List.Sorted.{IsPermutation}
 use Rattle.std.proofs.lemmas.Result.{IfOk-weaker}
 use Rattle.multistage_gen.specs.declared.ranking.Rank.{Rank}
 use Rattle.multistage_gen.specs.Ranks.{AreLevels}
-use Rattle.multistage_gen.proofs.Ordered.{split_levels, fast_levels}
+use Rattle.multistage_gen.proofs.RankOrder.{split_levels, fast_levels}
 use Rattle.multistage_gen.proofs.ranking.levels_by_rank.Goals as goal
 
 pub returns-then-ranks-room : goal.returns-then-ranks-room

@@ -1,5 +1,5 @@
 use Rattle.std.proofs.Common.{take}
-use Rattle.multistage_gen.specs.Counting.{HasCounted}
+use Rattle.multistage_gen.specs.TrafficCount.{HasCounted}
 use Rattle.multistage_gen.proofs.traffic.places.Given as goal
 
 -- the first actions are counted

@@ -1,7 +1,7 @@
 use Rattle.std.proofs.Common.{◌≡◌, ℕ, ◌+◌, Some, ◌∙◌, ap, arith}
 use Rattle.binomials.specs.Advances.{least_advances}
-use Rattle.binomials.proofs.Advancing.{with_slot, least_advances_one}
-use Rattle.pebble_bound.proofs.Bounding.{no_fewer_than_steps, none_below, none_with}
+use Rattle.binomials.proofs.LeastAdvances.{with_slot, least_advances_one}
+use Rattle.pebble_bound.proofs.BoundLaws.{no_fewer_than_steps, none_below, none_with}
 use Rattle.pebble_bound.proofs.least.least_forward.Goals as goal
 
 pub returns-then-steps-le1-clause-value : goal.returns-then-steps-le1-clause-value

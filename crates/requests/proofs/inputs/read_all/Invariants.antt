@@ -1,7 +1,7 @@
 use Rattle.std.proofs.Common.{◌≡◌, ◌++◌, map, take}
 use Rattle.requests.specs.Inputs.{names}
-use Rattle.requests.specs.InputReading.{input_of}
-use Rattle.requests.proofs.Taking.{SoFar}
+use Rattle.requests.specs.InputOutcome.{input_of}
+use Rattle.requests.proofs.InputSequence.{SoFar}
 use Rattle.requests.proofs.inputs.read_all.Given as goal
 
 -- The inputs so far were read, and asked for in their order.

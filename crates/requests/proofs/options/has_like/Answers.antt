@@ -1,7 +1,7 @@
 use Rattle.std.proofs.Common.{◌∙◌, sym, ap, Bool, ◌||◌, List, map}
 use Rattle.std.specs.List.{list_any}
 use Rattle.requests.specs.Request.{Choice}
-use Rattle.requests.specs.ChoiceReading.{options_at, is_like, as_choice}
+use Rattle.requests.specs.ChoiceParser.{options_at, is_like, as_choice}
 use Rattle.requests.proofs.Requests.{one_more, no_more}
 use Rattle.requests.proofs.options.has_like.Goals as goal
 

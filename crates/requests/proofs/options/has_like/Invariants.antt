@@ -1,6 +1,6 @@
 use Rattle.std.proofs.Common.{◌≡◌, map, length}
 use Rattle.std.specs.List.{list_any}
-use Rattle.requests.specs.ChoiceReading.{options_at, is_like, as_choice}
+use Rattle.requests.specs.ChoiceParser.{options_at, is_like, as_choice}
 use Rattle.requests.proofs.options.has_like.Given as goal
 
 -- the kind is among the options that are left where it is among all

@@ -1,5 +1,5 @@
 use Rattle.std.proofs.Common.{◌≡◌, map, length}
-use Rattle.requests.specs.ChoiceReading.{behind_options}
+use Rattle.requests.specs.ChoiceParser.{behind_options}
 use Rattle.requests.proofs.options.read_options.Given as goal
 
 -- what stands behind the options that are left stands behind all

@@ -2,12 +2,12 @@ use Rattle.std.proofs.Common.{◌≡◌, ◌∙◌, ℕ, List, map, length, Vec,
 use Rattle.requests.specs.declared.words.Words.{Words}
 use Rattle.requests.specs.declared.request.Request as in_memory
 use Rattle.requests.specs.Request.{Request, Says, words_of}
-use Rattle.requests.specs.RequestReading.{request_of}
+use Rattle.requests.specs.RequestModel.{request_of}
 use Rattle.requests.specs.Places.{places_of, folder_at}
 use Rattle.requests.proofs.Requests.{one_request}
-use Rattle.requests.proofs.Refusing.{all_front}
-use Rattle.requests.proofs.Settled.{not_asked, not_refused}
-use Rattle.requests.proofs.Placing.{few_options, folders_said}
+use Rattle.requests.proofs.NumberTests.{all_front}
+use Rattle.requests.proofs.RefusalUniqueness.{not_asked, not_refused}
+use Rattle.requests.proofs.FolderPlaces.{few_options, folders_said}
 use Rattle.requests.proofs.places.keeper_places.Goals as goal
 
 -- what the words in memory say

@@ -1,9 +1,9 @@
 use Rattle.std.proofs.Common.{◌∙◌, sym, ap, length, arith}
 use Rattle.requests.specs.declared.places.KeepAt.TheVariants.{Folder}
-use Rattle.requests.specs.ChoiceReading.{as_choice}
+use Rattle.requests.specs.ChoiceParser.{as_choice}
 use Rattle.requests.specs.Places.{place_from}
 use Rattle.requests.proofs.Requests.{one_more, no_more}
-use Rattle.requests.proofs.Placing.{here, further, front_length}
+use Rattle.requests.proofs.FolderPlaces.{here, further, front_length}
 use Rattle.requests.proofs.places.place.Goals as goal
 
 pub returns-then-is_files : goal.returns-then-is_files

@@ -1,5 +1,5 @@
 use Rattle.std.proofs.Common.{◌≡◌, ◌+◌, ◌≤◌, map, length}
-use Rattle.requests.specs.ChoiceReading.{options_at}
+use Rattle.requests.specs.ChoiceParser.{options_at}
 use Rattle.requests.specs.Places.{place_from}
 use Rattle.requests.proofs.places.place.Given as goal
 

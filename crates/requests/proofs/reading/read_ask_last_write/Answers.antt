@@ -2,7 +2,7 @@ use Rattle.std.proofs.Common.{refl}
 use Rattle.std.specs.Prelude.{codes}
 use Rattle.requests.specs.declared.question.Question.TheVariants as about
 use Rattle.requests.specs.Forms.{ask_form, addressed}
-use Rattle.requests.proofs.Forming.{form_gives}
+use Rattle.requests.proofs.FormValues.{form_gives}
 use Rattle.requests.proofs.reading.read_ask_last_write.Goals as goal
 
 pub returns : goal.returns

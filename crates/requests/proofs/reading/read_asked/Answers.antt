@@ -1,7 +1,7 @@
 use Rattle.std.proofs.Common.{[], ◌∷◌, option_map}
 use Rattle.std.specs.Prelude.{codes}
 use Rattle.requests.specs.Forms.{fixed, named, named_or_none, schedule_named, numbered}
-use Rattle.requests.proofs.Forming.{takes_none, takes_more}
+use Rattle.requests.proofs.FormValues.{takes_none, takes_more}
 use Rattle.requests.proofs.reading.read_asked.Goals as goal
 
 pub returns : goal.returns

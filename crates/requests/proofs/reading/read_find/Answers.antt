@@ -1,7 +1,7 @@
 use Rattle.std.proofs.Common.{refl, [], ◌∷◌, option_map}
 use Rattle.std.specs.Prelude.{codes}
 use Rattle.requests.specs.Forms.{fixed, named, named_or_none, numbered, digested, find_form}
-use Rattle.requests.proofs.Forming.{takes_none, takes_more, form_gives}
+use Rattle.requests.proofs.FormValues.{takes_none, takes_more, form_gives}
 use Rattle.requests.proofs.reading.read_find.Goals as goal
 
 pub returns : goal.returns

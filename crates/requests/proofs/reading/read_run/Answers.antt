@@ -1,8 +1,8 @@
 use Rattle.std.proofs.Common.{refl, [], ◌∷◌, option_map}
 use Rattle.std.specs.Prelude.{codes}
 use Rattle.requests.specs.Forms.{fixed, named, named_or_none, scheduled, numbered, run_form}
-use Rattle.requests.specs.RequestReading.{as_schedule}
-use Rattle.requests.proofs.Forming.{takes_none, takes_more, form_gives}
+use Rattle.requests.specs.RequestModel.{as_schedule}
+use Rattle.requests.proofs.FormValues.{takes_none, takes_more, form_gives}
 use Rattle.requests.proofs.reading.read_run.Goals as goal
 
 pub returns : goal.returns

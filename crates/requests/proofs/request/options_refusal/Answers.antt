@@ -3,7 +3,7 @@ use Rattle.std.specs.List.{AllByRecursion, flat_map}
 use Rattle.requests.specs.Request.{Choice}
 use Rattle.requests.specs.Bounds.{option_numbers, IsWithin, RefusesFirst}
 use Rattle.requests.proofs.Requests.{all_both, one_more, no_more}
-use Rattle.requests.proofs.Refusing.{first_front, first_behind}
+use Rattle.requests.proofs.NumberTests.{first_front, first_behind}
 use Rattle.requests.proofs.request.options_refusal.Goals as goal
 
 pub returns-in-Some-refusal : goal.returns-in-Some-refusal

@@ -2,7 +2,7 @@ use Rattle.std.proofs.Common.{map, length}
 use Rattle.std.specs.List.{AllByRecursion, flat_map}
 use Rattle.requests.specs.declared.ended.Ended.{Ended}
 use Rattle.requests.specs.Bounds.{option_numbers, IsWithin, RefusesFirst}
-use Rattle.requests.specs.ChoiceReading.{options_at}
+use Rattle.requests.specs.ChoiceParser.{options_at}
 use Rattle.requests.proofs.request.options_refusal.Given as goal
 
 -- what is so of the numbers of the options that are left is so of all

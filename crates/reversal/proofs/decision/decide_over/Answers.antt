@@ -1,12 +1,12 @@
 use Rattle.std.proofs.Common.{◌≡◌, ◌⊎◌, ◌∙◌, ℕ, List, [], ◌∷◌, map, Vec, Global, IfOk, IfErr, sym, subst, arith}
 use Rattle.reversal.specs.Table.{accept, refuse}
 use Rattle.reversal.specs.Job.{Run, Job}
-use Rattle.reversal.specs.JobReading.{run_over}
-use Rattle.reversal.specs.Fronts.{DecidesOverBytes}
+use Rattle.reversal.specs.JobModel.{run_over}
+use Rattle.reversal.specs.InputMeaning.{DecidesOverBytes}
 use Rattle.requests.specs.Ending.{no_memory}
 use Rattle.requests.specs.Operands.{by_name}
-use Rattle.requests.proofs.Taking.{three_texts, four_texts}
-use Rattle.reversal.proofs.Answering.{if_okay}
+use Rattle.requests.proofs.InputSequence.{three_texts, four_texts}
+use Rattle.reversal.proofs.TopCall.{if_okay}
 use Rattle.reversal.proofs.decision.decide_over.Goals as goal
 
 pub returns-in-len3-clause-accepted : goal.returns-in-len3-clause-accepted

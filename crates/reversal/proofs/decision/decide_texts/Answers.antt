@@ -8,9 +8,9 @@ use Rattle.requests.specs.declared.ended.Ended.{Ended}
 use Rattle.requests.specs.Ending.{bad_program, bad_journal, bad_book, bad_text}
 use Rattle.requests.specs.Request.{says_raw, stack_pages}
 use Rattle.reversal.specs.Table.{refuse, accept, Keep}
-use Rattle.reversal.specs.Fronts.{HasBookFault, HasProgramFault, HasJournalFault, DecidesOver, in_units}
-use Rattle.reversal.specs.JobReading.{IsRefusal, text_of}
-use Rattle.reversal.proofs.Deciding.{on_error, IsBroken, read_refuses, read_passes, judge_refuses, over_by_book, over_by_keepers, over_by_program, over_by_journal, over_by_list, over_accepted}
+use Rattle.reversal.specs.InputMeaning.{HasBookFault, HasProgramFault, HasJournalFault, DecidesOver, in_units}
+use Rattle.reversal.specs.JobModel.{IsRefusal, text_of}
+use Rattle.reversal.proofs.DecisionLaws.{on_error, IsBroken, read_refuses, read_passes, judge_refuses, over_by_book, over_by_keepers, over_by_program, over_by_journal, over_by_list, over_accepted}
 use Rattle.reversal.proofs.decision.decide_texts.Goals as goal
 
 pub returns-in_err-book-clause-refused : goal.returns-in_err-book-clause-refused

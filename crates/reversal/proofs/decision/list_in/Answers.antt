@@ -1,5 +1,5 @@
 use Rattle.level_book.specs.BookCosts.{names_of}
-use Rattle.reversal.proofs.Refused.{text_refused}
+use Rattle.reversal.proofs.Refusals.{text_refused}
 use Rattle.reversal.proofs.decision.list_in.Goals as goal
 
 pub returns-in-Err-clause-refused : goal.returns-in-Err-clause-refused

@@ -3,7 +3,7 @@ use Rattle.plan_types.specs.declared.action.Action.{Action}
 use Rattle.level_book.specs.BookCosts.{slots_of}
 use Rattle.level_book.specs.Valid.{Valid}
 use Rattle.reversal.specs.Job.{perform}
-use Rattle.reversal.specs.Fronts.{in_units}
+use Rattle.reversal.specs.InputMeaning.{in_units}
 use Rattle.reversal.proofs.decision.performance.Goals as goal
 
 pub returns-clause-job : goal.returns-clause-job

@@ -1,6 +1,9 @@
-use Rattle.std.proofs.Common.{◌≡◌, inr, refl, ◌∙◌, ap, arith}
+use Rattle.std.proofs.Common.{◌≡◌, inl, inr, refl, ◌∙◌, ap, subst, arith}
 use Rattle.level_book.specs.BookCosts.{BookCosts, plain, total_room}
 use Rattle.revolve_gen.specs.Plans.{HasPlan}
+use Rattle.requests.specs.declared.ended.Ended.{Ended}
+use Rattle.requests.specs.Ending.{no_memory}
+use Rattle.reversal.proofs.Decisions.{by_error}
 use Rattle.reversal.proofs.demo.decide_demo.Goals.{else-steps-ge2-via-then-steps-ge2+else-room-eq0, else-steps-ge2-via-else-steps-ge2}
 use Rattle.reversal.proofs.demo.decide_demo.Goals as goal
 
@@ -14,8 +17,18 @@ planned c two =
       | else-steps-ge2-via-else-steps-ge2 w ↦ omega (arith, two, w.if-steps-ge2)
     ]
 
-pub returns-clause-accepted : goal.returns-clause-accepted
-returns-clause-accepted c = inr (planned c, (c.in_ok-start.start, c.in_ok-start.ensures.found, refl))
+pub returns : goal.returns
+returns c counts =
+    record {
+      accepted = inr (planned c, (c.in_ok-start.start, c.in_ok-start.ensures.found, refl));
+      can_be_done = record { steps = c.requires.steps; slots = c.requires.slots; plan = planned c };
+      room = tt;
+      refused = tt;
+    }
 
-pub returns-clause-can_be_done : goal.returns-clause-can_be_done
-returns-clause-can_be_done c = record { steps = c.requires.steps; slots = c.requires.slots; plan = planned c }
+pub returns-in_err-start : goal.returns-in_err-start
+returns-in_err-start c counts =
+    by_error _ _ c.from_residual.result _ c.from_residual.ensures.1 (λ e gives.
+    let same : c.in_err-start.field-0.0 ≡ e = cc in
+    let P : Ended → Type 0 = λ x. x ≡ no_memory in
+    inl (subst P same c.in_err-start.ensures.refused))

@@ -1,6 +1,6 @@
 use Rattle.std.proofs.Common.{arith, ap, ◌∙◌, ◌++◌, ℕ, List}
 use Rattle.rv_decode.specs.declared.instruction.Inst.TheVariants.{Lui}
-use Rattle.reversal.proofs.Drawing.{first_drawn, next_drawn, last_drawn, bytes_of}
+use Rattle.reversal.proofs.DemoProgram.{first_drawn, next_drawn, last_drawn, bytes_of}
 use Rattle.reversal.proofs.demo.program.Goals as goal
 
 pub loop-init : goal.loop-init

@@ -1,4 +1,4 @@
-use Rattle.reversal.proofs.Drawing.{HasDrawn}
+use Rattle.reversal.proofs.DemoProgram.{HasDrawn}
 use Rattle.reversal.proofs.demo.program.Given as goal
 
 -- so many instructions were drawn

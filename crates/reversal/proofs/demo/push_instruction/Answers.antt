@@ -3,7 +3,7 @@ use Rattle.std.specs.Bool.{if◌then◌else◌}
 use Rattle.std.specs.Result.{is_ok}
 use Rattle.std.specs.Int.{w32, to_le_bytes}
 use Rattle.rv_decode.specs.Words.{word_of}
-use Rattle.rv_decode.proofs.Telling.{only}
+use Rattle.rv_decode.proofs.EncodingUniqueness.{only}
 use Rattle.reversal.proofs.demo.push_instruction.Goals as goal
 
 -- what became of a list where the call was done

@@ -12,9 +12,9 @@ use Rattle.reversal.specs.Job.{Job, write}
 use Rattle.reversal.specs.Plans.{list_pieces}
 use Rattle.reversal.specs.Table.{accept}
 use Rattle.reversal.specs.CommandPlan.{DecidesPlanDisk}
-use Rattle.reversal.proofs.Spelled.{valid_spelled}
-use Rattle.reversal.proofs.Planned.{as_many}
-use Rattle.reversal.proofs.Deciding.{disk_accepted}
+use Rattle.reversal.proofs.ActionSpelling.{valid_spelled}
+use Rattle.reversal.proofs.RevolvePlan.{as_many}
+use Rattle.reversal.proofs.DecisionLaws.{disk_accepted}
 use Rattle.reversal.proofs.disk.disk_text.Goals as goal
 
 pub certified_text-requires : goal.certified_text-requires
@@ -23,8 +23,8 @@ certified_text-requires g c =
     let S : List Action → Type 0 = λ l. AllByRecursion (HasSpelling (names_of b)) l in
     subst S (sym c.new.ensures) (valid_spelled c.args.steps (slots_of b) (names_of b) c.in_ok-list.list.items (omega (arith, c.requires.steps)) (as_many b) c.in_ok-list.ensures.disk.nested.0)
 
-pub returns-clause-accepted : goal.returns-clause-accepted
-returns-clause-accepted g c =
+pub returns : goal.returns
+returns g c counts =
     let b = c.in_ok-book.book in
     let t = c.in_ok-tables.tables in
     let narrow : room b 0 c.args.steps ≤ 64 = omega (arith, c.if-room-gt-MOST_IMAGES.false, c.room-room.ensures) in
@@ -36,5 +36,10 @@ returns-clause-accepted g c =
     subst (HasText c.args.steps b) is (c.certify_disk-certificate.ensures.text c.args.steps b c.is_within_limits.ensures fits c.in_ok-tables.ensures.sizes c.in_ok-tables.ensures.greatest) in
     let steps_are = has.fast.sized.steps_are in
     let shaped : AreDiskShaped t = record { fast = has.fast.shaped; fresh_long = has.fresh_long ∙ sym steps_are; held_long = has.held_long ∙ sym steps_are } in
-    subst D (sym (c.in_ok-job.ensures.job ∙ (λ i. write (list_pieces (names_of b) (c.new.ensures i) ++ certificate_text.pieces (is i)))))
-    (disk_accepted c.args.steps c.args.book.now b t c.in_ok-list.list.items c.in_ok-book.ensures.found narrow plan.two plan.unlimited (has.fast.sized, shaped) c.in_ok-tables.ensures.greatest c.in_ok-list.ensures.list)
+    record {
+      accepted = subst D (sym (c.in_ok-job.ensures.job ∙ (λ i. write (list_pieces (names_of b) (c.new.ensures i) ++ certificate_text.pieces (is i)))))
+          (disk_accepted c.args.steps c.args.book.now b t c.in_ok-list.list.items c.in_ok-book.ensures.found narrow plan.two plan.unlimited (has.fast.sized, shaped) c.in_ok-tables.ensures.greatest c.in_ok-list.ensures.list);
+      can_be_done = c.in_ok-job.ensures.can_be_done;
+      room = c.in_ok-job.ensures.room counts;
+      refused = tt;
+    }

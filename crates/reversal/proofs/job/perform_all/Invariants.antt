@@ -4,7 +4,7 @@ use Rattle.unit_digests.specs.Digests.{HasPages}
 use Rattle.reverse_runner.specs.Rooms.{rooms_by, SameRooms}
 use Rattle.reverse_runner.specs.SessionState.{SamePages}
 use Rattle.reversal.specs.ActionsLeft.{left_of}
-use Rattle.reversal.specs.JobReading.{run_from}
+use Rattle.reversal.specs.JobModel.{run_from}
 use Rattle.reversal.specs.Deeds.{States}
 use Rattle.reversal.specs.Moment.{moment}
 use Rattle.reversal.proofs.Progress.{SoFar}
@@ -18,8 +18,8 @@ invariant-loop-action g l = record {
   so_far :
       (shown : States)
       × SoFar (run_from l.fn.session (left_of l.fn.actions)) l.place shown l.session
-      (moment g.O.Sink.told g.O.Sink.call_count g.O.Sink.fault_count g.K.Storage.told g.K.Storage.put_count g.K.Storage.get_count g.K.Storage.free_count g.K.Storage.fault_count l.fn.out l.fn.keepers.items l.fn.counter)
-      (moment g.O.Sink.told g.O.Sink.call_count g.O.Sink.fault_count g.K.Storage.told g.K.Storage.put_count g.K.Storage.get_count g.K.Storage.free_count g.K.Storage.fault_count l.writer.out.now l.keepers.items l.counter);
+      (moment g.O.Sink g.K.Storage l.fn.out l.fn.keepers.items l.fn.counter)
+      (moment g.O.Sink g.K.Storage l.writer.out.now l.keepers.items l.counter);
   rooms : SameRooms (rooms_by g.K.Storage l.fn.keepers.items) (rooms_by g.K.Storage l.keepers.items);
   pages : SamePages l.session.work l.fn.session.work;
   digesters : AllByRecursion (HasPages l.session.work) l.digesters;

@@ -1,7 +1,7 @@
 use Rattle.std.proofs.Common.{List, [], ◌∷◌, ℕ, refl, sym, subst, append-nil}
-use Rattle.keepers.specs.Told.{Tells, AddsPrefix}
+use Rattle.keepers.specs.Claims.{Tells, AddsPrefix}
 use Rattle.reversal.specs.Output.{Adds}
-use Rattle.reversal.proofs.Doing.{tells_nothing, raised_none}
+use Rattle.reversal.proofs.DeedSequences.{tells_nothing, raised_none}
 use Rattle.reversal.proofs.Pieces.{texts_done, texts_stopped}
 use Rattle.reversal.proofs.job.write_bytes.Goals as goal
 

@@ -1,4 +1,4 @@
-use Rattle.reversal.proofs.Deciding.{one_decision}
+use Rattle.reversal.proofs.DecisionLaws.{one_decision}
 use Rattle.reversal.proofs.laws.decisions_are_unique.Goals as goal
 
 pub returns : goal.returns

@@ -1,4 +1,4 @@
-use Rattle.reversal.proofs.Deciding.{deeds_output, deeds_steps}
+use Rattle.reversal.proofs.DecisionLaws.{deeds_output, deeds_steps}
 use Rattle.reversal.proofs.laws.deeds_make_the_output.Goals as goal
 
 pub returns-clause-bytes : goal.returns-clause-bytes

@@ -1,4 +1,4 @@
-use Rattle.reversal.specs.Going.{AllLevels, SparesNext, UnreachedNext}
+use Rattle.reversal.specs.RunTrace.{AllLevels, SparesNext, UnreachedNext}
 use Rattle.reversal.proofs.Collision.{shown_or_collides, lines_or_collide}
 use Rattle.reversal.proofs.laws.runs_show_their_states_or_collide.Goals as goal
 

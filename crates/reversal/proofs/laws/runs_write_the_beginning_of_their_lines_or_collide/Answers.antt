@@ -1,4 +1,4 @@
-use Rattle.reversal.specs.Going.{AllLevels, SparesNext, UnreachedNext}
+use Rattle.reversal.specs.RunTrace.{AllLevels, SparesNext, UnreachedNext}
 use Rattle.reversal.proofs.LineFronts.{front_or_collides, part_or_collides}
 use Rattle.reversal.proofs.laws.runs_write_the_beginning_of_their_lines_or_collide.Goals as goal
 

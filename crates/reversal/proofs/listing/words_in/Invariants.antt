@@ -1,6 +1,6 @@
 use Rattle.std.proofs.Common.{◌≡◌, ◌%◌, ◌++◌, length}
 use Rattle.std.specs.List.{AllByRecursion}
-use Rattle.reversal.specs.CommandAssemble.{word_bytes}
+use Rattle.reversal.specs.CommandAsm.{word_bytes}
 use Rattle.reversal.specs.Listing.{IsWord}
 use Rattle.reversal.proofs.listing.words_in.Given as goal
 

@@ -3,32 +3,33 @@ use Rattle.std.specs.List.{AllByRecursion}
 use Rattle.plan_types.specs.declared.action.Action.{Action}
 use Rattle.level_book.specs.BookCosts.{slots_of, names_of}
 use Rattle.action_text.specs.Canonical.{HasSpelling}
-use Rattle.disk_gen.specs.Periodic.{periodic_list}
-use Rattle.disk_gen.proofs.Leading.{periodic_valid}
+use Rattle.disk_gen.specs.PeriodicList.{periodic_list}
+use Rattle.disk_gen.proofs.PeriodicValidity.{periodic_valid}
 use Rattle.requests.specs.declared.ended.Ended.{Ended}
 use Rattle.reversal.specs.Job.{Job, write}
 use Rattle.requests.specs.Ending.{bad_book, no_memory}
 use Rattle.reversal.specs.Plans.{list_pieces}
 use Rattle.reversal.specs.NoPlans.{IsUnperiodic}
-use Rattle.reversal.specs.Fronts.{HasBookFault}
+use Rattle.reversal.specs.InputMeaning.{HasBookFault}
 use Rattle.reversal.specs.CommandPlan.{DecidesPlanPeriodic}
 use Rattle.reversal.specs.Table.{accept}
-use Rattle.reversal.specs.JobReading.{IsRefusal}
-use Rattle.reversal.proofs.Spelled.{valid_spelled}
-use Rattle.reversal.proofs.Planned.{as_many}
-use Rattle.reversal.proofs.Deciding.{on_error, periodic_by_book, periodic_by_plan, periodic_accepted}
+use Rattle.reversal.specs.JobModel.{IsRefusal}
+use Rattle.reversal.proofs.ActionSpelling.{valid_spelled}
+use Rattle.reversal.proofs.RevolvePlan.{as_many}
+use Rattle.reversal.proofs.DecisionLaws.{periodic_by_book, periodic_by_plan, periodic_accepted}
+use Rattle.reversal.proofs.Decisions.{by_error}
 use Rattle.reversal.proofs.periodic.periodic_text.Goals as goal
 
-pub returns-in_err-book-clause-refused : goal.returns-in_err-book-clause-refused
-returns-in_err-book-clause-refused c =
-    on_error c.from_residual.result _ _ c.from_residual.ensures.1 (λ e gives.
+pub returns-in_err-book : goal.returns-in_err-book
+returns-in_err-book c counts =
+    by_error _ _ c.from_residual.result _ c.from_residual.ensures.1 (λ e gives.
     let same : c.in_err-book.field-0.0 ≡ e = cc in
     let P : Ended → Type 0 = λ x. IsRefusal (HasBookFault c.args.book.now) bad_book x in
     periodic_by_book c.args.steps c.args.period c.args.book.now e (subst P same c.in_err-book.ensures.refused))
 
-pub returns-in_err-periodic-clause-refused : goal.returns-in_err-periodic-clause-refused
-returns-in_err-periodic-clause-refused c =
-    on_error c.from_residual-in_err-periodic.result _ _ c.from_residual-in_err-periodic.ensures.1 (λ e gives.
+pub returns-in_err-periodic : goal.returns-in_err-periodic
+returns-in_err-periodic c counts =
+    by_error _ _ c.from_residual-in_err-periodic.result _ c.from_residual-in_err-periodic.ensures.1 (λ e gives.
     let same : c.in_err-periodic.field-0.0 ≡ e = cc in
     let P : Ended → Type 0 = λ x. (x ≡ no_memory) ⊎ IsUnperiodic c.args.steps c.args.period c.in_ok-book.book x in
     periodic_by_plan c.args.steps c.args.period c.args.book.now e c.in_ok-book.book c.in_ok-book.ensures.found (subst P same c.in_err-periodic.ensures.refused))
@@ -39,10 +40,15 @@ list_text-requires c =
     let S : List Action → Type 0 = λ l. AllByRecursion (HasSpelling (names_of b)) l in
     subst S (sym c.in_ok-periodic.ensures.list) (valid_spelled c.args.steps (slots_of b) (names_of b) (periodic_list c.args.steps c.args.period b) c.requires.steps (as_many b) (periodic_valid c.args.steps c.args.period b c.requires.some c.in_ok-periodic.ensures.plan))
 
-pub returns-clause-accepted : goal.returns-clause-accepted
-returns-clause-accepted c =
+pub returns : goal.returns
+returns c counts =
     let b = c.in_ok-book.book in
     let plan = c.in_ok-periodic.ensures.plan in
     let D : Job → Type 0 = λ j. DecidesPlanPeriodic c.args.steps c.args.period c.args.book.now (accept j) in
-    subst D (sym (c.in_ok-job.ensures.job ∙ ap (λ l. write (list_pieces (names_of b) l)) c.in_ok-periodic.ensures.list))
-    (periodic_accepted c.args.steps c.args.period c.args.book.now b c.in_ok-book.ensures.found plan.two plan.fast plan.slow)
+    record {
+      accepted = subst D (sym (c.in_ok-job.ensures.job ∙ ap (λ l. write (list_pieces (names_of b) l)) c.in_ok-periodic.ensures.list))
+          (periodic_accepted c.args.steps c.args.period c.args.book.now b c.in_ok-book.ensures.found plan.two plan.fast plan.slow);
+      can_be_done = c.in_ok-job.ensures.can_be_done;
+      room = c.in_ok-job.ensures.room counts;
+      refused = tt;
+    }

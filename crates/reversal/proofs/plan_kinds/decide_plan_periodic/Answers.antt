@@ -1,24 +1,15 @@
-use Rattle.std.proofs.Common.{◌≡◌, ◌⊎◌, inl, inr, ◌∙◌, ℕ, List, [], ◌∷◌, map, Vec, Global, IfOk, IfErr, sym, subst, arith}
-use Rattle.requests.specs.Request.{Choice, plan_periodic}
-use Rattle.reversal.specs.Table.{accept, refuse}
+use Rattle.std.proofs.Common.{◌≡◌, ◌∙◌, ℕ, List, [], ◌∷◌, map, Vec, Global, sym, subst, arith}
+use Rattle.requests.specs.Request.{plan_periodic}
 use Rattle.reversal.specs.Decision.{DecidesBytes}
-use Rattle.requests.specs.Ending.{no_memory}
-use Rattle.reversal.specs.JobReading.{job_of}
-use Rattle.requests.specs.RequestReading.{as_plan_periodic}
-use Rattle.reversal.proofs.Answering.{if_okay, if_error}
-use Rattle.requests.proofs.Taking.{one_text}
+use Rattle.reversal.specs.JobModel.{IsDecided}
+use Rattle.requests.specs.RequestModel.{as_plan_periodic}
+use Rattle.reversal.proofs.Decisions.{by_another}
+use Rattle.requests.proofs.InputSequence.{one_text}
 use Rattle.reversal.proofs.plan_kinds.decide_plan_periodic.Goals as goal
 
-pub returns-clause-accepted : goal.returns-clause-accepted
-returns-clause-accepted c =
+pub returns : goal.returns
+returns c slots options =
     let same = one_text c.args.bytes.now c.book-item.result (omega arith) c.book-item.is in
     let deref : c.deref.result.now ∷ [] ≡ map (λ (t : Vec ℕ Global). t.items) c.args.bytes.now = (λ i. c.deref.ensures.value i ∷ []) ∙ sym same in
-    let P : List (List ℕ) → Type 0 = λ l. IfOk c.periodic_text.result (λ job. (slots : List ℕ) → (options : List Choice) → DecidesBytes options (plan_periodic (as_plan_periodic c.args.plan.now)) l slots (accept (job_of job))) in
-    subst P deref (if_okay c.periodic_text.result _ _ (λ job h slots options. h) c.periodic_text.ensures.accepted)
-
-pub returns-clause-refused : goal.returns-clause-refused
-returns-clause-refused c =
-    let same = one_text c.args.bytes.now c.book-item.result (omega arith) c.book-item.is in
-    let deref : c.deref.result.now ∷ [] ≡ map (λ (t : Vec ℕ Global). t.items) c.args.bytes.now = (λ i. c.deref.ensures.value i ∷ []) ∙ sym same in
-    let P : List (List ℕ) → Type 0 = λ l. IfErr c.periodic_text.result (λ e. (e ≡ no_memory) ⊎ ((slots : List ℕ) → (options : List Choice) → DecidesBytes options (plan_periodic (as_plan_periodic c.args.plan.now)) l slots (refuse e))) in
-    subst P deref (if_error c.periodic_text.result _ _ (λ e h. elim h [ inl memory ↦ inl memory | inr decides ↦ inr (λ slots options. decides) ]) c.periodic_text.ensures.refused)
+    let P : List (List ℕ) → Type 0 = λ l. IsDecided (DecidesBytes options (plan_periodic (as_plan_periodic c.args.plan.now)) l slots) slots c.periodic_text.result in
+    subst P deref (by_another _ _ slots c.periodic_text.result (c.periodic_text.ensures slots) (λ d h. h))

@@ -1,13 +1,13 @@
 use Rattle.std.proofs.Common.{◌≡◌, ℕ, List, map, Vec, Global, IfOk, sym, ◌∙◌, subst}
 use Rattle.requests.specs.declared.ended.Ended.{Ended}
-use Rattle.requests.specs.InputReading.{all, Reads, Stops}
+use Rattle.requests.specs.InputOutcome.{all, Reads, Stops}
 use Rattle.requests.specs.Inputs.{inputs_of}
 use Rattle.reversal.specs.Table.{accept}
 use Rattle.reversal.specs.Decision.{Comes}
-use Rattle.reversal.specs.JobReading.{job_of, KeepersHaveRoom}
-use Rattle.requests.specs.RequestReading.{request_of}
-use Rattle.reversal.proofs.Answering.{Refused, comes_by, stops_refused, decides_refused, no_input_fault, if_error, if_okay}
-use Rattle.reversal.proofs.Deciding.{on_error}
+use Rattle.reversal.specs.JobModel.{job_of, KeepersHaveRoom}
+use Rattle.requests.specs.RequestModel.{request_of}
+use Rattle.reversal.proofs.TopCall.{Refused, comes_by, stops_refused, decides_refused, no_input_fault, if_error, if_okay}
+use Rattle.reversal.proofs.DecisionLaws.{on_error}
 use Rattle.reversal.proofs.top.prepared.Goals as goal
 
 pub returns-clause-comes : goal.returns-clause-comes

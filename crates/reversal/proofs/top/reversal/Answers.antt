@@ -3,13 +3,13 @@ use Rattle.requests.specs.declared.ended.Ended.{Ended}
 use Rattle.requests.specs.Request.{Request, Says, words_of}
 use Rattle.requests.specs.Bounds.{numbers}
 use Rattle.requests.specs.Inputs.{inputs_of, names, FailsAtInput}
-use Rattle.requests.specs.RequestReading.{request_of}
+use Rattle.requests.specs.RequestModel.{request_of}
 use Rattle.reversal.specs.Table.{accept, refuse}
 use Rattle.reversal.specs.Decision.{Comes}
-use Rattle.reversal.specs.JobReading.{job_of}
+use Rattle.reversal.specs.JobModel.{job_of}
 use Rattle.requests.proofs.Requests.{one_request}
-use Rattle.requests.proofs.Settled.{refuses_number, not_asked, not_refused, refused_so, refused_not_two}
-use Rattle.reversal.proofs.Answering.{comes_of, works_ends, works_halts, works_not, not_at_input}
+use Rattle.requests.proofs.RefusalUniqueness.{refuses_number, not_asked, not_refused, refused_so, refused_not_two}
+use Rattle.reversal.proofs.TopCall.{comes_of, works_ends, works_halts, works_not, not_at_input}
 use Rattle.reversal.proofs.top.reversal.Given.{Over}
 use Rattle.reversal.proofs.top.reversal.Goals as goal
 

@@ -4,11 +4,11 @@ use Rattle.std.specs.Ordering.{nat_cmp}
 use Rattle.std.specs.Cmp.Lexicographic.{slice_cmp}
 use Rattle.std.specs.FinMap as finmap
 use Rattle.std.specs.FinMap.{get-empty}
-use Rattle.keepers.specs.Told.{Files}
+use Rattle.keepers.specs.Claims.{Files}
 use Rattle.memory_disk.specs.Changes.{files_after}
 use Rattle.memory_disk.specs.declared.MemoryDisk.{MemoryDisk}
 use Rattle.requests.specs.Places.{levels, folder_said}
-use Rattle.reversal_program.specs.Beginning.{HasNoFiles, HaveNoFiles}
+use Rattle.reversal_program.specs.LevelStart.{HasNoFiles, HaveNoFiles}
 use Rattle.reversal_program.proofs.LevelFiles.{as_many}
 use Rattle.reversal_calls.proofs.over_files.run_over_files.Goals as goal
 

@@ -3,18 +3,18 @@ use Rattle.std.proofs.lemmas.Result.{IfErr-at_err, err_from_is_err_and, on_err_w
 use Rattle.reverse_runner.specs.KeepersSeen.{told_by, calls_to}
 use Rattle.reverse_runner.specs.declared.fault.RunFault.{RunFault}
 use Rattle.reverse_runner.specs.declared.fault.RunFault.TheVariants.{Visitor}
-use Rattle.reverse_queries.proofs.Ways.{same_fault, on_err_always}
+use Rattle.reverse_queries.proofs.Progress.{same_fault, on_err_always}
 use Rattle.reverse_console.specs.Costs.{looking, BreaksLooking, TookUntil}
 use Rattle.reverse_console.specs.Marks.{mark_of}
 use Rattle.reverse_console.specs.Refusals.{IsNotGot}
-use Rattle.reverse_console.specs.Handling.{source}
-use Rattle.reverse_console.specs.Seen.{IsAnswerSeen}
-use Rattle.reverse_console.proofs.Answering.{takes_both, takes_none, stops_looking, stops_going, took_until, other_fault, both_ways, pass_on, never_done}
-use Rattle.reverse_console.proofs.Getting.{err_at, gets_err, gets_ok, gets_then, comes_then, not_got_then}
-use Rattle.reverse_console.proofs.Leaving.{refused_on}
+use Rattle.reverse_console.specs.MarkInvariant.{source}
+use Rattle.reverse_console.specs.StateSources.{IsAnswerSeen}
+use Rattle.reverse_console.proofs.OrderCosts.{takes_both, takes_none, stops_looking, stops_going, took_until, other_fault, both_ways, pass_on, never_done}
+use Rattle.reverse_console.proofs.MarkGets.{err_at, gets_err, gets_ok, gets_then, comes_then, not_got_then}
+use Rattle.reverse_console.proofs.OrderEffects.{refused_on}
 use Rattle.reverse_console.proofs.Scripts.{if_ok_at}
-use Rattle.reverse_console.proofs.Seeing.{answer_within}
-use Rattle.reverse_console.proofs.Walking.{ready_still}
+use Rattle.reverse_console.proofs.FetchedStates.{answer_within}
+use Rattle.reverse_console.proofs.BackwardSearch.{ready_still}
 use Rattle.reverse_console.proofs.console.answer.Goals as goal
 
 pub go-requires-clause-within : goal.go-requires-clause-within

@@ -3,13 +3,13 @@ use Rattle.std.specs.Vec.{vec_capacity}
 use Rattle.std.proofs.lemmas.Result.{IfErr-at_err, err_from_is_err_and}
 use Rattle.reverse_runner.specs.KeepersSeen.{told_by}
 use Rattle.reverse_runner.specs.declared.fault.RunFault.TheVariants.{Visitor}
-use Rattle.reverse_queries.proofs.Ways.{same_fault, on_err_always}
+use Rattle.reverse_queries.proofs.Progress.{same_fault, on_err_always}
 use Rattle.reverse_console.specs.Marks.{marked, mark_of}
-use Rattle.reverse_console.specs.Handling.{source}
+use Rattle.reverse_console.specs.MarkInvariant.{source}
 use Rattle.reverse_console.specs.Refusals.{IsNotGot}
-use Rattle.reverse_console.proofs.Getting.{err_at, fits_on, gets_as, gets_err, gets_ok, gets_moved, gets_unseen}
+use Rattle.reverse_console.proofs.MarkGets.{err_at, fits_on, gets_as, gets_err, gets_ok, gets_moved, gets_unseen}
 use Rattle.reverse_console.proofs.Numbers.{mark_at_most, mark_of_known}
-use Rattle.reverse_console.proofs.Seeing.{went}
+use Rattle.reverse_console.proofs.FetchedStates.{went}
 use Rattle.reverse_console.proofs.going.go.Goals as goal
 
 pub recall-requires-clause-known : goal.recall-requires-clause-known

@@ -7,17 +7,17 @@ use Rattle.rv_machine.proofs.Runs.{state_number_keeps_pages}
 use Rattle.reverse_runner.specs.KeepersSeen.{calls_to, told_by, Called, HaveRoom}
 use Rattle.reverse_console.specs.Costs.{puts_of}
 use Rattle.reverse_console.specs.Marks.{marked, mark_count, span, stride}
-use Rattle.reverse_console.specs.Handling.{AreSet, AreKept, StandAt}
+use Rattle.reverse_console.specs.MarkInvariant.{AreSet, AreKept, StandAt}
 use Rattle.reverse_console.specs.Refusals.{IsOfPutting}
 use Rattle.reverse_runner.specs.declared.fault.RunFault.TheVariants.{Keeper, Memory}
 use Rattle.reverse_runner.specs.Rooms.{rooms_by, AreShort}
 use Rattle.reverse_runner.proofs.Rooms.{same_room, still_roomy}
-use Rattle.reverse_runner.proofs.Touched.{are_ok, are_err}
-use Rattle.reverse_queries.proofs.Ways.{same_fault}
-use Rattle.reverse_console.proofs.Calling.{are_after}
-use Rattle.reverse_console.proofs.Getting.{err_at, at_ok, ok_never}
+use Rattle.reverse_runner.proofs.KeeperCalls.{are_ok, are_err}
+use Rattle.reverse_queries.proofs.Progress.{same_fault}
+use Rattle.reverse_console.proofs.KeeperCalls.{are_after}
+use Rattle.reverse_console.proofs.MarkGets.{err_at, at_ok, ok_never}
 use Rattle.reverse_console.proofs.Numbers.{first_known, marked_first, marked_within, one_less}
-use Rattle.reverse_console.proofs.Putting.{puts_more, puts_none, puts_within, next_state, same_mark}
+use Rattle.reverse_console.proofs.MarkPuts.{puts_more, puts_none, puts_within, next_state, same_mark}
 use Rattle.reverse_console.proofs.going.set_marks.Goals as goal
 
 pub set_mark-requires-clause-known : goal.set_mark-requires-clause-known
@@ -38,12 +38,12 @@ loop-mark-init g c =
       stand = λ stands. stand_first stands;
       kept = at_ok c.set_mark.result _ c.in_ok-set_mark.was (c.set_mark.ensures.sets.kept c.args.desk.now.work c.args.journal.now (λ j lt. absurd (omega (arith, lt))) (sym (ap (state_number c.args.desk.now.work c.args.journal.now) (marked_first p))));
       work = c.set_mark.ensures.work ∙ sym (ap (state_number c.args.desk.now.work c.args.journal.now) first);
-      fits = c.set_mark.ensures.fits;
+      fits = c.set_mark.ensures.leaves.fits;
       counted = omega (arith, first);
       called = puts_more p 0 old old (calls_to g.K.Storage c.set_mark.new.keepers.items) (puts_none p old) c.set_mark.ensures.puts.called;
-      are = are_ok g.K.Storage _ c.set_mark.result _ tt _ _ c.in_ok-set_mark.was c.set_mark.ensures.are;
+      are = are_ok g.K.Storage _ c.set_mark.result _ tt _ _ c.in_ok-set_mark.was c.set_mark.ensures.leaves.are;
       known = omega (arith, some);
-      short = λ short. at_ok c.set_mark.result _ c.in_ok-set_mark.was (c.set_mark.ensures.short short);
+      short = λ short. at_ok c.set_mark.result _ c.in_ok-set_mark.was (c.set_mark.ensures.leaves.short short);
     }
 
 pub loop-mark-preserved : goal.loop-mark-preserved
@@ -64,16 +64,16 @@ loop-mark-preserved g c =
       stand = λ stands. at_ok c.set_next.result _ c.in_ok-set_next.was (c.set_next.ensures.sets.stand c.args.desk.now.work c.args.journal.now (so_far.stand stands) work);
       kept = at_ok c.set_next.result _ c.in_ok-set_next.was (c.set_next.ensures.sets.kept c.args.desk.now.work c.args.journal.now so_far.kept work);
       work = work ∙ sym (ap (state_number c.args.desk.now.work c.args.journal.now) here);
-      fits = c.set_next.ensures.fits;
+      fits = c.set_next.ensures.leaves.fits;
       counted = omega (arith, so_far.counted, c.set_next.ensures.counted, step, here);
       called = puts_more p i (calls_to g.K.Storage c.args.keepers.now.items) (calls_to g.K.Storage c.loop-mark.keepers.items) (calls_to g.K.Storage c.set_next.new.keepers.items) so_far.called c.set_next.ensures.puts.called;
-      are = are_after {B = Unit} g.K.Storage T (Ok tt) _ _ _ so_far.are (are_ok g.K.Storage T c.set_next.result _ tt _ _ c.in_ok-set_next.was c.set_next.ensures.are);
+      are = are_after {B = Unit} g.K.Storage T (Ok tt) _ _ _ so_far.are (are_ok g.K.Storage T c.set_next.result _ tt _ _ c.in_ok-set_next.was c.set_next.ensures.leaves.are);
       known = omega (arith, below);
       short = λ short.
           let pages = same_room c.loop-mark.desk.work c.args.desk.now.work (ap (λ (s : MachineState). page_numbers s.memory) so_far.work ∙ state_number_keeps_pages c.args.desk.now.work c.args.journal.now (marked p (i - 1))) in
           let S : ℕ → Type 0 = λ most. AreShort most c.loop-mark.desk.store in
           let P : ℕ → Type 0 = λ most. AreShort most c.set_next.new.desk.store in
-          subst P pages (at_ok c.set_next.result _ c.in_ok-set_next.was (c.set_next.ensures.short (subst S (sym pages) (so_far.short short))));
+          subst P pages (at_ok c.set_next.result _ c.in_ok-set_next.was (c.set_next.ensures.leaves.short (subst S (sym pages) (so_far.short short))));
     }
 
 pub returns-in_err-set_mark-clause-puts : goal.returns-in_err-set_mark-clause-puts
@@ -104,11 +104,6 @@ returns-in_err-set_mark-clause-puts g c =
 
 pub returns-in_err-set_mark-clause-machine : goal.returns-in_err-set_mark-clause-machine
 returns-in_err-set_mark-clause-machine g c = ap (λ (s : MachineState). page_numbers s.memory) c.set_mark.ensures.work
-
-pub returns-in_err-set_mark-clause-are : goal.returns-in_err-set_mark-clause-are
-returns-in_err-set_mark-clause-are g c =
-    let q = err_from_is_err_and c.from_residual.result c.from_residual.ensures.1 in
-    are_err g.K.Storage _ c.set_mark.result c.from_residual.result _ _ _ _ c.in_err-set_mark.was q.1 q.2 c.set_mark.ensures.are
 
 pub returns-in_err-set_next-clause-machine : goal.returns-in_err-set_next-clause-machine
 returns-in_err-set_next-clause-machine g c =
@@ -142,16 +137,6 @@ returns-in_err-set_next-clause-puts g c =
           };
     }
 
-pub returns-in_err-set_next-clause-are : goal.returns-in_err-set_next-clause-are
-returns-in_err-set_next-clause-are g c =
-    let q = err_from_is_err_and c.from_residual-in_err-set_next.result c.from_residual-in_err-set_next.ensures.1 in
-    let T : ℕ → Type 0 = λ k. k < length c.args.marks.now.slots in
-    are_err g.K.Storage T c.set_next.result c.from_residual-in_err-set_next.result _ _ _ _ c.in_err-set_next.was q.1 q.2
-    (are_after g.K.Storage T c.set_next.result _ _ _ c.loop-mark.invariant.are c.set_next.ensures.are)
-
-pub returns-clause-are : goal.returns-clause-are
-returns-clause-are g c = c.loop-mark.invariant.are
-
 pub returns-clause-set : goal.returns-clause-set
 returns-clause-set g c =
     let all : c.loop-mark.mark ≡ mark_count c.args.marks.now = omega (arith, c.number-mark-end.ensures, c.loop-mark.invariant.known) in
@@ -183,19 +168,46 @@ returns-clause-puts g c =
       put_until = λ k e. absurd cc;
     }
 
-pub set_next-requires-clause-room : goal.set_next-requires-clause-room
-set_next-requires-clause-room g c = subst (HaveRoom (span c.args.marks.now) c.args.marks.now.slots) (sym c.loop-mark.invariant.are.slots) c.requires.room
+pub set_next-requires-clause-may_set : goal.set_next-requires-clause-may_set
+set_next-requires-clause-may_set g c =
+    let so_far = c.loop-mark.invariant in
+    record {
+      set = so_far.set;
+      room = subst (HaveRoom (span c.args.marks.now) c.args.marks.now.slots) (sym so_far.are.slots) c.requires.may_set.room;
+      fits = so_far.fits;
+    }
 
-pub returns-in_err-set_mark-clause-roomy : goal.returns-in_err-set_mark-clause-roomy
-returns-in_err-set_mark-clause-roomy g c has e =
+pub returns-in_err-set_mark-clause-leaves : goal.returns-in_err-set_mark-clause-leaves
+returns-in_err-set_mark-clause-leaves g c =
     let q = err_from_is_err_and c.from_residual.result c.from_residual.ensures.1 in
-    c.set_mark.ensures.roomy has (same_fault c.set_mark.result c.from_residual.result _ _ Memory c.in_err-set_mark.was q.1 q.2 e)
+    let left = c.set_mark.ensures.leaves in
+    record {
+      fits = left.fits;
+      are = are_err g.K.Storage _ c.set_mark.result c.from_residual.result _ _ _ _ c.in_err-set_mark.was q.1 q.2 left.are;
+      short = λ _. ok_never _ c.from_residual.result q.0 q.1;
+      roomy = λ has e. left.roomy has (same_fault c.set_mark.result c.from_residual.result _ _ Memory c.in_err-set_mark.was q.1 q.2 e);
+    }
 
-pub returns-in_err-set_next-clause-roomy : goal.returns-in_err-set_next-clause-roomy
-returns-in_err-set_next-clause-roomy g c has e =
+pub returns-in_err-set_next-clause-leaves : goal.returns-in_err-set_next-clause-leaves
+returns-in_err-set_next-clause-leaves g c =
     let q = err_from_is_err_and c.from_residual-in_err-set_next.result c.from_residual-in_err-set_next.ensures.1 in
     let p = c.args.marks.now in
     let so_far = c.loop-mark.invariant in
+    let left = c.set_next.ensures.leaves in
+    let T : ℕ → Type 0 = λ k. k < length p.slots in
     let pages = ap (λ (s : MachineState). page_numbers s.memory) so_far.work ∙ state_number_keeps_pages c.args.desk.now.work c.args.journal.now (marked p (c.loop-mark.mark - 1)) in
-    let here = still_roomy c.args.desk.now.work c.loop-mark.desk.work p.slots p.slots (rooms_by g.K.Storage c.args.keepers.now.items) (rooms_by g.K.Storage c.loop-mark.keepers.items) pages refl so_far.are.rooms has in
-    c.set_next.ensures.roomy here (same_fault c.set_next.result c.from_residual-in_err-set_next.result _ _ Memory c.in_err-set_next.was q.1 q.2 e)
+    record {
+      fits = left.fits;
+      are =
+          are_err g.K.Storage T c.set_next.result c.from_residual-in_err-set_next.result _ _ _ _ c.in_err-set_next.was q.1 q.2
+          (are_after g.K.Storage T c.set_next.result _ _ _ so_far.are left.are);
+      short = λ _. ok_never _ c.from_residual-in_err-set_next.result q.0 q.1;
+      roomy = λ has e.
+          let here = still_roomy c.args.desk.now.work c.loop-mark.desk.work p.slots p.slots (rooms_by g.K.Storage c.args.keepers.now.items) (rooms_by g.K.Storage c.loop-mark.keepers.items) pages refl so_far.are.rooms has in
+          left.roomy here (same_fault c.set_next.result c.from_residual-in_err-set_next.result _ _ Memory c.in_err-set_next.was q.1 q.2 e);
+    }
+
+pub returns-clause-leaves : goal.returns-clause-leaves
+returns-clause-leaves g c =
+    let so_far = c.loop-mark.invariant in
+    record { fits = so_far.fits; are = so_far.are; short = so_far.short; roomy = λ has e. absurd cc }

@@ -2,19 +2,21 @@ use Rattle.std.proofs.Common.{ℕ, OnOk, refl, sym, ◌∙◌, ap, subst, arith}
 use Rattle.std.specs.Vec.{vec_capacity}
 use Rattle.rv_machine.specs.States.{state_number}
 use Rattle.reverse_runner.specs.KeepersSeen.{told_by}
-use Rattle.reverse_console.specs.Handling.{AreSet, AreKept, StandAt}
+use Rattle.reverse_console.specs.MarkInvariant.{AreSet, AreKept, StandAt}
 use Rattle.reverse_runner.specs.Rooms.{image_room, rooms_by, AreShort}
 use Rattle.reverse_runner.proofs.Rooms.{same_room, short_same, still_roomy}
-use Rattle.reverse_console.proofs.Getting.{fits_on}
+use Rattle.reverse_console.proofs.MarkGets.{fits_on}
 use Rattle.reverse_console.proofs.going.set_next.Goals as goal
 
-pub set_mark-requires-clause-set : goal.set_mark-requires-clause-set
-set_mark-requires-clause-set g c = subst (λ s. AreSet c.args.marks.now c.args.mark s) (sym c.advance.ensures.store) c.requires.set
-
-pub set_mark-requires-clause-fits : goal.set_mark-requires-clause-fits
-set_mark-requires-clause-fits g c =
+pub set_mark-requires-clause-may_set : goal.set_mark-requires-clause-may_set
+set_mark-requires-clause-may_set g c =
+    let may = c.requires.may_set in
     let same = ap vec_capacity c.advance.ensures.buffer in
-    fits_on c.args.desk.now c.advance.new.self (sym c.advance.ensures.pages) (omega (arith, same)) c.requires.fits
+    record {
+      set = subst (λ s. AreSet c.args.marks.now c.args.mark s) (sym c.advance.ensures.store) may.set;
+      room = may.room;
+      fits = fits_on c.args.desk.now c.advance.new.self (sym c.advance.ensures.pages) (omega (arith, same)) may.fits;
+    }
 
 pub returns-clause-sets : goal.returns-clause-sets
 returns-clause-sets g c =
@@ -29,16 +31,19 @@ pub returns-clause-work : goal.returns-clause-work
 returns-clause-work g c =
     c.set_mark.ensures.work ∙ c.advance.ensures.work ∙ ap (state_number c.args.desk.now.work c.args.journal.now) c.stride.ensures
 
-pub returns-clause-short : goal.returns-clause-short
-returns-clause-short g c short =
-    let pages = same_room c.advance.new.self.work c.args.desk.now.work (sym c.advance.ensures.pages) in
-    let short_here = short_same (image_room c.args.desk.now.work) c.args.desk.now.store c.advance.new.self.store c.advance.ensures.store short in
-    let S : ℕ → Type 0 = λ most. AreShort most c.advance.new.self.store in
-    let P : ℕ → Type 0 = λ most. OnOk c.set_mark.result (AreShort most c.set_mark.new.desk.store) in
-    subst P pages (c.set_mark.ensures.short (subst S (sym pages) short_here))
-
-pub returns-clause-roomy : goal.returns-clause-roomy
-returns-clause-roomy g c has =
+pub returns-clause-leaves : goal.returns-clause-leaves
+returns-clause-leaves g c =
     let p = c.args.marks.now in
     let rooms = rooms_by g.K.Storage c.args.keepers.now.items in
-    c.set_mark.ensures.roomy (still_roomy c.args.desk.now.work c.advance.new.self.work p.slots p.slots rooms rooms (sym c.advance.ensures.pages) refl (λ k. refl) has)
+    let left = c.set_mark.ensures.leaves in
+    let pages = same_room c.advance.new.self.work c.args.desk.now.work (sym c.advance.ensures.pages) in
+    let S : ℕ → Type 0 = λ most. AreShort most c.advance.new.self.store in
+    let P : ℕ → Type 0 = λ most. OnOk c.set_mark.result (AreShort most c.set_mark.new.desk.store) in
+    record {
+      fits = left.fits;
+      are = left.are;
+      short = λ short.
+          let here = short_same (image_room c.args.desk.now.work) c.args.desk.now.store c.advance.new.self.store c.advance.ensures.store short in
+          subst P pages (left.short (subst S (sym pages) here));
+      roomy = λ has. left.roomy (still_roomy c.args.desk.now.work c.advance.new.self.work p.slots p.slots rooms rooms (sym c.advance.ensures.pages) refl (λ k. refl) has);
+    }

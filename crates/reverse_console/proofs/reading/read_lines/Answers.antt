@@ -1,10 +1,10 @@
 use Rattle.std.proofs.Common.{[], length, sym, ap, subst, ◌∙◌, arith}
 use Rattle.line_texts.specs.declared.fault.Fault.{Fault}
 use Rattle.line_texts.specs.Lines.{lines}
-use Rattle.reverse_console.specs.ScriptReading.{orders_from, script_of}
-use Rattle.line_texts.specs.Reading.{Fails}
+use Rattle.reverse_console.specs.ScriptParser.{orders_from, script_of}
+use Rattle.line_texts.specs.Parsers.{Fails}
 use Rattle.reverse_console.proofs.ScriptWhole.{step_ok, step_err, step_end, one_more_order}
-use Rattle.line_texts.proofs.Seen.{lines_few}
+use Rattle.line_texts.proofs.NextToken.{lines_few}
 use Rattle.reverse_console.proofs.reading.read_lines.Goals as goal
 
 pub overflow_add-number : goal.overflow_add-number

@@ -1,6 +1,6 @@
 use Rattle.std.proofs.Common.{◌≡◌, ◌+◌, ◌≤◌, [], length}
 use Rattle.line_texts.specs.Lines.{lines}
-use Rattle.reverse_console.specs.ScriptReading.{orders_from}
+use Rattle.reverse_console.specs.ScriptParser.{orders_from}
 use Rattle.reverse_console.proofs.reading.read_lines.Given as goal
 
 -- what is read from here on, behind the orders so far, is what is read from the start

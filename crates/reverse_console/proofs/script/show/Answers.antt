@@ -1,12 +1,12 @@
-use Rattle.std.proofs.Common.{◌≡◌, ◌≤◌, ◌++◌, [], ◌∷◌, Bool, sym, ◌∙◌, ap, subst}
+use Rattle.std.proofs.Common.{◌≡◌, ◌≤◌, ◌++◌, [], ◌∷◌, Bool, Some, sym, ◌∙◌, ap, subst}
 use Rattle.std.proofs.lemmas.Result.{on_err_weaker}
 use Rattle.keepers.specs.Counts.{Rose, raised}
-use Rattle.keepers.specs.Told.{Tells, AddsPrefix}
+use Rattle.keepers.specs.Claims.{Tells, AddsPrefix}
 use Rattle.state_image.specs.Line.{line}
 use Rattle.reverse_runner.specs.KeepersSeen.{told_by, calls_to}
 use Rattle.reverse_console.specs.ConsoleState.{source_of}
 use Rattle.reverse_console.specs.ScriptAnswers.{moment, IsShown, IsOrderShown}
-use Rattle.reverse_console.proofs.Leaving.{if_ok_both}
+use Rattle.reverse_console.proofs.OrderEffects.{if_ok_both}
 use Rattle.reverse_console.proofs.Scripts.{shown_of, same_names, not_over}
 use Rattle.reverse_console.proofs.script.show.Goals as goal
 
@@ -31,43 +31,38 @@ returns-clause-shown g c =
     record { answer = h.0; seen = h.1.0; place = k.2; shown = subst B (sym last) (subst A c.new-writer.ensures.same k.1); takes = takes })
     did.answered did.takes
 
-pub returns-clause-missed : goal.returns-clause-missed
-returns-clause-missed g c e =
-    let old = c.args.console.now in
-    let src = source_of old (told_by g.K.Storage c.args.keepers.now.items) in
+pub returns-clause-leaves : goal.returns-clause-leaves
+returns-clause-leaves g c =
     let v = c.perform.new.visitor in
     let told = g.O.Sink.told in
     let calls = g.O.Sink.call_count in
-    let m = c.perform.ensures.performed.misses e in
-    let missed = m.1.1.2 in
-    let last = c.out-1.given.1 (sym (missed.0 ∙ c.new-writer.ensures.same_reference)) in
-    let text = line m.0 m.1.0 ++ 10 ∷ [] in
-    let A : g.row.O.Denot → Type 0 = λ o. (calls v.out.now ≡ raised (calls o) 1) × Tells (told o) (told v.out.now) (AddsPrefix text) in
-    let B : g.row.O.Denot → Type 0 = λ o. (calls o ≡ raised (calls c.args.out.now) 1) × Tells (told c.args.out.now) (told o) (AddsPrefix text) in
-    let both = subst B (sym last) (subst A c.new-writer.ensures.same (missed.2, missed.1)) in
-    (m.0, (text, (m.1.1.0, (m.1.0, (m.1.1.1, λ i. text)), both.0, both.1, m.1.1.3)))
-
-pub returns-clause-unwritten : goal.returns-clause-unwritten
-returns-clause-unwritten g c =
-    on_err_weaker c.perform.result (λ unseen never.
-    let same = unseen never in
-    let last = c.out-1.given.1 (sym (ap (λ v. v.out.ghost_name) same ∙ c.new-writer.ensures.same_reference)) in
-    let is = last ∙ ap (λ v. v.out.now) same ∙ c.new-writer.ensures.same in
-    (ap g.O.Sink.told is, ap g.O.Sink.call_count is))
-    c.perform.ensures.seen.unseen
-
-pub returns-clause-leaves : goal.returns-clause-leaves
-returns-clause-leaves g c = c.perform.ensures.leaves
-
-pub returns-clause-keepers : goal.returns-clause-keepers
-returns-clause-keepers g c = c.perform.ensures.keepers
-
-pub returns-clause-spared : goal.returns-clause-spared
-returns-clause-spared g c = record {
-  not_ended = λ e. not_over c.perform.result c.perform.ensures.ended.0 c.requires.lasts e;
-  undamaged = λ first is stands. (c.perform.ensures.in_run first is stands).undamaged;
-  roomy = c.perform.ensures.roomy;
-}
+    let did = c.perform.ensures.performed in
+    record {
+      missed = λ e.
+          let m = did.misses e in
+          let missed = m.1.1.2 in
+          let last = c.out-1.given.1 (sym (missed.0 ∙ c.new-writer.ensures.same_reference)) in
+          let text = line m.0 m.1.0 ++ 10 ∷ [] in
+          let A : g.row.O.Denot → Type 0 = λ o. (calls v.out.now ≡ raised (calls o) 1) × Tells (told o) (told v.out.now) (AddsPrefix text) in
+          let B : g.row.O.Denot → Type 0 = λ o. (calls o ≡ raised (calls c.args.out.now) 1) × Tells (told c.args.out.now) (told o) (AddsPrefix text) in
+          let both = subst B (sym last) (subst A c.new-writer.ensures.same (missed.2, missed.1)) in
+          record { answer = Some m.0; piece = text; seen = m.1.1.0; says = (m.1.0, (m.1.1.1, λ i. text)); wrote = both.0; part = both.1; takes = m.1.1.3 };
+      unwritten =
+          on_err_weaker c.perform.result (λ unseen never.
+          let same = unseen never in
+          let last = c.out-1.given.1 (sym (ap (λ v. v.out.ghost_name) same ∙ c.new-writer.ensures.same_reference)) in
+          let is = last ∙ ap (λ v. v.out.now) same ∙ c.new-writer.ensures.same in
+          (ap told is, ap calls is))
+          c.perform.ensures.seen.unseen;
+      took_until = did.took_until;
+      leaves = c.perform.ensures.leaves;
+      spared = record {
+        not_ended = λ e. not_over c.perform.result c.perform.ensures.ended.0 c.requires.lasts e;
+        undamaged = λ first is stands. (c.perform.ensures.in_run first is stands).undamaged;
+        roomy = c.perform.ensures.roomy;
+      };
+      keepers = c.perform.ensures.keepers;
+    }
 
 pub returns-clause-faults : goal.returns-clause-faults
 returns-clause-faults g c =

@@ -7,13 +7,13 @@ use Rattle.reverse_runner.specs.declared.fault.RunFault.{RunFault}
 use Rattle.reverse_console.specs.Answer.{IsFirst}
 use Rattle.reverse_console.specs.Costs.{asking, looking_on, BreaksOn}
 use Rattle.reverse_console.specs.Marks.{marked, mark_of}
-use Rattle.reverse_console.specs.Handling.{source}
+use Rattle.reverse_console.specs.MarkInvariant.{source}
 use Rattle.reverse_console.specs.Refusals.{IsNotGot}
-use Rattle.reverse_console.specs.Seen.{HasPc}
-use Rattle.reverse_console.proofs.Answering.{never_done, looked_on, first_behind}
-use Rattle.reverse_console.proofs.Getting.{err_at, fits_on, gets_as, gets_err, gets_ok, gets_moved}
+use Rattle.reverse_console.specs.StateSources.{HasPc}
+use Rattle.reverse_console.proofs.OrderCosts.{never_done, looked_on, first_behind}
+use Rattle.reverse_console.proofs.MarkGets.{err_at, fits_on, gets_as, gets_err, gets_ok, gets_moved}
 use Rattle.reverse_console.proofs.Numbers.{mark_at_most, mark_of_known}
-use Rattle.reverse_console.proofs.Seeing.{went, first_on}
+use Rattle.reverse_console.proofs.FetchedStates.{went, first_on}
 use Rattle.reverse_console.proofs.seeking.first_after.Goals as goal
 
 pub recall-requires-clause-known : goal.recall-requires-clause-known

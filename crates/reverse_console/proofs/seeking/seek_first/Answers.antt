@@ -1,8 +1,8 @@
 use Rattle.std.proofs.Common.{ℕ, ◌-◌, sym, ◌∙◌, ap, arith}
 use Rattle.rv_machine.specs.MachineState.{MachineState}
 use Rattle.rv_machine.specs.States.{state_number}
-use Rattle.reverse_console.specs.Seen.{HasPc}
-use Rattle.reverse_console.proofs.Stepping.{one_step, none_more}
+use Rattle.reverse_console.specs.StateSources.{HasPc}
+use Rattle.reverse_console.proofs.StepSearch.{one_step, none_more}
 use Rattle.reverse_console.proofs.seeking.seek_first.Goals as goal
 
 pub returns-then-state-address-clause-first : goal.returns-then-state-address-clause-first

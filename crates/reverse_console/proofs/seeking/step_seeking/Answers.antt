@@ -1,9 +1,9 @@
 use Rattle.std.proofs.Common.{ℕ, List, Option, ◌∙◌, ap, ◌↔◌, IsTrue, sym, subst}
 use Rattle.reverse_console.specs.declared.order.Sought.{Sought}
 use Rattle.rv_machine.specs.MachineState.{MachineState}
-use Rattle.reverse_queries.specs.Finding.{word_bytes}
-use Rattle.reverse_console.specs.Seeking.{Meets}
-use Rattle.reverse_console.proofs.Stepping.{differ_changes, changes_differ}
+use Rattle.reverse_queries.specs.Queries.{word_bytes}
+use Rattle.reverse_console.specs.SearchTargets.{Meets}
+use Rattle.reverse_console.proofs.StepSearch.{differ_changes, changes_differ}
 use Rattle.reverse_console.proofs.seeking.step_seeking.Goals as goal
 
 pub returns-in-Change-clause-meets : goal.returns-in-Change-clause-meets

@@ -1,4 +1,4 @@
-use Rattle.std.proofs.Common.{◌≡◌, ◌∙◌, ℕ, ◌*◌, ◌<◌, List, length, take, slice_get, slice_index_or, Some, Ok, Err, true≢false, refl, sym, ap, subst, arith}
+use Rattle.std.proofs.Common.{◌≡◌, ◌∙◌, ℕ, ◌*◌, ◌<◌, List, length, take, slice_get, slice_index_or, Option, Some, Result, Ok, Err, true≢false, refl, sym, ap, subst, arith}
 use Rattle.std.proofs.lemmas.Option.{slice_get-get_or}
 use Rattle.std.proofs.lemmas.Result.{err_from_is_err_and}
 use Rattle.plan_types.specs.declared.action.Action.{Action}
@@ -10,24 +10,24 @@ use Rattle.schedule_rules.specs.Situation.{Situation}
 use Rattle.reverse_runner.specs.declared.fault.RunFault.{RunFault}
 use Rattle.reverse_runner.specs.declared.fault.RunFault.TheVariants.{Damaged, Visitor, Ended, Memory}
 use Rattle.reverse_runner.specs.KeepersSeen.{calls_to, told_by}
-use Rattle.reverse_queries.specs.Asked.{Performed}
+use Rattle.reverse_queries.specs.QuestionEffects.{Performed, FindsLast}
 use Rattle.reverse_queries.specs.Queries.{IsLast, up_to}
-use Rattle.reverse_queries.specs.Finding.{DoesWhatIsAsked, Got}
-use Rattle.reverse_queries.proofs.Fronts.{front_past, front_ends}
+use Rattle.reverse_queries.specs.FinderModel.{DoesWhatIsAsked, Got}
+use Rattle.reverse_queries.proofs.ListPrefixes.{front_past, front_ends}
 use Rattle.std.proofs.lemmas.List.{take_all}
 use Rattle.rv_machine.specs.States.{state_number}
 use Rattle.reverse_runner.specs.SessionState.{holdings_of}
-use Rattle.reverse_runner.specs.Performed.{states_out}
-use Rattle.reverse_queries.proofs.Going.{gone_start, going_on, found_on, got_even, through}
-use Rattle.reverse_queries.proofs.Looking.{found_none}
-use Rattle.reverse_queries.proofs.Running.{ran_at}
-use Rattle.reverse_queries.proofs.Turning.{hands_of, left_before, left_at_start, left_at_end}
-use Rattle.reverse_queries.proofs.Ways.{way_start, way_on, may_perform, has_room, refused_in, at_end, goes_from, below_levels, same_fault, acts_there, gets_there, run_has, ok_spared}
-use Rattle.reverse_queries.proofs.Fitting.{fault_fits, if_err_at}
+use Rattle.reverse_runner.specs.VisitorCalls.{states_out}
+use Rattle.reverse_queries.proofs.TraceSteps.{gone_start, going_on, found_on, got_even, through}
+use Rattle.reverse_queries.proofs.FinderProgress.{found_none}
+use Rattle.reverse_queries.proofs.FinderSteps.{ran_at}
+use Rattle.reverse_queries.proofs.ReversalOrder.{hands_of, left_before, left_at_start, left_at_end}
+use Rattle.reverse_queries.proofs.Progress.{way_start, way_on, may_perform, has_room, refused_in, at_end, goes_from, below_levels, same_fault, acts_there, gets_there, run_has, ok_spared}
+use Rattle.reverse_queries.proofs.ActionCalls.{fault_fits}
 use Rattle.reverse_runner.specs.Rooms.{rooms_by}
 use Rattle.reverse_runner.proofs.Rooms.{still_roomy}
-use Rattle.reverse_runner.proofs.Caused.{no_keeper}
-use Rattle.reverse_runner.proofs.Touched.{are_ok, are_err, are_then, are_wider}
+use Rattle.reverse_runner.proofs.KeeperFaults.{no_keeper}
+use Rattle.reverse_runner.proofs.KeeperCalls.{are_ok, are_err, are_then, are_wider}
 use Rattle.reverse_queries.proofs.finding.find_last.Goals as goal
 
 -- the action at a place of the list
@@ -89,11 +89,12 @@ perform-requires-clause-room g c lasts =
     let a = slice_index_or list i (Forward 0 0 Nothing) in
     let within : i < length list = omega arith in
     let at = at_place list i within in
-    has_room _ list i old mid _ _ _ _ c.requires.room so_far.way
+    has_room _ list i old mid _ _ _ _ c.requires.awaits.room so_far.way
 
-pub returns-in_err-perform-clause-refused : goal.returns-in_err-perform-clause-refused
-returns-in_err-perform-clause-refused g c =
+pub returns-in_err-perform : goal.returns-in_err-perform
+returns-in_err-perform g c =
     let so_far = c.loop-action.invariant in
+    let way = so_far.way in
     let old = c.args.session.now in
     let mid = c.loop-action.session in
     let list = c.args.list.now in
@@ -102,57 +103,39 @@ returns-in_err-perform-clause-refused g c =
     let within : i < length list = omega arith in
     let at = at_place list i within in
     let p = err_from_is_err_and c.from_residual.result c.from_residual.ensures.1 in
-    let is = same_fault c.perform.result c.from_residual.result _ _ p.0 c.in_err-perform.was p.1 p.2 p.1 in
-    let fits = fault_fits (λ action held. ⊥) a _ c.perform.result p.0 is c.perform.ensures.caused.named c.perform.ensures.caused.damaged c.perform.ensures.caused.wants
+    let same : (f : RunFault) → Err p.0 ≡ Err f → c.perform.result ≡ Err f = λ f e. same_fault {U = Option ℕ} c.perform.result (Err p.0) _ _ f c.in_err-perform.was refl p.2 e in
+    let fits = fault_fits (λ action held. ⊥) a _ c.perform.result p.0 (same p.0 refl) c.perform.ensures.caused.named c.perform.ensures.caused.damaged c.perform.ensures.caused.wants
     (λ e. (let rose = c.perform.ensures.seen.faults.cause e in absurd (omega (arith, rose))))
-    (λ e. true≢false (sym (c.perform.ensures.ended.0 e) ∙ so_far.way.performs.lasts)) in
-    let leaves = (c.in_err-perform.ensures.does so_far.way.performs.lasts).leaves in
-    if_err_at _ c.from_residual.result p.0 p.1
-    (refused_in _ list list i old mid c.perform.new.self _ _ c.perform.new.keepers.items _ _ _ a (λ action held. ⊥) p.0 at refl refl within so_far.way so_far.going.gone
-    c.in_err-perform.ensures.session.refused leaves.uncounted leaves.called_at_most fits)
-
-pub returns-in_err-perform-clause-not_visitor : goal.returns-in_err-perform-clause-not_visitor
-returns-in_err-perform-clause-not_visitor g c e =
-    let p = err_from_is_err_and c.from_residual.result c.from_residual.ensures.1 in
-    let same = same_fault c.perform.result c.from_residual.result _ _ Visitor c.in_err-perform.was p.1 p.2 e in
-    let rose = c.perform.ensures.seen.faults.cause same in
-    absurd (omega (arith, rose))
-
-pub returns-in_err-perform-clause-spared : goal.returns-in_err-perform-clause-spared
-returns-in_err-perform-clause-spared g c =
-    let way = c.loop-action.invariant.way in
-    let old = c.args.session.now in
-    let mid = c.loop-action.session in
-    let rooms = rooms_by g.K.Storage in
-    let p = err_from_is_err_and c.from_residual.result c.from_residual.ensures.1 in
-    let same : (f : RunFault) → c.from_residual.result ≡ Err f → c.perform.result ≡ Err f = λ f e. same_fault c.perform.result c.from_residual.result _ _ f c.in_err-perform.was p.1 p.2 e in
-    record {
-      not_ended = λ e. true≢false (sym (c.perform.ensures.ended.0 (same Ended e)) ∙ way.performs.lasts);
-      roomy = λ roomy e.
-          c.perform.ensures.spared.roomy
-          (still_roomy old.work mid.work old.situation.slots mid.situation.slots (rooms c.args.keepers.now.items) (rooms c.loop-action.keepers.items) way.pages way.performs.slots way.are.rooms roomy) (same Memory e);
-      undamaged = λ first is stands k put got e. c.perform.ensures.spared.undamaged first is (way.stands first is stands) k put got (same (Damaged k put got) e);
-    }
-
-pub returns-in_err-perform-clause-kept : goal.returns-in_err-perform-clause-kept
-returns-in_err-perform-clause-kept g c =
-    let so_far = c.loop-action.invariant in
-    let old = c.args.session.now in
-    let mid = c.loop-action.session in
-    let list = c.args.list.now in
-    let i = c.loop-action.action-index in
-    let a = slice_index_or list i (Forward 0 0 Nothing) in
-    let within : i < length list = omega arith in
-    let at = at_place list i within in
-    let rule_is = may_perform _ list i old mid _ _ _ _ a c.requires.awaits.start c.requires.awaits.valid at so_far.way in
-    let p = err_from_is_err_and c.from_residual.result c.from_residual.ensures.1 in
+    (λ e. true≢false (sym (c.perform.ensures.ended.0 e) ∙ way.performs.lasts)) in
+    let leaves = (c.in_err-perform.ensures.does way.performs.lasts).leaves in
+    let rule_is = may_perform _ list i old mid _ _ _ _ a c.requires.awaits.start c.requires.awaits.valid at way in
     let T : ℕ → Type 0 = λ k. k < length old.situation.slots in
-    let wide = are_wider g.K.Storage _ T c.perform.result _ _ (below_levels old mid (take i list) a so_far.way.performs rule_is) c.perform.ensures.kept in
-    are_err g.K.Storage T c.perform.result c.from_residual.result _ _ _ _ c.in_err-perform.was p.1 p.2 (are_then g.K.Storage T (Ok tt) c.perform.result _ _ _ (λ k. no_keeper (Ok tt) tt k refl) so_far.way.are wide)
+    let wide = are_wider g.K.Storage _ T c.perform.result _ _ (below_levels old mid (take i list) a way.performs rule_is) c.perform.ensures.kept in
+    let rooms = rooms_by g.K.Storage in
+    let R : Result (Option ℕ) RunFault → Type 0 = λ r. FindsLast g.K.Storage (DoesWhatIsAsked c.args.question old.journal c.args.word) r list old c.perform.new.self
+    c.args.keepers.now.items c.perform.new.keepers.items c.args.steps.now c.perform.new.steps in
+    subst R (sym p.1) (record {
+      answer = λ first is stands. tt;
+      found = tt;
+      performed = tt;
+      stays = tt;
+      refused = refused_in _ list list i old mid c.perform.new.self _ _ c.perform.new.keepers.items _ _ _ a (λ action held. ⊥) p.0 at refl refl within way so_far.going.gone
+          c.in_err-perform.ensures.session.refused leaves.uncounted leaves.called_at_most fits;
+      not_visitor = λ e. (let rose = c.perform.ensures.seen.faults.cause (same Visitor e) in absurd (omega (arith, rose)));
+      spared = record {
+        not_ended = λ e. true≢false (sym (c.perform.ensures.ended.0 (same Ended e)) ∙ way.performs.lasts);
+        roomy = λ roomy e.
+            c.perform.ensures.spared.roomy
+            (still_roomy old.work mid.work old.situation.slots mid.situation.slots (rooms c.args.keepers.now.items) (rooms c.loop-action.keepers.items) way.pages way.performs.slots way.are.rooms roomy) (same Memory e);
+        undamaged = λ first is stands k put got e. c.perform.ensures.spared.undamaged first is (way.stands first is stands) k put got (same (Damaged k put got) e);
+      };
+      kept = are_err g.K.Storage T c.perform.result (Err p.0) _ _ _ _ c.in_err-perform.was refl p.2 (are_then g.K.Storage T (Ok tt) c.perform.result _ _ _ (λ k. no_keeper (Ok tt) tt k refl) way.are wide);
+    })
 
-pub returns-in-Some-clause-answer : goal.returns-in-Some-clause-answer
-returns-in-Some-clause-answer g c first is stands =
+pub returns-in-Some : goal.returns-in-Some
+returns-in-Some g c =
     let so_far = c.loop-action.invariant in
+    let way = so_far.way in
     let old = c.args.session.now in
     let mid = c.loop-action.session in
     let list = c.args.list.now in
@@ -165,100 +148,46 @@ returns-in-Some-clause-answer g c first is stands =
     let unit = old.unit in
     let steps = old.situation.steps in
     let slots = old.situation.slots in
-    let goes = goes_from old mid new (take i list) a so_far.way.performs done.session.performs in
-    let held = holdings_of mid (told_by g.K.Storage c.loop-action.keepers.items) in
-    let gets = gets_there Got old mid (take i list) a (states_out a mid.work mid.tape.states) c.loop-action.finder c.perform.new.visitor so_far.way.performs done.hands.gets in
-    let ran = ran_at c.args.question c.args.word unit steps slots old.journal mid.situation.at a new.situation.at held c.loop-action.finder c.perform.new.visitor goes so_far.way.turns so_far.asked gets in
-    let ends = ran.answered c.in-Some.place c.in-Some.is in
-    let states = state_number first old.journal in
-    let has = run_has first old mid (told_by g.K.Storage c.loop-action.keepers.items) (take i list) a new.situation.at c.requires.awaits.start so_far.way.performs goes (so_far.way.stands first is stands) in
-    ends.2 states has (so_far.going.unfound states (so_far.going.of_run first (is, stands)))
-
-pub returns-in-Some-clause-found : goal.returns-in-Some-clause-found
-returns-in-Some-clause-found g c =
-    let so_far = c.loop-action.invariant in
-    let old = c.args.session.now in
-    let mid = c.loop-action.session in
-    let list = c.args.list.now in
-    let i = c.loop-action.action-index in
-    let a = slice_index_or list i (Forward 0 0 Nothing) in
-    let within : i < length list = omega arith in
-    let at = at_place list i within in
-    let new = c.perform.new.self in
-    let done = c.in_ok-perform.ensures in
-    let unit = old.unit in
-    let steps = old.situation.steps in
-    let slots = old.situation.slots in
-    let goes = goes_from old mid new (take i list) a so_far.way.performs done.session.performs in
-    let held = holdings_of mid (told_by g.K.Storage c.loop-action.keepers.items) in
-    let gets = gets_there Got old mid (take i list) a (states_out a mid.work mid.tape.states) c.loop-action.finder c.perform.new.visitor so_far.way.performs done.hands.gets in
-    let ran = ran_at c.args.question c.args.word unit steps slots old.journal mid.situation.at a new.situation.at held c.loop-action.finder c.perform.new.visitor goes so_far.way.turns so_far.asked gets in
-    let ends = ran.answered c.in-Some.place c.in-Some.is in
-    let front = front_ends unit steps c.in-Some.place list i a at ends.0 (so_far.front c.in-Some.place ends.1) in
+    let place = c.in-Some.place in
+    let goes = goes_from old mid new (take i list) a way.performs done.session.performs in
     let told = told_by g.K.Storage in
-    let acts = acts_there old mid (take i list) a _ _ so_far.way.performs (done.does so_far.way.performs.lasts).acted.acts in
+    let held = holdings_of mid (told c.loop-action.keepers.items) in
+    let gets = gets_there Got old mid (take i list) a (states_out a mid.work mid.tape.states) c.loop-action.finder c.perform.new.visitor way.performs done.hands.gets in
+    let ran = ran_at c.args.question c.args.word unit steps slots old.journal mid.situation.at a new.situation.at held c.loop-action.finder c.perform.new.visitor goes way.turns so_far.asked gets in
+    let ends = ran.answered place c.in-Some.is in
+    let front = front_ends unit steps place list i a at ends.0 (so_far.front place ends.1) in
+    let acts = acts_there old mid (take i list) a _ _ way.performs (done.does way.performs.lasts).acted.acts in
     let even = got_even Got old.journal unit steps a held c.loop-action.finder c.perform.new.visitor gets in
-    found_on (λ states. IsLast (DoesWhatIsAsked c.args.question old.journal c.args.word states) (unit * steps) (Some c.in-Some.place)) unit steps slots old.journal list (up_to unit steps (Some c.in-Some.place) list) i
-    (holdings_of old (told c.args.keepers.now.items)) held (holdings_of new (told c.perform.new.keepers.items)) mid.situation.at a new.situation.at (omega (arith, within)) front goes so_far.way.turns at acts even so_far.going.gone
-    (λ states have all. ends.2 states have (so_far.going.unfound states all))
-
-pub returns-in-Some-clause-performed : goal.returns-in-Some-clause-performed
-returns-in-Some-clause-performed g c =
-    let so_far = c.loop-action.invariant in
-    let old = c.args.session.now in
-    let mid = c.loop-action.session in
-    let list = c.args.list.now in
-    let i = c.loop-action.action-index in
-    let a = slice_index_or list i (Forward 0 0 Nothing) in
-    let within : i < length list = omega arith in
-    let at = at_place list i within in
-    let new = c.perform.new.self in
-    let done = c.in_ok-perform.ensures in
-    let unit = old.unit in
-    let steps = old.situation.steps in
-    let slots = old.situation.slots in
-    let goes = goes_from old mid new (take i list) a so_far.way.performs done.session.performs in
-    let held = holdings_of mid (told_by g.K.Storage c.loop-action.keepers.items) in
-    let gets = gets_there Got old mid (take i list) a (states_out a mid.work mid.tape.states) c.loop-action.finder c.perform.new.visitor so_far.way.performs done.hands.gets in
-    let ran = ran_at c.args.question c.args.word unit steps slots old.journal mid.situation.at a new.situation.at held c.loop-action.finder c.perform.new.visitor goes so_far.way.turns so_far.asked gets in
-    let ends = ran.answered c.in-Some.place c.in-Some.is in
-    let front = front_ends unit steps c.in-Some.place list i a at ends.0 (so_far.front c.in-Some.place ends.1) in
-    let on = way_on _ list i old mid new _ _ c.perform.new.keepers.items _ _ _ a c.requires.awaits.start at so_far.way (record {
+    let on = way_on _ list i old mid new _ _ c.perform.new.keepers.items _ _ _ a c.requires.awaits.start at way (record {
       performs = done.session.performs;
-      acts = (done.does so_far.way.performs.lasts).acted.acts;
-      counted = (done.does so_far.way.performs.lasts).acted.counted;
-      called = (done.does so_far.way.performs.lasts).acted.called;
+      acts = (done.does way.performs.lasts).acted.acts;
+      counted = (done.does way.performs.lasts).acted.counted;
+      called = (done.does way.performs.lasts).acted.called;
       are = are_ok g.K.Storage _ c.perform.result _ tt _ _ c.in_ok-perform.was c.perform.ensures.kept;
       stands = done.stays.stands;
       alone = done.stays.alone;
     }) in
     let calls = calls_to g.K.Storage in
     let P : List Action → Type 0 = λ l. Performed old l new c.args.steps.now c.perform.new.steps (calls c.args.keepers.now.items) (calls c.perform.new.keepers.items) in
-    subst P (sym front) (record { performs = on.performs; counted = on.counted; called = on.called })
-
-pub returns-in-Some-clause-stays : goal.returns-in-Some-clause-stays
-returns-in-Some-clause-stays g c =
-    let way = c.loop-action.invariant.way in
-    let done = c.in_ok-perform.ensures in
-    record { stands = λ first is stands. done.stays.stands first is (way.stands first is stands); alone = λ alone. done.stays.alone (way.alone alone) }
-
-pub returns-in-Some-clause-spared : goal.returns-in-Some-clause-spared
-returns-in-Some-clause-spared g c = ok_spared _ _ _ _
-
-pub returns-in-Some-clause-kept : goal.returns-in-Some-clause-kept
-returns-in-Some-clause-kept g c =
-    let so_far = c.loop-action.invariant in
-    let old = c.args.session.now in
-    let mid = c.loop-action.session in
-    let list = c.args.list.now in
-    let i = c.loop-action.action-index in
-    let a = slice_index_or list i (Forward 0 0 Nothing) in
-    let within : i < length list = omega arith in
-    let at = at_place list i within in
-    let rule_is = may_perform _ list i old mid _ _ _ _ a c.requires.awaits.start c.requires.awaits.valid at so_far.way in
+    let rule_is = may_perform _ list i old mid _ _ _ _ a c.requires.awaits.start c.requires.awaits.valid at way in
     let T : ℕ → Type 0 = λ k. k < length old.situation.slots in
-    let wide = are_wider g.K.Storage _ T c.perform.result _ _ (below_levels old mid (take i list) a so_far.way.performs rule_is) c.perform.ensures.kept in
-    are_ok g.K.Storage T c.perform.result _ _ _ _ c.in_ok-perform.was (are_then g.K.Storage T (Ok tt) c.perform.result _ _ _ (λ k. no_keeper (Ok tt) tt k refl) so_far.way.are wide)
+    let wide = are_wider g.K.Storage _ T c.perform.result _ _ (below_levels old mid (take i list) a way.performs rule_is) c.perform.ensures.kept in
+    record {
+      answer = λ first is stands.
+          (let states = state_number first old.journal in
+          let has = run_has first old mid (told c.loop-action.keepers.items) (take i list) a new.situation.at c.requires.awaits.start way.performs goes (way.stands first is stands) in
+          ends.2 states has (so_far.going.unfound states (so_far.going.of_run first (is, stands))));
+      found =
+          found_on (λ states. IsLast (DoesWhatIsAsked c.args.question old.journal c.args.word states) (unit * steps) (Some place)) unit steps slots old.journal list (up_to unit steps (Some place) list) i
+          (holdings_of old (told c.args.keepers.now.items)) held (holdings_of new (told c.perform.new.keepers.items)) mid.situation.at a new.situation.at (omega (arith, within)) front goes way.turns at acts even so_far.going.gone
+          (λ states have all. ends.2 states have (so_far.going.unfound states all));
+      performed = subst P (sym front) (record { performs = on.performs; counted = on.counted; called = on.called });
+      stays = record { stands = on.stands; alone = on.alone };
+      refused = tt;
+      not_visitor = λ e. cc;
+      spared = ok_spared _ _ _ _;
+      kept = are_ok g.K.Storage T c.perform.result _ _ _ _ c.in_ok-perform.was (are_then g.K.Storage T (Ok tt) c.perform.result _ _ _ (λ k. no_keeper (Ok tt) tt k refl) way.are wide);
+    }
 
 pub loop-action-preserved : goal.loop-action-preserved
 loop-action-preserved g c =
@@ -305,47 +234,33 @@ loop-action-preserved g c =
           front_past unit steps n list i a at before.1 (so_far.front n before.0));
     }
 
-pub returns-clause-answer : goal.returns-clause-answer
-returns-clause-answer g c first is stands =
+pub returns : goal.returns
+returns g c =
     let so_far = c.loop-action.invariant in
+    let way = so_far.way in
     let old = c.args.session.now in
-    let list = c.args.list.now in
-    let over = at_end _ list c.loop-action.action-index old c.loop-action.session _ _ _ _ c.requires.awaits.start c.requires.awaits.valid (omega arith) so_far.way in
-    let states = state_number first old.journal in
-    found_none c.args.question states old.journal c.args.word (old.unit * old.situation.steps) _ c.loop-action.finder (left_at_end old.unit old.situation.steps c.loop-action.session.situation.at so_far.way.turns over)
-    (so_far.going.unfound states (so_far.going.of_run first (is, stands)))
-
-pub returns-clause-found : goal.returns-clause-found
-returns-clause-found g c =
-    let so_far = c.loop-action.invariant in
-    let old = c.args.session.now in
+    let session = c.loop-action.session in
     let list = c.args.list.now in
     let i = c.loop-action.action-index in
     let gone = so_far.going.gone in
-    let over = at_end _ list i old c.loop-action.session _ _ _ _ c.requires.awaits.start c.requires.awaits.valid (omega arith) so_far.way in
-    record {
-      states = gone.states;
-      through = through old.unit old.situation.steps old.journal list list i _ _ c.loop-action.session.situation.at (omega arith) (sym (take_all i list (omega arith))) gone;
-      holds =
-          found_none c.args.question gone.states old.journal c.args.word (old.unit * old.situation.steps) _ c.loop-action.finder (left_at_end old.unit old.situation.steps c.loop-action.session.situation.at so_far.way.turns over)
-          (so_far.going.unfound gone.states gone.have);
-    }
-
-pub returns-clause-performed : goal.returns-clause-performed
-returns-clause-performed g c =
-    let so_far = c.loop-action.invariant in
-    let old = c.args.session.now in
-    let list = c.args.list.now in
-    let whole : take c.loop-action.action-index list ≡ list = take_all c.loop-action.action-index list (omega arith) in
+    let over = at_end _ list i old session _ _ _ _ c.requires.awaits.start c.requires.awaits.valid (omega arith) way in
+    let none = left_at_end old.unit old.situation.steps session.situation.at way.turns over in
+    let whole : take i list ≡ list = take_all i list (omega arith) in
     let calls = calls_to g.K.Storage in
-    let P : List Action → Type 0 = λ l. Performed old l c.loop-action.session c.args.steps.now c.loop-action.steps (calls c.args.keepers.now.items) (calls c.loop-action.keepers.items) in
-    subst P whole (record { performs = so_far.way.performs; counted = so_far.way.counted; called = so_far.way.called })
-
-pub returns-clause-stays : goal.returns-clause-stays
-returns-clause-stays g c = let way = c.loop-action.invariant.way in record { stands = way.stands; alone = way.alone }
-
-pub returns-clause-spared : goal.returns-clause-spared
-returns-clause-spared g c = ok_spared _ _ _ _
-
-pub returns-clause-kept : goal.returns-clause-kept
-returns-clause-kept g c = let way = c.loop-action.invariant.way in are_ok g.K.Storage _ (Ok tt) tt _ _ _ refl way.are
+    let P : List Action → Type 0 = λ l. Performed old l session c.args.steps.now c.loop-action.steps (calls c.args.keepers.now.items) (calls c.loop-action.keepers.items) in
+    record {
+      answer = λ first is stands.
+          (let states = state_number first old.journal in
+          found_none c.args.question states old.journal c.args.word (old.unit * old.situation.steps) _ c.loop-action.finder none (so_far.going.unfound states (so_far.going.of_run first (is, stands))));
+      found = record {
+        states = gone.states;
+        through = through old.unit old.situation.steps old.journal list list i _ _ session.situation.at (omega arith) (sym whole) gone;
+        holds = found_none c.args.question gone.states old.journal c.args.word (old.unit * old.situation.steps) _ c.loop-action.finder none (so_far.going.unfound gone.states gone.have);
+      };
+      performed = subst P whole (record { performs = way.performs; counted = way.counted; called = way.called });
+      stays = record { stands = way.stands; alone = way.alone };
+      refused = tt;
+      not_visitor = λ e. cc;
+      spared = ok_spared _ _ _ _;
+      kept = are_ok g.K.Storage _ (Ok tt) tt _ _ _ refl way.are;
+    }

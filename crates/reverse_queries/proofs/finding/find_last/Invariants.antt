@@ -2,12 +2,12 @@ use Rattle.std.proofs.Common.{◌≡◌, ℕ, ◌*◌, ◌<◌, ◌++◌, take, 
 use Rattle.rv_machine.specs.MachineState.{IsMachineState}
 use Rattle.reverse_runner.specs.KeepersSeen.{told_by}
 use Rattle.reverse_runner.specs.SessionState.{holdings_of}
-use Rattle.reverse_runner.specs.Standing.{StandsAt}
+use Rattle.reverse_runner.specs.SessionOfRun.{StandsAt}
 use Rattle.reverse_queries.specs.Queries.{front_to}
-use Rattle.reverse_queries.proofs.Going.{Going}
-use Rattle.reverse_queries.proofs.Looking.{Asked}
-use Rattle.reverse_queries.proofs.Turning.{left}
-use Rattle.reverse_queries.proofs.Ways.{Way}
+use Rattle.reverse_queries.proofs.TraceSteps.{Going}
+use Rattle.reverse_queries.proofs.FinderProgress.{Asked}
+use Rattle.reverse_queries.proofs.ReversalOrder.{left}
+use Rattle.reverse_queries.proofs.Progress.{Way}
 use Rattle.reverse_queries.proofs.finding.find_last.Given as goal
 
 -- The actions so far were gone through. None of the states that they handed out is one whose step does what is asked, and each

@@ -10,22 +10,22 @@ use Rattle.rv_machine.specs.States.{state_number}
 use Rattle.reverse_runner.specs.declared.fault.RunFault.{RunFault}
 use Rattle.reverse_runner.specs.declared.fault.RunFault.TheVariants.{Damaged, Visitor, Ended, Memory}
 use Rattle.reverse_runner.specs.KeepersSeen.{calls_to, told_by}
-use Rattle.reverse_runner.specs.Performed.{states_out}
+use Rattle.reverse_runner.specs.VisitorCalls.{states_out}
 use Rattle.reverse_runner.specs.SessionState.{holdings_of}
 use Rattle.reverse_queries.specs.Queries.{hands_out, front_to}
-use Rattle.reverse_queries.specs.Asked.{Performed}
-use Rattle.reverse_queries.specs.Performing.{GetsState, MissesState}
-use Rattle.reverse_queries.specs.Picking.{PassesOn}
-use Rattle.reverse_queries.proofs.Fitting.{fault_fits, if_err_at}
-use Rattle.reverse_queries.proofs.Fronts.{front_past, front_ends, front_takes}
-use Rattle.reverse_queries.proofs.Going.{gone_start, gone_on, found_on, got_even}
-use Rattle.reverse_queries.proofs.Picking.{MissesPicked, MissedAt, picks_at, missed_at, shown_at, unshown_at, misses_state, of_visitor}
-use Rattle.reverse_queries.proofs.Turning.{left, left_at_start, left_at_end}
-use Rattle.reverse_queries.proofs.Ways.{way_start, way_on, may_perform, may_go, has_room, refused_in, at_end, goes_from, below_levels, on_err_always, same_fault, not_both, acts_there, gets_there, misses_there, run_has, ok_spared, ok_seen}
+use Rattle.reverse_queries.specs.QuestionEffects.{Performed}
+use Rattle.reverse_queries.specs.ListPerformance.{GetsState, MissesState}
+use Rattle.reverse_queries.specs.PickVisitor.{PassesOn}
+use Rattle.reverse_queries.proofs.ActionCalls.{fault_fits, if_err_at}
+use Rattle.reverse_queries.proofs.ListPrefixes.{front_past, front_ends, front_takes}
+use Rattle.reverse_queries.proofs.TraceSteps.{gone_start, gone_on, found_on, got_even}
+use Rattle.reverse_queries.proofs.PickVisitor.{MissesPicked, MissedAt, picks_at, missed_at, shown_at, unshown_at, misses_state, of_visitor}
+use Rattle.reverse_queries.proofs.ReversalOrder.{left, left_at_start, left_at_end}
+use Rattle.reverse_queries.proofs.Progress.{way_start, way_on, may_perform, may_go, has_room, refused_in, at_end, goes_from, below_levels, on_err_always, same_fault, not_both, acts_there, gets_there, misses_there, run_has, ok_spared, ok_seen}
 use Rattle.reverse_runner.specs.Rooms.{rooms_by}
 use Rattle.reverse_runner.proofs.Rooms.{still_roomy}
-use Rattle.reverse_runner.proofs.Caused.{no_keeper}
-use Rattle.reverse_runner.proofs.Touched.{are_ok, are_err, are_then, are_wider}
+use Rattle.reverse_runner.proofs.KeeperFaults.{no_keeper}
+use Rattle.reverse_runner.proofs.KeeperCalls.{are_ok, are_err, are_then, are_wider}
 use Rattle.reverse_queries.proofs.queries.state_at.Goals as goal
 
 -- the action at a place of the list
@@ -75,7 +75,7 @@ perform-requires-clause-room g c lasts =
     let a = slice_index_or list i (Forward 0 0 Nothing) in
     let within : i < length list = omega arith in
     let at = at_place list i within in
-    has_room _ list i old mid _ _ _ _ c.requires.room so_far.way
+    has_room _ list i old mid _ _ _ _ c.requires.awaits.room so_far.way
 
 pub returns-then-picked-clause-gets : goal.returns-then-picked-clause-gets
 returns-then-picked-clause-gets g c =

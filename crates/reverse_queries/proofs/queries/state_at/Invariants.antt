@@ -2,9 +2,9 @@ use Rattle.std.proofs.Common.{◌≡◌, ◌<◌, ◌++◌, false, take, drop}
 use Rattle.reverse_runner.specs.KeepersSeen.{told_by}
 use Rattle.reverse_runner.specs.SessionState.{holdings_of}
 use Rattle.reverse_queries.specs.Queries.{front_to}
-use Rattle.reverse_queries.proofs.Going.{Gone}
-use Rattle.reverse_queries.proofs.Turning.{left}
-use Rattle.reverse_queries.proofs.Ways.{Way}
+use Rattle.reverse_queries.proofs.TraceSteps.{Gone}
+use Rattle.reverse_queries.proofs.ReversalOrder.{left}
+use Rattle.reverse_queries.proofs.Progress.{Way}
 use Rattle.reverse_queries.proofs.queries.state_at.Given as goal
 
 -- The actions so far were gone through, and none of them handed out the state; the visitor got nothing.

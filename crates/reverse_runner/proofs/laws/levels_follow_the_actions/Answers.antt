@@ -1,4 +1,4 @@
-use Rattle.reverse_runner.proofs.HoldingsAfter.{laid_out_after, stand_after, alone_after}
+use Rattle.reverse_runner.proofs.HoldingsInvariant.{laid_out_after, stand_after, alone_after}
 use Rattle.reverse_runner.proofs.laws.levels_follow_the_actions.Goals as goal
 
 pub returns-clause-laid_out : goal.returns-clause-laid_out

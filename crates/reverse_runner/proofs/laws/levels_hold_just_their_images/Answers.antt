@@ -1,4 +1,4 @@
-use Rattle.reverse_runner.proofs.HoldingJust.{holds_just}
+use Rattle.reverse_runner.proofs.ExactContents.{holds_just}
 use Rattle.reverse_runner.proofs.laws.levels_hold_just_their_images.Goals as goal
 
 pub returns : goal.returns

@@ -1,4 +1,4 @@
-use Rattle.reverse_runner.proofs.LeftHolding.{holds_spared, holds_put_to, holds_released}
+use Rattle.reverse_runner.proofs.ResidueContents.{holds_spared, holds_put_to, holds_released}
 use Rattle.reverse_runner.proofs.laws.refused_actions_leave_their_images.Goals as goal
 
 pub returns-clause-spared : goal.returns-clause-spared

@@ -1,4 +1,4 @@
-use Rattle.revolve_gen.proofs.Stacked.{levels_free}
+use Rattle.revolve_gen.proofs.StackPlaces.{levels_free}
 use Rattle.revolve_gen.proofs.laws.levels_are_free.Goals as goal
 
 pub returns : goal.returns

@@ -1,4 +1,4 @@
-use Rattle.revolve_gen.proofs.Owing.{fresh_begun, begun_owing}
+use Rattle.revolve_gen.proofs.RemainderSteps.{fresh_begun, begun_owing}
 use Rattle.revolve_gen.proofs.phases.first_phase.Goals as goal
 
 pub returns-then-steps-gt0-clause-written : goal.returns-then-steps-gt0-clause-written

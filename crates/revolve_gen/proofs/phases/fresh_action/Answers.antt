@@ -2,10 +2,10 @@ use Rattle.std.proofs.Common.{◌≡◌, ◌+◌, ◌-◌, ◌∷◌, ◌++◌, 
 use Rattle.plan_types.specs.declared.action.Action.TheVariants.{Forward}
 use Rattle.plan_types.specs.declared.action.Keep.TheVariants.{Tape}
 use Rattle.revolve_gen.specs.Places.{level_at}
-use Rattle.revolve_gen.specs.Written.{one_step}
-use Rattle.revolve_gen.specs.Owed.{owed}
-use Rattle.revolve_gen.proofs.Written.{has_slot}
-use Rattle.revolve_gen.proofs.Owing.{below, fresh_one_owed, fresh_more_owed, fresh_owing}
+use Rattle.revolve_gen.specs.RevolveList.{one_step}
+use Rattle.revolve_gen.specs.Remainder.{owed}
+use Rattle.revolve_gen.proofs.RevolveRules.{has_slot}
+use Rattle.revolve_gen.proofs.RemainderSteps.{below, fresh_one_owed, fresh_more_owed, fresh_owing}
 use Rattle.revolve_gen.proofs.phases.fresh_action.Goals as goal
 use Rattle.revolve_gen.proofs.phases.fresh_action.Goals.{then-first, else-first}
 

@@ -1,7 +1,7 @@
 use Rattle.std.proofs.Common.{◌≡◌, ℕ, ◌-◌, ◌∙◌, ap, subst, length, arith}
 use Rattle.binomials.specs.Laws.{IsStretch}
 use Rattle.revolve_gen.specs.Places.{level_at}
-use Rattle.revolve_gen.proofs.Owing.{held_one_owed, held_more_owed, held_taken, held_owing}
+use Rattle.revolve_gen.proofs.RemainderSteps.{held_one_owed, held_more_owed, held_taken, held_owing}
 use Rattle.revolve_gen.proofs.phases.held_action.Goals as goal
 
 pub returns-then-newest-eq1-clause-written : goal.returns-then-newest-eq1-clause-written

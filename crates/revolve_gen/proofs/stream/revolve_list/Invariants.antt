@@ -1,6 +1,6 @@
 use Rattle.std.proofs.Common.{◌≡◌, ◌++◌, length}
 use Rattle.level_book.specs.BookCosts.{total_room}
-use Rattle.revolve_gen.specs.Written.{revolve_list}
+use Rattle.revolve_gen.specs.RevolveList.{revolve_list}
 use Rattle.revolve_gen.specs.Plans.{HasPlan}
 use Rattle.revolve_gen.proofs.stream.revolve_list.Given as goal
 

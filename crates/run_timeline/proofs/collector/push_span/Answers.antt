@@ -1,6 +1,6 @@
 use Rattle.std.proofs.Common.{◌≡◌, ℕ, ◌+◌, List, [], ◌∷◌, ◌++◌, append_assoc, sym, ap, ◌∙◌, rules, Some}
 use Rattle.rv_pages.specs.Memory.{byte_at}
-use Rattle.rv_pages.proofs.Reading.{bytes_at_more, byte_at_wrapped}
+use Rattle.rv_pages.proofs.MemoryReads.{bytes_at_more, byte_at_wrapped}
 use Rattle.run_timeline.proofs.collector.push_span.Goals as goal
 
 -- one more byte

@@ -1,5 +1,5 @@
 use Rattle.std.proofs.Common.{◌≡◌, ◌+◌, refl, arith}
-use Rattle.run_timeline.proofs.Noting.{noted_at, noted_last}
+use Rattle.run_timeline.proofs.LastWatcher.{noted_at, noted_last}
 use Rattle.run_timeline.proofs.looking.look_back.Goals as goal
 
 pub advance_watched-requires : goal.advance_watched-requires

@@ -1,7 +1,7 @@
 use Rattle.std.proofs.Common.{◌≤◌, ◌<◌, ℕ, length, refl, subst, arith}
 use Rattle.std.specs.Prelude.{unwrap_or}
 use Rattle.rv_pages.specs.Memory.{page_numbers}
-use Rattle.run_timeline.proofs.Keeping.{below_found, below_touched, zero_more}
+use Rattle.run_timeline.proofs.PageIndices.{below_found, below_touched, zero_more}
 use Rattle.run_timeline.proofs.mark.clear_next.Goals as goal
 
 pub returns-then-index-to-clause-zero : goal.returns-then-index-to-clause-zero

@@ -1,7 +1,7 @@
 use Rattle.std.proofs.Common.{◌≡◌, ◌<◌, ℕ, ◌+◌, [], List, length, take, drop, slice_index, sym, ap, subst, ◌∙◌, arith}
 use Rattle.rv_pages.specs.Memory.{page_numbers}
 use Rattle.run_timeline.specs.KeptPages.{AreZero, HaveSamePages, KeepsFrom}
-use Rattle.run_timeline.proofs.Keeping.{kept_first, same_cleared, same_set, same_memory, drop_all}
+use Rattle.run_timeline.proofs.PageIndices.{kept_first, same_cleared, same_set, same_memory, drop_all}
 use Rattle.run_timeline.proofs.mark.give_pages.Goals as goal
 
 pub split_at-requires : goal.split_at-requires

@@ -2,7 +2,7 @@ use Rattle.std.proofs.Common.{◌≡◌, ◌≤◌, ◌<◌, ℕ, ◌+◌, ◌++
 use Rattle.std.specs.Result.{is_ok}
 use Rattle.rv_pages.specs.Memory.{page_numbers}
 use Rattle.run_timeline.specs.KeptPages.{KeepsFrom}
-use Rattle.run_timeline.proofs.Keeping.{keeps_more}
+use Rattle.run_timeline.proofs.PageIndices.{keeps_more}
 use Rattle.run_timeline.proofs.mark.keep_pages.Goals as goal
 
 pub loop-index-preserved : goal.loop-index-preserved

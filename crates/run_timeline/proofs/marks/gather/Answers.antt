@@ -1,7 +1,7 @@
 use Rattle.std.proofs.Common.{◌≡◌, ◌≢◌, ℕ, ◌*◌, slice_index_or, ◌∙◌, subst, arith, inl, inr}
 use Rattle.std.proofs.lemmas.Bool.{cases_lt}
 use Rattle.run_timeline.specs.declared.mark.Mark.{Mark}
-use Rattle.run_timeline.proofs.Marking.{all_swapped}
+use Rattle.run_timeline.proofs.RunMarks.{all_swapped}
 use Rattle.run_timeline.proofs.marks.gather.Goals as goal
 
 pub loop-i-preserved : goal.loop-i-preserved

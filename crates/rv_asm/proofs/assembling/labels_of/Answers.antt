@@ -1,9 +1,9 @@
 use Rattle.std.proofs.Common.{ap, length, ◌∙◌, arith}
 use Rattle.rv_asm.specs.Tokens.{tokens}
-use Rattle.rv_asm.specs.Named.{names_at}
+use Rattle.rv_asm.specs.LabelMap.{names_at}
 use Rattle.rv_asm.proofs.FirstPass.{start_labels, end_labels, label_step, line_labels}
 use Rattle.rv_asm.proofs.Passes.{at_most_one}
-use Rattle.line_texts.proofs.Seen.{lines_few}
+use Rattle.line_texts.proofs.NextToken.{lines_few}
 use Rattle.rv_asm.proofs.assembling.labels_of.Goals as goal
 
 pub lines-init : goal.lines-init

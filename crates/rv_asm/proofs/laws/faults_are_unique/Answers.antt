@@ -1,4 +1,4 @@
-use Rattle.rv_asm.proofs.Assembled.{one_fault, no_fault}
+use Rattle.rv_asm.proofs.SourceLaws.{one_fault, no_fault}
 use Rattle.rv_asm.proofs.laws.faults_are_unique.Goals as goal
 
 pub returns-clause-one : goal.returns-clause-one

@@ -1,6 +1,6 @@
 use Rattle.std.proofs.Common.{sym, ◌∙◌}
 use Rattle.line_texts.specs.Cursors.{token_of}
-use Rattle.rv_asm.specs.Named.{names_at}
+use Rattle.rv_asm.specs.LabelMap.{names_at}
 use Rattle.rv_asm.proofs.CanonicalLines.{coded_base}
 use Rattle.rv_asm.proofs.Instructions.{with_code, unnamed}
 use Rattle.rv_asm.proofs.line.instruction.Goals as goal

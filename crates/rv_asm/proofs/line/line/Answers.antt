@@ -1,6 +1,6 @@
 use Rattle.std.proofs.Common.{sym, ◌∙◌}
 use Rattle.line_texts.specs.Cursors.{token_of}
-use Rattle.rv_asm.specs.Named.{names_at}
+use Rattle.rv_asm.specs.LabelMap.{names_at}
 use Rattle.rv_asm.proofs.Instructions.{line_empty, line_label}
 use Rattle.rv_asm.proofs.line.line.Goals as goal
 

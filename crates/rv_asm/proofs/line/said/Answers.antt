@@ -1,8 +1,8 @@
 use Rattle.std.proofs.Common.{List, sym, ap, ◌∙◌}
 use Rattle.rv_asm.specs.declared.table.Want.{Want}
-use Rattle.rv_asm.specs.Reading.{no_operands, operands_of}
-use Rattle.rv_asm.specs.Named.{names_at}
-use Rattle.rv_asm.proofs.InRange.{in_format}
+use Rattle.rv_asm.specs.LineMeaning.{no_operands, operands_of}
+use Rattle.rv_asm.specs.LabelMap.{names_at}
+use Rattle.rv_asm.proofs.OperandRanges.{in_format}
 use Rattle.rv_asm.proofs.line.said.Goals as goal
 
 pub packed-requires-clause-operands : goal.packed-requires-clause-operands

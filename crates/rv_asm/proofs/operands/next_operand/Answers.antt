@@ -1,7 +1,7 @@
 use Rattle.std.proofs.Common.{sym, ap, ◌∙◌}
 use Rattle.rv_asm.specs.declared.table.Want.{Want}
-use Rattle.rv_asm.specs.Named.{names_at}
-use Rattle.rv_asm.specs.Coding.{next_of}
+use Rattle.rv_asm.specs.LabelMap.{names_at}
+use Rattle.rv_asm.specs.Encoder.{next_of}
 use Rattle.rv_asm.proofs.Instructions.{mark_next}
 use Rattle.rv_asm.proofs.operands.next_operand.Goals as goal
 

@@ -1,9 +1,9 @@
 use Rattle.std.proofs.Common.{◌≡◌, length}
 use Rattle.std.specs.List.{AllByRecursion}
-use Rattle.rv_asm.specs.Reading.{operands_of, no_operands}
-use Rattle.rv_asm.specs.Coding.{IsNarrow}
+use Rattle.rv_asm.specs.LineMeaning.{operands_of, no_operands}
+use Rattle.rv_asm.specs.Encoder.{IsNarrow}
 use Rattle.rv_asm.proofs.operands.operands.Given as goal
-use Rattle.rv_asm.specs.Named.{names_at}
+use Rattle.rv_asm.specs.LabelMap.{names_at}
 
 abbrev pub invariant-loop-due : goal.invariant-loop-due
 invariant-loop-due l = record {

@@ -1,7 +1,7 @@
 use Rattle.std.proofs.Common.{◌≡◌, length, map}
 use Rattle.std.specs.Prelude.{find}
-use Rattle.rv_asm.specs.Coding.{code_of, entries}
-use Rattle.rv_asm.specs.Packing.{takes}
+use Rattle.rv_asm.specs.Encoder.{code_of, entries}
+use Rattle.rv_asm.specs.PackedWords.{takes}
 use Rattle.rv_asm.proofs.printing.row_of.Given as goal
 
 abbrev pub invariant-loop-rows : goal.invariant-loop-rows

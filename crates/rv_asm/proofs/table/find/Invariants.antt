@@ -1,7 +1,7 @@
 use Rattle.std.proofs.Common.{◌≡◌, length, map}
 use Rattle.std.specs.Str.{bytes_eq}
 use Rattle.std.specs.Map.{lookup}
-use Rattle.rv_asm.specs.Coding.{code_of}
+use Rattle.rv_asm.specs.Encoder.{code_of}
 use Rattle.rv_asm.proofs.table.find.Given as goal
 
 abbrev pub invariant-loop-table : goal.invariant-loop-table

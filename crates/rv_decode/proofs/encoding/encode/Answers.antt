@@ -1,7 +1,7 @@
 use Rattle.std.proofs.Common.{ap, ◌∙◌}
 use Rattle.rv_decode.specs.Rows.{decoded}
-use Rattle.rv_decode.proofs.Reading.{read}
-use Rattle.rv_decode.proofs.Telling.{only}
+use Rattle.rv_decode.proofs.EncodingRoundTrip.{read}
+use Rattle.rv_decode.proofs.EncodingUniqueness.{only}
 use Rattle.rv_decode.proofs.encoding.encode.Goals as goal
 
 pub returns-clause-read_again : goal.returns-clause-read_again

@@ -2,7 +2,7 @@
 use Rattle.std.proofs.Common.{◌≡◌, ℕ, Bool, true, false, cond, List, length, slice_get, Some, is_some, refl, sym, ap, ◌∙◌}
 use Rattle.std.proofs.lemmas.Bool.{false≢true}
 use Rattle.rv_pages.specs.Memory.{Memory, bytes_at, with_bytes, IsMapped}
-use Rattle.rv_pages.proofs.Reading.{mapped_some, some_mapped}
+use Rattle.rv_pages.proofs.MemoryReads.{mapped_some, some_mapped}
 use Rattle.rv_machine.specs.MachineState.{MachineState}
 use Rattle.rv_machine.specs.StateChanges.{put}
 use Rattle.rv_machine.specs.StateFields.{machine_state}

@@ -1,4 +1,4 @@
-use Rattle.rv_machine.proofs.Fitting.{products}
+use Rattle.rv_machine.proofs.ProductWords.{products}
 use Rattle.rv_machine.proofs.laws.products_have_two_words.Goals as goal
 
 pub returns : goal.returns

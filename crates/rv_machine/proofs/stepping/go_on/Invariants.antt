@@ -2,7 +2,7 @@ use Rattle.std.proofs.Common.{◌≡◌}
 use Rattle.rv_pages.specs.Memory.{page_numbers}
 use Rattle.rv_machine.specs.CodePage.{IsFound}
 use Rattle.rv_machine.specs.States.{state_number}
-use Rattle.rv_machine.specs.Watching.{AreNoted}
+use Rattle.rv_machine.specs.Watchers.{AreNoted}
 use Rattle.rv_machine.proofs.stepping.go_on.Given as goal
 
 -- so many steps on, each of which was looked at

@@ -2,7 +2,7 @@ use Rattle.std.proofs.Common.{◌≡◌, ℕ, ◌<◌}
 use Rattle.rv_pages.specs.Memory.{page_numbers}
 use Rattle.rv_machine.specs.CodePage.{IsFound}
 use Rattle.rv_machine.specs.States.{state_number}
-use Rattle.rv_machine.specs.Watching.{GoesOn}
+use Rattle.rv_machine.specs.Watchers.{GoesOn}
 use Rattle.rv_machine.proofs.stepping.go_until.Given as goal
 
 -- so many steps on, and in no state before was the run stopped

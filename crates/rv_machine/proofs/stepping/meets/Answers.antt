@@ -3,6 +3,7 @@ use Rattle.std.proofs.Common.{◌≡◌, ℕ, zero, suc, ◌+◌, ◌-◌, ◌%�
 use Rattle.std.specs.Prelude.{Any}
 use Rattle.std.proofs.lemmas.Bool.{lt-ltb, ltb-true}
 use Rattle.rv_pages.specs.Memory.{wrapped}
+use Rattle.rv_pages.specs.declared.pages.TheConstants.{LAST_WORD}
 use Rattle.rv_machine.specs.StateChanges.{addresses}
 use Rattle.rv_machine.proofs.stepping.meets.Goals as goal
 
@@ -27,20 +28,20 @@ address_of at n word h =
     (h.0, inside, subst (IsAmong word) (sym h.3 ∙ get_or-addresses n at h.0 h.1 inside) h.4)
 
 -- the first of the four is among so many
-first_of_four : (at n word : ℕ) → word ≤ 0xFFFFFFFC → at < 2 ^ 32 → (word + (4294967296 - at)) % 4294967296 < n → Any (IsAmong word) (addresses at n)
+first_of_four : (at n word : ℕ) → word ≤ LAST_WORD → at < 2 ^ 32 → (word + (4294967296 - at)) % 4294967296 < n → Any (IsAmong word) (addresses at n)
 first_of_four at n word small fits l =
     let k : ℕ = (word + (4294967296 - at)) % 4294967296 in
     let is : wrapped (at + k) ≡ word = omega arith in
     some_address at n word k l (omega (arith, is), omega (arith, is))
 
 -- the first of so many is among the four
-first_of_many : (at n word : ℕ) → word ≤ 0xFFFFFFFC → at < 2 ^ 32 → 0 < n → (at + (4294967296 - word)) % 4294967296 < 4 → Any (IsAmong word) (addresses at n)
+first_of_many : (at n word : ℕ) → word ≤ LAST_WORD → at < 2 ^ 32 → 0 < n → (at + (4294967296 - word)) % 4294967296 < 4 → Any (IsAmong word) (addresses at n)
 first_of_many at n word small fits some l =
     let is : wrapped (at + 0) ≡ at = omega arith in
     some_address at n word 0 some (omega (arith, is), omega (arith, is))
 
 -- there is no other way
-other_way : (at n word : ℕ) → word ≤ 0xFFFFFFFC → at < 2 ^ 32 → n ≤ (word + (4294967296 - at)) % 4294967296 → Any (IsAmong word) (addresses at n) → (at + (4294967296 - word)) % 4294967296 < 4
+other_way : (at n word : ℕ) → word ≤ LAST_WORD → at < 2 ^ 32 → n ≤ (word + (4294967296 - at)) % 4294967296 → Any (IsAmong word) (addresses at n) → (at + (4294967296 - word)) % 4294967296 < 4
 other_way at n word small fits far h =
     let w = address_of at n word h in
     let k : ℕ = w.0 in

@@ -1,4 +1,4 @@
-use Rattle.rv_manual.proofs.Whole.{apart}
+use Rattle.rv_manual.proofs.ManualEquivalence.{apart}
 use Rattle.rv_manual.proofs.laws.rows_are_apart.Goals as goal
 
 pub returns : goal.returns

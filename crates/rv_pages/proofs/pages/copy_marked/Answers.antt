@@ -3,8 +3,8 @@ use Rattle.std.proofs.lemmas.Bool.{cases_lt, cases_eq}
 use Rattle.std.proofs.lemmas.List.{get_or-take, get_or-drop, length-take, length-drop}
 use borrow.Rule.Slice.PartMut.{put_mid}
 use Rattle.rv_pages.specs.Marks.{mark_of}
-use Rattle.rv_pages.proofs.Written.{mid_inside}
-use Rattle.rv_pages.proofs.Changed.{outside_page}
+use Rattle.rv_pages.proofs.PageWrites.{mid_inside}
+use Rattle.rv_pages.proofs.PageInvariant.{outside_page}
 use Rattle.rv_pages.proofs.pages.copy_marked.Goals as goal
 
 -- the page that was copied has the other bytes

@@ -8,7 +8,7 @@ use Rattle.level_book.specs.declared.book.Level.{Level}
 use Rattle.level_book.specs.declared.book.Slots.{Slots}
 use Rattle.level_book.specs.BookCosts.{slots_of}
 use Rattle.schedule_rules.specs.declared.config.LevelHeld.{LevelHeld}
-use Rattle.schedule_rules.specs.HasBits.{HasBits}
+use Rattle.schedule_rules.specs.BitRoom.{HasBits}
 use Rattle.schedule_rules.specs.Bits.{set_of}
 use Rattle.schedule_rules.proofs.EmptyLevels.{alike_one_more, all_one_more}
 use Rattle.schedule_rules.proofs.config.empty_levels.Goals as goal

@@ -2,7 +2,7 @@ use Rattle.std.proofs.Common.{◌≡◌, map, take}
 use Rattle.std.specs.FinSet as set
 use Rattle.std.specs.List.{AllByRecursion}
 use Rattle.level_book.specs.BookCosts.{slots_of}
-use Rattle.schedule_rules.specs.HasBits.{HasBits}
+use Rattle.schedule_rules.specs.BitRoom.{HasBits}
 use Rattle.schedule_rules.specs.Bits.{set_of}
 use Rattle.schedule_rules.proofs.config.empty_levels.Given as goal
 

@@ -1,4 +1,4 @@
-use Rattle.schedule_rules.proofs.Lawful.{one_break}
+use Rattle.schedule_rules.proofs.RuleLaws.{one_break}
 use Rattle.schedule_rules.proofs.laws.first_broken_is_unique.Goals as goal
 
 pub returns : goal.returns

@@ -1,4 +1,4 @@
-use Rattle.schedule_rules.proofs.Reaching.{sound_on, sound_start}
+use Rattle.schedule_rules.proofs.Reachability.{sound_on, sound_start}
 use Rattle.schedule_rules.proofs.laws.reached_is_sound.Goals as goal
 
 pub returns : goal.returns

@@ -1,4 +1,4 @@
-use Rattle.schedule_rules.proofs.Lawful.{rules_moves_within}
+use Rattle.schedule_rules.proofs.RuleLaws.{rules_moves_within}
 use Rattle.schedule_rules.proofs.laws.rules_are_moves.Goals as goal
 
 pub returns : goal.returns

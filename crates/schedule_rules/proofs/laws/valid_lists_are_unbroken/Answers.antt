@@ -1,4 +1,4 @@
-use Rattle.schedule_rules.proofs.Lawful.{valid_unbroken}
+use Rattle.schedule_rules.proofs.RuleLaws.{valid_unbroken}
 use Rattle.schedule_rules.proofs.laws.valid_lists_are_unbroken.Goals as goal
 
 pub returns : goal.returns

@@ -5,7 +5,7 @@ use Rattle.plan_types.specs.declared.action.Action.{Action}
 use Rattle.level_book.specs.BookCosts.{slots_of}
 use Rattle.level_book.specs.Configuration.{start}
 use Rattle.level_book.specs.Valid.{Leads}
-use Rattle.schedule_rules.proofs.Judging.{broken_so, goes_on, unfinished_here}
+use Rattle.schedule_rules.proofs.VerdictReasons.{broken_so, goes_on, unfinished_here}
 use Rattle.schedule_rules.proofs.whole_list.check.Goals as goal
 
 pub returns-in-Err : goal.returns-in-Err

@@ -1,4 +1,4 @@
-use Rattle.segment_sweep.proofs.Covering.{one_found, some_found}
+use Rattle.segment_sweep.proofs.SegmentCovers.{one_found, some_found}
 use Rattle.segment_sweep.proofs.laws.quests_have_one_answer.Goals as goal
 
 pub returns : goal.returns

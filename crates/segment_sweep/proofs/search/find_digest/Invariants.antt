@@ -1,4 +1,4 @@
-use Rattle.segment_sweep.proofs.Stepping.{first_mark}
+use Rattle.segment_sweep.proofs.StepExtension.{first_mark}
 use Rattle.segment_sweep.proofs.search.find_digest.Given as goal
 
 abbrev pub ghosts-search : goal.ghosts-search

@@ -1,5 +1,5 @@
 use Rattle.std.proofs.Common.{Ok, None}
-use Rattle.segment_sweep.proofs.Covering.{covers_next, segment_of}
+use Rattle.segment_sweep.proofs.SegmentCovers.{covers_next, segment_of}
 use Rattle.segment_sweep.proofs.search.last_place.Goals as goal
 
 pub loop-answer-preserved : goal.loop-answer-preserved

@@ -1,5 +1,5 @@
 use Rattle.std.proofs.Common.{◌+◌, ◌*◌, min}
-use Rattle.segment_sweep.specs.Covering.{Covers}
+use Rattle.segment_sweep.specs.SegmentResults.{Covers}
 use Rattle.segment_sweep.proofs.search.last_place.Given as goal
 
 abbrev pub invariant-loop-answer : goal.invariant-loop-answer

@@ -1,8 +1,8 @@
 use Rattle.std.proofs.Common.{◌≡◌, ◌+◌, ◌-◌, true, subst, ap, sym, ◌∙◌, arith, true≢false}
 use Rattle.rv_machine.specs.StepTable.{next}
-use Rattle.segment_sweep.specs.Covering.{Covers}
-use Rattle.segment_sweep.proofs.Stepping.{one_more}
-use Rattle.segment_sweep.proofs.Covering.{covers_it, covers_on}
+use Rattle.segment_sweep.specs.SegmentResults.{Covers}
+use Rattle.segment_sweep.proofs.StepExtension.{one_more}
+use Rattle.segment_sweep.proofs.SegmentCovers.{covers_it, covers_on}
 use Rattle.segment_sweep.proofs.worker.sweep.Goals.{then-has_digest+then-seen-n, then-has_digest+else-seen-n, else-has_digest}
 use Rattle.segment_sweep.proofs.worker.sweep.Goals as goal
 

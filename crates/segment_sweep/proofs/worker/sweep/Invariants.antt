@@ -1,6 +1,6 @@
 use Rattle.std.proofs.Common.{◌≡◌, ◌≤◌}
 use Rattle.rv_machine.specs.States.{state_number}
-use Rattle.segment_sweep.specs.Covering.{Covers}
+use Rattle.segment_sweep.specs.SegmentResults.{Covers}
 use Rattle.segment_sweep.proofs.worker.sweep.Given as goal
 
 abbrev pub invariant-loop-n : goal.invariant-loop-n

@@ -1,5 +1,5 @@
 use Rattle.std.proofs.Common.{arith}
-use Rattle.segment_sweep.proofs.Marking.{no_more}
+use Rattle.segment_sweep.proofs.MarkExtension.{no_more}
 use Rattle.segment_sweep.proofs.worker.worker.Goals as goal
 
 pub overflow_cast-from : goal.overflow_cast-from

@@ -1,6 +1,6 @@
 use Rattle.std.proofs.Common.{ℕ, ◌<◌, List, length, ap, ◌∙◌, arith}
 use Rattle.rv_pages.specs.Memory.{page_numbers}
-use Rattle.state_image.proofs.Clearing.{passed, cleared, kept}
+use Rattle.state_image.proofs.PageUpdates.{passed, cleared, kept}
 use Rattle.state_image.proofs.decoding.clear_unnamed.Goals as goal
 use Rattle.state_image.proofs.decoding.clear_unnamed.Goals.{then-not-named-index, else-not-named-index}
 

@@ -1,6 +1,6 @@
 use Rattle.std.proofs.Common.{◌≡◌, ◌-◌, ◌≤◌, length}
 use Rattle.rv_pages.specs.Memory.{page_numbers}
-use Rattle.state_image.proofs.Clearing.{AreCleared}
+use Rattle.state_image.proofs.PageUpdates.{AreCleared}
 use Rattle.state_image.proofs.decoding.clear_unnamed.Given as goal
 
 -- the pages that were passed and aren't named are zero

@@ -1,7 +1,7 @@
 use Rattle.std.proofs.Common.{◌≡◌, ℕ, ◌+◌, ◌-◌, ◌<◌, List, take, drop, get_or, Some, Contains, ap, sym, subst, ◌∙◌, arith}
 use Rattle.rv_pages.specs.Memory.{page_numbers, page_bytes, IsPlaceOf}
 use Rattle.state_image.specs.ImageForm.{number_at, page_number, page_part, page_count}
-use Rattle.state_image.proofs.Clearing.{has_place, copied_more}
+use Rattle.state_image.proofs.PageUpdates.{has_place, copied_more}
 use Rattle.state_image.proofs.decoding.copy_pages.Goals as goal
 
 pub unwrap-index-requires : goal.unwrap-index-requires

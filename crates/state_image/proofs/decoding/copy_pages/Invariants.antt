@@ -1,4 +1,4 @@
-use Rattle.state_image.proofs.Clearing.{AreCopied}
+use Rattle.state_image.proofs.PageUpdates.{AreCopied}
 use Rattle.state_image.proofs.decoding.copy_pages.Given as goal
 
 -- the pages of the bytes so far are copied, and those that the bytes don't name are as they were

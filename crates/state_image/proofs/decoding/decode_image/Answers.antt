@@ -3,12 +3,12 @@ use Rattle.rv_pages.specs.Memory.{page_numbers}
 use Rattle.rv_machine.specs.MachineState.{MachineState, IsMachineState}
 use Rattle.state_image.specs.Image.{image}
 use Rattle.state_image.specs.ImageForm.{first_unmapped}
-use Rattle.state_image.specs.Decoded.{AreMapped, MarksNamed, IsRight}
-use Rattle.state_image.proofs.Stored.{no_marks}
-use Rattle.state_image.proofs.Right.{is_right, none_wrong}
-use Rattle.state_image.proofs.Telling.{image_tells}
+use Rattle.state_image.specs.Decoder.{AreMapped, MarksNamed, IsRight}
+use Rattle.state_image.proofs.HashedPages.{no_marks}
+use Rattle.state_image.proofs.RightFields.{is_right, none_wrong}
+use Rattle.state_image.proofs.ImageInjectivity.{image_tells}
 use Rattle.state_image.proofs.Images.{image_right, all_mapped}
-use Rattle.state_image.proofs.Spelled.{image_again}
+use Rattle.state_image.proofs.ImageRoundTrip.{image_again}
 use Rattle.state_image.proofs.decoding.decode_image.Goals as goal
 
 no_some : (x : ℕ) → None ≡ Some x → ⊥

@@ -3,8 +3,8 @@ use Rattle.std.proofs.lemmas.List.{length-set, get_or_default}
 use Rattle.std.specs.List.{list_any}
 use Rattle.rv_pages.specs.Memory.{page_numbers}
 use Rattle.state_image.specs.ImageForm.{number_at, page_number, page_count}
-use Rattle.state_image.proofs.Finding.{found_first, none_first, listed, unlisted}
-use Rattle.state_image.proofs.Clearing.{marks_more}
+use Rattle.state_image.proofs.FirstWrongField.{found_first, none_first, listed, unlisted}
+use Rattle.state_image.proofs.PageUpdates.{marks_more}
 use Rattle.state_image.proofs.decoding.first_unmapped.Goals as goal
 
 -- a page that is mapped isn't found

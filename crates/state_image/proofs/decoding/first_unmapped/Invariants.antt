@@ -1,7 +1,7 @@
 use Rattle.std.proofs.Common.{◌≡◌, ℕ, ◌<◌, length, Contains}
 use Rattle.rv_pages.specs.Memory.{page_numbers}
 use Rattle.state_image.specs.ImageForm.{page_number}
-use Rattle.state_image.specs.Decoded.{MarksNamed}
+use Rattle.state_image.specs.Decoder.{MarksNamed}
 use Rattle.state_image.proofs.decoding.first_unmapped.Given as goal
 
 -- the pages so far are mapped, and only pages of the bytes are marked

@@ -1,8 +1,8 @@
 use Rattle.std.proofs.Common.{◌≡◌, ℕ, List, subst, sym, ap, ◌∙◌}
 use Rattle.rv_machine.specs.MachineState.{MachineState}
-use Rattle.state_image.specs.Decoded.{AreMapped, MarksNamed}
+use Rattle.state_image.specs.Decoder.{AreMapped, MarksNamed}
 use Rattle.rv_pages.specs.Memory.{page_numbers}
-use Rattle.state_image.proofs.Clearing.{others_zero}
+use Rattle.state_image.proofs.PageUpdates.{others_zero}
 use Rattle.state_image.proofs.decoding.take_state.Goals as goal
 
 pub copy_pages-requires-clause-mapped : goal.copy_pages-requires-clause-mapped

@@ -5,7 +5,7 @@ use Rattle.std.specs.List.{flat_map}
 use Rattle.std.specs.Int.{to_le_bytes, w32}
 use Rattle.rv_pages.specs.Memory.{Memory, page_numbers, page_bytes}
 use Rattle.state_image.specs.Image.{is_stored, page_field}
-use Rattle.state_image.proofs.Stored.{one_more, left_out, skipped}
+use Rattle.state_image.proofs.HashedPages.{one_more, left_out, skipped}
 use Rattle.state_image.proofs.encoding.push_pages.Goals as goal
 use Rattle.state_image.proofs.encoding.push_pages.Goals.{then-stored-index, else-stored-index}
 

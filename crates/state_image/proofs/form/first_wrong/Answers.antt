@@ -1,7 +1,7 @@
 use Rattle.std.proofs.Common.{◌≡◌, ◌<◌, false, map, Some, sym, ◌∙◌, ap, below_more, arith}
 use Rattle.std.specs.List.{range_with_len}
 use Rattle.state_image.specs.ImageForm.{is_wrong, start_or, trailing, header_fields, page, page_start, page_count}
-use Rattle.state_image.proofs.Finding.{start_some, find_later, first_page, pages_right, trailing_some, trailing_none}
+use Rattle.state_image.proofs.FirstWrongField.{start_some, find_later, first_page, pages_right, trailing_some, trailing_none}
 use Rattle.state_image.proofs.form.first_wrong.Goals as goal
 
 pub returns-in-Some : goal.returns-in-Some

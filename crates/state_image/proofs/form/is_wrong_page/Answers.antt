@@ -1,6 +1,6 @@
 use Rattle.std.proofs.Common.{◌≡◌, ◌≤◌, ◌+◌, ◌-◌, ◌<◌, List, ℕ, length, take, drop, sym, ap, subst, ◌∙◌, arith}
 use Rattle.state_image.specs.ImageForm.{number_at, page_start, page_number, page_part}
-use Rattle.state_image.proofs.Finding.{page_wrong}
+use Rattle.state_image.proofs.FirstWrongField.{page_wrong}
 use Rattle.state_image.proofs.form.is_wrong_page.Goals as goal
 
 pub returns-else-number_at-ge-NUMBERS : goal.returns-else-number_at-ge-NUMBERS

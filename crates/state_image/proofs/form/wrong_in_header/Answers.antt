@@ -1,6 +1,6 @@
 use Rattle.std.proofs.Common.{List, [], ◌∷◌, ◌++◌, None, sym, ◌∙◌, ap}
 use Rattle.state_image.specs.ImageForm.{Field, magic, version, pc, registers, kind, value, item, offset, written, count, is_wrong, start_or}
-use Rattle.state_image.proofs.Finding.{start_some, find_later}
+use Rattle.state_image.proofs.FirstWrongField.{start_some, find_later}
 use Rattle.state_image.proofs.form.wrong_in_header.Goals as goal
 
 pub returns-in-Some-wrong_in_status-clause-value : goal.returns-in-Some-wrong_in_status-clause-value

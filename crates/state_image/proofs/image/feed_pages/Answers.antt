@@ -7,7 +7,7 @@ use Rattle.sha2.specs.Hashers.{Holds256}
 use Rattle.sha2.specs.declared.Sha256.{Sha256}
 use Rattle.rv_pages.specs.Memory.{Memory, page_numbers, page_bytes}
 use Rattle.state_image.specs.Image.{is_stored, page_field}
-use Rattle.state_image.proofs.Stored.{one_more, left_out, skipped}
+use Rattle.state_image.proofs.HashedPages.{one_more, left_out, skipped}
 use Rattle.state_image.proofs.image.feed_pages.Goals as goal
 use Rattle.state_image.proofs.image.feed_pages.Goals.{then-stored-index, else-stored-index}
 

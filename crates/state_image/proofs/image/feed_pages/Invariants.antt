@@ -1,7 +1,7 @@
 use Rattle.std.proofs.Common.{◌-◌, ◌≤◌, take, filter, length}
 use Rattle.std.specs.List.{flat_map}
 use Rattle.rv_pages.specs.Memory.{page_numbers}
-use Rattle.state_image.specs.Feed.{Feeds}
+use Rattle.state_image.specs.HashInput.{Feeds}
 use Rattle.state_image.specs.Image.{is_stored, page_field}
 use Rattle.state_image.proofs.image.feed_pages.Given as goal
 

@@ -1,4 +1,4 @@
-use Rattle.state_image.proofs.Stored.{no_marks}
+use Rattle.state_image.proofs.HashedPages.{no_marks}
 use Rattle.state_image.proofs.image.image_digest.Goals as goal
 
 pub mark_stored-count-requires-clause-unmarked : goal.mark_stored-count-requires-clause-unmarked

@@ -6,7 +6,7 @@ use Rattle.std.specs.List.{list_all}
 use mir.Val.{bool_byte}
 use Rattle.rv_pages.specs.Memory.{Memory, page_numbers, IsZeroPage}
 use Rattle.state_image.specs.Image.{is_stored}
-use Rattle.state_image.proofs.Stored.{skipped, zero_not_stored}
+use Rattle.state_image.proofs.HashedPages.{skipped, zero_not_stored}
 use Rattle.state_image.proofs.image.mark_stored.Goals as goal
 
 -- one page more is counted

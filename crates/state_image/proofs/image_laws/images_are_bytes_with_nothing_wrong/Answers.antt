@@ -1,8 +1,8 @@
 use Rattle.state_image.specs.Image.{image}
-use Rattle.state_image.proofs.Right.{is_right, none_wrong}
+use Rattle.state_image.proofs.RightFields.{is_right, none_wrong}
 use Rattle.state_image.proofs.Images.{image_right}
-use Rattle.state_image.proofs.Spelled.{bytes_of}
-use Rattle.state_image.proofs.Made.{state, machine, spelled}
+use Rattle.state_image.proofs.ImageRoundTrip.{bytes_of}
+use Rattle.state_image.proofs.DecodedState.{state, machine, spelled}
 use Rattle.state_image.proofs.image_laws.images_are_bytes_with_nothing_wrong.Goals as goal
 
 pub returns-clause-right : goal.returns-clause-right

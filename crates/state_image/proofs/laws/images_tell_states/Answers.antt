@@ -1,4 +1,4 @@
-use Rattle.state_image.proofs.Telling.{image_tells}
+use Rattle.state_image.proofs.ImageInjectivity.{image_tells}
 use Rattle.state_image.proofs.laws.images_tell_states.Goals as goal
 
 pub returns : goal.returns

@@ -1,4 +1,4 @@
-use Rattle.state_image.proofs.Telling.{run_image_tells}
+use Rattle.state_image.proofs.ImageInjectivity.{run_image_tells}
 use Rattle.state_image.proofs.laws.images_tell_states_of_a_run.Goals as goal
 
 pub returns : goal.returns

@@ -4,7 +4,7 @@ use Rattle.std.specs.Prelude.{codes, decimal}
 use Rattle.std.specs.List.{flat_map}
 use Rattle.rv_machine.specs.StateFields.{machine_state}
 use Rattle.state_image.specs.Line.{line_front, hex_word, status_word}
-use Rattle.state_image.proofs.Room.{short_32}
+use Rattle.state_image.proofs.DigitLengths.{short_32}
 use Rattle.state_image.proofs.text.line_front.Goals as goal
 
 pub push_decimal-requires : goal.push_decimal-requires

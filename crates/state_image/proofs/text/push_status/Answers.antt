@@ -1,6 +1,6 @@
 use Rattle.std.proofs.Common.{ℕ, length, ap, arith}
 use Rattle.std.proofs.lemmas.List.{length-append}
-use Rattle.state_image.proofs.Room.{short_8}
+use Rattle.state_image.proofs.DigitLengths.{short_8}
 use Rattle.state_image.proofs.text.push_status.Goals as goal
 
 pub push_decimal-requires : goal.push_decimal-requires

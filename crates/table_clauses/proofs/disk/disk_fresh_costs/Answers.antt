@@ -3,7 +3,7 @@ use Rattle.level_book.specs.UnderTable.{Entry}
 use Rattle.cost_tables.specs.TableRows.{value_of}
 use Rattle.disk_gen.specs.DiskRows.{disk_tables_in}
 use Rattle.table_clauses.specs.Splits.{IsColumn}
-use Rattle.table_clauses.proofs.Pushing.{column_pushed}
+use Rattle.table_clauses.proofs.ColumnExtension.{column_pushed}
 use Rattle.table_clauses.proofs.disk.disk_fresh_costs.Goals as goal
 
 pub loop-r-preserved : goal.loop-r-preserved

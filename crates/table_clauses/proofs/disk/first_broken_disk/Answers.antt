@@ -2,9 +2,9 @@ use Rattle.std.proofs.Common.{◌≡◌, ℕ, ◌<◌, Option, length, slice_ind
 use Rattle.std.proofs.lemmas.List.{length-take}
 use Rattle.level_book.specs.BookCosts.{room}
 use Rattle.cost_tables.specs.TableRows.{TableRows, tables_in, fastest}
-use Rattle.cost_tables.proofs.Fastest.{same_room}
+use Rattle.cost_tables.proofs.FastestLevel.{same_room}
 use Rattle.table_clauses.specs.declared.entry.Entry.{Entry as Place}
-use Rattle.table_clauses.specs.Broken.{Breaks}
+use Rattle.table_clauses.specs.ClauseFailures.{Breaks}
 use Rattle.table_clauses.specs.Columns.{Finds, InLevel}
 use Rattle.table_clauses.specs.DiskColumns.{InDiskColumns}
 use Rattle.table_clauses.proofs.DiskMeanings.{fast_fresh_found, fast_held_found, all_found}

@@ -1,4 +1,4 @@
-use Rattle.table_clauses.proofs.DiskUnbroken.{disk_under_where_none}
+use Rattle.table_clauses.proofs.DiskNoFailures.{disk_under_where_none}
 use Rattle.table_clauses.proofs.laws.disk_under_where_none_fails.Goals as goal
 
 pub returns : goal.returns

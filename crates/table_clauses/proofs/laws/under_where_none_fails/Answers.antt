@@ -1,4 +1,4 @@
-use Rattle.table_clauses.proofs.Unbroken.{under_where_none}
+use Rattle.table_clauses.proofs.NoFailures.{under_where_none}
 use Rattle.table_clauses.proofs.laws.under_where_none_fails.Goals as goal
 
 pub returns : goal.returns

@@ -1,9 +1,9 @@
 use Rattle.std.proofs.Common.{Option, subst}
 use Rattle.cost_tables.specs.TableRows.{tables_in}
 use Rattle.table_clauses.specs.declared.entry.Entry.{Entry as Place}
-use Rattle.table_clauses.specs.Broken.{Breaks}
+use Rattle.table_clauses.specs.ClauseFailures.{Breaks}
 use Rattle.table_clauses.specs.Columns.{Finds, InTable}
-use Rattle.table_clauses.proofs.Unbroken.{found_fresh, both_found}
+use Rattle.table_clauses.proofs.NoFailures.{found_fresh, both_found}
 use Rattle.table_clauses.proofs.nested.first_broken.Goals as goal
 
 pub returns-in-Some : goal.returns-in-Some

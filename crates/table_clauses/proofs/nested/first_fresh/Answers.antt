@@ -1,7 +1,7 @@
 use Rattle.std.proofs.Common.{Option, arith, subst}
 use Rattle.cost_tables.specs.TableRows.{tables_in}
 use Rattle.table_clauses.specs.declared.entry.Entry.{Entry as Place}
-use Rattle.table_clauses.specs.Broken.{Breaks}
+use Rattle.table_clauses.specs.ClauseFailures.{Breaks}
 use Rattle.table_clauses.specs.Columns.{Finds, InLevel}
 use Rattle.table_clauses.proofs.Places.{level_next, level_more}
 use Rattle.table_clauses.proofs.nested.first_fresh.Goals as goal

@@ -1,7 +1,7 @@
 use Rattle.std.proofs.Common.{◌≡◌, ◌<◌}
 use Rattle.cost_tables.specs.TableRows.{tables_in}
 use Rattle.table_clauses.specs.declared.entry.Entry.{Entry as Place}
-use Rattle.table_clauses.specs.Broken.{Breaks}
+use Rattle.table_clauses.specs.ClauseFailures.{Breaks}
 use Rattle.table_clauses.proofs.nested.first_fresh.Given as goal
 
 abbrev pub invariant-loop-k : goal.invariant-loop-k

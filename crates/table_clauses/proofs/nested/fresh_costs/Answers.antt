@@ -2,7 +2,7 @@ use Rattle.std.proofs.Common.{◌≡◌, ℕ, ◌+◌, arith, subst}
 use Rattle.level_book.specs.UnderTable.{Entry}
 use Rattle.cost_tables.specs.TableRows.{tables_in, value_of}
 use Rattle.table_clauses.specs.Splits.{IsColumn}
-use Rattle.table_clauses.proofs.Pushing.{column_pushed}
+use Rattle.table_clauses.proofs.ColumnExtension.{column_pushed}
 use Rattle.table_clauses.proofs.nested.fresh_costs.Goals as goal
 
 pub loop-r-preserved : goal.loop-r-preserved

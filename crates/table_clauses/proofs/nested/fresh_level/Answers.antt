@@ -1,7 +1,7 @@
 use Rattle.std.proofs.Common.{◌≡◌, ℕ, suc, ◌≤◌, IfSome, length, slice_index, arith, sym, subst}
 use Rattle.level_book.specs.BookCosts.{room}
 use Rattle.table_clauses.specs.declared.entry.Entry.{Entry as Place}
-use Rattle.table_clauses.specs.Broken.{IsFirst}
+use Rattle.table_clauses.specs.ClauseFailures.{IsFirst}
 use Rattle.table_clauses.specs.Columns.{InFreshColumn}
 use Rattle.cost_tables.specs.TableRows.{tables_in}
 use Rattle.table_clauses.proofs.Meanings.{fresh_found, fresh_more, fresh_within}

@@ -2,9 +2,9 @@ use Rattle.std.proofs.Common.{◌≡◌, ◌∷◌, ◌++◌, ℕ, [], List, Som
 use Rattle.std.specs.List.{AllByRecursion}
 use Rattle.unit_digests.specs.declared.sharing.Digester.{Digester}
 use Rattle.unit_digests.specs.Digests.{states_of, HasPages}
-use Rattle.unit_digests.specs.Dealing.{mapped, HasShare, HasRoom, part_of}
-use Rattle.unit_digests.proofs.Walking.{all_push}
-use Rattle.unit_digests.proofs.Dealing.{each_more, same_count, all_front, all_back, pages_front, pages_last}
+use Rattle.unit_digests.specs.WorkDivision.{mapped, HasShare, HasRoom, part_of}
+use Rattle.unit_digests.proofs.DigestWalks.{all_push}
+use Rattle.unit_digests.proofs.WorkDivision.{each_more, same_count, all_front, all_back, pages_front, pages_last}
 use Rattle.unit_digests.proofs.sharing.+sharing.Goals as goal
 
 pub take_beside-unwrap-requires : goal.take_beside-unwrap-requires

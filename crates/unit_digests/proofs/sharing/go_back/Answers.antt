@@ -1,7 +1,7 @@
 use Rattle.std.proofs.Common.{◌≡◌, ◌<◌, ◌∷◌, ◌++◌, [], suc, length, ap, ◌∙◌, arith}
-use Rattle.unit_undo.specs.Leading.{led_back}
-use Rattle.unit_undo.proofs.Leading.{length-led_back, walked}
-use Rattle.unit_digests.proofs.Walking.{passed_more, fell_behind}
+use Rattle.unit_undo.specs.UndoTrail.{led_back}
+use Rattle.unit_undo.proofs.UndoTrail.{length-led_back, walked}
+use Rattle.unit_digests.proofs.DigestWalks.{passed_more, fell_behind}
 use Rattle.unit_digests.proofs.sharing.go_back.Goals as goal
 
 pub loop-walk-preserved : goal.loop-walk-preserved

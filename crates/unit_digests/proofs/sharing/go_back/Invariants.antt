@@ -1,7 +1,7 @@
 use Rattle.std.proofs.Common.{◌≡◌, ◌≤◌, ◌∷◌, ◌++◌, List, length}
 use Rattle.rv_pages.specs.Memory.{page_numbers}
 use Rattle.rv_machine.specs.MachineState.{MachineState}
-use Rattle.unit_undo.specs.Leading.{LeadsBack, led_back}
+use Rattle.unit_undo.specs.UndoTrail.{LeadsBack, led_back}
 use Rattle.unit_digests.proofs.sharing.go_back.Given as goal
 
 -- the state is the first one, or one of those that were passed

@@ -1,7 +1,7 @@
 use Rattle.std.proofs.Common.{◌≡◌, [], ◌∷◌, ◌++◌, None, Some, subst, sym, rules}
 use Rattle.unit_digests.specs.Digests.{AreDigests, IsKnown}
-use Rattle.unit_digests.proofs.Dealing.{get_front}
-use Rattle.unit_digests.proofs.Walking.{unknown_comes}
+use Rattle.unit_digests.proofs.WorkDivision.{get_front}
+use Rattle.unit_digests.proofs.DigestWalks.{unknown_comes}
 use Rattle.unit_digests.proofs.sharing.make_room.Goals as goal
 
 pub loop-preserved : goal.loop-preserved

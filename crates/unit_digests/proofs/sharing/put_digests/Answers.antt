@@ -1,9 +1,9 @@
 use Rattle.std.proofs.Common.{◌≡◌, Some, slice_get, inl, inr, subst, sym, ap, ◌∙◌, arith}
 use Rattle.std.specs.List.{AllByRecursion}
 use Rattle.unit_digests.specs.declared.sharing.Digester.{Digester}
-use Rattle.unit_digests.specs.Dealing.{IsTaken, HasTaken}
-use Rattle.unit_digests.proofs.Walking.{all_item}
-use Rattle.unit_digests.proofs.Dealing.{item_at, get_inside}
+use Rattle.unit_digests.specs.WorkDivision.{IsTaken, HasTaken}
+use Rattle.unit_digests.proofs.DigestWalks.{all_item}
+use Rattle.unit_digests.proofs.WorkDivision.{item_at, get_inside}
 use Rattle.unit_digests.proofs.sharing.put_digests.Goals as goal
 
 pub loop-digester-preserved : goal.loop-digester-preserved

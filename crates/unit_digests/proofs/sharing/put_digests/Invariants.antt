@@ -5,7 +5,7 @@ use Rattle.rv_machine.specs.MachineState.{MachineState}
 use Rattle.unit_digests.specs.declared.sharing.Taken.{Taken}
 use Rattle.unit_digests.specs.declared.sharing.Digester.{Digester}
 use Rattle.unit_digests.specs.Digests.{AreDigests, IsKnown}
-use Rattle.unit_digests.specs.Dealing.{HasTaken}
+use Rattle.unit_digests.specs.WorkDivision.{HasTaken}
 use Rattle.unit_digests.proofs.sharing.put_digests.Given as goal
 
 abbrev pub invariant-loop-digester : goal.invariant-loop-digester

@@ -2,8 +2,8 @@ use Rattle.std.proofs.Common.{List, [], Option, Some, get_or, slice_set, inl, in
 use Rattle.std.specs.Vec.{vec_len, vec_capacity}
 use Rattle.unit_digests.specs.declared.sharing.Taken.{Taken}
 use Rattle.unit_digests.specs.Digests.{AreDigests, IsKnown}
-use Rattle.unit_digests.specs.Dealing.{IsTaken}
-use Rattle.unit_digests.proofs.Dealing.{put_right, put_known, still_known, all_at, item_at, get_inside}
+use Rattle.unit_digests.specs.WorkDivision.{IsTaken}
+use Rattle.unit_digests.proofs.WorkDivision.{put_right, put_known, still_known, all_at, item_at, get_inside}
 use Rattle.unit_digests.proofs.sharing.put_each.Goals.{then-digest-len, else-digest-len}
 use Rattle.unit_digests.proofs.sharing.put_each.Goals as goal
 

@@ -4,7 +4,7 @@ use Rattle.std.specs.List.{AllByRecursion}
 use Rattle.rv_machine.specs.MachineState.{MachineState}
 use Rattle.unit_digests.specs.declared.sharing.Taken.{Taken}
 use Rattle.unit_digests.specs.Digests.{AreDigests, IsKnown}
-use Rattle.unit_digests.specs.Dealing.{IsTaken}
+use Rattle.unit_digests.specs.WorkDivision.{IsTaken}
 use Rattle.unit_digests.proofs.sharing.put_each.Given as goal
 
 abbrev pub invariant-loop-digest : goal.invariant-loop-digest

@@ -1,4 +1,4 @@
-use Rattle.unit_undo.proofs.Leading.{can_note, noted}
+use Rattle.unit_undo.proofs.UndoTrail.{can_note, noted}
 use Rattle.unit_undo.proofs.laws.units_can_be_watched.Goals as goal
 
 pub returns : goal.returns

@@ -1,5 +1,5 @@
 use Rattle.std.proofs.Common.{sym, ◌∙◌}
-use Rattle.action_text.proofs.Seen.{at_token, column_there}
+use Rattle.action_text.proofs.NextToken.{at_token, column_there}
 use Rattle.action_text.proofs.cursor.Cursor.column.Goals as goal
 
 pub column_of-requires : goal.column_of-requires

@@ -1,5 +1,5 @@
 use Rattle.std.proofs.Common.{sym, ◌∙◌}
-use Rattle.action_text.proofs.Seen.{at_token, column_there, end_there, end_is, end_isnt}
+use Rattle.action_text.proofs.NextToken.{at_token, column_there, end_there, end_is, end_isnt}
 use Rattle.action_text.proofs.cursor.Cursor.end.Goals as goal
 use Rattle.action_text.proofs.cursor.Cursor.end.Goals.{then-ends_line, else-ends_line}
 

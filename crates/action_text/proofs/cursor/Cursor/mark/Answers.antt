@@ -1,8 +1,8 @@
 use Rattle.std.proofs.Common.{sym, ap, ◌∙◌, arith}
 use Rattle.std.proofs.Common.{[]}
 use Rattle.std.proofs.lemmas.Bool.{ne_eqb}
-use Rattle.action_text.specs.Rest.{Rest}
-use Rattle.action_text.proofs.Seen.{at_token, column_there, mark_there, mark_is, mark_isnt, text_differs}
+use Rattle.action_text.specs.CursorState.{Rest}
+use Rattle.action_text.proofs.NextToken.{at_token, column_there, mark_there, mark_is, mark_isnt, text_differs}
 use Rattle.action_text.proofs.cursor.Cursor.mark.Goals as goal
 
 pub invariant_of-self : goal.invariant_of-self

@@ -1,4 +1,4 @@
-use Rattle.action_text.proofs.Seen.{seen_whole}
+use Rattle.action_text.proofs.NextToken.{seen_whole}
 use Rattle.action_text.proofs.cursor.Cursor.new.Goals as goal
 
 pub returns : goal.returns

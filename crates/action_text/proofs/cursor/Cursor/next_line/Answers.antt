@@ -1,5 +1,5 @@
 use Rattle.std.proofs.Common.{sym, arith}
-use Rattle.action_text.proofs.Seen.{behind_line_within, goes_on, goes_nowhere}
+use Rattle.action_text.proofs.NextToken.{behind_line_within, goes_on, goes_nowhere}
 use Rattle.action_text.proofs.cursor.Cursor.next_line.Goals as goal
 
 pub invariant_of-self : goal.invariant_of-self

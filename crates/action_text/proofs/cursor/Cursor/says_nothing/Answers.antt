@@ -1,5 +1,5 @@
 use Rattle.std.proofs.Common.{◌∙◌}
-use Rattle.action_text.proofs.Seen.{at_token, nothing_there}
+use Rattle.action_text.proofs.NextToken.{at_token, nothing_there}
 use Rattle.action_text.proofs.cursor.Cursor.says_nothing.Goals as goal
 
 pub invariant_of-self : goal.invariant_of-self

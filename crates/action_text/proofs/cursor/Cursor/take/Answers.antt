@@ -1,6 +1,6 @@
 use Rattle.std.proofs.Common.{refl, arith}
-use Rattle.action_text.proofs.Seen.{at_token}
-use Rattle.action_text.proofs.Fronts.{this_word_there, other_word_there, word_within}
+use Rattle.action_text.proofs.NextToken.{at_token}
+use Rattle.action_text.proofs.FirstRun.{this_word_there, other_word_there, word_within}
 use Rattle.action_text.proofs.cursor.Cursor.take.Goals as goal
 
 pub invariant_of-self : goal.invariant_of-self

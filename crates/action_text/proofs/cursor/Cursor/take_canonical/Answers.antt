@@ -1,8 +1,8 @@
 use Rattle.std.proofs.Common.{false, sym, ap, ◌∙◌, arith}
 use Rattle.level_book.specs.BookCosts.{names_of}
-use Rattle.action_text.specs.Rest.{Rest}
-use Rattle.action_text.specs.Reading.{line_of}
-use Rattle.action_text.proofs.Written.{line_written, action_within}
+use Rattle.action_text.specs.CursorState.{Rest}
+use Rattle.action_text.specs.Parser.{line_of}
+use Rattle.action_text.proofs.CanonicalSpelling.{line_written, action_within}
 use Rattle.action_text.proofs.cursor.Cursor.take_canonical.Goals as goal
 
 pub invariant_of-self : goal.invariant_of-self

@@ -1,7 +1,7 @@
 use Rattle.std.proofs.Common.{◌≡◌, None, refl, sym, ap, ◌∙◌, arith}
-use Rattle.action_text.specs.Reading.{alone}
-use Rattle.action_text.proofs.Seen.{at_token}
-use Rattle.action_text.proofs.Fronts.{number_there, no_number_there, number_within}
+use Rattle.action_text.specs.Parser.{alone}
+use Rattle.action_text.proofs.NextToken.{at_token}
+use Rattle.action_text.proofs.FirstRun.{number_there, no_number_there, number_within}
 use Rattle.action_text.proofs.cursor.Cursor.take_number.Goals as goal
 
 pub returns-in_err-n-clause-value : goal.returns-in_err-n-clause-value

@@ -1,7 +1,7 @@
 use Rattle.std.proofs.Common.{◌<◌, take, sym, ap, ◌∙◌, arith, ℕ}
 use Rattle.action_text.specs.Bytes.{run_length}
-use Rattle.action_text.specs.Reading.{not_action}
-use Rattle.action_text.proofs.Seen.{at_token, column_there, word_there, no_word_there}
+use Rattle.action_text.specs.Parser.{not_action}
+use Rattle.action_text.proofs.NextToken.{at_token, column_there, word_there, no_word_there}
 use Rattle.action_text.proofs.cursor.Cursor.word.Goals as goal
 
 pub column_of-column-requires : goal.column_of-column-requires

@@ -1,8 +1,8 @@
 use Rattle.std.proofs.Common.{◌≡◌, ◌∙◌, ap, sym, arith, ℕ, List, [], ◌∷◌, ◌++◌}
-use Rattle.keepers.specs.Writing.{seen}
-use Rattle.keepers.proofs.Adding.{one_added, one_stopped, err_always}
-use Rattle.cert_text.specs.Printing.{StopsAt}
-use Rattle.cert_text.proofs.Putting.{put_next, stop_next}
+use Rattle.keepers.specs.LineWrites.{seen}
+use Rattle.keepers.proofs.LineSequences.{one_added, one_stopped, err_always}
+use Rattle.cert_text.specs.LineWrites.{StopsAt}
+use Rattle.cert_text.proofs.WordWrites.{put_next, stop_next}
 use Rattle.cert_text.proofs.piece.Piece.word.Goals as goal
 
 pub returns-in_err-write-clause-stopped : goal.returns-in_err-write-clause-stopped

@@ -1,4 +1,4 @@
-use Rattle.cert_text.proofs.Rest.{line_too_many}
+use Rattle.cert_text.proofs.TextMeaning.{line_too_many}
 use Rattle.cert_text.proofs.reader.Reader.finish.Goals as goal
 
 pub returns-in-Ok : goal.returns-in-Ok

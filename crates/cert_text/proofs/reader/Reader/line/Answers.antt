@@ -1,6 +1,6 @@
 use Rattle.std.proofs.Common.{ℕ, ◌+◌, ap, sym, ◌∙◌}
 use Rattle.line_texts.specs.declared.fault.Fault.TheVariants.{At}
-use Rattle.cert_text.specs.Left.{Unread, unread}
+use Rattle.cert_text.specs.ReaderState.{Unread, unread}
 use Rattle.cert_text.proofs.reader.Reader.line.Goals as goal
 
 pub returns-in-Ok : goal.returns-in-Ok

@@ -1,5 +1,5 @@
 use Rattle.std.proofs.Common.{ap}
-use Rattle.cert_text.specs.Left.{Left}
+use Rattle.cert_text.specs.ReaderState.{Left}
 use Rattle.cert_text.proofs.words.Words.end.Goals as goal
 
 pub returns : goal.returns

@@ -2,7 +2,7 @@ use Rattle.std.proofs.Common.{sym, ap, ◌∙◌, ◌∷◌, List, Option}
 use Rattle.level_book.specs.NestedClass.{Image}
 use Rattle.class_rules.specs.declared.stack.Held.{Held}
 use Rattle.class_rules.specs.Stacks.{held_images, on_top}
-use Rattle.class_rules.proofs.Stacking.{pushed}
+use Rattle.class_rules.proofs.StackOperations.{pushed}
 use Rattle.class_rules.proofs.stack.Stack.push.Goals as goal
 
 pub returns-in-Some-clause-images : goal.returns-in-Some-clause-images

@@ -6,11 +6,11 @@ use Rattle.cost_tables.specs.declared.rows.Row.{Row}
 use Rattle.cost_tables.specs.TableRows.{fastest}
 use Rattle.cost_tables.specs.Rows.{AreRows}
 use Rattle.cost_tables.specs.declared.tables.Tables.TheInside.{Inside}
-use Rattle.cost_tables.specs.Built.{first_in, AreLevelsOf}
-use Rattle.cost_tables.proofs.Keeping.{fastest_whole}
+use Rattle.cost_tables.specs.TableInvariant.{first_in, AreLevelsOf}
+use Rattle.cost_tables.proofs.CellEntries.{fastest_whole}
 use Rattle.cost_tables.proofs.Views.{tables_seen}
-use Rattle.cost_tables.proofs.Building.{read_level}
-use Rattle.cost_tables.proofs.Fastest.{fastest_greatest}
+use Rattle.cost_tables.proofs.LevelExtension.{read_level}
+use Rattle.cost_tables.proofs.FastestLevel.{fastest_greatest}
 use Rattle.cost_tables.proofs.tables.Tables.build_fastest.Goals as goal
 
 pub invariant_of-result : goal.invariant_of-result

@@ -6,11 +6,11 @@ use Rattle.cost_tables.specs.declared.rows.Row.{Row}
 use Rattle.cost_tables.specs.Entries.{fresh_in}
 use Rattle.cost_tables.specs.Rows.{AreRows, IsRow}
 use Rattle.cost_tables.specs.declared.tables.Tables.TheInside.{Inside}
-use Rattle.cost_tables.specs.Built.{AreBuilt, rows_at, fresh_at, held_at, AreLevelsOf}
-use Rattle.cost_tables.proofs.Keeping.{whole_of}
+use Rattle.cost_tables.specs.TableInvariant.{AreBuilt, rows_at, fresh_at, held_at, AreLevelsOf}
+use Rattle.cost_tables.proofs.CellEntries.{whole_of}
 use Rattle.cost_tables.proofs.Views.{tables_seen}
 use Rattle.cost_tables.proofs.AllLevels.{greatest}
-use Rattle.cost_tables.proofs.Building.{read_level, built_more, modest}
+use Rattle.cost_tables.proofs.LevelExtension.{read_level, built_more, modest}
 use Rattle.cost_tables.proofs.tables.Tables.build_with.Goals as goal
 
 pub invariant_of-result : goal.invariant_of-result

@@ -1,7 +1,7 @@
 use Rattle.std.proofs.Common.{List, ◌-◌, ◌<◌, ◌≤◌, length, arith, sym, ap, ◌∙◌, subst, get_or}
 use Rattle.cost_tables.specs.declared.cells.Cells.{Cells}
 use Rattle.cost_tables.specs.TableRows.{TableRows, tables_in}
-use Rattle.cost_tables.proofs.Keeping.{cells_read, wide_at, entry_read}
+use Rattle.cost_tables.proofs.CellEntries.{cells_read, wide_at, entry_read}
 use Rattle.cost_tables.proofs.tables.Tables.held.Goals as goal
 
 pub index-requires-2 : goal.index-requires-2

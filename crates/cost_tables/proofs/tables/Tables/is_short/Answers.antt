@@ -2,8 +2,8 @@ use Rattle.std.proofs.Common.{List, subst, All, Vec}
 use Rattle.std.specs.declared.alloc.Global.{Global}
 use Rattle.cost_tables.specs.declared.cells.Cells.{Cells}
 use Rattle.cost_tables.specs.Shapes.{AreShort}
-use Rattle.cost_tables.specs.Built.{AreShortCells}
-use Rattle.cost_tables.proofs.Shorts.{tables_short}
+use Rattle.cost_tables.specs.TableInvariant.{AreShortCells}
+use Rattle.cost_tables.proofs.ShortEntries.{tables_short}
 use Rattle.cost_tables.proofs.tables.Tables.is_short.Goals as goal
 
 pub returns : goal.returns

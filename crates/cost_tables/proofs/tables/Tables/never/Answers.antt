@@ -1,7 +1,7 @@
 use Rattle.std.proofs.Common.{◌≡◌, ℕ, length, subst, arith}
 use Rattle.cost_tables.specs.declared.tables.Tables.TheInside.{Inside}
-use Rattle.cost_tables.specs.Built.{AreNever}
-use Rattle.cost_tables.proofs.Nevers.{all_never}
+use Rattle.cost_tables.specs.TableInvariant.{AreNever}
+use Rattle.cost_tables.proofs.NeverTables.{all_never}
 use Rattle.cost_tables.proofs.tables.Tables.never.Goals as goal
 
 pub returns-clause-never : goal.returns-clause-never

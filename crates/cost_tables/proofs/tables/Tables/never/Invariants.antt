@@ -1,4 +1,4 @@
-use Rattle.cost_tables.specs.Built.{AreNever}
+use Rattle.cost_tables.specs.TableInvariant.{AreNever}
 use Rattle.cost_tables.proofs.tables.Tables.never.Given as goal
 
 abbrev pub invariant-loop-k : goal.invariant-loop-k

@@ -2,7 +2,7 @@ use Rattle.std.proofs.Common.{List, [], ◌∷◌, ◌++◌, ap, ◌∙◌, Vec}
 use Rattle.std.specs.declared.alloc.Global.{Global}
 use Rattle.cost_tables.specs.declared.cells.Cells.{Cells}
 use Rattle.cost_tables.specs.declared.tables.Tables.TheInside.{Inside}
-use Rattle.cost_tables.proofs.Nevers.{fastest_never}
+use Rattle.cost_tables.proofs.NeverTables.{fastest_never}
 use Rattle.cost_tables.proofs.tables.Tables.never_fastest.Goals as goal
 
 pub returns-clause-never : goal.returns-clause-never

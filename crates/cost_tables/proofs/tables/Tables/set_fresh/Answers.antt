@@ -3,8 +3,8 @@ use Rattle.std.specs.Vec.{with_item}
 use Rattle.std.proofs.lemmas.List.{length-set}
 use Rattle.cost_tables.specs.declared.cells.Cells.{Cells}
 use Rattle.cost_tables.specs.TableRows.{TableRows, entry_at}
-use Rattle.cost_tables.proofs.Keeping.{cells_read, wide_at}
-use Rattle.cost_tables.proofs.Setting.{entry_set, entry_kept, beside, whole_set}
+use Rattle.cost_tables.proofs.CellEntries.{cells_read, wide_at}
+use Rattle.cost_tables.proofs.EntryUpdate.{entry_set, entry_kept, beside, whole_set}
 use Rattle.cost_tables.proofs.tables.Tables.set_fresh.Goals as goal
 
 pub index_mut-requires-2 : goal.index_mut-requires-2

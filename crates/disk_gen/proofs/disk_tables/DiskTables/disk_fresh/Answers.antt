@@ -1,7 +1,7 @@
 use Rattle.std.proofs.Common.{◌-◌, ◌≤◌, arith, sym, ap, ◌∙◌, subst, get_or}
 use Rattle.level_book.specs.UnderTable.{number}
 use Rattle.disk_gen.specs.DiskRows.{DiskRows}
-use Rattle.disk_gen.proofs.DiskSetting.{cost_read}
+use Rattle.disk_gen.proofs.DiskEntryUpdate.{cost_read}
 use Rattle.disk_gen.proofs.disk_tables.DiskTables.disk_fresh.Goals as goal
 
 pub returns : goal.returns

@@ -2,7 +2,7 @@ use Rattle.std.proofs.Common.{List, All, ◌-◌, subst}
 use Rattle.cost_tables.specs.declared.cost.Cost.{Cost}
 use Rattle.cost_tables.specs.TableRows.{value_of}
 use Rattle.cost_tables.specs.Shapes.{IsShort}
-use Rattle.cost_tables.proofs.Shorts.{row_short}
+use Rattle.cost_tables.proofs.ShortEntries.{row_short}
 use Rattle.disk_gen.specs.DiskShapes.{AreDiskShort}
 use Rattle.disk_gen.proofs.disk_tables.DiskTables.is_short.Goals as goal
 

@@ -2,7 +2,7 @@ use Rattle.std.proofs.Common.{◌<◌, length, arith, sym, ◌∙◌}
 use Rattle.std.proofs.lemmas.List.{length-take}
 use Rattle.cost_tables.specs.TableRows.{fastest}
 use Rattle.disk_gen.specs.declared.disk_tables.DiskTables.TheInside.{Inside}
-use Rattle.disk_gen.proofs.DiskNevers.{all_never}
+use Rattle.disk_gen.proofs.DiskNeverTables.{all_never}
 use Rattle.disk_gen.proofs.disk_tables.DiskTables.never.Goals as goal
 
 pub invariant_of-result : goal.invariant_of-result

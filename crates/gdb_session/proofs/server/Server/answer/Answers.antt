@@ -1,10 +1,10 @@
 use Rattle.std.proofs.Common.{◌≡◌, List, ◌++◌, ℕ, [], ap, ◌∙◌}
 use Rattle.std.proofs.lemmas.Bool.{false≢true}
 use Rattle.gdb_line.specs.Talk.{Goes, GoesPartly}
-use Rattle.gdb_session.specs.Serving.{said_by, sign_of, talker, IsAnsweredBy, IsAnsweredPartly}
-use Rattle.gdb_session.proofs.Sending.{sent, sent_partly, sign_replies, sign_goes_on}
-use Rattle.gdb_session.proofs.Telling.{tells_so}
-use Rattle.gdb_session.proofs.Wheres.{at_any_err}
+use Rattle.gdb_session.specs.ServerState.{said_by, sign_of, talker, IsAnsweredBy, IsAnsweredPartly}
+use Rattle.gdb_session.proofs.AnswerDelivery.{sent, sent_partly, sign_replies, sign_goes_on}
+use Rattle.gdb_session.proofs.LineClaims.{tells_so}
+use Rattle.gdb_session.proofs.ServeFaults.{at_any_err}
 use Rattle.gdb_session.proofs.server.Server.answer.Goals as goal
 
 -- nothing was to go before

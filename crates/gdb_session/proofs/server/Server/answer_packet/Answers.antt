@@ -7,10 +7,10 @@ use Rattle.gdb_wire.specs.declared.request.Request.{Request}
 use Rattle.gdb_wire.specs.declared.request.Request.TheVariants.{Move, Kill, Detach}
 use Rattle.gdb_session.specs.declared.server.TalkFault.{TalkFault}
 use Rattle.gdb_session.specs.Conversation.{if_acks, IsLast, Talker}
-use Rattle.gdb_session.specs.Serving.{talker, IsAnsweredBy, IsAnsweredPartly}
-use Rattle.gdb_session.proofs.Sending.{sent, sent_partly, goes_on, reply_is, kill_is, moved, moved_partly}
-use Rattle.gdb_session.proofs.Telling.{tells_so}
-use Rattle.gdb_session.proofs.Wheres.{at_any_ok, at_any_err}
+use Rattle.gdb_session.specs.ServerState.{talker, IsAnsweredBy, IsAnsweredPartly}
+use Rattle.gdb_session.proofs.AnswerDelivery.{sent, sent_partly, goes_on, reply_is, kill_is, moved, moved_partly}
+use Rattle.gdb_session.proofs.LineClaims.{tells_so}
+use Rattle.gdb_session.proofs.ServeFaults.{at_any_ok, at_any_err}
 use Rattle.gdb_session.proofs.server.Server.answer_packet.Goals as goal
 use Rattle.gdb_session.proofs.server.Server.answer_packet.Goals.{in-Detach, in_default-matches}
 

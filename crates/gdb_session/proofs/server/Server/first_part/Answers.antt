@@ -1,6 +1,6 @@
 use Rattle.std.proofs.Common.{ap, refl, arith}
 use Rattle.gdb_session.specs.Debugger.{Debugger}
-use Rattle.gdb_session.proofs.Adding.{counted_there, shown_after}
+use Rattle.gdb_session.proofs.PendingOutput.{counted_there, shown_after}
 use Rattle.gdb_session.proofs.server.Server.first_part.Goals as goal
 
 pub push_output-requires : goal.push_output-requires

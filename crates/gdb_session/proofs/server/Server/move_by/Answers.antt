@@ -1,6 +1,6 @@
 use Rattle.gdb_wire.specs.declared.request.Motion.TheVariants as motion
-use Rattle.gdb_session.proofs.Adding.{at_error}
-use Rattle.gdb_session.proofs.Whole.{still_breaks, still_moved, step_back_moved}
+use Rattle.gdb_session.proofs.PendingOutput.{at_error}
+use Rattle.gdb_session.proofs.MoveKinds.{still_breaks, still_moved, step_back_moved}
 use Rattle.gdb_session.proofs.server.Server.move_by.Goals as goal
 
 pub returns-in_err-halt-in-Step-clause-partly : goal.returns-in_err-halt-in-Step-clause-partly

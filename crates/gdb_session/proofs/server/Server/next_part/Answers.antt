@@ -1,8 +1,8 @@
 use Rattle.std.proofs.Common.{◌<◌, ℕ, ap, sym, refl, subst, arith}
 use Rattle.run_timeline.specs.Moves.{CameOn, EndsForward}
-use Rattle.run_timeline.specs.Parts.{MatchPart}
+use Rattle.run_timeline.specs.MoveParts.{MatchPart}
 use Rattle.gdb_session.specs.Debugger.{Debugger}
-use Rattle.gdb_session.proofs.Adding.{counted_there, shown_after}
+use Rattle.gdb_session.proofs.PendingOutput.{counted_there, shown_after}
 use Rattle.gdb_session.proofs.server.Server.next_part.Goals as goal
 
 pub push_output-requires : goal.push_output-requires

@@ -1,5 +1,5 @@
 use Rattle.std.proofs.lemmas.Result.{on_ok_weaker, on_err_weaker}
-use Rattle.gdb_session.proofs.Adding.{at_error, pauses, pauses_refused, sends_refused}
+use Rattle.gdb_session.proofs.PendingOutput.{at_error, pauses, pauses_refused, sends_refused}
 use Rattle.gdb_session.proofs.server.Server.pause.Goals as goal
 
 pub returns-in_err-send-clause-refused : goal.returns-in_err-send-clause-refused

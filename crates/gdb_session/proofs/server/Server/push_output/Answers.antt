@@ -1,7 +1,7 @@
 use Rattle.std.proofs.Common.{◌∙◌, ℕ, List, [], map, sym, refl, subst, append-nil}
 use Rattle.std.proofs.lemmas.Result.{on_ok_weaker}
 use Rattle.gdb_session.specs.Moves.{console_text, ArePieces}
-use Rattle.gdb_session.proofs.Adding.{silent, nothing_written, written_out}
+use Rattle.gdb_session.proofs.PendingOutput.{silent, nothing_written, written_out}
 use Rattle.gdb_session.proofs.server.Server.push_output.Goals as goal
 
 pub returns-then-quiet-clause-shows : goal.returns-then-quiet-clause-shows

@@ -1,5 +1,5 @@
 use Rattle.std.proofs.Common.{◌≡◌, ◌++◌, arith}
-use Rattle.gdb_session.proofs.Written.{front_back}
+use Rattle.gdb_session.proofs.ProgramOutput.{front_back}
 use Rattle.gdb_session.proofs.Pieces.{no_pieces_yet, one_more, all_pieces, says_then, some_rest, no_rest}
 use Rattle.gdb_session.proofs.server.Server.push_pieces.Goals as goal
 

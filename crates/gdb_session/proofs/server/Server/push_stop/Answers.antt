@@ -1,5 +1,5 @@
 use Rattle.std.proofs.lemmas.Result.{on_ok_weaker}
-use Rattle.gdb_session.proofs.Adding.{stop_out, stop_last}
+use Rattle.gdb_session.proofs.PendingOutput.{stop_out, stop_last}
 use Rattle.gdb_session.proofs.server.Server.push_stop.Goals as goal
 
 pub returns-clause-out : goal.returns-clause-out

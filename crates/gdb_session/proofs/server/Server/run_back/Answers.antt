@@ -1,9 +1,9 @@
 use Rattle.std.proofs.Common.{[], sym, subst, arith}
-use Rattle.keepers.specs.Told.{Tells}
+use Rattle.keepers.specs.Claims.{Tells}
 use Rattle.gdb_wire.specs.declared.request.Motion.TheVariants as motion
 use Rattle.gdb_session.specs.declared.halt.Halt.{Halt}
-use Rattle.gdb_session.specs.Serving.{Does, IsMoved}
-use Rattle.gdb_session.proofs.Adding.{at_error}
+use Rattle.gdb_session.specs.ServerState.{Does, IsMoved}
+use Rattle.gdb_session.proofs.PendingOutput.{at_error}
 use Rattle.gdb_session.proofs.Backward.{back_begins, at_found, back_paused, at_interrupt, at_first, at_refusal}
 use Rattle.gdb_session.proofs.server.Server.run_back.Goals as goal
 

@@ -1,7 +1,7 @@
 use Rattle.std.proofs.lemmas.Result.{on_err_weaker}
-use Rattle.gdb_session.specs.Serving.{BreaksOff}
-use Rattle.gdb_session.proofs.Adding.{at_error, on_ok_both}
-use Rattle.gdb_session.proofs.Telling.{tells_so}
+use Rattle.gdb_session.specs.ServerState.{BreaksOff}
+use Rattle.gdb_session.proofs.PendingOutput.{at_error, on_ok_both}
+use Rattle.gdb_session.proofs.LineClaims.{tells_so}
 use Rattle.gdb_session.proofs.Motions.{Partly, broken_partly, unstopped_partly, unsent_partly, sent}
 use Rattle.gdb_session.proofs.server.Server.run_move.Goals as goal
 

@@ -1,16 +1,16 @@
 use Rattle.std.proofs.Common.{◌<◌, sym, subst, arith}
 use Rattle.std.specs.Prelude.{⊤}
-use Rattle.keepers.specs.Told.{Tells}
+use Rattle.keepers.specs.Claims.{Tells}
 use Rattle.gdb_wire.specs.declared.request.Motion.TheVariants as motion
 use Rattle.run_timeline.specs.declared.stops.Part.{Part}
-use Rattle.run_timeline.specs.Parts.{MatchPart}
+use Rattle.run_timeline.specs.MoveParts.{MatchPart}
 use Rattle.run_timeline.specs.Moves.{CameOn, EndsForward}
 use Rattle.gdb_session.specs.declared.halt.Halt.{Halt}
-use Rattle.gdb_session.specs.Serving.{GoesSome}
-use Rattle.gdb_session.proofs.Telling.{tells_here, none_passes}
-use Rattle.gdb_session.proofs.Adding.{at_error}
+use Rattle.gdb_session.specs.ServerState.{GoesSome}
+use Rattle.gdb_session.proofs.LineClaims.{tells_here, none_passes}
+use Rattle.gdb_session.proofs.PendingOutput.{at_error}
 use Rattle.gdb_session.proofs.Motions.{way_begins, way_pauses, way_goes_on, ended_at_once, ended_on, interrupted_on, breaks_way, came_here, parts_on, within_there, Moved}
-use Rattle.gdb_session.proofs.Whole.{still_breaks}
+use Rattle.gdb_session.proofs.MoveKinds.{still_breaks}
 use Rattle.gdb_session.proofs.server.Server.run_on.Goals as goal
 
 pub returns-in_err-part-clause-partly : goal.returns-in_err-part-clause-partly

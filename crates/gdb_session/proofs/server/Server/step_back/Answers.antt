@@ -1,5 +1,5 @@
 use Rattle.std.proofs.Common.{refl}
-use Rattle.gdb_session.proofs.Adding.{moved_step_back}
+use Rattle.gdb_session.proofs.PendingOutput.{moved_step_back}
 use Rattle.gdb_session.proofs.server.Server.step_back.Goals as goal
 
 pub returns-clause-moved : goal.returns-clause-moved

@@ -1,7 +1,7 @@
 use Rattle.std.proofs.Common.{◌≡◌, ◌+◌, ap, sym, refl, ◌∙◌, arith}
 use Rattle.run_timeline.specs.Moves.{steps_of}
 use Rattle.gdb_session.specs.Debugger.{Debugger}
-use Rattle.gdb_session.proofs.Adding.{counted_there, shown_after, moved_step}
+use Rattle.gdb_session.proofs.PendingOutput.{counted_there, shown_after, moved_step}
 use Rattle.gdb_session.proofs.server.Server.step_on.Goals as goal
 
 pub push_output-requires : goal.push_output-requires

@@ -1,6 +1,6 @@
 use Rattle.std.proofs.Common.{List, ℕ, ◌∙◌, take, subst}
 use Rattle.gdb_wire.specs.Items.{IsItem, said_by as said_by_item}
-use Rattle.gdb_session.specs.Serving.{said_by}
+use Rattle.gdb_session.specs.ServerState.{said_by}
 use Rattle.gdb_session.proofs.Interrupts.{taken_item}
 use Rattle.gdb_session.proofs.server.Server.take_item.Goals as goal
 

@@ -1,12 +1,12 @@
 use Rattle.std.proofs.Common.{◌≡◌, ◌<◌, [], length, subst, sym, arith}
-use Rattle.keepers.specs.Told.{Tells}
+use Rattle.keepers.specs.Claims.{Tells}
 use Rattle.gdb_line.specs.Talk.{Talk}
 use Rattle.gdb_wire.specs.Items.{IsPartial}
-use Rattle.gdb_session.specs.Serving.{Holds, MayCome}
+use Rattle.gdb_session.specs.ServerState.{Holds, MayCome}
 use Rattle.gdb_session.specs.Turns.{Continues, Concludes, Fails, Overflows}
-use Rattle.gdb_session.proofs.Telling.{tells_here, tells_so}
-use Rattle.gdb_session.proofs.Turning.{held_fails, long_overflows, piece_fails, piece_continues, end_concludes}
-use Rattle.gdb_session.proofs.Wheres.{tells_where, at_any_err}
+use Rattle.gdb_session.proofs.LineClaims.{tells_here, tells_so}
+use Rattle.gdb_session.proofs.TurnEffects.{held_fails, long_overflows, piece_fails, piece_continues, end_concludes}
+use Rattle.gdb_session.proofs.ServeFaults.{tells_where, at_any_err}
 use Rattle.gdb_session.proofs.server.Server.take_more.Goals as goal
 
 -- too much is held

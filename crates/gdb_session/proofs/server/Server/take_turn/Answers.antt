@@ -1,12 +1,12 @@
 use Rattle.std.proofs.Common.{Bool, IsFalse, sym, ◌∙◌}
 use Rattle.std.proofs.lemmas.Bool.{false≢true}
-use Rattle.keepers.specs.Told.{Tells}
+use Rattle.keepers.specs.Claims.{Tells}
 use Rattle.gdb_session.specs.declared.server.Server.{Server}
-use Rattle.gdb_session.specs.Serving.{said_by, IsAnsweredBy, IsAnsweredPartly}
+use Rattle.gdb_session.specs.ServerState.{said_by, IsAnsweredBy, IsAnsweredPartly}
 use Rattle.gdb_session.specs.Turns.{Continues, Concludes, Fails, Feeds, Overflows}
-use Rattle.gdb_session.proofs.Telling.{tells_here, tells_so}
-use Rattle.gdb_session.proofs.Turning.{Takes, TakesNone, item_continues, item_concludes, item_fails, held_fails, none_feeds, none_overflows}
-use Rattle.gdb_session.proofs.Wheres.{at_any_err, if_ok_so, some_case, none_case}
+use Rattle.gdb_session.proofs.LineClaims.{tells_here, tells_so}
+use Rattle.gdb_session.proofs.TurnEffects.{Takes, TakesNone, item_continues, item_concludes, item_fails, held_fails, none_feeds, none_overflows}
+use Rattle.gdb_session.proofs.ServeFaults.{at_any_err, if_ok_so, some_case, none_case}
 use Rattle.gdb_session.proofs.server.Server.take_turn.Goals as goal
 
 -- no memory for an item

@@ -1,6 +1,6 @@
 use Rattle.std.proofs.Common.{subst}
 use Rattle.run_timeline.specs.Moves.{CameOn, EndsForward}
-use Rattle.run_timeline.specs.Parts.{MatchPart}
+use Rattle.run_timeline.specs.MoveParts.{MatchPart}
 use Rattle.gdb_session.specs.Debugger.{Debugger}
 use Rattle.gdb_session.proofs.session.Session.begin_on.Goals as goal
 

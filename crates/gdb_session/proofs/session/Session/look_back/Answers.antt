@@ -1,7 +1,7 @@
 use Rattle.std.proofs.Common.{◌≡◌, Some, MatchOption, ap, subst, arith}
 use Rattle.run_timeline.specs.Moves.{CameBack, EndsBackward}
 use Rattle.gdb_session.specs.Debugger.{Debugger}
-use Rattle.gdb_session.proofs.Ways.{back_none}
+use Rattle.gdb_session.proofs.MoveEnds.{back_none}
 use Rattle.gdb_session.proofs.session.Session.look_back.Goals as goal
 
 pub returns-clause-ends : goal.returns-clause-ends

@@ -1,10 +1,10 @@
 use Rattle.std.proofs.Common.{ℕ, ◌<◌, ◌≤◌, subst}
 use Rattle.std.specs.Prelude.{⊤}
 use Rattle.run_timeline.specs.Moves.{CameOn, EndsForward, IsPlace}
-use Rattle.run_timeline.specs.Parts.{MatchPart}
-use Rattle.run_timeline.proofs.Ending.{place_before}
+use Rattle.run_timeline.specs.MoveParts.{MatchPart}
+use Rattle.run_timeline.proofs.MoveEnds.{place_before}
 use Rattle.gdb_session.specs.Debugger.{Debugger}
-use Rattle.gdb_session.proofs.Ways.{order_on}
+use Rattle.gdb_session.proofs.MoveEnds.{order_on}
 use Rattle.gdb_session.proofs.session.Session.look_on.Goals as goal
 
 pub returns-clause-ends : goal.returns-clause-ends

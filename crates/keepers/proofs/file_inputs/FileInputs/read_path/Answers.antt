@@ -1,5 +1,5 @@
-use Rattle.keepers.specs.Told.{bytes_in}
-use Rattle.keepers.proofs.Begun.{none_begin}
+use Rattle.keepers.specs.Claims.{bytes_in}
+use Rattle.keepers.proofs.EmptyPrefix.{none_begin}
 use Rattle.keepers.proofs.file_inputs.FileInputs.read_path.Goals as goal
 
 pub returns-in_default-clause-begun : goal.returns-in_default-clause-begun

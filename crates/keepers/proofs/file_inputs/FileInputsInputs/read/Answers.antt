@@ -1,7 +1,7 @@
 use Rattle.std.proofs.Common.{subst}
-use Rattle.keepers.specs.Outside.{MayFailAt}
-use Rattle.keepers.specs.Told.{bytes_in}
-use Rattle.keepers.proofs.Begun.{none_begin}
+use Rattle.keepers.specs.ExternalState.{MayFailAt}
+use Rattle.keepers.specs.Claims.{bytes_in}
+use Rattle.keepers.proofs.EmptyPrefix.{none_begin}
 use Rattle.keepers.proofs.file_inputs.FileInputsInputs.read.Goals as goal
 
 pub returns-then-is_err-clause-begun : goal.returns-then-is_err-clause-begun

@@ -2,7 +2,7 @@ use Rattle.std.proofs.Common.{◌≡◌, ◌<◌, Some, true, false, nat_eq, len
 use Rattle.std.specs.Cmp.Lexicographic.{pointwise, nat_list_cmp_total}
 use Rattle.std.specs.FinMap as finmap
 use Rattle.std.specs.FinMap.{get-from_entries}
-use Rattle.keepers.proofs.Files.{found_from, found_here, found_later}
+use Rattle.keepers.proofs.InputSearch.{found_from, found_here, found_later}
 use Rattle.keepers.proofs.memory_inputs.MemoryInputs.find.Goals as goal
 
 pub loop-key-init : goal.loop-key-init

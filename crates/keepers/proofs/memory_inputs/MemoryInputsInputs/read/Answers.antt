@@ -1,5 +1,5 @@
-use Rattle.keepers.specs.Told.{bytes_in}
-use Rattle.keepers.proofs.Begun.{empty_begins}
+use Rattle.keepers.specs.Claims.{bytes_in}
+use Rattle.keepers.proofs.EmptyPrefix.{empty_begins}
 use Rattle.keepers.proofs.memory_inputs.MemoryInputsInputs.read.Goals as goal
 
 pub returns-then-is_err-clause-begun : goal.returns-then-is_err-clause-begun

@@ -1,7 +1,7 @@
 use Rattle.std.proofs.Common.{ℕ, refl}
 use Rattle.keepers.specs.KeeperState.{KeeperState}
 use Rattle.keepers.specs.declared.memory_keeper.Op.TheVariants.{Get}
-use Rattle.keepers.proofs.Listed.{listed}
+use Rattle.keepers.proofs.ListedCalls.{listed}
 use Rattle.keepers.proofs.memory_keeper.MemoryKeeperKeeper.get.Goals as goal
 
 abbrev count : KeeperState → ℕ

@@ -1,6 +1,6 @@
 use Rattle.std.proofs.Common.{arith, rules}
 use Rattle.level_book.proofs.LevelNames.{ram_alone}
-use Rattle.level_book.proofs.Rising.{one_rises}
+use Rattle.level_book.proofs.CostOrder.{one_rises}
 use Rattle.level_book.proofs.book.Book.plain.Goals as goal
 
 pub invariant_of-result : goal.invariant_of-result

@@ -1,5 +1,5 @@
 use Rattle.std.proofs.Common.{refl, sym}
-use Rattle.line_texts.proofs.Seen.{line_next}
+use Rattle.line_texts.proofs.NextToken.{line_next}
 use Rattle.line_texts.proofs.lines.Lines.next.Goals as goal
 
 pub returns-clause-value : goal.returns-clause-value

@@ -1,5 +1,5 @@
 use Rattle.std.proofs.Common.{◌≡◌, [], sym, ◌∙◌, arith}
-use Rattle.line_texts.proofs.Seen.{next_none, next_at}
+use Rattle.line_texts.proofs.NextToken.{next_none, next_at}
 use Rattle.line_texts.proofs.tokens.Tokens.next.Goals as goal
 
 pub returns-then-length-eq0 : goal.returns-then-length-eq0

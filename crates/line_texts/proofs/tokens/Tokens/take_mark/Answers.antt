@@ -1,4 +1,4 @@
-use Rattle.line_texts.proofs.Seen.{mark_taken, mark_other}
+use Rattle.line_texts.proofs.NextToken.{mark_taken, mark_other}
 use Rattle.std.proofs.Common.{refl}
 use Rattle.line_texts.proofs.tokens.Tokens.take_mark.Goals as goal
 

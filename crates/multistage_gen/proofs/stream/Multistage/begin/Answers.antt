@@ -4,11 +4,11 @@ use Rattle.level_book.specs.BookCosts.{BookCosts, slots_of, total_room}
 use Rattle.revolve_gen.specs.Places.{level_at}
 use Rattle.revolve_gen.specs.Plans.{HasPlan}
 use Rattle.revolve_gen.specs.Stack.{written, read}
-use Rattle.revolve_gen.specs.Written.{revolve, revolve_list}
-use Rattle.revolve_gen.proofs.Extending.{two_levels}
+use Rattle.revolve_gen.specs.RevolveList.{revolve, revolve_list}
+use Rattle.revolve_gen.proofs.MultistageValidity.{two_levels}
 use Rattle.multistage_gen.specs.declared.traffic.PlaceTraffic.{PlaceTraffic}
 use Rattle.multistage_gen.specs.Traffic.{IsTraffic}
-use Rattle.multistage_gen.proofs.Classed.{revolve_short, plan_list, plan_places, planned_in_class}
+use Rattle.multistage_gen.proofs.ClassMembership.{revolve_short, plan_list, plan_places, planned_in_class}
 use Rattle.multistage_gen.proofs.Savings.{traffic_counted}
 use Rattle.multistage_gen.proofs.stream.Multistage.begin.Goals as goal
 

@@ -3,8 +3,8 @@ use Rattle.plan_types.specs.declared.action.Action.{Action}
 use Rattle.revolve_gen.specs.Stack.{written, read}
 use Rattle.multistage_gen.specs.declared.traffic.PlaceTraffic.{PlaceTraffic}
 use Rattle.multistage_gen.specs.Traffic.{IsTraffic}
-use Rattle.multistage_gen.specs.Counting.{HasCounted}
-use Rattle.multistage_gen.proofs.Fronts.{pushed, got, popped, stayed}
+use Rattle.multistage_gen.specs.TrafficCount.{HasCounted}
+use Rattle.multistage_gen.proofs.CountExtension.{pushed, got, popped, stayed}
 use Rattle.multistage_gen.proofs.Savings.{written_few, read_few}
 use Rattle.multistage_gen.proofs.traffic.Count.add.Goals as goal
 

@@ -1,6 +1,6 @@
 use Rattle.std.proofs.Common.{◌∙◌, sym, ap, not, ◌&&◌, List, map}
 use Rattle.requests.specs.Request.{Choice}
-use Rattle.requests.specs.ChoiceReading.{options_at, are_single}
+use Rattle.requests.specs.ChoiceParser.{options_at, are_single}
 use Rattle.requests.proofs.Requests.{one_more, no_more}
 use Rattle.requests.proofs.options.Options.are_single.Goals as goal
 

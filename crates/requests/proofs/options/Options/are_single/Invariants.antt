@@ -1,5 +1,5 @@
 use Rattle.std.proofs.Common.{◌≡◌, map, length}
-use Rattle.requests.specs.ChoiceReading.{options_at, are_single}
+use Rattle.requests.specs.ChoiceParser.{options_at, are_single}
 use Rattle.requests.proofs.options.Options.are_single.Given as goal
 
 -- what is so of the options that are left is so of all

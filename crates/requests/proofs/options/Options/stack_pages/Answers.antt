@@ -2,7 +2,7 @@ use Rattle.std.proofs.Common.{◌≡◌, ℕ, ◌∙◌, refl, sym, ap, List, �
 use Rattle.requests.specs.declared.options.Choice as in_memory
 use Rattle.requests.specs.declared.options.Choice.TheVariants.{Raw, Stack, Workers, Unit, Files}
 use Rattle.requests.specs.Request.{Choice, stack_pages}
-use Rattle.requests.specs.ChoiceReading.{options_at, as_choice}
+use Rattle.requests.specs.ChoiceParser.{options_at, as_choice}
 use Rattle.requests.proofs.Requests.{one_more, no_more}
 use Rattle.requests.proofs.options.Options.stack_pages.Goals as goal
 

@@ -1,6 +1,6 @@
 use Rattle.std.proofs.Common.{◌≡◌, map, length}
 use Rattle.requests.specs.Request.{stack_pages}
-use Rattle.requests.specs.ChoiceReading.{options_at}
+use Rattle.requests.specs.ChoiceParser.{options_at}
 use Rattle.requests.proofs.options.Options.stack_pages.Given as goal
 
 -- what the options that are left say is what all say

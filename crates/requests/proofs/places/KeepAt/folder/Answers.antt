@@ -5,7 +5,7 @@ use Rattle.std.proofs.lemmas.Option.{slice_get-get_or}
 use Rattle.requests.specs.Request.{words_of}
 use Rattle.requests.specs.Places.{folder_at}
 use Rattle.requests.proofs.Lists.{get_map}
-use Rattle.requests.proofs.Placing.{end_of}
+use Rattle.requests.proofs.FolderPlaces.{end_of}
 use Rattle.requests.proofs.places.KeepAt.folder.Goals as goal
 
 pub returns-in_ok-option-in-Folder : goal.returns-in_ok-option-in-Folder

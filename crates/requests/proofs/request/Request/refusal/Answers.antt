@@ -2,8 +2,8 @@ use Rattle.std.proofs.Common.{ℕ, List, MatchOption, subst, arith}
 use Rattle.std.specs.List.{AllByRecursion, flat_map}
 use Rattle.requests.specs.Request.{Choice, unit_count}
 use Rattle.requests.specs.Bounds.{option_numbers, command_numbers, IsWithin, RefusesFirst}
-use Rattle.requests.specs.RequestReading.{as_command}
-use Rattle.requests.proofs.Refusing.{first_front, both_tested, unit_within}
+use Rattle.requests.specs.RequestModel.{as_command}
+use Rattle.requests.proofs.NumberTests.{first_front, both_tested, unit_within}
 use Rattle.requests.proofs.request.Request.refusal.Goals as goal
 
 pub returns-in-Some : goal.returns-in-Some

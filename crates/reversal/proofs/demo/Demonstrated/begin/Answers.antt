@@ -1,11 +1,11 @@
 use Rattle.std.proofs.Common.{ℕ, ◌<◌, length, Option, IsSome, ◌∙◌, ap, subst}
 use Rattle.keepers.specs.KeeperState.{KeeperState}
-use Rattle.keepers.specs.Told.{Images}
+use Rattle.keepers.specs.Claims.{Images}
 use Rattle.level_book.specs.BookCosts.{BookCosts, slots_of}
-use Rattle.reverse_runner.specs.Standing.{begun, StandsAt}
-use Rattle.revolve_gen.specs.Written.{revolve_list}
+use Rattle.reverse_runner.specs.SessionOfRun.{begun, StandsAt}
+use Rattle.revolve_gen.specs.RevolveList.{revolve_list}
 use Rattle.reversal.specs.declared.demo.Demonstrated.{Demonstrated}
-use Rattle.reversal.proofs.Demonstrating.{at_start}
+use Rattle.reversal.proofs.DemoProgress.{at_start}
 use Rattle.reversal.proofs.demo.Demonstrated.begin.Goals as goal
 
 pub returns-clause-start : goal.returns-clause-start

@@ -2,9 +2,9 @@ use Rattle.std.proofs.Common.{◌≡◌, ℕ, ◌+◌, List, Option, MatchOption
 use Rattle.sha2.specs.Sha256.{sha256}
 use Rattle.level_book.specs.CostFold.{forward}
 use Rattle.rv_machine.specs.States.{state_number}
-use Rattle.reversal.specs.DemoReading.{BreaksWithin}
+use Rattle.reversal.specs.DemoStates.{BreaksWithin}
 use Rattle.reversal.specs.Output.{lines_down}
-use Rattle.reversal.proofs.Demonstrating.{next_allowed, one_more_done, broken, all_done, where_ok, where_err}
+use Rattle.reversal.proofs.DemoProgress.{next_allowed, one_more_done, broken, all_done, where_ok, where_err}
 use Rattle.reversal.proofs.demo.Demonstrated.digest.Goals as goal
 
 pub perform-requires-clause-allowed : goal.perform-requires-clause-allowed

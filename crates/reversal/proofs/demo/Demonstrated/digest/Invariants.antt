@@ -1,5 +1,5 @@
 use Rattle.std.proofs.Common.{length}
-use Rattle.reversal.proofs.Demonstrating.{HasDone}
+use Rattle.reversal.proofs.DemoProgress.{HasDone}
 use Rattle.reversal.proofs.demo.Demonstrated.digest.Given as goal
 
 -- the actions so far were done

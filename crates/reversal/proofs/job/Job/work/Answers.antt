@@ -1,136 +1,70 @@
-use Rattle.std.proofs.Common.{◌≡◌, ◌⊎◌, ℕ, List, [], ◌∷◌, inl, inr, refl, sym, subst}
+use Rattle.std.proofs.Common.{ℕ, List, [], ◌∷◌, inl, inr, refl, sym, subst}
 use Rattle.reversal.specs.declared.job.Job.{Job}
 use Rattle.reversal.specs.Job.{write}
 use Rattle.reversal.specs.Moment.{moment}
 use Rattle.reversal.specs.Table.{accept}
-use Rattle.reversal.specs.Decision.{EndsBy, HaveRoomsFor}
-use Rattle.reversal.specs.JobReading.{job_of, Works, IsUntouched}
-use Rattle.reverse_runner.specs.Rooms.{rooms_by}
+use Rattle.reversal.specs.Decision.{EndsBy}
+use Rattle.reversal.specs.JobModel.{job_of, Does}
+use Rattle.reversal.proofs.JobResults.{does_alone}
 use Rattle.reversal.proofs.job.Job.work.Goals as goal
 
-pub returns-in-Perform-clause-works : goal.returns-in-Perform-clause-works
-returns-in-Perform-clause-works g c =
-    let P : Job → Type 0 = λ j. IsUntouched c.perform.result c.args.out.now c.perform.new.out c.args.keepers.now c.perform.new.keepers c.args.counter.now c.perform.new.counter ⊎ Works (job_of j) c.perform.result
-    (moment g.O.Sink.told g.O.Sink.call_count g.O.Sink.fault_count g.K.Storage.told g.K.Storage.put_count g.K.Storage.get_count g.K.Storage.free_count g.K.Storage.fault_count c.args.out.now c.args.keepers.now.items c.args.counter.now)
-    (moment g.O.Sink.told g.O.Sink.call_count g.O.Sink.fault_count g.K.Storage.told g.K.Storage.put_count g.K.Storage.get_count g.K.Storage.free_count g.K.Storage.fault_count c.perform.new.out c.perform.new.keepers.items c.perform.new.counter) in
-    subst P (sym c.in-Perform.is) c.perform.ensures.works
+pub returns-in-Perform : goal.returns-in-Perform
+returns-in-Perform g c =
+    let P : Job → Type 0 = λ j. Does g.O.Sink g.K.Storage (job_of j) c.perform.result c.args.out.now c.perform.new.out c.args.keepers.now c.perform.new.keepers c.args.counter.now c.perform.new.counter in
+    subst P (sym c.in-Perform.is) c.perform.ensures
 
-pub returns-in-Ask-clause-works : goal.returns-in-Ask-clause-works
-returns-in-Ask-clause-works g c =
-    let P : Job → Type 0 = λ j. IsUntouched c.answer.result c.args.out.now c.answer.new.out c.args.keepers.now c.answer.new.keepers c.args.counter.now c.answer.new.counter ⊎ Works (job_of j) c.answer.result
-    (moment g.O.Sink.told g.O.Sink.call_count g.O.Sink.fault_count g.K.Storage.told g.K.Storage.put_count g.K.Storage.get_count g.K.Storage.free_count g.K.Storage.fault_count c.args.out.now c.args.keepers.now.items c.args.counter.now)
-    (moment g.O.Sink.told g.O.Sink.call_count g.O.Sink.fault_count g.K.Storage.told g.K.Storage.put_count g.K.Storage.get_count g.K.Storage.free_count g.K.Storage.fault_count c.answer.new.out c.answer.new.keepers.items c.answer.new.counter) in
-    subst P (sym c.in-Ask.is) c.answer.ensures.works
+pub returns-in-Ask : goal.returns-in-Ask
+returns-in-Ask g c =
+    let P : Job → Type 0 = λ j. Does g.O.Sink g.K.Storage (job_of j) c.answer.result c.args.out.now c.answer.new.out c.args.keepers.now c.answer.new.keepers c.args.counter.now c.answer.new.counter in
+    subst P (sym c.in-Ask.is) c.answer.ensures
 
-pub returns-in-Find-clause-works : goal.returns-in-Find-clause-works
-returns-in-Find-clause-works g c =
-    let P : Job → Type 0 = λ j. Works (job_of j) c.find.result
-    (moment g.O.Sink.told g.O.Sink.call_count g.O.Sink.fault_count g.K.Storage.told g.K.Storage.put_count g.K.Storage.get_count g.K.Storage.free_count g.K.Storage.fault_count c.args.out.now c.args.keepers.now.items c.args.counter.now)
-    (moment g.O.Sink.told g.O.Sink.call_count g.O.Sink.fault_count g.K.Storage.told g.K.Storage.put_count g.K.Storage.get_count g.K.Storage.free_count g.K.Storage.fault_count c.find.new.out c.args.keepers.now.items c.find.new.counter) in
-    inr (subst P (sym c.in-Find.is) (c.find.ensures (moment g.O.Sink.told g.O.Sink.call_count g.O.Sink.fault_count g.K.Storage.told g.K.Storage.put_count g.K.Storage.get_count g.K.Storage.free_count g.K.Storage.fault_count c.args.out.now c.args.keepers.now.items c.args.counter.now)))
+pub returns-in-Find : goal.returns-in-Find
+returns-in-Find g c =
+    let old = moment g.O.Sink g.K.Storage c.args.out.now c.args.keepers.now.items c.args.counter.now in
+    let P : Job → Type 0 = λ j. Does g.O.Sink g.K.Storage (job_of j) c.find.result c.args.out.now c.find.new.out c.args.keepers.now c.args.keepers.now c.args.counter.now c.find.new.counter in
+    subst P (sym c.in-Find.is) (does_alone g.O.Sink g.K.Storage _ _ _ _ _ _ _ (λ none. none) (inr (c.find.ensures old)))
 
-pub returns-in-Write-clause-works : goal.returns-in-Write-clause-works
-returns-in-Write-clause-works g c =
-    let P : Job → Type 0 = λ j. Works (job_of j) c.write_bytes.result
-    (moment g.O.Sink.told g.O.Sink.call_count g.O.Sink.fault_count g.K.Storage.told g.K.Storage.put_count g.K.Storage.get_count g.K.Storage.free_count g.K.Storage.fault_count c.args.out.now c.args.keepers.now.items c.args.counter.now)
-    (moment g.O.Sink.told g.O.Sink.call_count g.O.Sink.fault_count g.K.Storage.told g.K.Storage.put_count g.K.Storage.get_count g.K.Storage.free_count g.K.Storage.fault_count c.write_bytes.new.out c.args.keepers.now.items c.args.counter.now) in
-    let W : List ℕ → Type 0 = λ l. EndsBy (accept (write (l ∷ []))) c.write_bytes.result
-    (moment g.O.Sink.told g.O.Sink.call_count g.O.Sink.fault_count g.K.Storage.told g.K.Storage.put_count g.K.Storage.get_count g.K.Storage.free_count g.K.Storage.fault_count c.args.out.now c.args.keepers.now.items c.args.counter.now)
-    (moment g.O.Sink.told g.O.Sink.call_count g.O.Sink.fault_count g.K.Storage.told g.K.Storage.put_count g.K.Storage.get_count g.K.Storage.free_count g.K.Storage.fault_count c.write_bytes.new.out c.args.keepers.now.items c.args.counter.now) in
-    inr (subst P (sym c.in-Write.is) (inl (subst W c.bytes.ensures.value (c.write_bytes.ensures (moment g.O.Sink.told g.O.Sink.call_count g.O.Sink.fault_count g.K.Storage.told g.K.Storage.put_count g.K.Storage.get_count g.K.Storage.free_count g.K.Storage.fault_count c.args.out.now c.args.keepers.now.items c.args.counter.now) c.args.counter.now))))
+pub returns-in-Write : goal.returns-in-Write
+returns-in-Write g c =
+    let old = moment g.O.Sink g.K.Storage c.args.out.now c.args.keepers.now.items c.args.counter.now in
+    let new = moment g.O.Sink g.K.Storage c.write_bytes.new.out c.args.keepers.now.items c.args.counter.now in
+    let P : Job → Type 0 = λ j. Does g.O.Sink g.K.Storage (job_of j) c.write_bytes.result c.args.out.now c.write_bytes.new.out c.args.keepers.now c.args.keepers.now c.args.counter.now c.args.counter.now in
+    let W : List ℕ → Type 0 = λ l. EndsBy (accept (write (l ∷ []))) c.write_bytes.result old new in
+    subst P (sym c.in-Write.is) (does_alone g.O.Sink g.K.Storage _ _ _ _ _ _ _ (λ none. none) (inr (inl (subst W c.bytes.ensures.value (c.write_bytes.ensures old c.args.counter.now)))))
 
-pub returns-in-Bytes-clause-works : goal.returns-in-Bytes-clause-works
-returns-in-Bytes-clause-works g c =
-    let P : Job → Type 0 = λ j. Works (job_of j) c.write_bytes-in-Bytes.result
-    (moment g.O.Sink.told g.O.Sink.call_count g.O.Sink.fault_count g.K.Storage.told g.K.Storage.put_count g.K.Storage.get_count g.K.Storage.free_count g.K.Storage.fault_count c.args.out.now c.args.keepers.now.items c.args.counter.now)
-    (moment g.O.Sink.told g.O.Sink.call_count g.O.Sink.fault_count g.K.Storage.told g.K.Storage.put_count g.K.Storage.get_count g.K.Storage.free_count g.K.Storage.fault_count c.write_bytes-in-Bytes.new.out c.args.keepers.now.items c.args.counter.now) in
-    let W : List ℕ → Type 0 = λ l. EndsBy (accept (write (l ∷ []))) c.write_bytes-in-Bytes.result
-    (moment g.O.Sink.told g.O.Sink.call_count g.O.Sink.fault_count g.K.Storage.told g.K.Storage.put_count g.K.Storage.get_count g.K.Storage.free_count g.K.Storage.fault_count c.args.out.now c.args.keepers.now.items c.args.counter.now)
-    (moment g.O.Sink.told g.O.Sink.call_count g.O.Sink.fault_count g.K.Storage.told g.K.Storage.put_count g.K.Storage.get_count g.K.Storage.free_count g.K.Storage.fault_count c.write_bytes-in-Bytes.new.out c.args.keepers.now.items c.args.counter.now) in
-    inr (subst P (sym c.in-Bytes.is) (inl (subst W c.deref.ensures.value (c.write_bytes-in-Bytes.ensures (moment g.O.Sink.told g.O.Sink.call_count g.O.Sink.fault_count g.K.Storage.told g.K.Storage.put_count g.K.Storage.get_count g.K.Storage.free_count g.K.Storage.fault_count c.args.out.now c.args.keepers.now.items c.args.counter.now) c.args.counter.now))))
+pub returns-in-Bytes : goal.returns-in-Bytes
+returns-in-Bytes g c =
+    let old = moment g.O.Sink g.K.Storage c.args.out.now c.args.keepers.now.items c.args.counter.now in
+    let new = moment g.O.Sink g.K.Storage c.write_bytes-in-Bytes.new.out c.args.keepers.now.items c.args.counter.now in
+    let P : Job → Type 0 = λ j. Does g.O.Sink g.K.Storage (job_of j) c.write_bytes-in-Bytes.result c.args.out.now c.write_bytes-in-Bytes.new.out c.args.keepers.now c.args.keepers.now c.args.counter.now c.args.counter.now in
+    let W : List ℕ → Type 0 = λ l. EndsBy (accept (write (l ∷ []))) c.write_bytes-in-Bytes.result old new in
+    subst P (sym c.in-Bytes.is) (does_alone g.O.Sink g.K.Storage _ _ _ _ _ _ _ (λ none. none) (inr (inl (subst W c.deref.ensures.value (c.write_bytes-in-Bytes.ensures old c.args.counter.now)))))
 
-pub returns-in-Report-clause-works : goal.returns-in-Report-clause-works
-returns-in-Report-clause-works g c =
-    let P : Job → Type 0 = λ j. Works (job_of j) c.write.result
-    (moment g.O.Sink.told g.O.Sink.call_count g.O.Sink.fault_count g.K.Storage.told g.K.Storage.put_count g.K.Storage.get_count g.K.Storage.free_count g.K.Storage.fault_count c.args.out.now c.args.keepers.now.items c.args.counter.now)
-    (moment g.O.Sink.told g.O.Sink.call_count g.O.Sink.fault_count g.K.Storage.told g.K.Storage.put_count g.K.Storage.get_count g.K.Storage.free_count g.K.Storage.fault_count c.write.new.out c.args.keepers.now.items c.args.counter.now) in
-    inr (subst P (sym c.in-Report.is) (inl (c.write.ensures (moment g.O.Sink.told g.O.Sink.call_count g.O.Sink.fault_count g.K.Storage.told g.K.Storage.put_count g.K.Storage.get_count g.K.Storage.free_count g.K.Storage.fault_count c.args.out.now c.args.keepers.now.items c.args.counter.now) c.args.counter.now)))
+pub returns-in-Report : goal.returns-in-Report
+returns-in-Report g c =
+    let old = moment g.O.Sink g.K.Storage c.args.out.now c.args.keepers.now.items c.args.counter.now in
+    let P : Job → Type 0 = λ j. Does g.O.Sink g.K.Storage (job_of j) c.write.result c.args.out.now c.write.new.out c.args.keepers.now c.args.keepers.now c.args.counter.now c.args.counter.now in
+    subst P (sym c.in-Report.is) (does_alone g.O.Sink g.K.Storage _ _ _ _ _ _ _ (λ none. none) (inr (inl (c.write.ensures old c.args.counter.now))))
 
-pub returns-in-Plan-clause-works : goal.returns-in-Plan-clause-works
-returns-in-Plan-clause-works g c =
-    let P : Job → Type 0 = λ j. Works (job_of j) c.write-in-Plan.result
-    (moment g.O.Sink.told g.O.Sink.call_count g.O.Sink.fault_count g.K.Storage.told g.K.Storage.put_count g.K.Storage.get_count g.K.Storage.free_count g.K.Storage.fault_count c.args.out.now c.args.keepers.now.items c.args.counter.now)
-    (moment g.O.Sink.told g.O.Sink.call_count g.O.Sink.fault_count g.K.Storage.told g.K.Storage.put_count g.K.Storage.get_count g.K.Storage.free_count g.K.Storage.fault_count c.write-in-Plan.new.out c.args.keepers.now.items c.args.counter.now) in
-    inr (subst P (sym c.in-Plan.is) (inl (c.write-in-Plan.ensures (moment g.O.Sink.told g.O.Sink.call_count g.O.Sink.fault_count g.K.Storage.told g.K.Storage.put_count g.K.Storage.get_count g.K.Storage.free_count g.K.Storage.fault_count c.args.out.now c.args.keepers.now.items c.args.counter.now) c.args.counter.now)))
+pub returns-in-Plan : goal.returns-in-Plan
+returns-in-Plan g c =
+    let old = moment g.O.Sink g.K.Storage c.args.out.now c.args.keepers.now.items c.args.counter.now in
+    let P : Job → Type 0 = λ j. Does g.O.Sink g.K.Storage (job_of j) c.write-in-Plan.result c.args.out.now c.write-in-Plan.new.out c.args.keepers.now c.args.keepers.now c.args.counter.now c.args.counter.now in
+    subst P (sym c.in-Plan.is) (does_alone g.O.Sink g.K.Storage _ _ _ _ _ _ _ (λ none. none) (inr (inl (c.write-in-Plan.ensures old c.args.counter.now))))
 
-pub returns-in-List-clause-works : goal.returns-in-List-clause-works
-returns-in-List-clause-works g c =
-    let P : Job → Type 0 = λ j. Works (job_of j) c.write-in-List.result
-    (moment g.O.Sink.told g.O.Sink.call_count g.O.Sink.fault_count g.K.Storage.told g.K.Storage.put_count g.K.Storage.get_count g.K.Storage.free_count g.K.Storage.fault_count c.args.out.now c.args.keepers.now.items c.args.counter.now)
-    (moment g.O.Sink.told g.O.Sink.call_count g.O.Sink.fault_count g.K.Storage.told g.K.Storage.put_count g.K.Storage.get_count g.K.Storage.free_count g.K.Storage.fault_count c.write-in-List.new.out c.args.keepers.now.items c.args.counter.now) in
-    inr (subst P (sym c.in-List.is) (inl (c.write-in-List.ensures (moment g.O.Sink.told g.O.Sink.call_count g.O.Sink.fault_count g.K.Storage.told g.K.Storage.put_count g.K.Storage.get_count g.K.Storage.free_count g.K.Storage.fault_count c.args.out.now c.args.keepers.now.items c.args.counter.now) c.args.counter.now)))
+pub returns-in-List : goal.returns-in-List
+returns-in-List g c =
+    let old = moment g.O.Sink g.K.Storage c.args.out.now c.args.keepers.now.items c.args.counter.now in
+    let P : Job → Type 0 = λ j. Does g.O.Sink g.K.Storage (job_of j) c.write-in-List.result c.args.out.now c.write-in-List.new.out c.args.keepers.now c.args.keepers.now c.args.counter.now c.args.counter.now in
+    subst P (sym c.in-List.is) (does_alone g.O.Sink g.K.Storage _ _ _ _ _ _ _ (λ none. none) (inr (inl (c.write-in-List.ensures old c.args.counter.now))))
 
-pub returns-in-MoveAbout-clause-works : goal.returns-in-MoveAbout-clause-works
-returns-in-MoveAbout-clause-works g c =
-    let P : Job → Type 0 = λ j. Works (job_of j) c.move_about.result
-    (moment g.O.Sink.told g.O.Sink.call_count g.O.Sink.fault_count g.K.Storage.told g.K.Storage.put_count g.K.Storage.get_count g.K.Storage.free_count g.K.Storage.fault_count c.args.out.now c.args.keepers.now.items c.args.counter.now)
-    (moment g.O.Sink.told g.O.Sink.call_count g.O.Sink.fault_count g.K.Storage.told g.K.Storage.put_count g.K.Storage.get_count g.K.Storage.free_count g.K.Storage.fault_count c.move_about.new.out c.move_about.new.keepers.items c.move_about.new.counter) in
-    inr (subst P (sym c.in-MoveAbout.is) c.move_about.ensures.works)
+pub returns-in-Console : goal.returns-in-Console
+returns-in-Console g c =
+    let P : Job → Type 0 = λ j. Does g.O.Sink g.K.Storage (job_of j) c.answer_orders.result c.args.out.now c.answer_orders.new.out c.args.keepers.now c.answer_orders.new.keepers c.args.counter.now c.answer_orders.new.counter in
+    subst P (sym c.in-Console.is) c.answer_orders.ensures
 
-pub returns-in-Demonstrate-clause-works : goal.returns-in-Demonstrate-clause-works
-returns-in-Demonstrate-clause-works g c =
-    let P : Job → Type 0 = λ j. IsUntouched c.show.result c.args.out.now c.show.new.out c.args.keepers.now c.args.keepers.now c.args.counter.now c.show.new.counter ⊎ Works (job_of j) c.show.result
-    (moment g.O.Sink.told g.O.Sink.call_count g.O.Sink.fault_count g.K.Storage.told g.K.Storage.put_count g.K.Storage.get_count g.K.Storage.free_count g.K.Storage.fault_count c.args.out.now c.args.keepers.now.items c.args.counter.now)
-    (moment g.O.Sink.told g.O.Sink.call_count g.O.Sink.fault_count g.K.Storage.told g.K.Storage.put_count g.K.Storage.get_count g.K.Storage.free_count g.K.Storage.fault_count c.show.new.out c.args.keepers.now.items c.show.new.counter) in
-    let one = c.show.ensures (moment g.O.Sink.told g.O.Sink.call_count g.O.Sink.fault_count g.K.Storage.told g.K.Storage.put_count g.K.Storage.get_count g.K.Storage.free_count g.K.Storage.fault_count c.args.out.now c.args.keepers.now.items c.args.counter.now) in
-    subst P (sym c.in-Demonstrate.is) (elim one [ inl none ↦ inl (none.0, none.1, refl, none.2) | inr works ↦ inr works ])
-
-pub returns-in-Perform-clause-roomy : goal.returns-in-Perform-clause-roomy
-returns-in-Perform-clause-roomy g c =
-    let P : Job → Type 0 = λ j. HaveRoomsFor (job_of j) (rooms_by g.K.Storage c.args.keepers.now.items) → c.perform.result.status ≡ 17 → IsUntouched c.perform.result c.args.out.now c.perform.new.out c.args.keepers.now c.perform.new.keepers c.args.counter.now c.perform.new.counter in
-    subst P (sym c.in-Perform.is) c.perform.ensures.roomy
-
-pub returns-in-Ask-clause-roomy : goal.returns-in-Ask-clause-roomy
-returns-in-Ask-clause-roomy g c =
-    let P : Job → Type 0 = λ j. HaveRoomsFor (job_of j) (rooms_by g.K.Storage c.args.keepers.now.items) → c.answer.result.status ≡ 17 → IsUntouched c.answer.result c.args.out.now c.answer.new.out c.args.keepers.now c.answer.new.keepers c.args.counter.now c.answer.new.counter in
-    subst P (sym c.in-Ask.is) c.answer.ensures.roomy
-
-pub returns-in-Find-clause-roomy : goal.returns-in-Find-clause-roomy
-returns-in-Find-clause-roomy g c =
-    let P : Job → Type 0 = λ j. HaveRoomsFor (job_of j) (rooms_by g.K.Storage c.args.keepers.now.items) → c.find.result.status ≡ 17 → IsUntouched c.find.result c.args.out.now c.find.new.out c.args.keepers.now c.args.keepers.now c.args.counter.now c.find.new.counter in
-    subst P (sym c.in-Find.is) (λ none status. absurd none)
-
-pub returns-in-Write-clause-roomy : goal.returns-in-Write-clause-roomy
-returns-in-Write-clause-roomy g c =
-    let P : Job → Type 0 = λ j. HaveRoomsFor (job_of j) (rooms_by g.K.Storage c.args.keepers.now.items) → c.write_bytes.result.status ≡ 17 → IsUntouched c.write_bytes.result c.args.out.now c.write_bytes.new.out c.args.keepers.now c.args.keepers.now c.args.counter.now c.args.counter.now in
-    subst P (sym c.in-Write.is) (λ none status. absurd none)
-
-pub returns-in-Bytes-clause-roomy : goal.returns-in-Bytes-clause-roomy
-returns-in-Bytes-clause-roomy g c =
-    let P : Job → Type 0 = λ j. HaveRoomsFor (job_of j) (rooms_by g.K.Storage c.args.keepers.now.items) → c.write_bytes-in-Bytes.result.status ≡ 17 → IsUntouched c.write_bytes-in-Bytes.result c.args.out.now c.write_bytes-in-Bytes.new.out c.args.keepers.now c.args.keepers.now c.args.counter.now c.args.counter.now in
-    subst P (sym c.in-Bytes.is) (λ none status. absurd none)
-
-pub returns-in-Report-clause-roomy : goal.returns-in-Report-clause-roomy
-returns-in-Report-clause-roomy g c =
-    let P : Job → Type 0 = λ j. HaveRoomsFor (job_of j) (rooms_by g.K.Storage c.args.keepers.now.items) → c.write.result.status ≡ 17 → IsUntouched c.write.result c.args.out.now c.write.new.out c.args.keepers.now c.args.keepers.now c.args.counter.now c.args.counter.now in
-    subst P (sym c.in-Report.is) (λ none status. absurd none)
-
-pub returns-in-Plan-clause-roomy : goal.returns-in-Plan-clause-roomy
-returns-in-Plan-clause-roomy g c =
-    let P : Job → Type 0 = λ j. HaveRoomsFor (job_of j) (rooms_by g.K.Storage c.args.keepers.now.items) → c.write-in-Plan.result.status ≡ 17 → IsUntouched c.write-in-Plan.result c.args.out.now c.write-in-Plan.new.out c.args.keepers.now c.args.keepers.now c.args.counter.now c.args.counter.now in
-    subst P (sym c.in-Plan.is) (λ none status. absurd none)
-
-pub returns-in-List-clause-roomy : goal.returns-in-List-clause-roomy
-returns-in-List-clause-roomy g c =
-    let P : Job → Type 0 = λ j. HaveRoomsFor (job_of j) (rooms_by g.K.Storage c.args.keepers.now.items) → c.write-in-List.result.status ≡ 17 → IsUntouched c.write-in-List.result c.args.out.now c.write-in-List.new.out c.args.keepers.now c.args.keepers.now c.args.counter.now c.args.counter.now in
-    subst P (sym c.in-List.is) (λ none status. absurd none)
-
-pub returns-in-MoveAbout-clause-roomy : goal.returns-in-MoveAbout-clause-roomy
-returns-in-MoveAbout-clause-roomy g c =
-    let P : Job → Type 0 = λ j. HaveRoomsFor (job_of j) (rooms_by g.K.Storage c.args.keepers.now.items) → c.move_about.result.status ≡ 17 → IsUntouched c.move_about.result c.args.out.now c.move_about.new.out c.args.keepers.now c.move_about.new.keepers c.args.counter.now c.move_about.new.counter in
-    subst P (sym c.in-MoveAbout.is) c.move_about.ensures.roomy
-
-pub returns-in-Demonstrate-clause-roomy : goal.returns-in-Demonstrate-clause-roomy
-returns-in-Demonstrate-clause-roomy g c =
-    let P : Job → Type 0 = λ j. HaveRoomsFor (job_of j) (rooms_by g.K.Storage c.args.keepers.now.items) → c.show.result.status ≡ 17 → IsUntouched c.show.result c.args.out.now c.show.new.out c.args.keepers.now c.args.keepers.now c.args.counter.now c.show.new.counter in
-    subst P (sym c.in-Demonstrate.is) (λ none status. absurd none)
+pub returns-in-Demonstrate : goal.returns-in-Demonstrate
+returns-in-Demonstrate g c =
+    let old = moment g.O.Sink g.K.Storage c.args.out.now c.args.keepers.now.items c.args.counter.now in
+    let P : Job → Type 0 = λ j. Does g.O.Sink g.K.Storage (job_of j) c.show.result c.args.out.now c.show.new.out c.args.keepers.now c.args.keepers.now c.args.counter.now c.show.new.counter in
+    subst P (sym c.in-Demonstrate.is) (does_alone g.O.Sink g.K.Storage _ _ _ _ _ _ _ (λ none. none) (elim (c.show.ensures old) [ inl none ↦ inl (none.0, none.1, refl, none.2) | inr works ↦ inr works ]))

@@ -1,6 +1,6 @@
 use Rattle.std.proofs.Common.{◌∙◌, ℕ, List, [], refl, sym, subst}
 use Rattle.keepers.specs.Counts.{Rose}
-use Rattle.keepers.specs.Told.{Tells, AddsPrefix}
+use Rattle.keepers.specs.Claims.{Tells, AddsPrefix}
 use Rattle.reversal.specs.Output.{Adds}
 use Rattle.reversal.specs.Listing.{ended_line, word_pieces}
 use Rattle.reversal.proofs.Pieces.{IsWritten, written_none_alone, written_more, written_stopped, written_whole, some_left, none_left_of, fewer_left}

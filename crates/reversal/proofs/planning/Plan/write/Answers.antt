@@ -3,12 +3,12 @@ use Rattle.std.specs.List.{AllByRecursion}
 use Rattle.level_book.specs.BookCosts.{BookCosts, names_of}
 use Rattle.action_text.specs.Canonical.{HasSpelling}
 use Rattle.cert_text.specs.Canonical as certificate
-use Rattle.cert_text.proofs.Spelled.{joined}
+use Rattle.cert_text.proofs.CanonicalRoundTrip.{joined}
 use Rattle.keepers.specs.Counts.{Rose}
-use Rattle.keepers.specs.Told.{Tells, AddsPrefix}
+use Rattle.keepers.specs.Claims.{Tells, AddsPrefix}
 use Rattle.reversal.specs.Output.{Adds}
 use Rattle.reversal.specs.ActionsLeft.{left_of}
-use Rattle.reversal.specs.JobReading.{certificate_pieces}
+use Rattle.reversal.specs.JobModel.{certificate_pieces}
 use Rattle.reversal.specs.Plans.{line_of_action}
 use Rattle.reversal.specs.Deeds.{bytes_of}
 use Rattle.reversal.proofs.Pieces.{written_none, written_more, written_stopped, written_whole, written_all, written_but_some, none_behind, fewer_left, spelled_behind}

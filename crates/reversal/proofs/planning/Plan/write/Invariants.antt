@@ -5,7 +5,7 @@ use Rattle.level_book.specs.BookCosts.{names_of}
 use Rattle.action_text.specs.Canonical.{HasSpelling}
 use Rattle.reversal.specs.ActionsLeft.{left_of}
 use Rattle.reversal.specs.Plans.{line_of_action}
-use Rattle.reversal.specs.JobReading.{certificate_pieces, pieces_of}
+use Rattle.reversal.specs.JobModel.{certificate_pieces, pieces_of}
 use Rattle.reversal.proofs.Pieces.{IsWritten}
 use Rattle.reversal.proofs.planning.Plan.write.Given as goal
 

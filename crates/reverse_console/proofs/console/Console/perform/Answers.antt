@@ -10,14 +10,14 @@ use Rattle.reverse_console.specs.ConsoleState.{ConsoleState, source_of}
 use Rattle.reverse_runner.specs.Rooms.{image_room, rooms_by, AreRoomy}
 use Rattle.reverse_console.specs.ConsoleFields.{console_state}
 use Rattle.reverse_console.specs.Marks.{mark_of, mark_count}
-use Rattle.reverse_console.specs.Handling.{source}
+use Rattle.reverse_console.specs.MarkInvariant.{source}
 use Rattle.reverse_console.specs.OrderResults.{IsPerformed, LeavesKeepers}
-use Rattle.reverse_console.specs.Seen.{ComesFrom, IsAnswerSeen}
-use Rattle.reverse_console.specs.Standing.{Stands}
-use Rattle.reverse_console.proofs.Answering.{if_ok_map, given_of_seen, source_stands, on_ok_always}
-use Rattle.reverse_console.proofs.Coming.{comes_from_run}
-use Rattle.reverse_console.proofs.Getting.{stand_same}
-use Rattle.reverse_console.proofs.Seeing.{answer_of_seen}
+use Rattle.reverse_console.specs.StateSources.{ComesFrom, IsAnswerSeen}
+use Rattle.reverse_console.specs.MarksOfRun.{Stands}
+use Rattle.reverse_console.proofs.OrderCosts.{if_ok_map, given_of_seen, source_stands, on_ok_always}
+use Rattle.reverse_console.proofs.MarkStates.{comes_from_run}
+use Rattle.reverse_console.proofs.MarkGets.{stand_same}
+use Rattle.reverse_console.proofs.FetchedStates.{answer_of_seen}
 use Rattle.reverse_console.proofs.console.Console.perform.Goals as goal
 
 pub returns-clause-performed : goal.returns-clause-performed

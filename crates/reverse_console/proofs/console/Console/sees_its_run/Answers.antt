@@ -2,12 +2,12 @@ use Rattle.std.proofs.Common.{◌≡◌, sym, subst}
 use Rattle.rv_machine.specs.States.{state_number}
 use Rattle.reverse_console.specs.Answer.{IsAnswer}
 use Rattle.reverse_console.specs.ConsoleState.{ConsoleState, source_of}
-use Rattle.reverse_console.specs.Handling.{source}
-use Rattle.reverse_console.specs.Seen.{ComesFrom, IsAnswerSeen}
-use Rattle.reverse_console.specs.Standing.{Stands}
-use Rattle.reverse_console.proofs.Answering.{source_stands}
-use Rattle.reverse_console.proofs.Coming.{comes_from_run}
-use Rattle.reverse_console.proofs.Seeing.{answer_of_seen}
+use Rattle.reverse_console.specs.MarkInvariant.{source}
+use Rattle.reverse_console.specs.StateSources.{ComesFrom, IsAnswerSeen}
+use Rattle.reverse_console.specs.MarksOfRun.{Stands}
+use Rattle.reverse_console.proofs.OrderCosts.{source_stands}
+use Rattle.reverse_console.proofs.MarkStates.{comes_from_run}
+use Rattle.reverse_console.proofs.FetchedStates.{answer_of_seen}
 use Rattle.reverse_console.proofs.console.Console.sees_its_run.Goals as goal
 
 pub returns-clause-states : goal.returns-clause-states

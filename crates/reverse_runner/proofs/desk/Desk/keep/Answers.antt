@@ -1,4 +1,4 @@
-use Rattle.std.proofs.Common.{ℕ, ◌<◌, length, set, List, Err, refl, sym, ◌∙◌, ap, subst, arith}
+use Rattle.std.proofs.Common.{ℕ, set, List, Err, refl, sym, ◌∙◌, ap, subst}
 use Rattle.image_store.specs.Shelves.{level_of}
 use Rattle.image_store.specs.StoreCalls.{KeepsPair}
 use Rattle.reverse_runner.specs.declared.fault.RunFault.{RunFault}
@@ -9,7 +9,6 @@ use Rattle.reverse_runner.proofs.desk.Desk.keep.Goals as goal
 
 pub returns-in-Ok-clause-keeps : goal.returns-in-Ok-clause-keeps
 returns-in-Ok-clause-keeps g c =
-    let within : c.args.level < length c.args.keepers.now.items = omega (arith, c.requires.there, c.args.keepers.now.ok.0) in
     let bytes = c.as_slice-bytes.ensures.value in
     keep_gives g.K.Storage c.args.level c.args.n c.args.self.now.store c.keep.new.self c.args.keepers.now.items (set c.args.keepers.now.items c.args.level c.keep.new.keeper) c.keep.ensures.others c.args.self.now.buffer c.args.self.now.buffer.ok.0 _
     (record {
@@ -17,14 +16,13 @@ returns-in-Ok-clause-keeps g c =
       is = ap (answer_on c.args.level) (sym c.in-Ok.is);
       before = c.index_mut-keeper.result.now;
       after = c.keep.new.keeper;
-      was = was_there c.args.keepers.now.items c.args.level c.index_mut-keeper.result.now c.keep.new.keeper within c.index_mut-keeper.ensures.value;
+      was = was_there c.args.keepers.now.items c.args.level c.index_mut-keeper.result.now c.keep.new.keeper c.requires.on.there c.index_mut-keeper.ensures.value;
       others = refl;
       does = subst (λ (b : List ℕ). KeepsPair g.K.Storage c.args.n b c.keep.result (level_of c.args.self.now.store c.args.level) (level_of c.keep.new.self c.args.level) c.index_mut-keeper.result.now c.keep.new.keeper) bytes c.keep.ensures.keeps;
     })
 
 pub returns-in-Err-clause-keeps : goal.returns-in-Err-clause-keeps
 returns-in-Err-clause-keeps g c =
-    let within : c.args.level < length c.args.keepers.now.items = omega (arith, c.requires.there, c.args.keepers.now.ok.0) in
     let bytes = c.as_slice-bytes.ensures.value in
     keep_gives g.K.Storage c.args.level c.args.n c.args.self.now.store c.keep.new.self c.args.keepers.now.items (set c.args.keepers.now.items c.args.level c.keep.new.keeper) c.keep.ensures.others c.args.self.now.buffer c.args.self.now.buffer.ok.0 _
     (record {
@@ -32,7 +30,7 @@ returns-in-Err-clause-keeps g c =
       is = ap (λ (f : RunFault). Err f) c.on.ensures ∙ ap (answer_on c.args.level) (sym c.in-Err.is);
       before = c.index_mut-keeper.result.now;
       after = c.keep.new.keeper;
-      was = was_there c.args.keepers.now.items c.args.level c.index_mut-keeper.result.now c.keep.new.keeper within c.index_mut-keeper.ensures.value;
+      was = was_there c.args.keepers.now.items c.args.level c.index_mut-keeper.result.now c.keep.new.keeper c.requires.on.there c.index_mut-keeper.ensures.value;
       others = refl;
       does = subst (λ (b : List ℕ). KeepsPair g.K.Storage c.args.n b c.keep.result (level_of c.args.self.now.store c.args.level) (level_of c.keep.new.self c.args.level) c.index_mut-keeper.result.now c.keep.new.keeper) bytes c.keep.ensures.keeps;
     })

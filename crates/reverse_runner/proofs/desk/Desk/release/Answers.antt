@@ -1,4 +1,4 @@
-use Rattle.std.proofs.Common.{◌<◌, length, set, Err, refl, sym, ◌∙◌, ap, arith}
+use Rattle.std.proofs.Common.{set, Err, refl, sym, ◌∙◌, ap}
 use Rattle.reverse_runner.specs.declared.fault.RunFault.{RunFault}
 use Rattle.reverse_runner.specs.Desks.{answer_on}
 use Rattle.reverse_runner.proofs.OneKeeper.{was_there}
@@ -7,28 +7,26 @@ use Rattle.reverse_runner.proofs.desk.Desk.release.Goals as goal
 
 pub returns-in-Ok-clause-releases : goal.returns-in-Ok-clause-releases
 returns-in-Ok-clause-releases g c =
-    let within : c.args.level < length c.args.keepers.now.items = omega (arith, c.requires.there, c.args.keepers.now.ok.0) in
     release_gives g.K.Storage c.args.level c.args.n c.args.self.now.store c.release.new.self c.args.keepers.now.items (set c.args.keepers.now.items c.args.level c.release.new.keeper) c.release.ensures.others _ c.requires.held
     (record {
       answer = c.release.result;
       is = ap (answer_on c.args.level) (sym c.in-Ok.is);
       before = c.index_mut-keeper.result.now;
       after = c.release.new.keeper;
-      was = was_there c.args.keepers.now.items c.args.level c.index_mut-keeper.result.now c.release.new.keeper within c.index_mut-keeper.ensures.value;
+      was = was_there c.args.keepers.now.items c.args.level c.index_mut-keeper.result.now c.release.new.keeper c.requires.on.there c.index_mut-keeper.ensures.value;
       others = refl;
       does = c.release.ensures.releases;
     })
 
 pub returns-in-Err-clause-releases : goal.returns-in-Err-clause-releases
 returns-in-Err-clause-releases g c =
-    let within : c.args.level < length c.args.keepers.now.items = omega (arith, c.requires.there, c.args.keepers.now.ok.0) in
     release_gives g.K.Storage c.args.level c.args.n c.args.self.now.store c.release.new.self c.args.keepers.now.items (set c.args.keepers.now.items c.args.level c.release.new.keeper) c.release.ensures.others _ c.requires.held
     (record {
       answer = c.release.result;
       is = ap (λ (f : RunFault). Err f) c.on.ensures ∙ ap (answer_on c.args.level) (sym c.in-Err.is);
       before = c.index_mut-keeper.result.now;
       after = c.release.new.keeper;
-      was = was_there c.args.keepers.now.items c.args.level c.index_mut-keeper.result.now c.release.new.keeper within c.index_mut-keeper.ensures.value;
+      was = was_there c.args.keepers.now.items c.args.level c.index_mut-keeper.result.now c.release.new.keeper c.requires.on.there c.index_mut-keeper.ensures.value;
       others = refl;
       does = c.release.ensures.releases;
     })

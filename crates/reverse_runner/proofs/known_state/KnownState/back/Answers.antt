@@ -1,7 +1,7 @@
 use Rattle.std.proofs.Common.{sym, subst}
 use Rattle.rv_machine.specs.MachineState.{MachineState}
 use Rattle.unit_digests.specs.Digests.{states_of, AreDigests}
-use Rattle.reverse_runner.proofs.Knowing.{known_here}
+use Rattle.reverse_runner.proofs.TapeDigests.{known_here}
 use Rattle.reverse_runner.proofs.known_state.KnownState.back.Goals as goal
 
 pub invariant_of-self : goal.invariant_of-self

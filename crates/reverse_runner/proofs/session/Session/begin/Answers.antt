@@ -6,7 +6,7 @@ use Rattle.rv_machine.specs.MachineState.{MachineState}
 use Rattle.level_book.specs.BookCosts.{slots_of}
 use Rattle.level_book.specs.Configuration.{start}
 use Rattle.image_store.specs.Shelves.{ShelfState}
-use Rattle.reverse_runner.specs.LevelsStand.{IsLaidOut, HoldingsStandAt, AreAlone}
+use Rattle.reverse_runner.specs.HoldingsOfRun.{IsLaidOut, HoldingsStandAt, AreAlone}
 use Rattle.reverse_runner.proofs.RoomLeft.{begun_is_laid_out, begun_stands, begun_is_alone}
 use Rattle.reverse_runner.specs.Rooms.{image_room}
 use Rattle.reverse_runner.proofs.Rooms.{begun_short, short_same}

@@ -1,13 +1,13 @@
 use Rattle.std.proofs.Common.{ℕ, List, length, sym, subst}
 use Rattle.std.proofs.lemmas.Result.{on_ok_weaker}
 use Rattle.level_book.specs.declared.book.Slots.{Slots}
-use Rattle.reverse_runner.specs.LevelsStand.{IsLaidOut, AreAlone}
+use Rattle.reverse_runner.specs.HoldingsOfRun.{IsLaidOut, AreAlone}
 use Rattle.reverse_runner.specs.SessionState.{SessionState, levels_of, holdings_of}
-use Rattle.reverse_runner.specs.Standing.{StandsAt}
+use Rattle.reverse_runner.specs.SessionOfRun.{StandsAt}
 use Rattle.reverse_runner.specs.KeepersSeen.{told_by}
 use Rattle.reverse_runner.specs.Workspaces.{HasUnits, holdings_in}
-use Rattle.reverse_runner.specs.Acted.{IsSafe}
-use Rattle.reverse_runner.proofs.HoldingsAfter.{laid_out_after, alone_after, stand_after}
+use Rattle.reverse_runner.specs.ActionOutcome.{IsSafe}
+use Rattle.reverse_runner.proofs.HoldingsInvariant.{laid_out_after, alone_after, stand_after}
 use Rattle.reverse_runner.specs.Rooms.{rooms_by, AreShort}
 use Rattle.reverse_runner.proofs.Rooms.{same_room}
 use Rattle.reverse_runner.proofs.session.Session.perform.Goals as goal
@@ -19,17 +19,17 @@ invariant_of-self g c =
     let told = g.K.Storage in
     let old = holdings_in c.self.inside.space (told_by told c.args.keepers.now.items) in
     let new = holdings_in c.act-outcome.new.space (told_by told c.act-outcome.new.keepers.items) in
-    let laid = laid_out_after c.self.inside.journal c.self.inside.unit before.steps before.slots before.at c.args.action.now after.at old new c.is_sound.ensures.sound c.take.ensures.goes c.in-Ok.ensures.does.acted.acts
+    let laid = laid_out_after c.self.inside.journal c.self.inside.unit before.steps before.slots before.at c.args.action.now after.at old new c.is_sound.ensures.sound c.take.ensures.goes c.in-Ok.ensures.ends.does.acted.acts
     (c.self.invariant.laid c.if-self.false) in
     let N : ℕ → Type 0 = λ n. IsLaidOut n before.slots after.at c.act-outcome.new.space.desk.store in
     let S : List Slots → Type 0 = λ s. IsLaidOut after.steps s after.at c.act-outcome.new.space.desk.store in
     let U : ℕ → Type 0 = λ n. HasUnits c.self.inside.unit c.self.inside.journal n after.at c.act-outcome.new.space in
     record {
-      fits = c.act-outcome.ensures.order.fits;
+      fits = c.act-outcome.ensures.ends.order.fits;
       laid = λ _. subst S (sym c.take.ensures.slots) (subst N (sym c.take.ensures.steps) laid);
       units = λ _. subst U (sym c.take.ensures.steps) (c.in-Ok.ensures.units after.at c.take.ensures.goes);
-      short = λ _. subst (λ most. AreShort most c.act-outcome.new.space.desk.store) (same_room c.self.inside.space.desk.work c.act-outcome.new.space.desk.work c.act-outcome.ensures.order.pages)
-          (c.act-outcome.ensures.order.short (c.self.invariant.short c.if-self.false));
+      short = λ _. subst (λ most. AreShort most c.act-outcome.new.space.desk.store) (same_room c.self.inside.space.desk.work c.act-outcome.new.space.desk.work c.act-outcome.ensures.ends.order.pages)
+          (c.act-outcome.ensures.ends.order.short (c.self.invariant.short c.if-self.false));
     }
 
 pub returns-in-Ok-clause-stays : goal.returns-in-Ok-clause-stays
@@ -50,16 +50,16 @@ returns-in-Ok-clause-stays g c =
           (let Q : SessionState → Type 0 = λ s. AreAlone (levels_of s tells) in
           alone_after journal unit before.steps before.slots before.at c.args.action.now after old new c.is_sound.ensures.sound c.take.ensures.goes done.acts laid (subst Q (sym c.self.view_is) alone));
     })
-    c.act-outcome.ensures.does.acted
+    c.act-outcome.ensures.ends.does.acted
 
 pub returns-in-Ok-clause-spared : goal.returns-in-Ok-clause-spared
 returns-in-Ok-clause-spared g c =
     let tells = told_by g.K.Storage c.args.keepers.now.items in
     let Q : SessionState → Type 0 = λ s. IsSafe c.act-outcome.result s.journal s.unit s.situation.at (holdings_of s tells) (length s.situation.slots) (rooms_by g.K.Storage c.args.keepers.now.items) in
-    subst Q c.self.view_is (c.act-outcome.ensures.spared c.is_recorded.ensures (c.self.invariant.short c.if-self.false))
+    subst Q c.self.view_is (c.act-outcome.ensures.ends.spared c.is_recorded.ensures (c.self.invariant.short c.if-self.false))
 
 pub returns-in-Err-clause-spared : goal.returns-in-Err-clause-spared
 returns-in-Err-clause-spared g c =
     let tells = told_by g.K.Storage c.args.keepers.now.items in
     let Q : SessionState → Type 0 = λ s. IsSafe c.act-outcome.result s.journal s.unit s.situation.at (holdings_of s tells) (length s.situation.slots) (rooms_by g.K.Storage c.args.keepers.now.items) in
-    subst Q c.self.view_is (c.act-outcome.ensures.spared c.is_recorded.ensures (c.self.invariant.short c.if-self.false))
+    subst Q c.self.view_is (c.act-outcome.ensures.ends.spared c.is_recorded.ensures (c.self.invariant.short c.if-self.false))

@@ -2,10 +2,10 @@
 use Rattle.std.proofs.Common.{◌∙◌, ap, sym, refl, subst, arith, List, Option, ℕ}
 use Rattle.rv_machine.specs.MachineState.{MachineState}
 use Rattle.unit_undo.specs.UndoState.{UndoState}
-use Rattle.unit_undo.specs.Leading.{LeadsBack, states_below, IsMadeFor}
-use Rattle.unit_undo.proofs.Leading.{can_note, noted, led}
+use Rattle.unit_undo.specs.UndoTrail.{LeadsBack, states_below, IsMadeFor}
+use Rattle.unit_undo.proofs.UndoTrail.{can_note, noted, led}
 use Rattle.unit_digests.specs.Digests.{states_of, AreDigests}
-use Rattle.reverse_runner.proofs.Knowing.{known_on_tape}
+use Rattle.reverse_runner.proofs.TapeDigests.{known_on_tape}
 use Rattle.reverse_runner.proofs.workspace.Workspace.advance_on_tape.Goals as goal
 
 pub advance_watched-requires : goal.advance_watched-requires

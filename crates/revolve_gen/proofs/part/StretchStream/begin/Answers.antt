@@ -1,7 +1,7 @@
 use Rattle.std.proofs.Common.{◌≤◌, List, sym, ap, subst, arith}
 use Rattle.revolve_gen.specs.declared.stretch.Stretch.{Stretch}
 use Rattle.revolve_gen.specs.Part.{Coming}
-use Rattle.revolve_gen.specs.Owed.{IsOwing}
+use Rattle.revolve_gen.specs.Remainder.{IsOwing}
 use Rattle.revolve_gen.proofs.part.StretchStream.begin.Goals as goal
 
 pub invariant_of-self : goal.invariant_of-self

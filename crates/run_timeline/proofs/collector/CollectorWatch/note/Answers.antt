@@ -1,6 +1,6 @@
 use Rattle.std.proofs.Common.{sym, subst}
 use Rattle.rv_pages.specs.Memory.{IsMapped}
-use Rattle.rv_pages.proofs.Reading.{bytes_mapped}
+use Rattle.rv_pages.proofs.MemoryReads.{bytes_mapped}
 use Rattle.rv_machine.specs.MachineState.{MachineState}
 use Rattle.rv_machine.specs.Output.{output}
 use Rattle.run_timeline.proofs.collector.CollectorWatch.note.Goals as goal

@@ -1,5 +1,5 @@
 use Rattle.std.proofs.Common.{◌-◌, ◌*◌, ◌∙◌, arith}
-use Rattle.run_timeline.proofs.Marking.{spans_marked, spans_still}
+use Rattle.run_timeline.proofs.RunMarks.{spans_marked, spans_still}
 use Rattle.run_timeline.proofs.marks.Marks.pass.Goals as goal
 
 pub add-requires-clause-pages : goal.add-requires-clause-pages

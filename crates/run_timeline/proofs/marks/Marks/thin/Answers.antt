@@ -1,5 +1,5 @@
 use Rattle.std.proofs.Common.{◌-◌, ◌/◌, arith}
-use Rattle.run_timeline.proofs.Marking.{kept_thinned, product_grows, product_shrinks}
+use Rattle.run_timeline.proofs.RunMarks.{kept_thinned, product_grows, product_shrinks}
 use Rattle.run_timeline.proofs.marks.Marks.thin.Goals as goal
 
 pub returns-clause-marks : goal.returns-clause-marks

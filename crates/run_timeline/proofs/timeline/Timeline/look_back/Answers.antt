@@ -2,7 +2,7 @@ use Rattle.std.proofs.Common.{◌≤◌, ℕ, subst}
 use Rattle.std.specs.Prelude.{MatchOption, Some}
 use Rattle.run_timeline.specs.Moves.{CameBack, EndsBackward}
 use Rattle.run_timeline.specs.TimelineState.{TimelineState}
-use Rattle.run_timeline.proofs.Ending.{found_near, goes_back, place_before}
+use Rattle.run_timeline.proofs.MoveEnds.{found_near, goes_back, place_before}
 use Rattle.run_timeline.proofs.timeline.Timeline.look_back.Goals as goal
 
 pub returns-clause-near : goal.returns-clause-near

@@ -1,6 +1,6 @@
 use Rattle.std.proofs.Common.{◌<◌, subst, ℕ}
 use Rattle.run_timeline.specs.Moves.{EndsForward, CameOn}
-use Rattle.run_timeline.specs.Parts.{MatchPart}
+use Rattle.run_timeline.specs.MoveParts.{MatchPart}
 use Rattle.run_timeline.specs.TimelineState.{TimelineState}
 use Rattle.run_timeline.proofs.timeline.Timeline.look_on.Goals as goal
 

@@ -2,8 +2,8 @@ use Rattle.std.proofs.Common.{◌≡◌, ◌-◌, ◌++◌, false, ap, subst, ar
 use Rattle.rv_machine.specs.Output.{outputs}
 use Rattle.run_timeline.specs.Moves.{state}
 use Rattle.run_timeline.specs.WalkState.{WalkState}
-use Rattle.run_timeline.proofs.Collecting.{collected_from}
-use Rattle.run_timeline.proofs.Walking.{went_on}
+use Rattle.run_timeline.proofs.OutputCollector.{collected_from}
+use Rattle.run_timeline.proofs.Walks.{went_on}
 use Rattle.run_timeline.proofs.walk.Walk.collect_to.Goals as goal
 
 pub invariant_of-self : goal.invariant_of-self

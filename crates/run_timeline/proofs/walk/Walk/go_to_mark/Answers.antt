@@ -1,9 +1,9 @@
 use Rattle.std.proofs.Common.{◌≡◌, ℕ, ◌+◌, ◌-◌, ◌*◌, ◌≤◌, ◌<◌, max, length, ap, subst, arith}
 use Rattle.rv_machine.specs.States.{state_number}
-use Rattle.run_timeline.specs.Keeping.{next_mark}
+use Rattle.run_timeline.specs.RunMarks.{next_mark}
 use Rattle.run_timeline.specs.WalkState.{WalkState}
-use Rattle.run_timeline.proofs.Marking.{few_between}
-use Rattle.run_timeline.proofs.Walking.{can_give, given}
+use Rattle.run_timeline.proofs.RunMarks.{few_between}
+use Rattle.run_timeline.proofs.Walks.{can_give, given}
 use Rattle.run_timeline.proofs.walk.Walk.go_to_mark.Goals as goal
 
 pub give-requires : goal.give-requires

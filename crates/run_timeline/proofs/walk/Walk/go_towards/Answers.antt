@@ -1,6 +1,6 @@
 use Rattle.std.proofs.Common.{◌≡◌, ap, arith}
 use Rattle.run_timeline.specs.WalkState.{WalkState}
-use Rattle.run_timeline.proofs.Walking.{room_for, arrived}
+use Rattle.run_timeline.proofs.Walks.{room_for, arrived}
 use Rattle.run_timeline.proofs.walk.Walk.go_towards.Goals as goal
 
 pub pass-requires-clause-pages : goal.pass-requires-clause-pages

@@ -1,6 +1,6 @@
 use Rattle.std.proofs.Common.{ap, arith}
 use Rattle.run_timeline.specs.WalkState.{WalkState}
-use Rattle.run_timeline.proofs.Walking.{went_on}
+use Rattle.run_timeline.proofs.Walks.{went_on}
 use Rattle.run_timeline.proofs.walk.Walk.go_within.Goals as goal
 
 pub invariant_of-self : goal.invariant_of-self

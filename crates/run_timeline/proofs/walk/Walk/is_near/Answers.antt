@@ -1,8 +1,8 @@
 use Rattle.std.proofs.Common.{◌≡◌, ℕ, ◌+◌, ◌-◌, ◌≤◌, ◌<◌, length, ap, subst, arith}
-use Rattle.run_timeline.specs.Keeping.{next_mark}
+use Rattle.run_timeline.specs.RunMarks.{next_mark}
 use Rattle.run_timeline.specs.WalkState.{WalkState, IsFew}
 use Rattle.std.proofs.lemmas.Bool.{leb-true}
-use Rattle.run_timeline.proofs.Marking.{few_between}
+use Rattle.run_timeline.proofs.RunMarks.{few_between}
 use Rattle.run_timeline.proofs.walk.Walk.is_near.Goals as goal
 
 pub returns-clause-few : goal.returns-clause-few

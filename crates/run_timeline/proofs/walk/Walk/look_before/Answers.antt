@@ -1,7 +1,7 @@
 use Rattle.std.proofs.Common.{◌≡◌, ℕ, ◌+◌, sym, ap, subst, arith}
 use Rattle.run_timeline.specs.Moves.{Run, state}
 use Rattle.run_timeline.specs.WalkState.{WalkState}
-use Rattle.run_timeline.specs.Seeing.{seen, IsLastSeen}
+use Rattle.run_timeline.specs.StepObservations.{seen, IsLastSeen}
 use Rattle.run_timeline.proofs.walk.Walk.look_before.Goals as goal
 
 pub returns-clause-last : goal.returns-clause-last

@@ -3,7 +3,7 @@ use Rattle.std.specs.Option.{option_map, option_or}
 use Rattle.run_timeline.specs.declared.stops.Hit.TheVariants.{Watch}
 use Rattle.run_timeline.specs.Moves.{Run, EndsForward, broken, watched}
 use Rattle.run_timeline.specs.WalkState.{WalkState}
-use Rattle.run_timeline.proofs.Ending.{ends_looking, last_ends}
+use Rattle.run_timeline.proofs.MoveEnds.{ends_looking, last_ends}
 use Rattle.run_timeline.proofs.walk.Walk.look_on.Goals as goal
 use Rattle.run_timeline.proofs.walk.Walk.look_on.Goals.{else-place-most-via-then-place-most+else-not-look_towards, else-place-most-via-else-place-most}
 

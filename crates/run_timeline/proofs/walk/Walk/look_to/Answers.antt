@@ -1,8 +1,8 @@
 use Rattle.std.proofs.Common.{◌≡◌, ◌+◌, ◌-◌, ap, subst, arith}
 use Rattle.run_timeline.specs.Moves.{state}
 use Rattle.run_timeline.specs.WalkState.{WalkState}
-use Rattle.run_timeline.specs.Seeing.{seen, IsLastSeen}
-use Rattle.run_timeline.proofs.Walking.{went_on, last_there}
+use Rattle.run_timeline.specs.StepObservations.{seen, IsLastSeen}
+use Rattle.run_timeline.proofs.Walks.{went_on, last_there}
 use Rattle.run_timeline.proofs.walk.Walk.look_to.Goals as goal
 
 pub invariant_of-self : goal.invariant_of-self

@@ -3,9 +3,9 @@ use Rattle.rv_machine.specs.MachineState.{MachineState}
 use Rattle.run_timeline.specs.Moves.{state}
 use Rattle.run_timeline.specs.WalkState.{WalkState}
 use Rattle.std.proofs.lemmas.Bool.{ltb-true}
-use Rattle.rv_machine.specs.Watching.{Ends, GoesOn}
-use Rattle.run_timeline.specs.Seeing.{is_hit}
-use Rattle.run_timeline.proofs.Walking.{room_for, steps_from, arrived, goes_on_there}
+use Rattle.rv_machine.specs.Watchers.{Ends, GoesOn}
+use Rattle.run_timeline.specs.StepObservations.{is_hit}
+use Rattle.run_timeline.proofs.Walks.{room_for, steps_from, arrived, goes_on_there}
 use Rattle.run_timeline.proofs.walk.Walk.look_towards.Goals as goal
 
 pub pass-requires-clause-pages : goal.pass-requires-clause-pages

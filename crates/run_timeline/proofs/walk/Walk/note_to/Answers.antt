@@ -1,10 +1,10 @@
 use Rattle.std.proofs.Common.{◌≡◌, ◌-◌, length, sym, ap, subst, arith}
 use Rattle.run_timeline.specs.WalkState.{WalkState}
-use Rattle.unit_undo.specs.Leading.{IsMadeFor}
-use Rattle.unit_undo.proofs.Leading.{can_note}
-use Rattle.run_timeline.specs.Trail.{Trails}
-use Rattle.run_timeline.proofs.Trailing.{trailed, trailed_count, trailed_same}
-use Rattle.run_timeline.proofs.Walking.{went_on}
+use Rattle.unit_undo.specs.UndoTrail.{IsMadeFor}
+use Rattle.unit_undo.proofs.UndoTrail.{can_note}
+use Rattle.run_timeline.specs.UndoTrail.{Trails}
+use Rattle.run_timeline.proofs.UndoTrail.{trailed, trailed_count, trailed_same}
+use Rattle.run_timeline.proofs.Walks.{went_on}
 use Rattle.run_timeline.proofs.walk.Walk.note_to.Goals as goal
 
 pub advance_watched-requires : goal.advance_watched-requires

@@ -4,9 +4,9 @@ use Rattle.run_timeline.specs.declared.stops.Hit.{Hit}
 use Rattle.run_timeline.specs.Moves.{Run, state}
 use Rattle.run_timeline.specs.WalkState.{WalkState, IsFew}
 use Rattle.run_timeline.specs.Moves.{EndsBackward}
-use Rattle.run_timeline.specs.Seeing.{seen, IsLastSeen}
-use Rattle.run_timeline.proofs.Hitting.{NothingSeen, ends_at_first, seen_near}
-use Rattle.run_timeline.proofs.Ending.{ends_at_seen, unseen_from, place_before, few_same, few_max}
+use Rattle.run_timeline.specs.StepObservations.{seen, IsLastSeen}
+use Rattle.run_timeline.proofs.StopHits.{NothingSeen, ends_at_first, seen_near}
+use Rattle.run_timeline.proofs.MoveEnds.{ends_at_seen, unseen_from, place_before, few_same, few_max}
 use Rattle.run_timeline.proofs.walk.Walk.run_back.Goals as goal
 
 pub return_to-requires : goal.return_to-requires

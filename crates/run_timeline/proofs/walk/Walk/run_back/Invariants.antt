@@ -1,5 +1,5 @@
 use Rattle.std.proofs.Common.{◌≡◌, ◌+◌, ◌≤◌}
-use Rattle.run_timeline.proofs.Hitting.{NothingSeen}
+use Rattle.run_timeline.proofs.StopHits.{NothingSeen}
 use Rattle.run_timeline.proofs.walk.Walk.run_back.Given as goal
 
 -- nothing is seen from the end of what is left on

@@ -1,7 +1,7 @@
 use Rattle.std.proofs.Common.{◌≡◌, sym, ap, subst, arith}
 use Rattle.run_timeline.specs.Moves.{Run, EndsForward, CameOn}
 use Rattle.run_timeline.specs.WalkState.{WalkState}
-use Rattle.run_timeline.proofs.Ending.{further_on}
+use Rattle.run_timeline.proofs.MoveEnds.{further_on}
 use Rattle.run_timeline.proofs.walk.Walk.run_on.Goals as goal
 
 pub returns-in-Ended-look_on-clause-ends : goal.returns-in-Ended-look_on-clause-ends

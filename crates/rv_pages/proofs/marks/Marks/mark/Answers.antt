@@ -1,4 +1,4 @@
-use Rattle.rv_pages.proofs.Marking.{mark_of-with_mark_same, mark_of-with_mark_other}
+use Rattle.rv_pages.proofs.MarkOperations.{mark_of-with_mark_same, mark_of-with_mark_other}
 use Rattle.rv_pages.proofs.marks.Marks.mark.Goals as goal
 
 pub returns-clause-marked : goal.returns-clause-marked

@@ -1,5 +1,5 @@
 use Rattle.std.proofs.Common.{arith, rules}
-use Rattle.rv_pages.proofs.Marking.{next_in_rest, next_in_word, none_in_rest}
+use Rattle.rv_pages.proofs.MarkOperations.{next_in_rest, next_in_word, none_in_rest}
 use Rattle.rv_pages.proofs.marks.Marks.next.Goals as goal
 
 pub returns-then-rest-ne0 : goal.returns-then-rest-ne0

@@ -1,7 +1,7 @@
 use Rattle.std.proofs.Common.{◌/◌, inl, inr, replicate}
 use Rattle.std.proofs.lemmas.Bool.{cases_lt}
 use Rattle.std.proofs.lemmas.List.{get_or-replicate, get_or_past}
-use Rattle.rv_pages.proofs.Marking.{no_word}
+use Rattle.rv_pages.proofs.MarkOperations.{no_word}
 use Rattle.rv_pages.proofs.marks.Marks.none.Goals as goal
 
 pub returns-clause-marks : goal.returns-clause-marks

@@ -2,7 +2,7 @@ use Rattle.std.proofs.Common.{◌/◌, ◌%◌, inl, inr, max, ap, sym, ◌∙�
 use Rattle.std.proofs.lemmas.Bool.{cases_lt}
 use Rattle.std.specs.Int.{bit_at}
 use Rattle.std.proofs.lemmas.Nat.Bits.{bit_at_or}
-use Rattle.rv_pages.proofs.Marking.{past_words}
+use Rattle.rv_pages.proofs.MarkOperations.{past_words}
 use Rattle.rv_pages.proofs.marks.Marks.union.Goals as goal
 
 pub returns-clause-marks : goal.returns-clause-marks

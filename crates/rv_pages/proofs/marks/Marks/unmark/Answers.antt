@@ -1,4 +1,4 @@
-use Rattle.rv_pages.proofs.Marking.{mark_of-without_mark_same, mark_of-without_mark_other}
+use Rattle.rv_pages.proofs.MarkOperations.{mark_of-without_mark_same, mark_of-without_mark_other}
 use Rattle.rv_pages.proofs.marks.Marks.unmark.Goals as goal
 
 pub returns-clause-unmarked : goal.returns-clause-unmarked

@@ -1,8 +1,8 @@
 use Rattle.std.proofs.Common.{◌≡◌, ℕ, ◌+◌, ◌/◌, ◌%◌, ◌^◌, ◌≤◌, ◌<◌, List, Option, None, Some, true, false, is_some, length, get_or, ap, sym, subst, ◌∙◌, arith}
 use Rattle.rv_pages.specs.Memory.{IsMapped, byte_at}
-use Rattle.rv_pages.specs.Kept.{memory_kept}
+use Rattle.rv_pages.specs.PageLayout.{memory_kept}
 use Rattle.rv_pages.specs.Memory.{IsPlaceOf}
-use Rattle.rv_pages.proofs.Reading.{bytes_at_missing, byte_at_wrapped, byte_not_kept, page_mapped, mapped_some, mapped_more}
+use Rattle.rv_pages.proofs.MemoryReads.{bytes_at_missing, byte_at_wrapped, byte_not_kept, page_mapped, mapped_some, mapped_more}
 use Rattle.rv_pages.proofs.pages.Pages.are_mapped.Goals as goal
 
 -- a page that the tables don't find, and one that they find

@@ -1,7 +1,7 @@
 use Rattle.std.proofs.Common.{◌<◌, subst}
 use Rattle.std.specs.List.{All}
 use Rattle.rv_pages.specs.Memory.{IsMemory}
-use Rattle.rv_pages.proofs.Whole.{kept_is_memory}
+use Rattle.rv_pages.proofs.MemoryInvariant.{kept_is_memory}
 use Rattle.rv_pages.proofs.pages.Pages.are_memory.Goals as goal
 
 pub returns : goal.returns

@@ -2,9 +2,9 @@ use Rattle.std.proofs.Common.{◌≤◌, ◌≡◌, ◌+◌, ◌-◌, ◌*◌, �
 use Rattle.std.proofs.lemmas.List.{length-take, length-drop}
 use Rattle.std.specs.List.{All}
 use Rattle.rv_pages.specs.Memory.{page_numbers, page_bytes}
-use Rattle.rv_pages.specs.Kept.{memory_kept, AreKept, ArePages}
-use Rattle.rv_pages.proofs.Written.{kept_written, length_written}
-use Rattle.rv_pages.proofs.Changed.{written_items, pages_cleared, outside_page}
+use Rattle.rv_pages.specs.PageLayout.{memory_kept, AreKept, ArePages}
+use Rattle.rv_pages.proofs.PageWrites.{kept_written, length_written}
+use Rattle.rv_pages.proofs.PageInvariant.{written_items, pages_cleared, outside_page}
 use Rattle.rv_pages.proofs.Numbers.{kept_numbers, seen_numbers}
 use Rattle.rv_pages.proofs.OnePage.{page_written, page_kept, byte_inside, zeros_are}
 use Rattle.rv_pages.proofs.pages.Pages.clear_page.Goals as goal

@@ -1,9 +1,9 @@
 use Rattle.std.proofs.Common.{◌≡◌, ◌<◌, inl, inr, length, get_or, ap, sym, subst, ◌∙◌, arith}
 use Rattle.std.proofs.lemmas.List.{with_items_is}
-use Rattle.rv_pages.specs.Kept.{memory_kept, ArePages}
-use Rattle.rv_pages.proofs.Marking.{mark_cases}
+use Rattle.rv_pages.specs.PageLayout.{memory_kept, ArePages}
+use Rattle.rv_pages.proofs.MarkOperations.{mark_cases}
 use Rattle.rv_pages.proofs.Numbers.{seen_numbers}
-use Rattle.rv_pages.proofs.Changed.{copied_whole, pages_copied, marked_inside}
+use Rattle.rv_pages.proofs.PageInvariant.{copied_whole, pages_copied, marked_inside}
 use Rattle.rv_pages.proofs.pages.Pages.copy_from.Goals as goal
 
 pub copy_marked-requires-clause-long : goal.copy_marked-requires-clause-long

@@ -1,7 +1,7 @@
 use Rattle.std.proofs.Common.{◌≡◌, ℕ, ◌+◌, ◌*◌, ◌%◌, List, Some, length, ap, sym, ◌∙◌, arith}
 use Rattle.std.proofs.lemmas.List.{get_or_read}
 use Rattle.rv_pages.specs.Memory.{word_at}
-use Rattle.rv_pages.proofs.Reading.{word_kept, number_not_kept}
+use Rattle.rv_pages.proofs.MemoryReads.{word_kept, number_not_kept}
 use Rattle.rv_pages.proofs.pages.Pages.load32.Goals as goal
 
 pub returns-in_err-start : goal.returns-in_err-start

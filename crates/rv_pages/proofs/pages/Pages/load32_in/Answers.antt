@@ -2,9 +2,9 @@
 use Rattle.std.proofs.Common.{◌≡◌, ℕ, ◌+◌, ◌*◌, ◌≤◌, ◌<◌, ◌/◌, ◌%◌, List, Some, length, get_or, ap, subst, sym, ◌∙◌, arith}
 use Rattle.std.proofs.lemmas.List.{get_or_read}
 use Rattle.rv_pages.specs.Memory.{Memory, word_at, page_numbers, IsPlaceOf}
-use Rattle.rv_pages.specs.Kept.{memory_kept, AreKept}
+use Rattle.rv_pages.specs.PageLayout.{memory_kept, AreKept}
 use Rattle.rv_pages.proofs.Numbers.{seen_numbers}
-use Rattle.rv_pages.proofs.Reading.{word_kept}
+use Rattle.rv_pages.proofs.MemoryReads.{word_kept}
 use Rattle.rv_pages.proofs.pages.Pages.load32_in.Goals as goal
 
 place : (numbers bytes : List ℕ) (m : Memory) (index at : ℕ) → AreKept numbers bytes → memory_kept numbers bytes ≡ m → IsPlaceOf (page_numbers m) (at / 4096) (Some index) →

@@ -2,9 +2,9 @@ use Rattle.std.proofs.Common.{◌≡◌, ℕ, ◌+◌, ◌*◌, ◌<◌, ◌%◌
 use Rattle.std.proofs.lemmas.List.{get_or_read}
 use Rattle.std.specs.FinMap.{get}
 use Rattle.rv_pages.specs.Memory.{byte_at}
-use Rattle.rv_pages.specs.Kept.{memory_kept}
-use Rattle.rv_pages.proofs.Ordered.{get_kept}
-use Rattle.rv_pages.proofs.Reading.{byte_not_kept}
+use Rattle.rv_pages.specs.PageLayout.{memory_kept}
+use Rattle.rv_pages.proofs.EntryOrder.{get_kept}
+use Rattle.rv_pages.proofs.MemoryReads.{byte_not_kept}
 use Rattle.rv_pages.proofs.pages.Pages.load8.Goals as goal
 
 pub returns-in_err-index : goal.returns-in_err-index

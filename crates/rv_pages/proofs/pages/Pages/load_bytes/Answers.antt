@@ -1,6 +1,6 @@
 use Rattle.std.proofs.Common.{◌+◌, ◌<◌, length, take, Some, ap, sym, ◌∙◌, arith}
 use Rattle.std.proofs.lemmas.List.{take_more_set}
-use Rattle.rv_pages.proofs.Reading.{bytes_at_missing, bytes_at_more, byte_at_wrapped}
+use Rattle.rv_pages.proofs.MemoryReads.{bytes_at_missing, bytes_at_more, byte_at_wrapped}
 use Rattle.rv_pages.proofs.pages.Pages.load_bytes.Goals as goal
 
 pub returns-in-None-clause-none : goal.returns-in-None-clause-none

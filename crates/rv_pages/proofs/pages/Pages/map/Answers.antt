@@ -1,9 +1,9 @@
 use Rattle.std.proofs.Common.{◌≡◌, ◌*◌, ◌∙◌, length, replicate}
 use Rattle.std.proofs.lemmas.List.{length-replicate}
 use Rattle.rv_pages.specs.Memory.{page_numbers}
-use Rattle.rv_pages.specs.Kept.{memory_kept, AreKept}
+use Rattle.rv_pages.specs.PageLayout.{memory_kept, AreKept}
 use Rattle.rv_pages.proofs.Numbers.{kept_numbers}
-use Rattle.rv_pages.proofs.Zeroed.{kept_zeros}
+use Rattle.rv_pages.proofs.ZeroPages.{kept_zeros}
 use Rattle.rv_pages.proofs.pages.Pages.map.Goals as goal
 
 pub returns-clause-memory : goal.returns-clause-memory

@@ -1,6 +1,6 @@
 use Rattle.std.proofs.Common.{length, ap, arith}
 use Rattle.rv_pages.proofs.Numbers.{seen_numbers}
-use Rattle.rv_pages.proofs.Changed.{zero_seen, marked_inside}
+use Rattle.rv_pages.proofs.PageInvariant.{zero_seen, marked_inside}
 use Rattle.rv_pages.proofs.pages.Pages.next_touched.Goals as goal
 
 pub returns-in-Some-clause-index : goal.returns-in-Some-clause-index

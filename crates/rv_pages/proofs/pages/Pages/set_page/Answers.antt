@@ -1,9 +1,9 @@
 use Rattle.std.proofs.Common.{◌≤◌, ◌≡◌, ◌+◌, ◌*◌, ◌<◌, ◌/◌, ◌%◌, ◌==◌, cond, Some, ℕ, List, ap, sym, subst, ◌∙◌, length, get_or, arith}
 use Rattle.std.specs.FinMap.{get}
 use Rattle.rv_pages.specs.Memory.{page_numbers, page_bytes}
-use Rattle.rv_pages.specs.Kept.{memory_kept, AreKept, ArePages}
-use Rattle.rv_pages.proofs.Written.{kept_written, get_written, length_written}
-use Rattle.rv_pages.proofs.Changed.{written_items, pages_written, outside_page}
+use Rattle.rv_pages.specs.PageLayout.{memory_kept, AreKept, ArePages}
+use Rattle.rv_pages.proofs.PageWrites.{kept_written, get_written, length_written}
+use Rattle.rv_pages.proofs.PageInvariant.{written_items, pages_written, outside_page}
 use Rattle.rv_pages.proofs.Numbers.{kept_numbers, seen_numbers}
 use Rattle.rv_pages.proofs.OnePage.{page_written, page_kept}
 use Rattle.rv_pages.proofs.pages.Pages.set_page.Goals as goal

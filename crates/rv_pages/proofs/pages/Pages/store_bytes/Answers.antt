@@ -4,8 +4,8 @@ use Rattle.std.proofs.lemmas.Bool.{false≢true}
 use Rattle.std.proofs.lemmas.List.{length-take-le, length-take, length-drop, take_all}
 use Rattle.std.specs.FinMap.{get}
 use Rattle.rv_pages.specs.Memory.{Memory, wrapped, with_bytes, IsMapped}
-use Rattle.rv_pages.proofs.Reading.{mapped_some, some_mapped}
-use Rattle.rv_pages.proofs.Storing.{some_with_bytes, with_bytes-append, with_bytes_alike}
+use Rattle.rv_pages.proofs.MemoryReads.{mapped_some, some_mapped}
+use Rattle.rv_pages.proofs.MemoryWrites.{some_with_bytes, with_bytes-append, with_bytes_alike}
 use Rattle.rv_pages.proofs.pages.Pages.store_bytes.Goals as goal
 
 -- more bytes behind those that were written

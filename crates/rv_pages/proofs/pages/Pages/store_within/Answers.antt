@@ -3,12 +3,12 @@ use Rattle.std.proofs.lemmas.Bool.{false≢true}
 use Rattle.std.specs.Vec.{with_items}
 use borrow.Rule.Slice.PartMut.{put_mid}
 use Rattle.rv_pages.specs.Memory.{page_numbers, byte_at, bytes_at, with_bytes}
-use Rattle.rv_pages.specs.Kept.{memory_kept, AreKept, ArePages}
-use Rattle.rv_pages.proofs.Changed.{written_items, pages_written, outside_page}
+use Rattle.rv_pages.specs.PageLayout.{memory_kept, AreKept, ArePages}
+use Rattle.rv_pages.proofs.PageInvariant.{written_items, pages_written, outside_page}
 use Rattle.rv_pages.proofs.Numbers.{kept_numbers, seen_numbers}
-use Rattle.rv_pages.proofs.Reading.{bytes_kept, bytes_mapped, byte_not_kept, missing_byte}
-use Rattle.rv_pages.proofs.Storing.{memory_put, kept_put}
-use Rattle.rv_pages.proofs.Written.{length_written}
+use Rattle.rv_pages.proofs.MemoryReads.{bytes_kept, bytes_mapped, byte_not_kept, missing_byte}
+use Rattle.rv_pages.proofs.MemoryWrites.{memory_put, kept_put}
+use Rattle.rv_pages.proofs.PageWrites.{length_written}
 use Rattle.rv_pages.proofs.pages.Pages.store_within.Goals as goal
 
 pub returns-in_default-clause-stored : goal.returns-in_default-clause-stored

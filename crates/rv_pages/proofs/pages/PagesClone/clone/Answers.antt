@@ -1,8 +1,8 @@
 use Rattle.std.proofs.Common.{replicate, ◌*◌, ◌≡◌, ℕ, List, length, get_or, ap, sym, subst, ◌∙◌, arith}
 use Rattle.std.proofs.lemmas.List.{with_items_is, length-replicate}
-use Rattle.rv_pages.specs.Kept.{memory_kept, ArePages}
-use Rattle.rv_pages.proofs.Entering.{zeros_get}
-use Rattle.rv_pages.proofs.Changed.{copied_whole}
+use Rattle.rv_pages.specs.PageLayout.{memory_kept, ArePages}
+use Rattle.rv_pages.proofs.TableEntries.{zeros_get}
+use Rattle.rv_pages.proofs.PageInvariant.{copied_whole}
 use Rattle.rv_pages.proofs.pages.PagesClone.clone.Goals as goal
 
 pub invariant_of-result : goal.invariant_of-result

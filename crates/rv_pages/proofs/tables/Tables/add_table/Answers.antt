@@ -1,7 +1,7 @@
 use Rattle.std.proofs.Common.{◌/◌, refl, ap, ◌∙◌}
 use Rattle.std.specs.List.{slice_set}
 use Rattle.rv_pages.specs.Tables.{entry_of}
-use Rattle.rv_pages.proofs.Entering.{entries_more}
+use Rattle.rv_pages.proofs.TableEntries.{entries_more}
 use Rattle.rv_pages.proofs.tables.Tables.add_table.Goals as goal
 
 pub returns-clause-entries : goal.returns-clause-entries

@@ -3,7 +3,7 @@ use Rattle.std.proofs.lemmas.Bool.{cases_lt, cases_eq}
 use Rattle.std.proofs.lemmas.Map.Keys.{sorted_from_strictly_increasing, below_from_sorted}
 use Rattle.std.specs.List.Sorted.{IsStrictlyIncreasing}
 use Rattle.rv_pages.specs.Tables.{AreTables, entry_of}
-use Rattle.rv_pages.proofs.Entering.{tables_of_zeros, entry_of-zeros}
+use Rattle.rv_pages.proofs.TableEntries.{tables_of_zeros, entry_of-zeros}
 use Rattle.rv_pages.proofs.tables.Tables.of.Goals as goal
 
 -- earlier numbers are others

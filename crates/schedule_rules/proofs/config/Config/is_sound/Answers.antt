@@ -1,8 +1,8 @@
 use Rattle.std.proofs.Common.{subst}
 use Rattle.schedule_rules.specs.Situation.{Situation}
-use Rattle.schedule_rules.specs.Reached.{IsReached, IsSound}
-use Rattle.schedule_rules.specs.Kept.{situation_of}
-use Rattle.schedule_rules.proofs.Standing.{reached_sound}
+use Rattle.schedule_rules.specs.Reachability.{IsReached, IsSound}
+use Rattle.schedule_rules.specs.ConfigModel.{situation_of}
+use Rattle.schedule_rules.proofs.ConfigInvariant.{reached_sound}
 use Rattle.schedule_rules.proofs.config.Config.is_sound.Goals as goal
 
 pub returns-clause-reached : goal.returns-clause-reached

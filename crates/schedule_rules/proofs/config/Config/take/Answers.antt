@@ -6,8 +6,8 @@ use Rattle.plan_types.specs.declared.action.Action.TheVariants.{Forward, Reverse
 use Rattle.level_book.specs.Rules.{rule}
 use Rattle.schedule_rules.specs.Situation.{Situation}
 use Rattle.schedule_rules.proofs.LevelLemmas.{member_has_bit, bit_for}
-use Rattle.schedule_rules.proofs.Moving.{goes, copied_is_held, moved_is_held}
-use Rattle.schedule_rules.proofs.Standing.{kept_after, levels_so}
+use Rattle.schedule_rules.proofs.MovesByRules.{goes, copied_is_held, moved_is_held}
+use Rattle.schedule_rules.proofs.ConfigInvariant.{kept_after, levels_so}
 use Rattle.schedule_rules.proofs.config.Config.take.Goals as goal
 
 -- what an action that leaves the levels alone leads to

@@ -1,6 +1,6 @@
 use Rattle.std.proofs.Common.{◌≡◌, ◌+◌, ◌*◌, ◌/◌, ◌<◌, length, subst, sym, ◌∙◌, arith}
-use Rattle.segment_sweep.proofs.Marking.{marked_more, quotients, scaled}
-use Rattle.segment_sweep.proofs.Stepping.{same_number}
+use Rattle.segment_sweep.proofs.MarkExtension.{marked_more, quotients, scaled}
+use Rattle.segment_sweep.proofs.StepExtension.{same_number}
 use Rattle.segment_sweep.proofs.marks.Marks.make.Goals as goal
 
 pub loop-preserved : goal.loop-preserved

@@ -2,7 +2,7 @@ use Rattle.std.proofs.Common.{◌≡◌, map}
 use Rattle.std.specs.List.{AllByRecursion}
 use Rattle.std.specs.Vec.{vec_len}
 use Rattle.unit_digests.specs.Digests.{HasPages}
-use Rattle.unit_digests.specs.Dealing.{mapped, part_of, HasRoom}
+use Rattle.unit_digests.specs.WorkDivision.{mapped, part_of, HasRoom}
 use Rattle.unit_digests.proofs.digesters.Digesters.begin.Given as goal
 
 abbrev pub invariant-loop : goal.invariant-loop

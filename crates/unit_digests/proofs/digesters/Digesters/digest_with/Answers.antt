@@ -6,8 +6,8 @@ use Rattle.std.proofs.lemmas.Grind.{common_steps}
 use Rattle.unit_digests.specs.declared.sharing.Deal.{Deal}
 use Rattle.unit_digests.specs.declared.sharing.Digester.{Digester}
 use Rattle.unit_digests.specs.Digests.{states_of, IsKnown, HasPages}
-use Rattle.unit_digests.specs.Dealing.{mapped, part_of, HasRoom, HasTaken}
-use Rattle.unit_digests.proofs.Dealing.{same_count, all_by_place, dealt_to, get_some}
+use Rattle.unit_digests.specs.WorkDivision.{mapped, part_of, HasRoom, HasTaken}
+use Rattle.unit_digests.proofs.WorkDivision.{same_count, all_by_place, dealt_to, get_some}
 use Rattle.unit_digests.proofs.digesters.Digesters.digest_with.Goals as goal
 
 pub take_digests-requires-clause-dealt : goal.take_digests-requires-clause-dealt

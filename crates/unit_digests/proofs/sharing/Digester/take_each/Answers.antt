@@ -1,13 +1,13 @@
 use Rattle.std.proofs.Common.{◌≡◌, ◌<◌, ◌≤◌, ◌+◌, ◌*◌, ◌∷◌, ◌++◌, [], length, refl, sym, ap, subst, ◌∙◌, append_assoc, rules, arith}
 use Rattle.std.specs.List.{AllByRecursion}
 use Rattle.std.specs.Vec.{vec_len, vec_capacity}
-use Rattle.unit_undo.specs.Leading.{led_back}
+use Rattle.unit_undo.specs.UndoTrail.{led_back}
 use Rattle.unit_digests.specs.declared.sharing.Taken.{Taken}
 use Rattle.unit_digests.specs.Digests.{states_of}
-use Rattle.unit_digests.specs.Dealing.{IsTaken, IsDealt, part_of}
-use Rattle.unit_undo.proofs.Leading.{length-led_back}
-use Rattle.unit_digests.proofs.Walking.{is_taken, all_push, joined}
-use Rattle.unit_digests.proofs.Dealing.{parts_enough, turn_fits, turn_next, whole_next}
+use Rattle.unit_digests.specs.WorkDivision.{IsTaken, IsDealt, part_of}
+use Rattle.unit_undo.proofs.UndoTrail.{length-led_back}
+use Rattle.unit_digests.proofs.DigestWalks.{is_taken, all_push, joined}
+use Rattle.unit_digests.proofs.WorkDivision.{parts_enough, turn_fits, turn_next, whole_next}
 use Rattle.unit_digests.proofs.sharing.Digester.take_each.Goals as goal
 
 pub unwrap-requires : goal.unwrap-requires

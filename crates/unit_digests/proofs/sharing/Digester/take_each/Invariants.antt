@@ -2,9 +2,9 @@ use Rattle.std.proofs.Common.{◌≡◌, ℕ, ◌+◌, ◌*◌, ◌<◌, ◌≤�
 use Rattle.std.specs.List.{AllByRecursion}
 use Rattle.std.specs.Vec.{vec_len, vec_capacity}
 use Rattle.rv_machine.specs.MachineState.{MachineState}
-use Rattle.unit_undo.specs.Leading.{LeadsBack, led_back}
+use Rattle.unit_undo.specs.UndoTrail.{LeadsBack, led_back}
 use Rattle.unit_digests.specs.Digests.{states_of}
-use Rattle.unit_digests.specs.Dealing.{mapped, HasTaken, IsDealt, HasNumber}
+use Rattle.unit_digests.specs.WorkDivision.{mapped, HasTaken, IsDealt, HasNumber}
 use Rattle.unit_digests.proofs.sharing.Digester.take_each.Given as goal
 
 -- of the states that are dealt to the worker those from `end` on were taken; where there are more, the next is the one before `end`

@@ -1,6 +1,6 @@
 use Rattle.std.proofs.Common.{[], length, ap, arith}
 use Rattle.unit_undo.specs.UndoState.{UndoState}
-use Rattle.unit_undo.proofs.Keeping.{length-kept}
+use Rattle.unit_undo.proofs.EntryStack.{length-kept}
 use Rattle.unit_undo.proofs.undo.Undo.is_short.Goals as goal
 
 pub returns-clause-entries : goal.returns-clause-entries

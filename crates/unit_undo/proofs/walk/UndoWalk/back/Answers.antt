@@ -7,7 +7,7 @@ use Rattle.unit_undo.specs.declared.saved.Saved.{Saved}
 use Rattle.unit_undo.specs.Entry.{Entry}
 use Rattle.unit_undo.specs.UndoState.{CanGoBack}
 use Rattle.unit_undo.specs.UndoFields.{entry_of, entries_kept, IsSaved}
-use Rattle.unit_undo.proofs.Keeping.{counted, popped, all_left}
+use Rattle.unit_undo.proofs.EntryStack.{counted, popped, all_left}
 use Rattle.unit_undo.proofs.walk.UndoWalk.back.Goals as goal
 
 -- how many old bytes are left

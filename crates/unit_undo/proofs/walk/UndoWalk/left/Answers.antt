@@ -1,5 +1,5 @@
 use Rattle.std.proofs.Common.{[], length, ap, arith}
-use Rattle.unit_undo.proofs.Keeping.{length-kept}
+use Rattle.unit_undo.proofs.EntryStack.{length-kept}
 use Rattle.unit_undo.proofs.walk.UndoWalk.left.Goals as goal
 
 pub returns : goal.returns

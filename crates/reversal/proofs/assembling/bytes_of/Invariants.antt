@@ -1,7 +1,0 @@
-use Rattle.std.proofs.Common.{◌≡◌, take}
-use Rattle.reversal.specs.CommandAssemble.{word_bytes}
-use Rattle.reversal.proofs.assembling.bytes_of.Given as goal
-
--- the bytes of so many words
-abbrev pub invariant-loop-word : goal.invariant-loop-word
-invariant-loop-word l = l.bytes.items ≡ word_bytes (take l.word-index l.words)

@@ -1,0 +1,73 @@
+use Rattle.std.proofs.Common.{◌≡◌, ◌≤◌, ℕ, max, subst, arith}
+use Rattle.level_book.specs.BookCosts.{slots_of, total_room}
+use Rattle.reverse_runner.specs.KeepersSeen.{HaveRoom}
+use Rattle.reverse_console.specs.ScriptFaults.{HasFirstFault}
+use Rattle.requests.specs.declared.ended.Ended.{Ended}
+use Rattle.requests.specs.Ending.{bad_book, bad_program, bad_journal, bad_script, no_plan}
+use Rattle.requests.specs.Request.{says_raw, stack_pages}
+use Rattle.reversal.specs.Table.{Keep, refuse}
+use Rattle.reversal.specs.InputMeaning.{HasBookFault, HasProgramFault, HasJournalFault}
+use Rattle.reversal.specs.JobModel.{IsRefusal, text_of}
+use Rattle.reversal.proofs.DecisionLaws.{console_by_book, console_by_keepers, console_by_slots, console_by_program, console_by_journal, console_by_script, console_accepted}
+use Rattle.reversal.proofs.Decisions.{by_error}
+use Rattle.reversal.proofs.console.decide_texts.Goals as goal
+
+pub returns-in_err-book : goal.returns-in_err-book
+returns-in_err-book c =
+    let texts = c.args.texts in
+    by_error _ _ c.from_residual.result _ c.from_residual.ensures.1 (λ e gives.
+    let same : c.in_err-book.field-0.0 ≡ e = cc in
+    let P : Ended → Type 0 = λ x. IsRefusal (HasBookFault texts.book.now) bad_book x in
+    console_by_book c.args.options.now c.args.steps texts.program.now (text_of texts.journal) texts.book.now texts.script.now c.args.counts.now e (subst P same c.in_err-book.ensures.refused))
+
+pub returns-in_err-keep : goal.returns-in_err-keep
+returns-in_err-keep c =
+    let texts = c.args.texts in
+    by_error _ _ c.from_residual-in_err-keep.result _ c.from_residual-in_err-keep.ensures.1 (λ e gives.
+    let same : c.in_err-keep.field-0.0 ≡ e = cc in
+    let P : Ended → Type 0 = λ x. Keep c.max.result (slots_of c.in_ok-book.book) c.args.counts.now (refuse x) ⊥ in
+    console_by_keepers c.args.options.now c.args.steps texts.program.now (text_of texts.journal) texts.book.now texts.script.now c.args.counts.now e c.in_ok-book.book c.in_ok-book.ensures.found (subst (λ (n : ℕ). Keep n (slots_of c.in_ok-book.book) c.args.counts.now (refuse e) ⊥) c.max.ensures (subst P same c.in_err-keep.ensures.refused)))
+
+pub returns-in_err-find_slot : goal.returns-in_err-find_slot
+returns-in_err-find_slot c =
+    let texts = c.args.texts in
+    by_error _ _ c.from_residual-in_err-find_slot.result _ c.from_residual-in_err-find_slot.ensures.1 (λ e gives.
+    let same : c.in_err-find_slot.field-0.0 ≡ e = cc in
+    let P : Ended → Type 0 = λ x. (1 ≤ total_room c.in_ok-book.book (max c.args.steps 1) → ⊥) × (x ≡ no_plan c.args.steps (total_room c.in_ok-book.book c.args.steps) 1) in
+    let none = subst P same c.in_err-find_slot.ensures.refused in
+    console_by_slots c.args.options.now c.args.steps texts.program.now (text_of texts.journal) texts.book.now texts.script.now c.args.counts.now e c.in_ok-book.book c.in_ok-book.ensures.found (subst (λ (n : ℕ). HaveRoom n (slots_of c.in_ok-book.book) c.args.counts.now) c.max.ensures c.in_ok-keep.ensures.room) none.0 none.1)
+
+pub returns-in_err-start : goal.returns-in_err-start
+returns-in_err-start c =
+    let texts = c.args.texts in
+    by_error _ _ c.from_residual-in_err-start.result _ c.from_residual-in_err-start.ensures.1 (λ e gives.
+    let same : c.in_err-start.field-0.0 ≡ e = cc in
+    let P : Ended → Type 0 = λ x. IsRefusal (HasProgramFault (says_raw c.args.options.now) (stack_pages c.args.options.now) texts.program.now) bad_program x in
+    console_by_program c.args.options.now c.args.steps texts.program.now (text_of texts.journal) texts.book.now texts.script.now c.args.counts.now e c.in_ok-book.book c.in_ok-book.ensures.found (subst (λ (n : ℕ). HaveRoom n (slots_of c.in_ok-book.book) c.args.counts.now) c.max.ensures c.in_ok-keep.ensures.room) c.in_ok-find_slot.ensures.slots (subst P same c.in_err-start.ensures.refused))
+
+pub returns-in_err-journal : goal.returns-in_err-journal
+returns-in_err-journal c =
+    let texts = c.args.texts in
+    by_error _ _ c.from_residual-in_err-journal.result _ c.from_residual-in_err-journal.ensures.1 (λ e gives.
+    let same : c.in_err-journal.field-0.0 ≡ e = cc in
+    let P : Ended → Type 0 = λ x. IsRefusal (HasJournalFault (text_of texts.journal)) bad_journal x in
+    console_by_journal c.args.options.now c.args.steps texts.program.now (text_of texts.journal) texts.book.now texts.script.now c.args.counts.now e c.in_ok-book.book c.in_ok-book.ensures.found (subst (λ (n : ℕ). HaveRoom n (slots_of c.in_ok-book.book) c.args.counts.now) c.max.ensures c.in_ok-keep.ensures.room) c.in_ok-find_slot.ensures.slots c.in_ok-start.start c.in_ok-start.ensures.found (subst P same c.in_err-journal.ensures.refused))
+
+pub returns-in_err-orders : goal.returns-in_err-orders
+returns-in_err-orders c =
+    let texts = c.args.texts in
+    by_error _ _ c.from_residual-in_err-orders.result _ c.from_residual-in_err-orders.ensures.1 (λ e gives.
+    let same : c.in_err-orders.field-0.0 ≡ e = cc in
+    let P : Ended → Type 0 = λ x. IsRefusal (HasFirstFault c.args.steps texts.script.now) bad_script x in
+    console_by_script c.args.options.now c.args.steps texts.program.now (text_of texts.journal) texts.book.now texts.script.now c.args.counts.now e c.in_ok-book.book c.in_ok-book.ensures.found (subst (λ (n : ℕ). HaveRoom n (slots_of c.in_ok-book.book) c.args.counts.now) c.max.ensures c.in_ok-keep.ensures.room) c.in_ok-find_slot.ensures.slots c.in_ok-start.start c.in_ok-start.ensures.found c.in_ok-journal.journal c.in_ok-journal.ensures.found (subst P same c.in_err-orders.ensures.refused))
+
+pub returns : goal.returns
+returns c =
+    let texts = c.args.texts in
+    record {
+      accepted = console_accepted c.args.options.now c.args.steps texts.program.now (text_of texts.journal) texts.book.now texts.script.now c.args.counts.now c.in_ok-book.book c.in_ok-start.start c.in_ok-journal.journal c.in_ok-orders.orders.items
+          c.in_ok-book.ensures.found (subst (λ (n : ℕ). HaveRoom n (slots_of c.in_ok-book.book) c.args.counts.now) c.max.ensures c.in_ok-keep.ensures.room) c.in_ok-find_slot.ensures.slots c.in_ok-start.ensures.found c.in_ok-journal.ensures.found c.in_ok-orders.ensures.found;
+      can_be_done = record { steps = c.requires.steps; slots = c.in_ok-find_slot.ensures.slots; few = omega (arith, c.in_ok-orders.ensures.few, c.in_ok-orders.orders.ok); orders = c.in_ok-orders.ensures.orders };
+      room = subst (λ (n : ℕ). HaveRoom n (slots_of c.in_ok-book.book) c.args.counts.now) c.max.ensures c.in_ok-keep.ensures.room;
+      refused = tt;
+    }

@@ -1,0 +1,170 @@
+// Moving about in a run by the orders of a script.
+ghost use Rattle.std.specs.Prelude.{◌≡◌, ◌<◌, ◌≤◌, ◌^◌, ℕ, map, max, length, slice_get, Some, IfOk, IfErr, OnOk};
+ghost use Rattle.std.specs.Vec.{vec_len};
+ghost use Rattle.plan_types.specs.declared.limits.TheConstants.{MOST_STEPS};
+ghost use Rattle.level_book.specs.BookCosts.{slots_of, total_room};
+ghost use Rattle.reverse_runner.specs.KeepersSeen.{HaveRoom};
+ghost use Rattle.reverse_console.specs.declared.order.Order.{Order as AnOrder};
+ghost use Rattle.reverse_console.specs.Answer.{IsOrder};
+ghost use Rattle.reverse_console.specs.Script.{IsScript};
+ghost use Rattle.reverse_console.specs.ScriptFaults.{HasFirstFault};
+ghost use Rattle.requests.specs.Request.{console as console_command, stack_pages};
+ghost use Rattle.requests.specs.Inputs.{inputs_of};
+ghost use Rattle.requests.specs.InputOutcome.{AreWithinLimits};
+ghost use Rattle.requests.specs.RequestModel.{as_console};
+ghost use Rattle.requests.specs.Ending.{no_plan, bad_script};
+ghost use Rattle.reversal.specs.CommandConsole.{DecidesConsole};
+ghost use Rattle.reversal.specs.Decision.{DecidesBytes};
+ghost use Rattle.reversal.specs.JobModel.{moves, CanAnswerOrders, IsRefusal, Does, text_of, IsDecided};
+
+use crate::decision::{book_in, journal_in, keep, start_of};
+use crate::job::{Job, fault_ending};
+use keepers::{Keeper, Sink};
+use level_book::Book;
+use requests::{Ended, Options};
+use reverse_console::laws::the_marks_have_levels;
+use reverse_console::{Console, MarkedRun, Order, answer_all, read_orders};
+use rv_machine::Steps;
+use std::alloc::Global;
+use std::mem;
+use std::sync::ledger::Ledger;
+
+/// A run with marks, and the orders of a script.
+#[derive(Drop)]
+pub struct ConsoleRun {
+    pub run: MarkedRun,
+    pub orders: Vec<Order>,
+}
+
+impl ConsoleRun {
+    /// Sets the marks, and answers the orders one after the other. An ending has the number of the order, and 0 for the
+    /// marks.
+    pub fn answer_orders<K: Keeper, O: Sink, L: Ledger>(
+        self,
+        alloc: Global,
+        keepers: &mut Vec<K>,
+        out: &mut O,
+        counter: &mut Steps<L>,
+    ) -> Ended
+        requires can_be_done { CanAnswerOrders self }
+        requires room { HaveRoom (max self.run.count 1) (slots_of self.run.book) (map K.slot_count keepers.old.items) }
+        ensures { Does O.Sink K.Storage (moves self) result out.old out.new keepers.old keepers.new counter.old counter.new }
+    {
+        let ConsoleRun { run, orders } = self;
+        run.start.is_machine_state();
+        the_marks_have_levels();
+        match Console::begin(alloc, run, keepers, counter) {
+            Err(fault) => fault_ending(0, fault),
+            Ok(mut console) => {
+                console.sees_its_run();
+                match answer_all(&mut console, &orders, keepers, out, counter) {
+                    Ok(()) => Ended::done(),
+                    Err(stop) => fault_ending(u64::from(stop.order), stop.fault),
+                }
+            }
+        }
+    }
+}
+
+// The texts of a console's run, and that of the orders.
+#[derive(Drop)]
+struct Texts<'a> {
+    program: &'a [u8],
+    journal: Option<Vec<u8>>,
+    book: &'a [u8],
+    script: &'a [u8],
+}
+
+/// The decision on a console request, by the bytes of its inputs and the keepers' slots.
+pub fn decide_console(
+    alloc: Global,
+    options: &Options,
+    console: &requests::Console<'_>,
+    bytes: &mut [Vec<u8>],
+    counts: &[u32],
+) -> Result<Job, Ended>
+    requires stack { (1 ≤ stack_pages options.now) × (stack_pages options.now ≤ 1024) }
+    requires steps { console.now.steps ≤ MOST_STEPS }
+    requires inputs { AreWithinLimits (inputs_of (console_command (as_console console.now))) (map (λ b. b.items) bytes.old) }
+    ensures { IsDecided
+        (DecidesBytes options.now (console_command (as_console console.now)) (map (λ b. b.items) bytes.old) counts.now)
+        counts.now result }
+{
+    let steps = console.steps as u32;
+    match bytes {
+        [program, book, script] => {
+            let texts = Texts {
+                program: program.as_slice(),
+                journal: None,
+                book: book.as_slice(),
+                script: script.as_slice(),
+            };
+            decide_texts(alloc, options, steps, texts, counts)
+        }
+        [program, journal, book, script] => {
+            let texts = Texts {
+                program: program.as_slice(),
+                journal: Some(mem::replace(journal, Vec::new(alloc))),
+                book: book.as_slice(),
+                script: script.as_slice(),
+            };
+            decide_texts(alloc, options, steps, texts, counts)
+        }
+        _ => unreachable!(),
+    }
+}
+
+fn decide_texts(
+    alloc: Global,
+    options: &Options,
+    steps: u32,
+    texts: Texts<'_>,
+    counts: &[u32],
+) -> Result<Job, Ended>
+    requires stack { (1 ≤ stack_pages options.now) × (stack_pages options.now ≤ 1024) }
+    requires steps { steps ≤ MOST_STEPS }
+    requires short { length texts.script.now ≤ 1048576 }
+    ensures { IsDecided
+        (DecidesConsole options.now steps texts.entry.program.now (text_of texts.entry.journal) texts.entry.book.now texts.entry.script.now counts.now)
+        counts.now result }
+{
+    let book = book_in(alloc, texts.book)?;
+    keep(steps.max(1), &book, counts)?;
+    find_slot(steps, &book)?;
+    let start = start_of(alloc, options, texts.program)?;
+    let journal = journal_in(alloc, texts.journal)?;
+    let orders = orders_in(alloc, texts.script, steps)?;
+    let run = MarkedRun {
+        start,
+        journal,
+        count: steps,
+        book,
+    };
+    Ok(Job::Console(ConsoleRun { run, orders }))
+}
+
+// Requires a slot for a mark on some level of the book.
+fn find_slot(steps: u32, book: &Book) -> Result<(), Ended>
+    ensures slots { OnOk result (1 ≤ total_room book.now (max steps 1)) }
+    ensures refused { IfErr result (λ e. (1 ≤ total_room book.now (max steps 1) → ⊥) × (e ≡ no_plan steps (total_room book.now steps) 1)) }
+{
+    if book.total_room(steps.max(1)) == 0 {
+        return Err(Ended::no_plan(steps, book.total_room(steps), 1));
+    }
+    Ok(())
+}
+
+// The orders that a script means in a run of so many steps.
+fn orders_in(alloc: Global, bytes: &[u8], steps: u32) -> Result<Vec<Order>, Ended>
+    requires steps { steps ≤ MOST_STEPS }
+    requires short { length bytes.now ≤ 1048576 }
+    ensures found { IfOk result (λ orders. IsScript steps bytes.now orders.items) }
+    ensures orders { IfOk result (λ orders. (i : ℕ) (order : AnOrder) → slice_get orders.items i ≡ Some order → IsOrder steps order) }
+    ensures few { IfOk result (λ orders. vec_len orders < 2 ^ 32) }
+    ensures refused { IfErr result (IsRefusal (HasFirstFault steps bytes.now) bad_script) }
+{
+    match read_orders(alloc, bytes, steps) {
+        Ok(orders) => Ok(orders),
+        Err(fault) => Err(Ended::bad_script(fault)),
+    }
+}

@@ -1,0 +1,52 @@
+-- Where the holdings of a session stand, an image that is held is that of a state of the run, and can be decoded.
+use Rattle.std.proofs.Common.{◌≡◌, ℕ, ◌*◌, ◌<◌, true, cond, List, length, Some, None, sym, ◌∙◌, ap, arith}
+use Rattle.std.specs.FinSet as set
+use Rattle.std.specs.FinMap as finmap
+use Rattle.level_book.specs.declared.book.Slots.{Slots}
+use Rattle.level_book.specs.Configuration.{Configuration, held_on}
+use Rattle.input_journal.specs.Form.{IsRecorded}
+use Rattle.keepers.specs.Claims.{Images}
+use Rattle.rv_pages.specs.Memory.{page_numbers}
+use Rattle.rv_machine.specs.MachineState.{MachineState, IsMachineState}
+use Rattle.rv_machine.proofs.Runs.{state_number_keeps_pages}
+use Rattle.rv_machine.proofs.StateInvariant.{number_is_state}
+use Rattle.state_image.specs.Image.{image}
+use Rattle.image_store.specs.Shelves.{level_of}
+use Rattle.image_store.specs.StoredImages.{LevelStands}
+use Rattle.reverse_runner.specs.Units.{unit_states}
+use Rattle.reverse_runner.specs.ActionEffects.{Holdings, IsFetched}
+use Rattle.reverse_runner.specs.HoldingsOfRun.{HoldingsStandAt, LevelStandsAt, IsLaidOut}
+use Rattle.reverse_runner.proofs.LevelsInvariant.{fetched_is}
+
+-- a level of the book stands for the images of the states that it holds
+level_stands : (first : MachineState) (journal : List (List ℕ)) (unit steps : ℕ) (slots : List Slots) (c : Configuration) (s : Holdings) (k : ℕ) →
+    HoldingsStandAt first journal unit c s → IsLaidOut steps slots c s.levels.store → k < length slots →
+    LevelStandsAt (unit_states first journal unit) (held_on c k) (level_of s.levels.store k) (s.levels.told k)
+level_stands first journal unit steps slots c s k stands laid within =
+    let levels = laid.levels in
+    stands.levels k (omega (arith, within, levels))
+
+-- the level stands for images among which that of the state is
+pub held_stands : (first : MachineState) (journal : List (List ℕ)) (unit steps : ℕ) (slots : List Slots) (c : Configuration) (s : Holdings) (k n : ℕ) →
+    HoldingsStandAt first journal unit c s → IsLaidOut steps slots c s.levels.store → k < length slots → set.contains (held_on c k) n ≡ true →
+    (images : Images) × LevelStands (level_of s.levels.store k) (s.levels.told k) images × (finmap.get images n ≡ Some (image (unit_states first journal unit n)))
+held_stands first journal unit steps slots c s k n stands laid within there =
+    let level = level_stands first journal unit steps slots c s k stands laid within in
+    let bytes = image (unit_states first journal unit n) in
+    (level.0, level.1.1, level.1.0 n ∙ ap (λ b. cond b (Some bytes) None) there)
+
+-- the bytes that are fetched of a level that holds the image are the image
+pub fetched_image : (first : MachineState) (journal : List (List ℕ)) (unit steps : ℕ) (slots : List Slots) (c : Configuration) (s : Holdings) (k n : ℕ) (got : List ℕ) →
+    HoldingsStandAt first journal unit c s → IsLaidOut steps slots c s.levels.store → k < length slots → set.contains (held_on c k) n ≡ true →
+    IsFetched s.levels k n got → got ≡ image (unit_states first journal unit n)
+fetched_image first journal unit steps slots c s k n got stands laid within there fetched =
+    fetched_is (unit_states first journal unit) (held_on c k) s.levels k n got (level_stands first journal unit steps slots c s k stands laid within) there fetched
+
+-- a state of the run is one that a machine can be in, with the pages of the state in work
+pub state_of_run : (first : MachineState) (journal : List (List ℕ)) (unit : ℕ) (c : Configuration) (s : Holdings) (n : ℕ) → IsMachineState first → IsRecorded journal →
+    HoldingsStandAt first journal unit c s →
+    IsMachineState (unit_states first journal unit n) × (page_numbers (unit_states first journal unit n).memory ≡ page_numbers s.work.memory)
+state_of_run first journal unit c s n is recorded stands =
+    let here = state_number_keeps_pages first journal (unit * c.work) in
+    let there = state_number_keeps_pages first journal (unit * n) in
+    (number_is_state first journal (unit * n) is recorded, there ∙ sym here ∙ sym (ap (λ (x : MachineState). page_numbers x.memory) stands.work))
