@@ -2,22 +2,22 @@
 use Rattle.std.proofs.Common.{◌≤◌, ◌++◌, inl, inr, List, [], ◌∷◌, Option, Some, None, arith}
 use Rattle.std.specs.Option.{MatchOption}
 use Rattle.std.specs.List.{AllByRecursion, flat_map}
-use Rattle.requests.specs.declared.ended.Ended.{Ended}
+use Rattle.endings.specs.declared.outcome.Outcome.{Outcome}
 use Rattle.requests.specs.declared.bounds.Bounded.{Bounded}
 use Rattle.requests.specs.Request.{Choice, raw, stack, workers, units, files, stack_pages, worker_count, unit_count}
 use Rattle.requests.specs.Bounds.{option_numbers, IsWithin, RefusesFirst}
 use Rattle.requests.proofs.Requests.{all_both}
 
-pub first_front : (xs ys : List Bounded) (e : Ended) → RefusesFirst xs e → RefusesFirst (xs ++ ys) e
+pub first_front : (xs ys : List Bounded) (e : Outcome) → RefusesFirst xs e → RefusesFirst (xs ++ ys) e
 first_front [] ys e h = absurd h
 first_front (x ∷ xs) ys e (inl h) = inl h
 first_front (x ∷ xs) ys e (inr h) = inr (h.0, first_front xs ys e h.1)
 
-pub first_behind : (xs ys : List Bounded) (e : Ended) → AllByRecursion IsWithin xs → RefusesFirst ys e → RefusesFirst (xs ++ ys) e
+pub first_behind : (xs ys : List Bounded) (e : Outcome) → AllByRecursion IsWithin xs → RefusesFirst ys e → RefusesFirst (xs ++ ys) e
 first_behind [] ys e h g = g
 first_behind (x ∷ xs) ys e h g = inr (h.0, first_behind xs ys e h.1 g)
 
-pub both_tested : (xs ys : List Bounded) (o : Option Ended) → AllByRecursion IsWithin xs → MatchOption o (AllByRecursion IsWithin ys) (RefusesFirst ys) → MatchOption o (AllByRecursion IsWithin (xs ++ ys)) (RefusesFirst (xs ++ ys))
+pub both_tested : (xs ys : List Bounded) (o : Option Outcome) → AllByRecursion IsWithin xs → MatchOption o (AllByRecursion IsWithin ys) (RefusesFirst ys) → MatchOption o (AllByRecursion IsWithin (xs ++ ys)) (RefusesFirst (xs ++ ys))
 both_tested xs ys None h g = all_both IsWithin xs ys h g
 both_tested xs ys (Some e) h g = first_behind xs ys e h g
 

@@ -1,11 +1,11 @@
 -- The numbers of a request and their bounds. They are tested before any input is read.
 use Rattle.std.specs.Prelude.{◌≡◌, ◌⊎◌, ℕ, ◌≤◌, ◌++◌, List, [], ◌∷◌, nat_lt, if◌then◌else◌}
 use Rattle.std.specs.List.{AllByRecursion, flat_map}
-use Rattle.requests.specs.declared.ended.Ended.{Ended}
+use Rattle.endings.specs.declared.outcome.Outcome.{Outcome}
 use Rattle.requests.specs.declared.bounds.Bounded.{Bounded}
 use Rattle.requests.specs.Operands.{Limit, within, bounds_of, products_of}
 use Rattle.requests.specs.Request.{Choice, raw, stack, workers, units, files, unit_count, Command, operands, Request, Says}
-use Rattle.requests.specs.Ending.{no_request, out_of_range}
+use Rattle.endings.specs.Outcomes.{no_request, out_of_range}
 
 -- The limits of the numbers of options. Rule 3 is the number of workers, 4 the stack's pages, 5 a level, and 12 a unit.
 abbrev pub stack_limit : Limit
@@ -40,16 +40,16 @@ IsWithin n = (n.least ≤ n.number) × (n.number ≤ n.greatest)
 
 -- How a call ends if this is its first number out of bounds. It has the number, the bound that was passed, and the
 -- rule.
-abbrev pub out_of_bounds : Bounded → Ended
+abbrev pub out_of_bounds : Bounded → Outcome
 out_of_bounds n = out_of_range n.number (if nat_lt n.number n.least then n.least else n.greatest) n.rule
 
 -- the ending for the first number out of bounds
-abbrev pub RefusesFirst : List Bounded → Ended → Type 0
+abbrev pub RefusesFirst : List Bounded → Outcome → Type 0
 RefusesFirst [] e = ⊥
 RefusesFirst (n ∷ rest) e = ((IsWithin n → ⊥) × (e ≡ out_of_bounds n)) ⊎ (IsWithin n × RefusesFirst rest e)
 
 -- The words alone are refused, with this ending. They are no request, or a number of theirs is out of bounds.
-abbrev pub RefusesWords : List (List ℕ) → Ended → Type 0
+abbrev pub RefusesWords : List (List ℕ) → Outcome → Type 0
 RefusesWords words e =
     (((r : Request) → Says words r → ⊥) × (e ≡ no_request))
     ⊎ ((r : Request) × Says words r × RefusesFirst (numbers r) e)

@@ -3,11 +3,9 @@ use Rattle.std.specs.Prelude.{◌≡◌, ℕ, ◌+◌, ◌-◌, ◌<◌, ◌≤�
 use Rattle.std.specs.List.{AllByRecursion, flat_map}
 use Rattle.std.specs.FinMap as finmap
 use Rattle.keepers.specs.Claims.{Files, WhereTold}
-use Rattle.requests.specs.declared.ended.Ended.{Ended}
 pub use Rattle.requests.specs.Operands.{Input}
-use Rattle.requests.specs.Operands.{inputs_named}
+use Rattle.requests.specs.Operands.{inputs_named, limit_of}
 use Rattle.requests.specs.Request.{Command, operands}
-use Rattle.requests.specs.Ending.{unreadable}
 
 -- the inputs of a command, in the order of the words; a demonstration makes its own
 abbrev pub inputs_of : Command → List Input
@@ -24,18 +22,17 @@ contents files is = map (λ i. finmap.get files i.name) is
 -- is requested.
 abbrev pub asked_count : List Input → List (Option (List ℕ)) → ℕ
 asked_count [] given = 0
-asked_count (i ∷ is) (Some bytes ∷ given) = 1 + (if nat_le (length bytes) i.limit then asked_count is given else 0)
+asked_count (i ∷ is) (Some bytes ∷ given) = 1 + (if nat_le (length bytes) (limit_of i.kind) then asked_count is given else 0)
 asked_count (i ∷ is) given = 1
 
 -- these inputs are there, and none is longer than its limit
 abbrev pub AreThere : Files → List Input → Type 0
-AreThere files is = AllByRecursion (λ i. IsSomeAnd (finmap.get files i.name) (λ bytes. length bytes ≤ i.limit)) is
+AreThere files is = AllByRecursion (λ i. IsSomeAnd (finmap.get files i.name) (λ bytes. length bytes ≤ limit_of i.kind)) is
 
--- An input can't be read. The ending has its number, counted from 1, so subtracting 1 doesn't truncate. It was asked
--- for, and so were those before it. If the inputs claim their content, those are there and within their limits.
-pub record FailsAtInput (is : List Input) (told : Option Files) (e : Ended) (before after : List (List ℕ)) : Type 0 where
-  pub ends : e ≡ unreadable e.place
-  pub from_one : 0 < e.place
-  pub within : e.place ≤ length is
-  pub asked : after ≡ before ++ take e.place (names is)
-  pub earlier : WhereTold told (λ files. AreThere files (take (e.place - 1) is))
+-- The input at this place can't be read. Places count from 1, so subtracting 1 doesn't truncate. It was asked for, and
+-- so were those before it. If the inputs claim their content, those are there and within their limits.
+pub record FailsAtInput (is : List Input) (told : Option Files) (place : ℕ) (before after : List (List ℕ)) : Type 0 where
+  pub from_one : 0 < place
+  pub within : place ≤ length is
+  pub asked : after ≡ before ++ take place (names is)
+  pub earlier : WhereTold told (λ files. AreThere files (take (place - 1) is))

@@ -3,7 +3,7 @@ pub mod Request
 pub mod Bounds
 pub mod Places
 pub mod Inputs
-pub mod Ending
+pub mod Loaded
 pub mod ParserSteps
 pub mod ChoiceParser
 pub mod Forms

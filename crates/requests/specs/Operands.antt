@@ -6,13 +6,15 @@ use Rattle.plan_types.specs.declared.limits.TheConstants.{MOST_STEPS}
 use Rattle.hex.specs.Hex.{IsBytes, encode_lower}
 use Rattle.line_texts.specs.Numbers.{address_word}
 use Rattle.requests.specs.declared.bounds.Bounded.{Bounded}
+use Rattle.requests.specs.declared.input_kind.InputKind.{InputKind}
+use Rattle.requests.specs.declared.input_kind.InputKind.TheVariants as input
 use Rattle.requests.specs.declared.question.Question.{Question}
 use Rattle.requests.specs.declared.question.Question.TheVariants.{State, LastWrite, LastChange}
 
--- an input by its name, and how many bytes it may have
+-- an input by its kind and its name
 pub record Input : Type 0 where
+  pub kind : InputKind
   pub name : List ℕ
-  pub limit : ℕ
 
 -- the schedule of a run: the one under a name, or Revolve's list, made during the call
 pub data Schedule : Type 0 where
@@ -183,52 +185,41 @@ products_of unit _ = []
 
 -- ---- inputs
 
--- each kind of input, with its limit
-abbrev pub program_input : List ℕ → Input
-program_input name = record { name = name; limit = 33554432 }
+-- how many bytes an input of each kind may have
+abbrev pub limit_of : InputKind → ℕ
+limit_of input.Program = 33554432
+limit_of input.Journal = 67108864
+limit_of input.Book = 65536
+limit_of input.Schedule = 536870912
+limit_of input.Certificate = 536870912
+limit_of input.Source = 67108864
+limit_of input.Words = 4194304
+limit_of input.Script = 1048576
 
-abbrev pub journal_input : List ℕ → Input
-journal_input name = record { name = name; limit = 67108864 }
-
-abbrev pub book_input : List ℕ → Input
-book_input name = record { name = name; limit = 65536 }
-
-abbrev pub schedule_input : List ℕ → Input
-schedule_input name = record { name = name; limit = 536870912 }
-
-abbrev pub certificate_input : List ℕ → Input
-certificate_input name = record { name = name; limit = 536870912 }
-
-abbrev pub source_input : List ℕ → Input
-source_input name = record { name = name; limit = 67108864 }
-
-abbrev pub words_input : List ℕ → Input
-words_input name = record { name = name; limit = 4194304 }
-
-abbrev pub script_input : List ℕ → Input
-script_input name = record { name = name; limit = 1048576 }
+abbrev pub named : InputKind → List ℕ → Input
+named kind name = record { kind = kind; name = name }
 
 -- without a name for recorded input none is read
 abbrev pub journal_inputs : Option (List ℕ) → List Input
 journal_inputs None = []
-journal_inputs (Some name) = journal_input name ∷ []
+journal_inputs (Some name) = named input.Journal name ∷ []
 
 -- a schedule that is made isn't read
 abbrev pub schedule_inputs : Schedule → List Input
-schedule_inputs (by_name name) = schedule_input name ∷ []
+schedule_inputs (by_name name) = named input.Schedule name ∷ []
 schedule_inputs made = []
 
 abbrev pub inputs_named : Operand → List Input
 inputs_named (the_word text) = []
-inputs_named (a_program name) = program_input name ∷ []
+inputs_named (a_program name) = named input.Program name ∷ []
 inputs_named (a_journal name) = journal_inputs name
-inputs_named (a_book name) = book_input name ∷ []
+inputs_named (a_book name) = named input.Book name ∷ []
 inputs_named (a_schedule schedule) = schedule_inputs schedule
-inputs_named (a_certificate name) = certificate_input name ∷ []
+inputs_named (a_certificate name) = named input.Certificate name ∷ []
 inputs_named (run_steps n) = []
 inputs_named (a_number limit n) = []
 inputs_named (a_question steps question) = []
 inputs_named (a_digest bytes) = []
-inputs_named (a_source name) = source_input name ∷ []
-inputs_named (some_words name) = words_input name ∷ []
-inputs_named (a_script name) = script_input name ∷ []
+inputs_named (a_source name) = named input.Source name ∷ []
+inputs_named (some_words name) = named input.Words name ∷ []
+inputs_named (a_script name) = named input.Script name ∷ []

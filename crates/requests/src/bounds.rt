@@ -3,7 +3,7 @@ ghost use Rattle.std.specs.Prelude.{◌≡◌, ◌↔◌, MatchOption, IsTrue};
 ghost use Rattle.std.specs.List.{AllByRecursion};
 ghost use Rattle.requests.specs.Bounds.{IsWithin, out_of_bounds, RefusesFirst};
 
-use crate::ended::Ended;
+use endings::Outcome;
 
 /// A number of a request, its least and greatest accepted values, and the number of its rule.
 #[derive(Clone, Copy, Debug)]
@@ -22,7 +22,7 @@ impl Bounded {
     }
 
     // How a call ends for this number.
-    fn refusal(&self) -> Ended
+    fn refusal(&self) -> Outcome
         ensures { result ≡ out_of_bounds self.now }
     {
         let passed = if self.number < self.least {
@@ -30,12 +30,16 @@ impl Bounded {
         } else {
             self.greatest
         };
-        Ended::out_of_range(self.number, passed, self.rule)
+        Outcome::Limit {
+            number: self.number,
+            bound: passed,
+            rule: self.rule,
+        }
     }
 }
 
 /// How a call ends for the first of these numbers that is out of bounds.
-pub fn first_outside(numbers: &[Bounded]) -> Option<Ended>
+pub fn first_outside(numbers: &[Bounded]) -> Option<Outcome>
     ensures { MatchOption result (AllByRecursion IsWithin numbers.now) (RefusesFirst numbers.now) }
 {
     for bounded in numbers {

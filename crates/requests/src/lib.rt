@@ -1,6 +1,5 @@
-//! What the words of a call ask for, what is read for it, and how a call ends. It uses `level_book`, `reverse_console`
-//! and many more, for their types and faults. `reversal` and `reversal_program` use it. `reversal` decides about a
-//! request and performs it.
+//! What the words of a call ask for, and what is read for it. It uses `line_texts`, `keepers` and `endings`. `reversal`
+//! and both programs use it. `reversal` decides about a request and performs it.
 //!
 //! Read `specs/` in this order:
 //!
@@ -9,13 +8,13 @@
 //! - `Bounds`: the numbers of a request.
 //! - `Places`: where images are kept.
 //! - `Inputs`: what is read.
-//! - `Ending`: how a call ends.
 #![tactic(auto)]
 
 mod bounds;
-mod ended;
+mod input_kind;
 mod inputs;
 mod kind;
+mod loaded;
 mod operands;
 mod options;
 mod places;
@@ -27,9 +26,10 @@ mod text;
 mod words;
 
 pub use crate::bounds::Bounded;
-pub use crate::ended::{Ended, ended_text, push_digest};
-pub use crate::inputs::{Input, journal_input, program_input, read_input, read_inputs};
+pub use crate::input_kind::InputKind;
+pub use crate::inputs::{Input, read_input, read_inputs};
 pub use crate::kind::PlanKind;
+pub use crate::loaded::Loaded;
 pub use crate::options::Options;
 pub use crate::places::{KeepAt, keeper_places};
 pub use crate::question::Question;

@@ -1,7 +1,7 @@
 // Where the images of the levels are kept.
 ghost use Rattle.std.specs.Prelude.{◌≡◌, ◌≤◌, ◌<◌, length, map};
 ghost use Rattle.std.specs.Option.{option_copied};
-ghost use Rattle.requests.specs.declared.ended.Ended.{Ended};
+ghost use Rattle.endings.specs.declared.outcome.Outcome.{Outcome};
 ghost use Rattle.requests.specs.Request.{Request as ARequest, words_of};
 ghost use Rattle.requests.specs.Bounds.{RefusesWords, Asks};
 ghost use Rattle.requests.specs.ChoiceParser.{options_at};
@@ -38,7 +38,7 @@ impl KeepAt {
 /// memory. It takes no memory.
 pub fn keeper_places(words: &Words) -> [KeepAt; 4]
     ensures asked { (r : ARequest) → Asks (words_of words.now) r → result ≡ places_of r.options }
-    ensures refused { (e : Ended) → RefusesWords (words_of words.now) e → result ≡ all_in_memory }
+    ensures refused { (e : Outcome) → RefusesWords (words_of words.now) e → result ≡ all_in_memory }
 
     // The places have the folders that the options name.
     ensures folders { (r : ARequest) → Asks (words_of words.now) r →

@@ -9,12 +9,12 @@ ghost use Rattle.requests.specs.ChoiceParser.{options_at, as_choice};
 ghost use Rattle.requests.specs.RequestModel.{run_numbers, asked_numbers, request_read, as_command, request_of};
 
 use crate::bounds::{Bounded, first_outside};
-use crate::ended::Ended;
 use crate::kind::PlanKind;
 use crate::options::{Choice, Options, next_option, read_options};
 use crate::question::Question;
 use crate::reading::read_command;
 use crate::schedule::Schedule;
+use endings::Outcome;
 use plan_types::{MOST_SLOTS, MOST_STEPS};
 
 // The address of the last word in the machine's memory.
@@ -311,7 +311,7 @@ fn seed_bound(number: u64) -> Bounded
 
 impl Request<'_> {
     /// How a call ends for the request's first number out of bounds.
-    pub fn refusal(&self) -> Option<Ended>
+    pub fn refusal(&self) -> Option<Outcome>
         ensures { MatchOption result (AllByRecursion IsWithin (numbers (request_of self.now))) (RefusesFirst (numbers (request_of self.now))) }
     {
         match options_refusal(self.options.words()) {
@@ -322,7 +322,7 @@ impl Request<'_> {
 }
 
 // How a call ends for the first number out of bounds in the options.
-fn options_refusal(words: &[Vec<u8>]) -> Option<Ended>
+fn options_refusal(words: &[Vec<u8>]) -> Option<Outcome>
     ensures { MatchOption result (AllByRecursion IsWithin (flat_map option_numbers (options_at (map (λ w. w.items) words.now))))
         (RefusesFirst (flat_map option_numbers (options_at (map (λ w. w.items) words.now)))) }
 {
@@ -338,7 +338,7 @@ fn options_refusal(words: &[Vec<u8>]) -> Option<Ended>
 
 impl Choice<'_> {
     // How a call ends if the number of this option is out of bounds.
-    fn refusal(&self) -> Option<Ended>
+    fn refusal(&self) -> Option<Outcome>
         ensures { MatchOption result (AllByRecursion IsWithin (option_numbers (as_choice self.now))) (RefusesFirst (option_numbers (as_choice self.now))) }
     {
         match self {
@@ -353,7 +353,7 @@ impl Choice<'_> {
 
 impl Command<'_> {
     // How a call ends for a command's first number out of bounds. Its steps are units of so many instructions.
-    fn refusal(&self, unit: u64) -> Option<Ended>
+    fn refusal(&self, unit: u64) -> Option<Outcome>
         requires { unit ≤ 1024 }
         ensures { MatchOption result (AllByRecursion IsWithin (command_numbers unit (as_command self.now)))
             (RefusesFirst (command_numbers unit (as_command self.now))) }
@@ -381,7 +381,7 @@ impl Command<'_> {
 }
 
 // How a call ends if the steps of a run are out of bounds. Each is a unit.
-fn run_refusal(unit: u64, steps: u64) -> Option<Ended>
+fn run_refusal(unit: u64, steps: u64) -> Option<Outcome>
     requires { unit ≤ 1024 }
     ensures { MatchOption result (AllByRecursion IsWithin (run_numbers unit steps)) (RefusesFirst (run_numbers unit steps)) }
 {
@@ -392,7 +392,7 @@ fn run_refusal(unit: u64, steps: u64) -> Option<Ended>
 }
 
 // How a call ends if the numbers of a question about such a run are out of bounds.
-fn question_refusal(unit: u64, steps: u64, question: Question) -> Option<Ended>
+fn question_refusal(unit: u64, steps: u64, question: Question) -> Option<Outcome>
     requires { unit ≤ 1024 }
     ensures { MatchOption result (AllByRecursion IsWithin (asked_numbers unit steps question)) (RefusesFirst (asked_numbers unit steps question)) }
 {

@@ -7,9 +7,10 @@ use Rattle.bound_cert.specs.declared.verdict.Reason.{Reason}
 use Rattle.bound_cert.specs.declared.verdict.Reason.TheVariants.{Invalid, WrongShape, OutsideClass, Inequality, ValueDiffers}
 use Rattle.bound_cert.specs.Acceptance.{IsAccepted}
 use Rattle.bound_cert.proofs.VerdictUniqueness.{apart, one_reason}
-use Rattle.requests.specs.declared.ended.Ended.{Ended}
+use Rattle.endings.specs.declared.outcome.Outcome.{Outcome}
 use Rattle.reversal.specs.Job.{Job}
-use Rattle.requests.specs.Ending.{no_memory, not_least}
+use Rattle.endings.specs.Outcomes.{no_memory, not_least}
+use Rattle.endings.specs.Endings.{status_of}
 use Rattle.reversal.specs.Table.{Decision, refuse, accept, Weigh}
 use Rattle.reversal.specs.JobModel.{IsUnweighed}
 use Rattle.reversal.proofs.Refusals.{IsRefusing, refusing_past}
@@ -30,20 +31,20 @@ weigh_met steps book list k job Below h = elim h [
 ]
 
 -- a refusal by this line has a status of its own
-its_status : (reason : Reason) → (not_least reason).status ≡ 15
+its_status : (reason : Reason) → status_of (not_least reason) ≡ 15
 its_status Invalid = refl
 its_status WrongShape = refl
 its_status OutsideClass = refl
 its_status (Inequality entry) = refl
 its_status (ValueDiffers cost value) = refl
 
-pub weigh_comes_to : (steps : ℕ) (book : BookCosts) (list : List Action) (k : Certificate) (d : Decision) (Below : Type 0) → Weigh steps book list k d Below → ((e : Ended) × ((d ≡ refuse e) × IsRefusing e)) ⊎ Below
+pub weigh_comes_to : (steps : ℕ) (book : BookCosts) (list : List Action) (k : Certificate) (d : Decision) (Below : Type 0) → Weigh steps book list k d Below → ((e : Outcome) × ((d ≡ refuse e) × IsRefusing e)) ⊎ Below
 weigh_comes_to steps book list k d Below h = elim h [
   | inl n ↦ inl (not_least n.0, (n.2, refusing_past (not_least n.0) 15 (its_status n.0) (omega arith) (omega arith)))
   | inr y ↦ inr y.1
 ]
 
-pub weigh_refuses : (steps : ℕ) (book : BookCosts) (list : List Action) (k : Certificate) (e : Ended) (Below : Type 0) → IsUnweighed steps book list k e → (e ≡ no_memory) ⊎ Weigh steps book list k (refuse e) Below
+pub weigh_refuses : (steps : ℕ) (book : BookCosts) (list : List Action) (k : Certificate) (e : Outcome) (Below : Type 0) → IsUnweighed steps book list k e → (e ≡ no_memory) ⊎ Weigh steps book list k (refuse e) Below
 weigh_refuses steps book list k e Below h = elim h [
   | inl memory ↦ inl memory
   | inr other ↦ inr (inl (other.0, other.1.0, ap (λ x. refuse x) other.1.1))

@@ -34,7 +34,7 @@ use Rattle.disk_gen.proofs.DiskMembership.{written_in_class}
 use Rattle.reversal.specs.Job.{Job, write}
 use Rattle.reversal.specs.Table.{accept}
 use Rattle.reversal.specs.CommandPlan.{DecidesPlanDisk, DecidesPlanHrevolve, DecidesPlanMultistage}
-use Rattle.requests.specs.Ending.{bad_book}
+use Rattle.endings.specs.Outcomes.{bad_book}
 use Rattle.reversal.specs.Plans.{list_pieces}
 use Rattle.reversal.specs.WrittenPlans.{SaysAgain}
 use Rattle.reversal.proofs.Lengths.{written_few, disk_written_few}

@@ -3,7 +3,7 @@ use Rattle.std.proofs.Common.{◌≡◌, ◌≢◌, inl, inr, ℕ, zero, suc, �
 use Rattle.std.proofs.lemmas.Grind.{flat_map-append}
 use Rattle.std.proofs.lemmas.Option.{none-some, same_Some}
 use Rattle.keepers.specs.Counts.{raised, Rose}
-use Rattle.keepers.specs.Claims.{Tells, AddsPrefix}
+use Rattle.keepers.specs.Claims.{Tells}
 use Rattle.rv_machine.specs.MachineState.{MachineState}
 use Rattle.rv_machine.specs.States.{state_number}
 use Rattle.reverse_runner.specs.declared.fault.RunFault.{RunFault}
@@ -14,7 +14,7 @@ use Rattle.reverse_console.specs.declared.order.Order.{Order}
 use Rattle.reverse_console.specs.Answer.{IsAnswer}
 use Rattle.reverse_console.specs.Costs.{Effort, puts_of, StopsPutting, gets_of, effort_of, Takes, BreaksAt, StopsAt}
 use Rattle.reverse_console.specs.Marks.{MarkPlan, marked, mark_count, mark_level}
-use Rattle.reverse_console.specs.Refusals.{IsOfPutting, IsNotGot}
+use Rattle.reverse_console.specs.Refusals.{IsOfPutting}
 use Rattle.reverse_console.specs.ScriptAnswers.{Moment as Between, place_after, AreAnswered, AreWritten, StopsWriting, StopsGetting, IsBrokenOff}
 use Rattle.reverse_console.specs.StateSources.{Source, ComesFrom, IsAnswerSeen, IsMarkDamaged}
 use Rattle.reverse_console.specs.MarksOfRun.{MarksTell}
@@ -22,12 +22,12 @@ use Rattle.reverse_console.proofs.OrderCosts.{last_asked, level_asked}
 use Rattle.reverse_console.proofs.Numbers.{first_known}
 use Rattle.reverse_console.proofs.MarkPuts.{some_place}
 use Rattle.reverse_console.proofs.Scripts.{text_in_run}
-use Rattle.requests.specs.Ending.{no_memory, done, stopped, keeper_failed, damaged}
+use Rattle.endings.specs.Outcomes.{no_memory, done, stopped, keeper_failed, damaged}
 use Rattle.reversal.specs.Output.{Adds}
 use Rattle.reversal.specs.Moment.{Moment, AllTell, NothingFails, SinkFails, KeeperFails}
 use Rattle.reversal.specs.Deeds.{Deed, CallsLevel, writing, bytes_of, bytes_written, writes_made, steps_made, calls_made, Did}
 use Rattle.reversal.specs.Course.{Shown, Course, AddsAndPart, DidUntil, BreaksOff}
-use Rattle.reversal.specs.CommandConsole.{setting_marks, moving, Words, AreOfOrders, by_marks, of_run, IsOfMarks, WentAbout, AnyMark, IsBrokenOff as HasBrokenOff, IsAnswered, console_course}
+use Rattle.reversal.specs.CommandConsole.{setting_marks, moving, Words, AreOfOrders, by_marks, of_run, IsOfMarks, WentAbout, AnyMark, console_course}
 use Rattle.reversal.specs.JobModel.{WorksBy, fault_ending}
 use Rattle.reversal.proofs.DeedSequences.{raised_none, raised_then, did_none, did_then, did_one, broke_off_spending, failed_at, damaged_at, halted_at}
 use Rattle.reversal.proofs.Pieces.{not_called}

@@ -49,13 +49,16 @@ use Rattle.cert_text.specs.Faults.{HasFirstFault as CertificateFirst}
 use Rattle.cert_text.proofs.TextLaws.{certificate_or_fault}
 use Rattle.bound_cert.specs.Acceptance.{class_of}
 use Rattle.bound_cert.proofs.Decidability.{accepted_or_refused, threshold_exists}
-use Rattle.requests.specs.declared.ended.Ended.{Ended}
-use Rattle.requests.specs.Ending.{few_keepers, small_keeper, unreadable, too_long, bad_program, bad_journal, bad_book, bad_text, invalid, bad_certificate, bad_source, bad_script, out_of_range, no_plan, not_least}
+use Rattle.endings.specs.declared.outcome.Outcome.{Outcome}
+use Rattle.endings.specs.Outcomes.{few_keepers, small_keeper, unreadable, too_long, bad_program, bad_journal, bad_book, bad_text, invalid, bad_certificate, bad_source, bad_script, out_of_range, no_plan, not_least}
 use Rattle.requests.specs.declared.bounds.Bounded.{Bounded}
 use Rattle.requests.specs.declared.kind.PlanKind.{PlanKind}
 use Rattle.requests.specs.declared.kind.PlanKind.TheVariants.{Revolve, Multistage, Disk, Hrevolve}
-use Rattle.requests.specs.Request.{Choice, Run, Find, Console, Command, run, plan, plan_periodic, check, certify, cost, ask, find, asm, disasm, console as console_command, demo, worker_count, plan_limit, says_raw, stack_pages, unit_count}
-use Rattle.requests.specs.Operands.{Schedule, by_name, made, within, journal_inputs, journal_input, program_input, book_input, schedule_inputs, schedule_input, certificate_input, source_input, words_input, script_input}
+use Rattle.requests.specs.Request.{Choice, Command, run, plan, plan_periodic, check, certify, cost, ask, find, asm, disasm, console as console_command, demo, worker_count, plan_limit, says_raw, stack_pages, unit_count}
+use Rattle.requests.specs.Operands.{Schedule, by_name, within, limit_of}
+use Rattle.requests.specs.declared.input_kind.InputKind.{InputKind}
+use Rattle.requests.specs.declared.input_kind.InputKind.TheVariants as input
+use Rattle.requests.specs.Loaded.{Loaded, nothing, with_bytes, loaded_after, loaded_of}
 use Rattle.requests.specs.Bounds.{option_numbers, command_numbers, IsWithin}
 use Rattle.requests.specs.Inputs.{Input, inputs_of}
 use Rattle.reversal.specs.Plans.{list_pieces, plan_pieces}
@@ -63,8 +66,8 @@ use Rattle.reversal.specs.CostReport.{list_report}
 use Rattle.reversal.specs.Job.{Run as ARun, Job, write, console, perform, ask as ask_job, seek, demonstrate}
 use Rattle.reversal.specs.Contents.{AreBytes, IsContent, DecisionsExist}
 use Rattle.reversal.specs.Table.{Decision, refuse, accept, Need, Read, Judge, Keep, Plan, Tabulate, Weigh, Decided}
-use Rattle.reversal.specs.Decision.{Take, DecidesBytes}
-use Rattle.reversal.specs.InputMeaning.{HasBookFault, IsStartOf, HasProgramFault, AreItemsOf, HasJournalFault, DecidesOver, DecidesOverBytes, in_units}
+use Rattle.reversal.specs.Decision.{Take, DecidesLoaded}
+use Rattle.reversal.specs.InputMeaning.{HasBookFault, IsStartOf, HasProgramFault, AreItemsOf, HasJournalFault, DecidesOver, in_units, schedule_text, over_loaded}
 use Rattle.reverse_console.specs.Script.{IsScript}
 use Rattle.reverse_console.specs.ScriptFaults.{HasFirstFault as ScriptFirst}
 use Rattle.reverse_console.proofs.ScriptWhole.{script_or_fault}
@@ -121,12 +124,12 @@ first_or_none P known (suc n) = elim (first_or_none P known n) [
 abbrev pub SomeDecision : (Decision → Type 0) → Type 0
 SomeDecision Below = (d : Decision) × Below d
 
-pub read_comes : {A F : Type 0} (IsText : A → Type 0) (HasFault : F → Type 0) (ended : F → Ended) (Below : A → Decision → Type 0) → ((x : A) × IsText x) ⊎ ((f : F) × HasFault f) → ((x : A) → IsText x → SomeDecision (Below x)) →
+pub read_comes : {A F : Type 0} (IsText : A → Type 0) (HasFault : F → Type 0) (ended : F → Outcome) (Below : A → Decision → Type 0) → ((x : A) × IsText x) ⊎ ((f : F) × HasFault f) → ((x : A) → IsText x → SomeDecision (Below x)) →
     SomeDecision (λ d. Read IsText HasFault ended d (λ x. Below x d))
 read_comes IsText HasFault ended Below (inl x) below = let d = below x.0 x.1 in (d.0, inr (x.0, x.1, d.1))
 read_comes IsText HasFault ended Below (inr f) below = (refuse (ended f.0), inl (f.0, f.1, refl))
 
-pub need_comes : (Holds : Type 0) (e : Ended) (Below : Decision → Type 0) → IsKnown Holds → (Holds → SomeDecision Below) → SomeDecision (λ d. Need Holds e d (Below d))
+pub need_comes : (Holds : Type 0) (e : Outcome) (Below : Decision → Type 0) → IsKnown Holds → (Holds → SomeDecision Below) → SomeDecision (λ d. Need Holds e d (Below d))
 need_comes Holds e Below (inl holds) below = let d = below holds in (d.0, inr (holds, d.1))
 need_comes Holds e Below (inr other) below = (refuse e, inl (other, refl))
 
@@ -181,7 +184,7 @@ take_comes place [] given Below contents below = below [] refl tt
 take_comes place (i ∷ is) [] Below contents below = (refuse (unreadable place), refl)
 take_comes place (i ∷ is) (None ∷ given) Below contents below = (refuse (unreadable place), refl)
 take_comes place (i ∷ is) (Some bytes ∷ given) Below contents below =
-    need_comes (length bytes ≤ i.limit) (too_long place i.limit) (λ d. Take (place + 1) is given d (λ others. Below (bytes ∷ others) d)) (at_most (length bytes) i.limit)
+    need_comes (length bytes ≤ limit_of i.kind) (too_long place (limit_of i.kind)) (λ d. Take (place + 1) is given d (λ others. Below (bytes ∷ others) d)) (at_most (length bytes) (limit_of i.kind))
     (λ short. take_comes (place + 1) is given (λ others. Below (bytes ∷ others)) contents.1 (λ others count are. below (bytes ∷ others) (omega (arith, count)) (contents.0, are)))
 
 -- ---- what the inputs say
@@ -368,108 +371,65 @@ pub demo_comes : (number steps slots : ℕ) → SomeDecision (DecidesDemo number
 demo_comes number steps slots =
     plan_comes steps (plain slots) _ (λ plan. let first = demo_start number in (accept (demonstrate number first.0 steps slots), (first.0, first.1, refl)))
 
--- ---- by the bytes of the inputs, as many as there are
+-- ---- by what was read
 
--- a command of so many inputs
-one_given : (Table : List (List ℕ) → Decision → Type 0) (a : Input) (given : List (Option (List ℕ))) → AllByRecursion IsContent given → ((x : List ℕ) → AllByRecursion AreBytes (x ∷ []) → SomeDecision (Table (x ∷ []))) →
-    SomeDecision (λ d. Take 1 (a ∷ []) given d (λ bytes. Table bytes d))
-one_given Table a given contents table = take_comes 1 (a ∷ []) given Table contents of_one
-  where
-    of_one : (bytes : List (List ℕ)) → length bytes ≡ 1 → AllByRecursion AreBytes bytes → SomeDecision (Table bytes)
-    of_one [] e are = absurd (omega (arith, e))
-    of_one (x ∷ []) e are = table x are
-    of_one (x ∷ y ∷ rest) e are = absurd (omega (arith, e))
+-- what was read is bytes
+record AreRead (l : Loaded) : Type 0 where
+  pub program : AreBytes l.program
+  pub journal : IsContent l.journal
+  pub book : AreBytes l.book
+  pub schedule : AreBytes l.schedule
+  pub certificate : AreBytes l.certificate
+  pub source : AreBytes l.source
+  pub words : AreBytes l.words
+  pub script : AreBytes l.script
 
-two_given : (Table : List (List ℕ) → Decision → Type 0) (a b : Input) (given : List (Option (List ℕ))) → AllByRecursion IsContent given → ((x y : List ℕ) → AllByRecursion AreBytes (x ∷ y ∷ []) → SomeDecision (Table (x ∷ y ∷ []))) →
-    SomeDecision (λ d. Take 1 (a ∷ b ∷ []) given d (λ bytes. Table bytes d))
-two_given Table a b given contents table = take_comes 1 (a ∷ b ∷ []) given Table contents of_two
-  where
-    of_two : (bytes : List (List ℕ)) → length bytes ≡ 2 → AllByRecursion AreBytes bytes → SomeDecision (Table bytes)
-    of_two [] e are = absurd (omega (arith, e))
-    of_two (x ∷ []) e are = absurd (omega (arith, e))
-    of_two (x ∷ y ∷ []) e are = table x y are
-    of_two (x ∷ y ∷ z ∷ rest) e are = absurd (omega (arith, e))
+read_more : (kind : InputKind) (bytes : List ℕ) (l : Loaded) → AreBytes bytes → AreRead l → AreRead (with_bytes kind bytes l)
+read_more input.Program bytes l are r = record { program = are; journal = r.journal; book = r.book; schedule = r.schedule; certificate = r.certificate; source = r.source; words = r.words; script = r.script }
+read_more input.Journal bytes l are r = record { program = r.program; journal = are; book = r.book; schedule = r.schedule; certificate = r.certificate; source = r.source; words = r.words; script = r.script }
+read_more input.Book bytes l are r = record { program = r.program; journal = r.journal; book = are; schedule = r.schedule; certificate = r.certificate; source = r.source; words = r.words; script = r.script }
+read_more input.Schedule bytes l are r = record { program = r.program; journal = r.journal; book = r.book; schedule = are; certificate = r.certificate; source = r.source; words = r.words; script = r.script }
+read_more input.Certificate bytes l are r = record { program = r.program; journal = r.journal; book = r.book; schedule = r.schedule; certificate = are; source = r.source; words = r.words; script = r.script }
+read_more input.Source bytes l are r = record { program = r.program; journal = r.journal; book = r.book; schedule = r.schedule; certificate = r.certificate; source = are; words = r.words; script = r.script }
+read_more input.Words bytes l are r = record { program = r.program; journal = r.journal; book = r.book; schedule = r.schedule; certificate = r.certificate; source = r.source; words = are; script = r.script }
+read_more input.Script bytes l are r = record { program = r.program; journal = r.journal; book = r.book; schedule = r.schedule; certificate = r.certificate; source = r.source; words = r.words; script = are }
 
-three_given : (Table : List (List ℕ) → Decision → Type 0) (a b c : Input) (given : List (Option (List ℕ))) → AllByRecursion IsContent given → ((x y z : List ℕ) → AllByRecursion AreBytes (x ∷ y ∷ z ∷ []) → SomeDecision (Table (x ∷ y ∷ z ∷ []))) →
-    SomeDecision (λ d. Take 1 (a ∷ b ∷ c ∷ []) given d (λ bytes. Table bytes d))
-three_given Table a b c given contents table = take_comes 1 (a ∷ b ∷ c ∷ []) given Table contents of_three
-  where
-    of_three : (bytes : List (List ℕ)) → length bytes ≡ 3 → AllByRecursion AreBytes bytes → SomeDecision (Table bytes)
-    of_three [] e are = absurd (omega (arith, e))
-    of_three (x ∷ []) e are = absurd (omega (arith, e))
-    of_three (x ∷ y ∷ []) e are = absurd (omega (arith, e))
-    of_three (x ∷ y ∷ z ∷ []) e are = table x y z are
-    of_three (x ∷ y ∷ z ∷ w ∷ rest) e are = absurd (omega (arith, e))
+read_after : (l : Loaded) (is : List Input) (bytes : List (List ℕ)) → AllByRecursion AreBytes bytes → AreRead l → AreRead (loaded_after l is bytes)
+read_after l [] bytes all r = r
+read_after l (i ∷ is) [] all r = r
+read_after l (i ∷ is) (b ∷ bytes) all r = read_after (with_bytes i.kind b l) is bytes all.1 (read_more i.kind b l all.0 r)
 
-four_given : (Table : List (List ℕ) → Decision → Type 0) (a b c e : Input) (given : List (Option (List ℕ))) → AllByRecursion IsContent given →
-    ((x y z w : List ℕ) → AllByRecursion AreBytes (x ∷ y ∷ z ∷ w ∷ []) → SomeDecision (Table (x ∷ y ∷ z ∷ w ∷ []))) → SomeDecision (λ d. Take 1 (a ∷ b ∷ c ∷ e ∷ []) given d (λ bytes. Table bytes d))
-four_given Table a b c e given contents table = take_comes 1 (a ∷ b ∷ c ∷ e ∷ []) given Table contents of_four
-  where
-    of_four : (bytes : List (List ℕ)) → length bytes ≡ 4 → AllByRecursion AreBytes bytes → SomeDecision (Table bytes)
-    of_four [] e are = absurd (omega (arith, e))
-    of_four (x ∷ []) e are = absurd (omega (arith, e))
-    of_four (x ∷ y ∷ []) e are = absurd (omega (arith, e))
-    of_four (x ∷ y ∷ z ∷ []) e are = absurd (omega (arith, e))
-    of_four (x ∷ y ∷ z ∷ w ∷ []) e are = table x y z w are
-    of_four (x ∷ y ∷ z ∷ w ∷ v ∷ rest) e are = absurd (omega (arith, e))
-
--- the inputs of a run, where recorded input may be left out and the schedule made
-abbrev run_inputs : Option (List ℕ) → Schedule → Run → List Input
-run_inputs journal schedule c = program_input c.program ∷ (journal_inputs journal ++ book_input c.book ∷ (schedule_inputs schedule ++ []))
-
-over_given : (Below : List (List ℕ) → Decision → Type 0) (make : ARun → Job) (options : List Choice) (schedule : Schedule) (steps : ℕ) (slots : List ℕ) (journal : Option (List ℕ)) (c : Run) (given : List (Option (List ℕ))) → AllByRecursion IsContent given →
-    ((bytes : List (List ℕ)) → SomeDecision (DecidesOverBytes make options schedule steps bytes slots) → SomeDecision (Below bytes)) → SomeDecision (λ d. Take 1 (run_inputs journal schedule c) given d (λ bytes. Below bytes d))
-over_given Below make options (by_name name) steps slots None c given contents into =
-    three_given Below (program_input c.program) (book_input c.book) (schedule_input name) given contents (λ p b s are. into (p ∷ b ∷ s ∷ []) (over_comes make options steps p None b (Some s) slots tt are.1.0))
-over_given Below make options (by_name name) steps slots (Some journal) c given contents into =
-    four_given Below (program_input c.program) (journal_input journal) (book_input c.book) (schedule_input name) given contents
-    (λ p j b s are. into (p ∷ j ∷ b ∷ s ∷ []) (over_comes make options steps p (Some j) b (Some s) slots are.1.0 are.1.1.0))
-over_given Below make options made steps slots None c given contents into =
-    two_given Below (program_input c.program) (book_input c.book) given contents (λ p b are. into (p ∷ b ∷ []) (over_comes make options steps p None b None slots tt are.1.0))
-over_given Below make options made steps slots (Some journal) c given contents into =
-    three_given Below (program_input c.program) (journal_input journal) (book_input c.book) given contents (λ p j b are. into (p ∷ j ∷ b ∷ []) (over_comes make options steps p (Some j) b None slots are.1.0 are.1.1.0))
-
-find_given : (options : List Choice) (c : Find) (slots : List ℕ) (journal : Option (List ℕ)) (given : List (Option (List ℕ))) → AllByRecursion IsContent given →
-    SomeDecision (λ d. Take 1 (program_input c.program ∷ (journal_inputs journal ++ [])) given d (λ bytes. DecidesBytes options (find c) bytes slots d))
-find_given options c slots None given contents = one_given (λ bytes d. DecidesBytes options (find c) bytes slots d) (program_input c.program) given contents (λ p are. find_comes options c.steps c.digest p None tt)
-find_given options c slots (Some journal) given contents =
-    two_given (λ bytes d. DecidesBytes options (find c) bytes slots d) (program_input c.program) (journal_input journal) given contents (λ p j are. find_comes options c.steps c.digest p (Some j) are.1.0)
-
-console_given : (options : List Choice) (c : Console) (slots : List ℕ) (journal : Option (List ℕ)) (given : List (Option (List ℕ))) → AllByRecursion IsContent given →
-    SomeDecision (λ d. Take 1 (program_input c.program ∷ (journal_inputs journal ++ book_input c.book ∷ script_input c.script ∷ [])) given d (λ bytes. DecidesBytes options (console_command c) bytes slots d))
-console_given options c slots None given contents =
-    three_given (λ bytes d. DecidesBytes options (console_command c) bytes slots d) (program_input c.program) (book_input c.book) (script_input c.script) given contents (λ p b s are. console_comes options c.steps p None b s slots tt are.1.0)
-console_given options c slots (Some journal) given contents =
-    four_given (λ bytes d. DecidesBytes options (console_command c) bytes slots d) (program_input c.program) (journal_input journal) (book_input c.book) (script_input c.script) given contents
-    (λ p j b s are. console_comes options c.steps p (Some j) b s slots are.1.0 are.1.1.0)
+all_read : (is : List Input) (bytes : List (List ℕ)) → AllByRecursion AreBytes bytes → AreRead (loaded_of is bytes)
+all_read is bytes all =
+    read_after nothing is bytes all (record { program = tt; journal = tt; book = tt; schedule = tt; certificate = tt; source = tt; words = tt; script = tt })
 
 -- ---- all commands
 
+over_loaded_comes : (make : ARun → Job) (options : List Choice) (schedule : Schedule) (steps : ℕ) (l : Loaded) (slots : List ℕ) → AreRead l →
+    SomeDecision (λ d. Decided (over_loaded make options schedule steps l slots) d)
+over_loaded_comes make options schedule steps l slots are = over_comes make options steps l.program l.journal l.book (schedule_text schedule l) slots are.journal are.book
+
+loaded_comes : (options : List Choice) (command : Command) (l : Loaded) (slots : List ℕ) → AllByRecursion IsWithin (command_numbers (unit_count options) command) → AreRead l →
+    SomeDecision (DecidesLoaded options command l slots)
+loaded_comes options (run c) l slots within are = over_loaded_comes perform options c.schedule c.run.steps l slots are
+loaded_comes options (plan c) l slots within are = kind_comes c.kind c.steps l.book within.0 are.book
+loaded_comes options (plan_periodic c) l slots within are = periodic_comes c.steps c.period l.book are.book
+loaded_comes options (check c) l slots within are = check_comes c.steps l.book l.schedule are.book
+loaded_comes options (certify c) l slots within are = certify_comes c.steps l.book l.schedule l.certificate are.book
+loaded_comes options (cost c) l slots within are = cost_comes c.steps l.book l.schedule are.book
+loaded_comes options (ask c) l slots within are =
+    let d = over_loaded_comes (ask_job c.question) options (by_name c.schedule) c.run.steps l slots are in (d.0, (within.1.0, d.1))
+loaded_comes options (find c) l slots within are = find_comes options c.steps c.digest l.program l.journal are.journal
+loaded_comes options (asm c) l slots within are = asm_comes l.source
+loaded_comes options (disasm c) l slots within are = disasm_comes l.words are.words
+loaded_comes options (console_command c) l slots within are = console_comes options c.steps l.program l.journal l.book l.script slots are.journal are.book
+loaded_comes options (demo c) l slots within are = demo_comes c.number c.steps c.slots
+
 command_comes : (options : List Choice) (command : Command) (given : List (Option (List ℕ))) (slots : List ℕ) → AllByRecursion IsWithin (command_numbers (unit_count options) command) → AllByRecursion IsContent given →
-    SomeDecision (λ d. Take 1 (inputs_of command) given d (λ bytes. DecidesBytes options command bytes slots d))
-command_comes options (run c) given slots within contents =
-    over_given (λ bytes d. DecidesBytes options (run c) bytes slots d) perform options c.schedule c.run.steps slots c.run.journal c.run given contents (λ bytes some. some)
-command_comes options (plan c) given slots within contents =
-    one_given (λ bytes d. DecidesBytes options (plan c) bytes slots d) (book_input c.book) given contents (λ book are. kind_comes c.kind c.steps book within.0 are.0)
-command_comes options (plan_periodic c) given slots within contents =
-    one_given (λ bytes d. DecidesBytes options (plan_periodic c) bytes slots d) (book_input c.book) given contents (λ book are. periodic_comes c.steps c.period book are.0)
-command_comes options (check c) given slots within contents =
-    two_given (λ bytes d. DecidesBytes options (check c) bytes slots d) (book_input c.book) (schedule_input c.schedule) given contents (λ book schedule are. check_comes c.steps book schedule are.0)
-command_comes options (certify c) given slots within contents =
-    three_given (λ bytes d. DecidesBytes options (certify c) bytes slots d) (book_input c.book) (schedule_input c.schedule) (certificate_input c.certificate) given contents
-    (λ book schedule certificate are. certify_comes c.steps book schedule certificate are.0)
-command_comes options (cost c) given slots within contents =
-    two_given (λ bytes d. DecidesBytes options (cost c) bytes slots d) (book_input c.book) (schedule_input c.schedule) given contents (λ book schedule are. cost_comes c.steps book schedule are.0)
-command_comes options (ask c) given slots within contents =
-    over_given (λ bytes d. DecidesBytes options (ask c) bytes slots d) (ask_job c.question) options (by_name c.schedule) c.run.steps slots c.run.journal c.run given contents
-    (λ bytes some. (some.0, (within.1.0, some.1)))
-command_comes options (find c) given slots within contents = find_given options c slots c.journal given contents
-command_comes options (asm c) given slots within contents =
-    one_given (λ bytes d. DecidesBytes options (asm c) bytes slots d) (source_input c.source) given contents (λ source are. asm_comes source)
-command_comes options (disasm c) given slots within contents =
-    one_given (λ bytes d. DecidesBytes options (disasm c) bytes slots d) (words_input c.program) given contents (λ program are. disasm_comes program are.0)
-command_comes options (console_command c) given slots within contents = console_given options c slots c.journal given contents
-command_comes options (demo c) given slots within contents = demo_comes c.number c.steps c.slots
+    SomeDecision (λ d. Take 1 (inputs_of command) given d (λ bytes. DecidesLoaded options command (loaded_of (inputs_of command) bytes) slots d))
+command_comes options command given slots within contents =
+    take_comes 1 (inputs_of command) given (λ bytes. DecidesLoaded options command (loaded_of (inputs_of command) bytes) slots) contents
+    (λ bytes count are. loaded_comes options command (loaded_of (inputs_of command) bytes) slots within (all_read (inputs_of command) bytes are))
 
 -- the numbers of a command are among those of its request
 all_behind : (xs ys : List Bounded) → AllByRecursion IsWithin (xs ++ ys) → AllByRecursion IsWithin ys

@@ -12,12 +12,14 @@ use Rattle.level_book.specs.Valid.{Valid, BrokenAt}
 use Rattle.action_text.specs.ScheduleText.{IsSchedule}
 use Rattle.rv_machine.specs.MachineState.{MachineState}
 use Rattle.reverse_runner.specs.KeepersSeen.{HaveRoom}
-use Rattle.requests.specs.declared.ended.Ended.{Ended}
+use Rattle.endings.specs.declared.outcome.Outcome.{Outcome}
 use Rattle.requests.specs.Request.{Choice, says_raw, stack_pages, unit_count, Command, Request}
-use Rattle.requests.specs.Ending.{no_memory, unreadable, too_long as longer, bad_program, bad_journal, bad_book, bad_text, invalid, bad_certificate, bad_script, out_of_range, no_plan}
+use Rattle.endings.specs.Outcomes.{no_memory, unreadable, too_long as longer, bad_program, bad_journal, bad_book, bad_text, invalid, bad_certificate, bad_script, out_of_range, no_plan}
 use Rattle.revolve_gen.specs.Plans.{HasPlan}
 use Rattle.revolve_gen.specs.RevolveList.{revolve_list}
+use Rattle.requests.specs.Operands.{limit_of}
 use Rattle.requests.specs.Inputs.{Input, inputs_of}
+use Rattle.requests.specs.Loaded.{Loaded, loaded_of}
 use Rattle.requests.specs.InputOutcome.{Reading, all, too_long, not_there, with_front, reading}
 use Rattle.multistage_gen.specs.MultistageList.{IsMultistageList}
 use Rattle.bound_cert.specs.Thresholds.{IsThresholdOf}
@@ -43,7 +45,7 @@ use Rattle.reversal.specs.Job.{Run, Job, perform, ask as ask_job, seek, write, c
 use Rattle.reversal.specs.Course.{Shown}
 use Rattle.reversal.specs.Deeds.{silent_deed, writing, Deed, bytes_of, bytes_written, steps_made}
 use Rattle.reversal.specs.Table.{Decision, refuse, accept, Need, Read, Judge, Keep, Plan, IsFirstWide, Tabulate, Table, does, Decided}
-use Rattle.reversal.specs.Decision.{Take, DecidesBytes, Decides, table_of, course_of}
+use Rattle.reversal.specs.Decision.{Take, DecidesLoaded, Decides, table_of, course_of}
 use Rattle.reversal.specs.CommandAsk.{answer_text}
 use Rattle.reversal.specs.CommandConsole.{setting_marks, DecidesConsole}
 use Rattle.reverse_console.specs.declared.order.Order.{Order}
@@ -88,7 +90,8 @@ take_one place (i ∷ is) (Some bytes ∷ given) c d Below Other one h g = elim 
 ]
 
 pub one_decision : (r : Request) (given : List (Option (List ℕ))) (slots : List ℕ) (c d : Decision) → Decides r given slots c → Decides r given slots d → c ≡ d
-one_decision r given slots c d = take_one 1 (inputs_of r.command) given c d _ _ (λ bytes. one_decided (table_of r.options r.command bytes slots) (tables_sound r.options r.command bytes slots) c d)
+one_decision r given slots c d = take_one 1 (inputs_of r.command) given c d _ _ (λ bytes.
+    let l = loaded_of (inputs_of r.command) bytes in one_decided (table_of r.options r.command l slots) (tables_sound r.options r.command l slots) c d)
 
 -- ---- what an accepted job is
 
@@ -96,7 +99,7 @@ abbrev accepts : Decision → Type 0
 accepts (refuse e) = ⊥
 accepts (accept j) = Unit {0}
 
-accept_refuse : (j : Job) (e : Ended) → accept j ≡ refuse e → ⊥
+accept_refuse : (j : Job) (e : Outcome) → accept j ≡ refuse e → ⊥
 accept_refuse j e h = subst accepts h tt
 
 abbrev pub job_or : Job → Decision → Job
@@ -108,11 +111,11 @@ take_met place [] given job Below h = ([], h)
 take_met place (i ∷ is) [] job Below h = absurd (accept_refuse job (unreadable place) h)
 take_met place (i ∷ is) (None ∷ given) job Below h = absurd (accept_refuse job (unreadable place) h)
 take_met place (i ∷ is) (Some bytes ∷ given) job Below h = elim h [
-  | inl n ↦ absurd (accept_refuse job (longer place i.limit) n.1)
+  | inl n ↦ absurd (accept_refuse job (longer place (limit_of i.kind)) n.1)
   | inr y ↦ let more = take_met (place + 1) is given job (λ others. Below (bytes ∷ others)) y.1 in (bytes ∷ more.0, more.1)
 ]
 
-read_met : {A F : Type 0} (IsText : A → Type 0) (HasFault : F → Type 0) (ended : F → Ended) (job : Job) (Below : A → Type 0) → Read IsText HasFault ended (accept job) Below → (x : A) × Below x
+read_met : {A F : Type 0} (IsText : A → Type 0) (HasFault : F → Type 0) (ended : F → Outcome) (job : Job) (Below : A → Type 0) → Read IsText HasFault ended (accept job) Below → (x : A) × Below x
 read_met IsText HasFault ended job Below h = elim h [
   | inl n ↦ absurd (accept_refuse job (ended n.0) n.2)
   | inr y ↦ (y.0, y.2)
@@ -124,14 +127,14 @@ judge_met steps slots list job Below h = elim h [
   | inr y ↦ y
 ]
 
-pub need_met : (Holds : Type 0) (e : Ended) (job : Job) (Below : Type 0) → Need Holds e (accept job) Below → Holds × Below
+pub need_met : (Holds : Type 0) (e : Outcome) (job : Job) (Below : Type 0) → Need Holds e (accept job) Below → Holds × Below
 need_met Holds e job Below h = elim h [ inl n ↦ absurd (accept_refuse job e n.1) | inr y ↦ y ]
 
 pub tabulate_met : (steps : ℕ) (b : BookCosts) (job : Job) (Below : Type 0) → Tabulate steps b (accept job) Below → ((k : ℕ) → k < length b.levels → room b k steps ≤ 64) × Below
 tabulate_met steps b job Below h = elim h [ inl n ↦ absurd (accept_refuse job _ n.1.1) | inr y ↦ y ]
 
 -- what a line reads, with what it says
-pub read_said : {A F : Type 0} (IsText : A → Type 0) (HasFault : F → Type 0) (ended : F → Ended) (job : Job) (Below : A → Type 0) → Read IsText HasFault ended (accept job) Below → (x : A) × (IsText x × Below x)
+pub read_said : {A F : Type 0} (IsText : A → Type 0) (HasFault : F → Type 0) (ended : F → Outcome) (job : Job) (Below : A → Type 0) → Read IsText HasFault ended (accept job) Below → (x : A) × (IsText x × Below x)
 read_said IsText HasFault ended job Below h = elim h [
   | inl n ↦ absurd (accept_refuse job (ended n.0) n.2)
   | inr y ↦ (y.0, (y.1, y.2))
@@ -170,8 +173,8 @@ planned_again steps book job short h =
     (b.0, b.1.0, λ shown. subst (P shown) (sym (ap (job_or job) plan.1)) (plan_read_again steps book b.0 short b.1.0 plan.0))
 
 -- a job that is accepted may be done
-bytes_met : (options : List Choice) (command : Command) (bytes : List (List ℕ)) (slots : List ℕ) (job : Job) → DecidesBytes options command bytes slots (accept job) → IsMet job
-bytes_met options command bytes slots job h = elim (comes_to (table_of options command bytes slots) (tables_sound options command bytes slots) (accept job) h) [
+loaded_met : (options : List Choice) (command : Command) (l : Loaded) (slots : List ℕ) (job : Job) → DecidesLoaded options command l slots (accept job) → IsMet job
+loaded_met options command l slots job h = elim (comes_to (table_of options command l slots) (tables_sound options command l slots) (accept job) h) [
   | inl x ↦ absurd (accept_refuse job x.0 x.1.0)
   | inr x ↦ subst IsMet (sym (ap (job_or job) x.1.0)) x.1.1
 ]
@@ -205,8 +208,8 @@ met_output job (shows number first steps slots is) shown =
 -- the deeds of a job that was decided write its output
 pub deeds_output : (r : Request) (given : List (Option (List ℕ))) (slots : List ℕ) (job : Job) → Decides r given slots (accept job) → (shown : Shown) → WritesOutput shown job
 deeds_output r given slots job h =
-    let met = take_met 1 (inputs_of r.command) given job (λ bytes. DecidesBytes r.options r.command bytes slots (accept job)) h in
-    met_output job (bytes_met r.options r.command met.0 slots job met.1)
+    let met = take_met 1 (inputs_of r.command) given job (λ bytes. DecidesLoaded r.options r.command (loaded_of (inputs_of r.command) bytes) slots (accept job)) h in
+    met_output job (loaded_met r.options r.command (loaded_of (inputs_of r.command) met.0) slots job met.1)
 
 pub deeds_steps : (shown : Shown) (job : Job) → steps_made ((course_of job).deeds shown) ≡ (course_of job).steps shown
 deeds_steps shown (perform run) = steps_performed shown.states run.unit run.steps run.list
@@ -228,7 +231,7 @@ abbrev bytes_or : List (List ℕ) → Reading → List (List ℕ)
 bytes_or other (all bytes) = bytes
 bytes_or other _ = other
 
-abbrev long_or : Ended → Reading → Ended
+abbrev long_or : Outcome → Reading → Outcome
 long_or other (too_long place limit) = longer place limit
 long_or other _ = other
 
@@ -247,11 +250,11 @@ pub read_decides : (place : ℕ) (is : List Input) (given : List (Option (List �
 read_decides place [] given bytes d Below e h = subst Below (sym (ap (bytes_or bytes) e)) h
 read_decides place (i ∷ is) [] bytes d Below e h = absurd (cc)
 read_decides place (i ∷ is) (None ∷ given) bytes d Below e h = absurd (cc)
-read_decides place (i ∷ is) (Some b ∷ given) bytes d Below e h = elim (chosen (nat_le (length b) i.limit) (with_front (b ∷ []) (reading (place + 1) is given)) (too_long place i.limit) (all bytes) e) [
+read_decides place (i ∷ is) (Some b ∷ given) bytes d Below e h = elim (chosen (nat_le (length b) (limit_of i.kind)) (with_front (b ∷ []) (reading (place + 1) is given)) (too_long place (limit_of i.kind)) (all bytes) e) [
   | inl fits ↦
       let rest = front_all (b ∷ []) (reading (place + 1) is given) bytes fits.1 in
-      inr (leb-true (length b) i.limit fits.0, read_decides (place + 1) is given rest.0 d (λ others. Below (b ∷ others)) rest.1 (subst Below (sym rest.2) h))
-  | inr long ↦ absurd (too_long_all place i.limit bytes long.1)
+      inr (leb-true (length b) (limit_of i.kind) fits.0, read_decides (place + 1) is given rest.0 d (λ others. Below (b ∷ others)) rest.1 (subst Below (sym rest.2) h))
+  | inr long ↦ absurd (too_long_all place (limit_of i.kind) bytes long.1)
 ]
   where
     too_long_all : (place limit : ℕ) (bytes : List (List ℕ)) → too_long place limit ≡ all bytes → ⊥
@@ -262,71 +265,72 @@ pub long_decides : (place : ℕ) (is : List Input) (given : List (Option (List �
 long_decides place [] given p l Below e = absurd (cc)
 long_decides place (i ∷ is) [] p l Below e = absurd (cc)
 long_decides place (i ∷ is) (None ∷ given) p l Below e = absurd (cc)
-long_decides place (i ∷ is) (Some b ∷ given) p l Below e = elim (chosen (nat_le (length b) i.limit) (with_front (b ∷ []) (reading (place + 1) is given)) (too_long place i.limit) (too_long p l) e) [
-  | inl fits ↦ inr (leb-true (length b) i.limit fits.0, long_decides (place + 1) is given p l (λ others. Below (b ∷ others)) (front_long (b ∷ []) (reading (place + 1) is given) p l fits.1))
-  | inr long ↦ let after = leb-false (length b) i.limit long.0 in inl (λ fits. absurd (omega (arith, fits, after)), ap (λ x. refuse x) (sym (ap (long_or (longer p l)) long.1)))
+long_decides place (i ∷ is) (Some b ∷ given) p l Below e = elim (chosen (nat_le (length b) (limit_of i.kind)) (with_front (b ∷ []) (reading (place + 1) is given)) (too_long place (limit_of i.kind)) (too_long p l) e) [
+  | inl fits ↦ inr (leb-true (length b) (limit_of i.kind) fits.0, long_decides (place + 1) is given p l (λ others. Below (b ∷ others)) (front_long (b ∷ []) (reading (place + 1) is given) p l fits.1))
+  | inr long ↦ let after = leb-false (length b) (limit_of i.kind) long.0 in inl (λ fits. absurd (omega (arith, fits, after)), ap (λ x. refuse x) (sym (ap (long_or (longer p l)) long.1)))
 ]
 
 -- ---- from the steps of deciding to a decision
 
-pub refuse_by : (e f : Ended) → e ≡ f → refuse e ≡ refuse f
+pub refuse_by : (e f : Outcome) → e ≡ f → refuse e ≡ refuse f
 refuse_by e f h = ap (λ x. refuse x) h
 
 -- a line refuses, or passes on to the lines below
-pub read_refuses : {A F : Type 0} (IsText : A → Type 0) (HasFault : F → Type 0) (ended : F → Ended) (e : Ended) (Below : A → Type 0) → IsRefusal HasFault ended e → (e ≡ no_memory) ⊎ Read IsText HasFault ended (refuse e) Below
+pub read_refuses : {A F : Type 0} (IsText : A → Type 0) (HasFault : F → Type 0) (ended : F → Outcome) (e : Outcome) (Below : A → Type 0) → IsRefusal HasFault ended e → (e ≡ no_memory) ⊎ Read IsText HasFault ended (refuse e) Below
 read_refuses IsText HasFault ended e Below h = elim h [
   | inl memory ↦ inl memory
   | inr fault ↦ inr (inl (fault.0, fault.1, refuse_by e (ended fault.0) fault.2))
 ]
 
-pub read_passes : {A F : Type 0} (IsText : A → Type 0) (HasFault : F → Type 0) (ended : F → Ended) (e : Ended) (Below : A → Type 0) (x : A) → IsText x → (e ≡ no_memory) ⊎ Below x → (e ≡ no_memory) ⊎ Read IsText HasFault ended (refuse e) Below
+pub read_passes : {A F : Type 0} (IsText : A → Type 0) (HasFault : F → Type 0) (ended : F → Outcome) (e : Outcome) (Below : A → Type 0) (x : A) → IsText x → (e ≡ no_memory) ⊎ Below x → (e ≡ no_memory) ⊎ Read IsText HasFault ended (refuse e) Below
 read_passes IsText HasFault ended e Below x is h = elim h [
   | inl memory ↦ inl memory
   | inr below ↦ inr (inr (x, is, below))
 ]
 
 -- the ending is of a book that has no plan for so many steps
-abbrev pub IsUnplanned : ℕ → BookCosts → Ended → Type 0
+abbrev pub IsUnplanned : ℕ → BookCosts → Outcome → Type 0
 IsUnplanned steps b e = (e ≡ no_memory) ⊎ ((HasPlan steps (total_room b steps) → ⊥) × (e ≡ no_plan steps (total_room b steps) 1))
 
-pub plan_refuses : (steps : ℕ) (b : BookCosts) (e : Ended) (Below : Type 0) → IsUnplanned steps b e → (e ≡ no_memory) ⊎ Plan steps b (refuse e) Below
+pub plan_refuses : (steps : ℕ) (b : BookCosts) (e : Outcome) (Below : Type 0) → IsUnplanned steps b e → (e ≡ no_memory) ⊎ Plan steps b (refuse e) Below
 plan_refuses steps b e Below h = elim h [
   | inl memory ↦ inl memory
   | inr none ↦ inr (inl (none.0, refuse_by e (no_plan steps (total_room b steps) 1) none.1))
 ]
 
-pub plan_passes : (steps : ℕ) (b : BookCosts) (e : Ended) (Below : Type 0) → HasPlan steps (total_room b steps) → (e ≡ no_memory) ⊎ Below → (e ≡ no_memory) ⊎ Plan steps b (refuse e) Below
+pub plan_passes : (steps : ℕ) (b : BookCosts) (e : Outcome) (Below : Type 0) → HasPlan steps (total_room b steps) → (e ≡ no_memory) ⊎ Below → (e ≡ no_memory) ⊎ Plan steps b (refuse e) Below
 plan_passes steps b e Below has h = elim h [ inl memory ↦ inl memory | inr below ↦ inr (inr (has, below)) ]
 
 -- the ending is of a list that is broken
-abbrev pub IsBroken : ℕ → List Slots → List Action → Ended → Type 0
-IsBroken steps slots list e = (e ≡ no_memory) ⊎ ((e ≡ invalid e.place e.more e.rule) × BrokenAt steps slots list e.place e.rule e.more × (Valid steps slots list → ⊥))
+abbrev pub IsBroken : ℕ → List Slots → List Action → Outcome → Type 0
+IsBroken steps slots list e =
+    (e ≡ no_memory) ⊎ ((place : ℕ) × (rule : ℕ) × (level : ℕ) × (e ≡ invalid place level rule) × BrokenAt steps slots list place rule level × (Valid steps slots list → ⊥))
 
-pub judge_refuses : (steps : ℕ) (slots : List Slots) (list : List Action) (e : Ended) (Below : Type 0) → IsBroken steps slots list e → (e ≡ no_memory) ⊎ Judge steps slots list (refuse e) Below
+pub judge_refuses : (steps : ℕ) (slots : List Slots) (list : List Action) (e : Outcome) (Below : Type 0) → IsBroken steps slots list e → (e ≡ no_memory) ⊎ Judge steps slots list (refuse e) Below
 judge_refuses steps slots list e Below h = elim h [
   | inl memory ↦ inl memory
-  | inr broken ↦ inr (inl (e.place, e.rule, e.more, broken.1, broken.2, refuse_by e (invalid e.place e.more e.rule) broken.0))
+  | inr broken ↦ inr (inl (broken.0, broken.1, broken.2, broken.4, broken.5, refuse_by e (invalid broken.0 broken.2 broken.1) broken.3))
 ]
 
 -- what holds of an error that another was made into
-pub on_error : {A : Type 0} (r : Result A Ended) (P Q : Ended → Type 0) → IsErrAnd r P → ((e : Ended) → P e → Q e) → IfErr r Q
+pub on_error : {A : Type 0} (r : Result A Outcome) (P Q : Outcome → Type 0) → IsErrAnd r P → ((e : Outcome) → P e → Q e) → IfErr r Q
 on_error (Ok x) P Q h f = tt
 on_error (Err e) P Q h f = f e h
 
 -- ---- a decision to refuse has a status of its own
 
-abbrev ended_or : Ended → Decision → Ended
+abbrev ended_or : Outcome → Decision → Outcome
 ended_or e (refuse f) = f
 ended_or e (accept j) = e
 
-refuse_accept : (e : Ended) (j : Job) → refuse e ≡ accept j → ⊥
+refuse_accept : (e : Outcome) (j : Job) → refuse e ≡ accept j → ⊥
 refuse_accept e j h = accept_refuse j e (sym h)
 
-same_ended : (e f : Ended) → refuse e ≡ refuse f → e ≡ f
+same_ended : (e f : Outcome) → refuse e ≡ refuse f → e ≡ f
 same_ended e f h = ap (ended_or e) h
 
-pub decided_refusal : (options : List Choice) (command : Command) (bytes : List (List ℕ)) (slots : List ℕ) (e : Ended) → DecidesBytes options command bytes slots (refuse e) → IsRefusing e
-decided_refusal options command bytes slots e h = elim (comes_to (table_of options command bytes slots) (tables_sound options command bytes slots) (refuse e) h) [
+pub decided_refusal : (options : List Choice) (command : Command) (l : Loaded) (slots : List ℕ) (e : Outcome) → DecidesLoaded options command l slots (refuse e) → IsRefusing e
+decided_refusal options command l slots e h = elim (comes_to (table_of options command l slots) (tables_sound options command l slots) (refuse e) h) [
   | inl x ↦ subst IsRefusing (sym (same_ended e x.0 x.1.0)) x.1.1
   | inr x ↦ absurd (refuse_accept e x.0 x.1.0)
 ]
@@ -352,7 +356,7 @@ list_decides steps b None below d list is h = subst (λ (l : List Action). Decid
 list_decides steps b (Some schedule) below d list is h = inr (list, is.0, inr (is.1, h))
 
 module _ (make : Run → Job) (options : List Choice) (steps : ℕ) (program : List ℕ) (journal : Option (List ℕ)) (book : List ℕ) (schedule : Option (List ℕ)) (counts : List ℕ) where
-  abbrev RefusedOver : Ended → Type 0
+  abbrev RefusedOver : Outcome → Type 0
   RefusedOver e = (e ≡ no_memory) ⊎ DecidesOver make options steps program journal book schedule counts (refuse e)
 
   -- what stands behind the items of the recorded input, and before the program
@@ -362,10 +366,10 @@ module _ (make : Run → Job) (options : List Choice) (steps : ℕ) (program : L
   abbrev program_lines : BookCosts → Table
   program_lines b = over_program options program journal (λ start items. over_list steps b schedule (last_lines b start items))
 
-  pub over_by_book : (e : Ended) → IsRefusal (HasBookFault book) bad_book e → RefusedOver e
+  pub over_by_book : (e : Outcome) → IsRefusal (HasBookFault book) bad_book e → RefusedOver e
   over_by_book e h = read_refuses (IsBookText book) (HasBookFault book) bad_book e _ h
 
-  module _ (e : Ended) (b : BookCosts) (is_book : IsBookText book b) where
+  module _ (e : Outcome) (b : BookCosts) (is_book : IsBookText book b) where
     pub over_by_keepers : Keep steps (slots_of b) counts (refuse e) ⊥ → RefusedOver e
     over_by_keepers h = inr (inr (b, is_book, keep_refuses steps (slots_of b) counts (refuse e) _ h))
 
@@ -407,13 +411,13 @@ module _ (make : Run → Job) (options : List Choice) (steps : ℕ) (program : L
 -- ---- the lines of a run that is moved about in
 
 module _ (options : List Choice) (steps : ℕ) (program : List ℕ) (journal : Option (List ℕ)) (book script counts : List ℕ) where
-  abbrev Refuses : Ended → Type 0
+  abbrev Refuses : Outcome → Type 0
   Refuses e = (e ≡ no_memory) ⊎ DecidesConsole options steps program journal book script counts (refuse e)
 
-  pub console_by_book : (e : Ended) → IsRefusal (HasBookFault book) bad_book e → Refuses e
+  pub console_by_book : (e : Outcome) → IsRefusal (HasBookFault book) bad_book e → Refuses e
   console_by_book e h = read_refuses (IsBookText book) (HasBookFault book) bad_book e _ h
 
-  module _ (e : Ended) (b : BookCosts) (is_book : IsBookText book b) where
+  module _ (e : Outcome) (b : BookCosts) (is_book : IsBookText book b) where
     pub console_by_keepers : Keep (max steps 1) (slots_of b) counts (refuse e) ⊥ → Refuses e
     console_by_keepers h = inr (inr (b, is_book, keep_refuses (max steps 1) (slots_of b) counts (refuse e) _ h))
 
@@ -460,26 +464,26 @@ module _ (options : List Choice) (steps : ℕ) (program : List ℕ) (journal : O
   console_accepted b start items orders is_book room slots is_start are_items give =
       inr (b, is_book, keep_accepts (max steps 1) (slots_of b) counts _ _ room (inr (slots, inr (start, is_start, inr (items, are_items, inr (orders, give, refl))))))
 
-pub plan_by_book : (steps : ℕ) (book : List ℕ) (e : Ended) → IsRefusal (HasBookFault book) bad_book e → (e ≡ no_memory) ⊎ DecidesPlanRevolve steps book (refuse e)
+pub plan_by_book : (steps : ℕ) (book : List ℕ) (e : Outcome) → IsRefusal (HasBookFault book) bad_book e → (e ≡ no_memory) ⊎ DecidesPlanRevolve steps book (refuse e)
 plan_by_book steps book e h = read_refuses (IsBookText book) (HasBookFault book) bad_book e _ h
 
-pub plan_by_plan : (steps : ℕ) (book : List ℕ) (e : Ended) (b : BookCosts) → IsBookText book b → IsUnplanned steps b e → (e ≡ no_memory) ⊎ DecidesPlanRevolve steps book (refuse e)
+pub plan_by_plan : (steps : ℕ) (book : List ℕ) (e : Outcome) (b : BookCosts) → IsBookText book b → IsUnplanned steps b e → (e ≡ no_memory) ⊎ DecidesPlanRevolve steps book (refuse e)
 plan_by_plan steps book e b is_book h = read_passes (IsBookText book) (HasBookFault book) bad_book e _ b is_book (plan_refuses steps b e _ h)
 
 pub plan_accepted : (steps : ℕ) (book : List ℕ) (b : BookCosts) → IsBookText book b → HasPlan steps (total_room b steps) → DecidesPlanRevolve steps book (accept (write (plan_pieces steps b)))
 plan_accepted steps book b is_book has = inr (b, is_book, inr (has, refl))
 
 -- the ending is of a book that has no multistage list for so many steps
-abbrev pub IsUnstaged : ℕ → BookCosts → Ended → Type 0
+abbrev pub IsUnstaged : ℕ → BookCosts → Outcome → Type 0
 IsUnstaged steps b e =
     (e ≡ no_memory)
     ⊎ ((length b.levels ≡ 2 → ⊥) × (e ≡ no_plan steps (total_room b steps) 2))
     ⊎ ((length b.levels ≡ 2) × (HasPlan steps (total_room b steps) → ⊥) × (e ≡ no_plan steps (total_room b steps) 1))
 
-pub multistage_by_book : (steps : ℕ) (book : List ℕ) (e : Ended) → IsRefusal (HasBookFault book) bad_book e → (e ≡ no_memory) ⊎ DecidesPlanMultistage steps book (refuse e)
+pub multistage_by_book : (steps : ℕ) (book : List ℕ) (e : Outcome) → IsRefusal (HasBookFault book) bad_book e → (e ≡ no_memory) ⊎ DecidesPlanMultistage steps book (refuse e)
 multistage_by_book steps book e h = read_refuses (IsBookText book) (HasBookFault book) bad_book e _ h
 
-pub multistage_by_plan : (steps : ℕ) (book : List ℕ) (e : Ended) (b : BookCosts) → IsBookText book b → IsUnstaged steps b e → (e ≡ no_memory) ⊎ DecidesPlanMultistage steps book (refuse e)
+pub multistage_by_plan : (steps : ℕ) (book : List ℕ) (e : Outcome) (b : BookCosts) → IsBookText book b → IsUnstaged steps b e → (e ≡ no_memory) ⊎ DecidesPlanMultistage steps book (refuse e)
 multistage_by_plan steps book e b is_book h = elim h [
   | inl memory ↦ inl memory
   | inr none ↦ elim none [
@@ -494,13 +498,13 @@ multistage_accepted steps book b list threshold is_book is of = inr (b, is_book,
 
 -- ---- the lines of a plan of H-Revolve
 
-pub hrevolve_by_book : (steps : ℕ) (book : List ℕ) (e : Ended) → IsRefusal (HasBookFault book) bad_book e → (e ≡ no_memory) ⊎ DecidesPlanHrevolve steps book (refuse e)
+pub hrevolve_by_book : (steps : ℕ) (book : List ℕ) (e : Outcome) → IsRefusal (HasBookFault book) bad_book e → (e ≡ no_memory) ⊎ DecidesPlanHrevolve steps book (refuse e)
 hrevolve_by_book steps book e h = read_refuses (IsBookText book) (HasBookFault book) bad_book e _ h
 
-pub hrevolve_by_room : (steps : ℕ) (book : List ℕ) (e : Ended) (b : BookCosts) (level : ℕ) → IsBookText book b → IsFirstWide steps b level → e ≡ out_of_range (room b level steps) 64 9 → DecidesPlanHrevolve steps book (refuse e)
+pub hrevolve_by_room : (steps : ℕ) (book : List ℕ) (e : Outcome) (b : BookCosts) (level : ℕ) → IsBookText book b → IsFirstWide steps b level → e ≡ out_of_range (room b level steps) 64 9 → DecidesPlanHrevolve steps book (refuse e)
 hrevolve_by_room steps book e b level is_book wide is = inr (b, is_book, inl (level, (wide, refuse_by e _ is)))
 
-pub hrevolve_by_plan : (steps : ℕ) (book : List ℕ) (e : Ended) (b : BookCosts) → IsBookText book b → ((k : ℕ) → k < length b.levels → room b k steps ≤ 64) → (e ≡ no_memory) ⊎ IsUnnested steps b e →
+pub hrevolve_by_plan : (steps : ℕ) (book : List ℕ) (e : Outcome) (b : BookCosts) → IsBookText book b → ((k : ℕ) → k < length b.levels → room b k steps ≤ 64) → (e ≡ no_memory) ⊎ IsUnnested steps b e →
     (e ≡ no_memory) ⊎ DecidesPlanHrevolve steps book (refuse e)
 hrevolve_by_plan steps book e b is_book narrow h = elim h [
   | inl memory ↦ inl memory
@@ -513,13 +517,13 @@ hrevolve_accepted steps book b t list is_book narrow planned has greatest is = i
 
 -- ---- the lines of a plan of DiskRevolve
 
-pub disk_by_book : (steps : ℕ) (book : List ℕ) (e : Ended) → IsRefusal (HasBookFault book) bad_book e → (e ≡ no_memory) ⊎ DecidesPlanDisk steps book (refuse e)
+pub disk_by_book : (steps : ℕ) (book : List ℕ) (e : Outcome) → IsRefusal (HasBookFault book) bad_book e → (e ≡ no_memory) ⊎ DecidesPlanDisk steps book (refuse e)
 disk_by_book steps book e h = read_refuses (IsBookText book) (HasBookFault book) bad_book e _ h
 
-pub disk_by_room : (steps : ℕ) (book : List ℕ) (e : Ended) (b : BookCosts) → IsBookText book b → 64 < room b 0 steps → e ≡ out_of_range (room b 0 steps) 64 9 → DecidesPlanDisk steps book (refuse e)
+pub disk_by_room : (steps : ℕ) (book : List ℕ) (e : Outcome) (b : BookCosts) → IsBookText book b → 64 < room b 0 steps → e ≡ out_of_range (room b 0 steps) 64 9 → DecidesPlanDisk steps book (refuse e)
 disk_by_room steps book e b is_book wide is = inr (b, is_book, inl (λ few. absurd (omega (arith, few, wide)), refuse_by e _ is))
 
-pub disk_by_plan : (steps : ℕ) (book : List ℕ) (e : Ended) (b : BookCosts) → IsBookText book b → room b 0 steps ≤ 64 → (e ≡ no_memory) ⊎ IsUndisked steps b e → (e ≡ no_memory) ⊎ DecidesPlanDisk steps book (refuse e)
+pub disk_by_plan : (steps : ℕ) (book : List ℕ) (e : Outcome) (b : BookCosts) → IsBookText book b → room b 0 steps ≤ 64 → (e ≡ no_memory) ⊎ IsUndisked steps b e → (e ≡ no_memory) ⊎ DecidesPlanDisk steps book (refuse e)
 disk_by_plan steps book e b is_book few h = elim h [
   | inl memory ↦ inl memory
   | inr none ↦ elim none [
@@ -535,10 +539,10 @@ disk_accepted steps book b t list is_book few two unlimited has greatest is = in
 
 -- ---- the lines of a periodic plan
 
-pub periodic_by_book : (steps period : ℕ) (book : List ℕ) (e : Ended) → IsRefusal (HasBookFault book) bad_book e → (e ≡ no_memory) ⊎ DecidesPlanPeriodic steps period book (refuse e)
+pub periodic_by_book : (steps period : ℕ) (book : List ℕ) (e : Outcome) → IsRefusal (HasBookFault book) bad_book e → (e ≡ no_memory) ⊎ DecidesPlanPeriodic steps period book (refuse e)
 periodic_by_book steps period book e h = read_refuses (IsBookText book) (HasBookFault book) bad_book e _ h
 
-pub periodic_by_plan : (steps period : ℕ) (book : List ℕ) (e : Ended) (b : BookCosts) → IsBookText book b → (e ≡ no_memory) ⊎ IsUnperiodic steps period b e → (e ≡ no_memory) ⊎ DecidesPlanPeriodic steps period book (refuse e)
+pub periodic_by_plan : (steps period : ℕ) (book : List ℕ) (e : Outcome) (b : BookCosts) → IsBookText book b → (e ≡ no_memory) ⊎ IsUnperiodic steps period b e → (e ≡ no_memory) ⊎ DecidesPlanPeriodic steps period book (refuse e)
 periodic_by_plan steps period book e b is_book h = elim h [
   | inl memory ↦ inl memory
   | inr none ↦ elim none [
@@ -554,15 +558,15 @@ pub periodic_accepted : (steps period : ℕ) (book : List ℕ) (b : BookCosts) �
     DecidesPlanPeriodic steps period book (accept (write (list_pieces (names_of b) (periodic_list steps period b))))
 periodic_accepted steps period book b is_book two fast slow = inr (b, is_book, inr (two, inr (fast, inr (slow, refl))))
 
-pub check_by_book : (steps : ℕ) (book schedule : List ℕ) (e : Ended) → IsRefusal (HasBookFault book) bad_book e → (e ≡ no_memory) ⊎ DecidesCheck steps book schedule (refuse e)
+pub check_by_book : (steps : ℕ) (book schedule : List ℕ) (e : Outcome) → IsRefusal (HasBookFault book) bad_book e → (e ≡ no_memory) ⊎ DecidesCheck steps book schedule (refuse e)
 check_by_book steps book schedule e h = read_refuses (IsBookText book) (HasBookFault book) bad_book e _ h
 
-pub check_by_text : (steps : ℕ) (book schedule : List ℕ) (e : Ended) (b : BookCosts) → IsBookText book b → IsRefusal (HasFirstFault (names_of b) schedule) bad_text e → (e ≡ no_memory) ⊎ DecidesCheck steps book schedule (refuse e)
+pub check_by_text : (steps : ℕ) (book schedule : List ℕ) (e : Outcome) (b : BookCosts) → IsBookText book b → IsRefusal (HasFirstFault (names_of b) schedule) bad_text e → (e ≡ no_memory) ⊎ DecidesCheck steps book schedule (refuse e)
 check_by_text steps book schedule e b is_book h =
     read_passes (IsBookText book) (HasBookFault book) bad_book e _ b is_book
     (read_refuses (IsSchedule (names_of b) schedule) (HasFirstFault (names_of b) schedule) bad_text e _ h)
 
-pub check_by_rules : (steps : ℕ) (book schedule : List ℕ) (e : Ended) (b : BookCosts) (list : List Action) → IsBookText book b → IsSchedule (names_of b) schedule list → IsBroken steps (slots_of b) list e → (e ≡ no_memory) ⊎ DecidesCheck steps book schedule (refuse e)
+pub check_by_rules : (steps : ℕ) (book schedule : List ℕ) (e : Outcome) (b : BookCosts) (list : List Action) → IsBookText book b → IsSchedule (names_of b) schedule list → IsBroken steps (slots_of b) list e → (e ≡ no_memory) ⊎ DecidesCheck steps book schedule (refuse e)
 check_by_rules steps book schedule e b list is_book is_list h =
     read_passes (IsBookText book) (HasBookFault book) bad_book e _ b is_book
     (read_passes (IsSchedule (names_of b) schedule) (HasFirstFault (names_of b) schedule) bad_text e _ list is_list
@@ -574,15 +578,15 @@ check_accepted steps book schedule b list is_book is_list valid = inr (b, is_boo
 
 -- ---- the lines of a price
 
-pub cost_by_book : (steps : ℕ) (book schedule : List ℕ) (e : Ended) → IsRefusal (HasBookFault book) bad_book e → (e ≡ no_memory) ⊎ DecidesCost steps book schedule (refuse e)
+pub cost_by_book : (steps : ℕ) (book schedule : List ℕ) (e : Outcome) → IsRefusal (HasBookFault book) bad_book e → (e ≡ no_memory) ⊎ DecidesCost steps book schedule (refuse e)
 cost_by_book steps book schedule e h = read_refuses (IsBookText book) (HasBookFault book) bad_book e _ h
 
-pub cost_by_text : (steps : ℕ) (book schedule : List ℕ) (e : Ended) (b : BookCosts) → IsBookText book b → IsRefusal (HasFirstFault (names_of b) schedule) bad_text e → (e ≡ no_memory) ⊎ DecidesCost steps book schedule (refuse e)
+pub cost_by_text : (steps : ℕ) (book schedule : List ℕ) (e : Outcome) (b : BookCosts) → IsBookText book b → IsRefusal (HasFirstFault (names_of b) schedule) bad_text e → (e ≡ no_memory) ⊎ DecidesCost steps book schedule (refuse e)
 cost_by_text steps book schedule e b is_book h =
     read_passes (IsBookText book) (HasBookFault book) bad_book e _ b is_book
     (read_refuses (IsSchedule (names_of b) schedule) (HasFirstFault (names_of b) schedule) bad_text e _ h)
 
-pub cost_by_rules : (steps : ℕ) (book schedule : List ℕ) (e : Ended) (b : BookCosts) (list : List Action) → IsBookText book b → IsSchedule (names_of b) schedule list → IsBroken steps (slots_of b) list e → (e ≡ no_memory) ⊎ DecidesCost steps book schedule (refuse e)
+pub cost_by_rules : (steps : ℕ) (book schedule : List ℕ) (e : Outcome) (b : BookCosts) (list : List Action) → IsBookText book b → IsSchedule (names_of b) schedule list → IsBroken steps (slots_of b) list e → (e ≡ no_memory) ⊎ DecidesCost steps book schedule (refuse e)
 cost_by_rules steps book schedule e b list is_book is_list h =
     read_passes (IsBookText book) (HasBookFault book) bad_book e _ b is_book
     (read_passes (IsSchedule (names_of b) schedule) (HasFirstFault (names_of b) schedule) bad_text e _ list is_list
@@ -594,28 +598,28 @@ cost_accepted steps book schedule b list lines is_book is_list valid is = inr (b
 
 -- ---- the lines of a certificate
 
-judge_passes : (steps : ℕ) (slots : List Slots) (list : List Action) (e : Ended) (Below : Type 0) → Valid steps slots list → (e ≡ no_memory) ⊎ Below → (e ≡ no_memory) ⊎ Judge steps slots list (refuse e) Below
+judge_passes : (steps : ℕ) (slots : List Slots) (list : List Action) (e : Outcome) (Below : Type 0) → Valid steps slots list → (e ≡ no_memory) ⊎ Below → (e ≡ no_memory) ⊎ Judge steps slots list (refuse e) Below
 judge_passes steps slots list e Below valid h = elim h [
   | inl memory ↦ inl memory
   | inr below ↦ inr (inr (valid, below))
 ]
 
-pub certify_by_book : (steps : ℕ) (book schedule certificate : List ℕ) (e : Ended) → IsRefusal (HasBookFault book) bad_book e → (e ≡ no_memory) ⊎ DecidesCertify steps book schedule certificate (refuse e)
+pub certify_by_book : (steps : ℕ) (book schedule certificate : List ℕ) (e : Outcome) → IsRefusal (HasBookFault book) bad_book e → (e ≡ no_memory) ⊎ DecidesCertify steps book schedule certificate (refuse e)
 certify_by_book steps book schedule certificate e h = read_refuses (IsBookText book) (HasBookFault book) bad_book e _ h
 
-pub certify_by_text : (steps : ℕ) (book schedule certificate : List ℕ) (e : Ended) (b : BookCosts) → IsBookText book b → IsRefusal (HasFirstFault (names_of b) schedule) bad_text e → (e ≡ no_memory) ⊎ DecidesCertify steps book schedule certificate (refuse e)
+pub certify_by_text : (steps : ℕ) (book schedule certificate : List ℕ) (e : Outcome) (b : BookCosts) → IsBookText book b → IsRefusal (HasFirstFault (names_of b) schedule) bad_text e → (e ≡ no_memory) ⊎ DecidesCertify steps book schedule certificate (refuse e)
 certify_by_text steps book schedule certificate e b is_book h =
     read_passes (IsBookText book) (HasBookFault book) bad_book e _ b is_book
     (read_refuses (IsSchedule (names_of b) schedule) (HasFirstFault (names_of b) schedule) bad_text e _ h)
 
-pub certify_by_rules : (steps : ℕ) (book schedule certificate : List ℕ) (e : Ended) (b : BookCosts) (list : List Action) → IsBookText book b → IsSchedule (names_of b) schedule list → IsBroken steps (slots_of b) list e →
+pub certify_by_rules : (steps : ℕ) (book schedule certificate : List ℕ) (e : Outcome) (b : BookCosts) (list : List Action) → IsBookText book b → IsSchedule (names_of b) schedule list → IsBroken steps (slots_of b) list e →
     (e ≡ no_memory) ⊎ DecidesCertify steps book schedule certificate (refuse e)
 certify_by_rules steps book schedule certificate e b list is_book is_list h =
     read_passes (IsBookText book) (HasBookFault book) bad_book e _ b is_book
     (read_passes (IsSchedule (names_of b) schedule) (HasFirstFault (names_of b) schedule) bad_text e _ list is_list
     (judge_refuses steps (slots_of b) list e _ h))
 
-pub certify_by_certificate : (steps : ℕ) (book schedule certificate : List ℕ) (e : Ended) (b : BookCosts) (list : List Action) → IsBookText book b → IsSchedule (names_of b) schedule list → Valid steps (slots_of b) list →
+pub certify_by_certificate : (steps : ℕ) (book schedule certificate : List ℕ) (e : Outcome) (b : BookCosts) (list : List Action) → IsBookText book b → IsSchedule (names_of b) schedule list → Valid steps (slots_of b) list →
     IsRefusal (CertificateFirst steps b certificate) bad_certificate e → (e ≡ no_memory) ⊎ DecidesCertify steps book schedule certificate (refuse e)
 certify_by_certificate steps book schedule certificate e b list is_book is_list valid h =
     read_passes (IsBookText book) (HasBookFault book) bad_book e _ b is_book
@@ -623,7 +627,7 @@ certify_by_certificate steps book schedule certificate e b list is_book is_list 
     (judge_passes steps (slots_of b) list e _ valid
     (read_refuses (IsCertificateText steps b certificate) (CertificateFirst steps b certificate) bad_certificate e _ h)))
 
-pub certify_by_weight : (steps : ℕ) (book schedule certificate : List ℕ) (e : Ended) (b : BookCosts) (list : List Action) (k : Certificate) → IsBookText book b → IsSchedule (names_of b) schedule list → Valid steps (slots_of b) list → IsCertificateText steps b certificate k →
+pub certify_by_weight : (steps : ℕ) (book schedule certificate : List ℕ) (e : Outcome) (b : BookCosts) (list : List Action) (k : Certificate) → IsBookText book b → IsSchedule (names_of b) schedule list → Valid steps (slots_of b) list → IsCertificateText steps b certificate k →
     IsUnweighed steps b list k e → (e ≡ no_memory) ⊎ DecidesCertify steps book schedule certificate (refuse e)
 certify_by_weight steps book schedule certificate e b list k is_book is_list valid is_certificate h =
     read_passes (IsBookText book) (HasBookFault book) bad_book e _ b is_book

@@ -15,17 +15,16 @@ use Rattle.reverse_runner.specs.SessionState.{SessionState}
 use Rattle.reverse_runner.specs.SessionOfRun.{begun}
 use Rattle.reverse_runner.specs.KeepersSeen.{Calls, Called, CalledAtMost}
 use Rattle.reversal.specs.declared.demo.Demonstrated.{Demonstrated}
-use Rattle.requests.specs.declared.ended.Ended.{Ended}
-use Rattle.requests.specs.Ending.{done, stopped}
+use Rattle.endings.specs.declared.outcome.Outcome.{Outcome}
+use Rattle.endings.specs.Outcomes.{done, stopped}
 use Rattle.requests.proofs.Lists.{get_map}
 use Rattle.reversal.specs.Job.{demonstrate}
 use Rattle.reversal.specs.Output.{lines_down, Adds}
 use Rattle.reversal.specs.Moment.{Moment, NothingFails, SinkFails}
 use Rattle.reversal.specs.Deeds.{Deed, no_calls, silent_deed, writing, bytes_written, calls_made, Did}
-use Rattle.reversal.specs.Course.{Shown, HaltsShowing}
-use Rattle.reversal.specs.Table.{accept}
+use Rattle.reversal.specs.Course.{Shown, HaltsShowing, EndsShowing}
 use Rattle.reversal.specs.CommandDemo.{demonstrating}
-use Rattle.reversal.specs.Decision.{EndsBy}
+use Rattle.reversal.specs.Decision.{course_of}
 use Rattle.reversal.specs.Demo.{demo_list, summary_text, summary}
 use Rattle.reversal.specs.DemoStates.{BreaksWithin}
 use Rattle.reversal.proofs.DeedSequences.{tells_nothing, get_front, take_front, raised_none, did_then, did_one, is_until_first, broke_off, halted_at}
@@ -106,7 +105,7 @@ module _ (number : ℕ) (first : MachineState) (steps slots : ℕ) where
     stepped = counted ∙ ap (λ l. a.steps + forward l) list
 
     -- it was written
-    pub whole : (e : Ended) → NothingFails a c → e ≡ done → Tells a.told c.told (Adds bytes) → c.writes ≡ raised a.writes 1 → c.calls ≡ a.calls → EndsBy (accept (demonstrate number first steps slots)) e a c
+    pub whole : (e : Outcome) → NothingFails a c → e ≡ done → Tells a.told c.told (Adds bytes) → c.writes ≡ raised a.writes 1 → c.calls ≡ a.calls → EndsShowing (course_of (demonstrate number first steps slots)) e a c
     whole e quiet is added wrote calls =
         let b = between a c in
         let C : Calls → Type 0 = λ x. Called no_calls a.calls x in
@@ -132,7 +131,7 @@ module _ (number : ℕ) (first : MachineState) (steps slots : ℕ) where
         )
 
     -- a part of it was written
-    pub in_part : (e : Ended) → SinkFails a c → e ≡ stopped 0 → Tells a.told c.told (AddsPrefix bytes) → c.writes ≡ raised a.writes 1 → c.calls ≡ a.calls → EndsBy (accept (demonstrate number first steps slots)) e a c
+    pub in_part : (e : Outcome) → SinkFails a c → e ≡ stopped 0 → Tells a.told c.told (AddsPrefix bytes) → c.writes ≡ raised a.writes 1 → c.calls ≡ a.calls → EndsShowing (course_of (demonstrate number first steps slots)) e a c
     in_part e fails is added wrote calls =
         let b = between a c in
         let last = writing (text ∷ []) in

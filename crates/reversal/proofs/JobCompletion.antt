@@ -1,13 +1,13 @@
 -- What follows where a job was done: a script was answered order by order; and where no count of faults rises a job is done.
-use Rattle.std.proofs.Common.{◌≡◌, inl, inr, ℕ, ◌+◌, ◌*◌, ◌<◌, List, [], ◌∷◌, ◌++◌, length, append-nil, Option, refl, sym, ◌∙◌, ap, subst, arith}
+use Rattle.std.proofs.Common.{◌≡◌, inl, inr, ℕ, ◌+◌, ◌*◌, List, [], ◌∷◌, ◌++◌, length, append-nil, Option, refl, ◌∙◌, ap, subst, arith}
 use Rattle.keepers.specs.Claims.{Tells}
 use Rattle.rv_machine.specs.MachineState.{MachineState}
 use Rattle.reverse_console.specs.declared.order.Order.{Order}
 use Rattle.reverse_console.specs.Marks.{MarkPlan}
 use Rattle.reverse_console.specs.ScriptAnswers.{AreAnswers, answer_text, script_text}
 use Rattle.reverse_console.specs.MarksOfRun.{MarksTell}
-use Rattle.requests.specs.declared.ended.Ended.{Ended}
-use Rattle.requests.specs.Ending.{done}
+use Rattle.endings.specs.declared.outcome.Outcome.{Outcome}
+use Rattle.endings.specs.Outcomes.{done}
 use Rattle.reversal.specs.Output.{Adds}
 use Rattle.reversal.specs.Moment.{Moment, NothingRises, AllTell}
 use Rattle.reversal.specs.Deeds.{Deed, bytes_written}
@@ -49,7 +49,7 @@ writes_answers first items p orders shown old new tells finished =
 
 -- ---- where no count of faults rises
 
-pub done_where_nothing_rises : (course : Course) (e : Ended) (old new : Moment) → EndsShowing course e old new → AllTell course.levels old.images → NothingRises old new → (e ≡ done) × ((shown : Shown) × Done course shown old new)
+pub done_where_nothing_rises : (course : Course) (e : Outcome) (old new : Moment) → EndsShowing course e old new → AllTell course.levels old.images → NothingRises old new → (e ≡ done) × ((shown : Shown) × Done course shown old new)
 done_where_nothing_rises course e old new ends tells none = elim ends.1.1 [
   | inl finished ↦ (finished.0, (ends.0, finished.1))
   | inr more ↦ elim more [

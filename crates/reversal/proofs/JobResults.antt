@@ -12,8 +12,8 @@ use Rattle.reverse_runner.specs.KeepersSeen.{HaveRoom}
 use Rattle.reverse_runner.specs.Rooms.{rooms_by}
 use Rattle.reverse_runner.specs.SessionState.{SessionState}
 use Rattle.reverse_runner.specs.SessionOfRun.{begun, StandsAt}
-use Rattle.requests.specs.declared.ended.Ended.{Ended}
-use Rattle.requests.specs.Ending.{no_memory}
+use Rattle.endings.specs.declared.outcome.Outcome.{Outcome}
+use Rattle.endings.specs.Outcomes.{no_memory}
 use Rattle.reversal.specs.Job.{Job}
 use Rattle.reversal.specs.Moment.{moment, AllTell}
 use Rattle.reversal.specs.Decision.{HaveRoomsFor}
@@ -29,17 +29,17 @@ is_begun s first journal unit steps slots list counts is stands state valid few 
 
 module _ {X K : Type 0} (writing : sink.Ghosts X) (seen : storage.Ghosts K) where
   -- a job that had all of its own memory
-  pub does_begun : (job : Job) (e : Ended) (out out' : X) (keepers keepers' : Vec K) (steps steps' : ℕ) →
+  pub does_begun : (job : Job) (e : Outcome) (out out' : X) (keepers keepers' : Vec K) (steps steps' : ℕ) →
       DoesBegun writing seen job e out out' keepers.items keepers'.items steps steps' → Does writing seen job e out out' keepers keepers' steps steps'
   does_begun job e out out' keepers keepers' steps steps' does = record { works = inr does.works; others = does.others; roomy = λ roomy status. absurd (does.roomy roomy status) }
 
   -- memory ran out before anything was done
-  pub does_nothing : (job : Job) (e : Ended) (out : X) (keepers : Vec K) (steps : ℕ) → e ≡ no_memory → Does writing seen job e out out keepers keepers steps steps
+  pub does_nothing : (job : Job) (e : Outcome) (out : X) (keepers : Vec K) (steps : ℕ) → e ≡ no_memory → Does writing seen job e out out keepers keepers steps steps
   does_nothing job e out keepers steps none =
       record { works = inl (none, refl, refl, refl); others = (record { slots_same = refl; places_same = refl }, λ k past. refl); roomy = λ roomy status. (none, refl, refl, refl) }
 
   -- a job that uses no keepers
-  pub does_alone : (job : Job) (e : Ended) (out out' : X) (keepers : Vec K) (steps steps' : ℕ) → (HaveRoomsFor job (rooms_by seen keepers.items) → ⊥) →
+  pub does_alone : (job : Job) (e : Outcome) (out out' : X) (keepers : Vec K) (steps steps' : ℕ) → (HaveRoomsFor job (rooms_by seen keepers.items) → ⊥) →
       IsUntouched e out out' keepers keepers steps steps' ⊎ Works job e (moment writing seen out keepers.items steps) (moment writing seen out' keepers.items steps') →
       Does writing seen job e out out' keepers keepers steps steps'
   does_alone job e out out' keepers steps steps' roomless works =

@@ -3,8 +3,8 @@ use Rattle.std.proofs.Common.{◌≡◌, ◌⊎◌, inl, inr, ℕ, zero, suc, �
 use Rattle.std.proofs.lemmas.Bool.{cases_order}
 use Rattle.level_book.specs.declared.book.Slots.{Slots}
 use Rattle.reverse_runner.specs.KeepersSeen.{HaveRoom}
-use Rattle.requests.specs.declared.ended.Ended.{Ended}
-use Rattle.requests.specs.Ending.{no_memory, few_keepers, small_keeper}
+use Rattle.endings.specs.declared.outcome.Outcome.{Outcome}
+use Rattle.endings.specs.Outcomes.{no_memory, few_keepers, small_keeper}
 use Rattle.reversal.specs.Job.{Job}
 use Rattle.reversal.specs.Table.{Decision, refuse, accept, IsFirstSmall, Keep}
 use Rattle.reversal.proofs.Refusals.{IsRefusing, refusing_past}
@@ -35,7 +35,7 @@ first_small_one steps slots counts a b h g = elim (cases_order a b) [
 
 -- ---- the line decides in one way
 
-same_refusal : (c d : Decision) (e f : Ended) → e ≡ f → c ≡ refuse e → d ≡ refuse f → c ≡ d
+same_refusal : (c d : Decision) (e f : Outcome) → e ≡ f → c ≡ refuse e → d ≡ refuse f → c ≡ d
 same_refusal c d e f same h g = h ∙ ap (λ x. refuse x) same ∙ sym g
 
 pub keep_one : (steps : ℕ) (slots : List Slots) (counts : List ℕ) (c d : Decision) (Below Other : Type 0) → (Below → Other → c ≡ d) → Keep steps slots counts c Below → Keep steps slots counts d Other → c ≡ d
@@ -57,7 +57,7 @@ keep_one steps slots counts c d Below Other one h g = elim h [
 -- ---- what the line comes to
 
 -- it refuses with a status of its own, or the lines below decide
-pub keep_comes_to : (steps : ℕ) (slots : List Slots) (counts : List ℕ) (d : Decision) (Below : Type 0) → Keep steps slots counts d Below → ((e : Ended) × ((d ≡ refuse e) × IsRefusing e)) ⊎ Below
+pub keep_comes_to : (steps : ℕ) (slots : List Slots) (counts : List ℕ) (d : Decision) (Below : Type 0) → Keep steps slots counts d Below → ((e : Outcome) × ((d ≡ refuse e) × IsRefusing e)) ⊎ Below
 keep_comes_to steps slots counts d Below h = elim h [
   | inl few ↦ inl (_, (few.1, refusing_past _ 16 refl (omega arith) (omega arith)))
   | inr x ↦ elim x.1 [ inl small ↦ inl (_, (small.1.1, refusing_past _ 16 refl (omega arith) (omega arith))) | inr met ↦ inr met.1 ]
@@ -84,7 +84,7 @@ keep_refuses steps slots counts d Below h = elim h [
 pub keep_accepts : (steps : ℕ) (slots : List Slots) (counts : List ℕ) (d : Decision) (Below : Type 0) → HaveRoom steps slots counts → Below → Keep steps slots counts d Below
 keep_accepts steps slots counts d Below room below = inr (keeper_each steps slots counts room, inr (room, below))
 
-pub keep_passes : (steps : ℕ) (slots : List Slots) (counts : List ℕ) (e : Ended) (Below : Type 0) → HaveRoom steps slots counts → (e ≡ no_memory) ⊎ Below → (e ≡ no_memory) ⊎ Keep steps slots counts (refuse e) Below
+pub keep_passes : (steps : ℕ) (slots : List Slots) (counts : List ℕ) (e : Outcome) (Below : Type 0) → HaveRoom steps slots counts → (e ≡ no_memory) ⊎ Below → (e ≡ no_memory) ⊎ Keep steps slots counts (refuse e) Below
 keep_passes steps slots counts e Below room h = elim h [
   | inl memory ↦ inl memory
   | inr below ↦ inr (keep_accepts steps slots counts (refuse e) Below room below)

@@ -1,5 +1,5 @@
 -- Over any keepers the orders of a script are answered in the run, or bytes that came back collide with the image of a mark.
-use Rattle.std.proofs.Common.{◌≡◌, ◌⊎◌, inl, inr, ℕ, List, [], ◌∷◌, Some, sym, subst}
+use Rattle.std.proofs.Common.{◌⊎◌, inl, inr, ℕ, List, [], ◌∷◌, Some, sym, subst}
 use Rattle.input_journal.specs.Form.{IsRecorded}
 use Rattle.rv_machine.specs.MachineState.{MachineState, IsMachineState}
 use Rattle.reverse_console.specs.declared.order.Order.{Order}

@@ -12,17 +12,16 @@ use Rattle.keepers.specs.Counts.{raised}
 use Rattle.keepers.specs.Claims.{Tells, AddsPrefix}
 use Rattle.rv_machine.specs.declared.status.Status.TheVariants.{Running}
 use Rattle.reverse_runner.specs.KeepersSeen.{Calls, Called}
-use Rattle.requests.specs.declared.ended.Ended.{Ended}
-use Rattle.requests.specs.Ending.{done, stopped}
+use Rattle.endings.specs.declared.outcome.Outcome.{Outcome}
+use Rattle.endings.specs.Outcomes.{done, stopped}
 use Rattle.schedule_rules.proofs.VerdictReasons.{take_one_more}
 use Rattle.requests.proofs.Lists.{get_map, none_left}
 use Rattle.reversal.specs.Job.{write}
 use Rattle.reversal.specs.Output.{Adds}
 use Rattle.reversal.specs.Moment.{Moment, NothingFails, SinkFails}
 use Rattle.reversal.specs.Deeds.{no_calls, writing, bytes_of}
-use Rattle.reversal.specs.Course.{Shown, AddsAndPart, DidUntil}
-use Rattle.reversal.specs.Table.{accept}
-use Rattle.reversal.specs.Decision.{EndsBy}
+use Rattle.reversal.specs.Course.{Shown, AddsAndPart, DidUntil, EndsShowing}
+use Rattle.reversal.specs.Decision.{course_of}
 use Rattle.reversal.specs.Plans.{in_pieces}
 use Rattle.reversal.proofs.DeedSequences.{tells_then, tells_nothing, raised_then, raised_none, did_one}
 
@@ -43,8 +42,8 @@ uncalled : (a c : Moment) → IsBeside a c → Called no_calls a.calls c.calls
 uncalled a c is = subst (Called no_calls a.calls) (sym is.calls) (not_called a.calls)
 
 -- all texts were written
-pub texts_done : (texts : List (List ℕ)) (e : Ended) (a c : Moment) → IsBeside a c → NothingFails a c → e ≡ done → Tells a.told c.told (Adds (bytes_of texts)) → c.writes ≡ raised a.writes (length texts) →
-    EndsBy (accept (write texts)) e a c
+pub texts_done : (texts : List (List ℕ)) (e : Outcome) (a c : Moment) → IsBeside a c → NothingFails a c → e ≡ done → Tells a.told c.told (Adds (bytes_of texts)) → c.writes ≡ raised a.writes (length texts) →
+    EndsShowing (course_of (write texts)) e a c
 texts_done texts e a c beside quiet is added wrote =
     let still = beside.steps ∙ sym (add-zero a.steps) in (
       nothing_shown,
@@ -75,8 +74,8 @@ take_front [] (y ∷ ys) = refl
 take_front (x ∷ xs) ys = ap (λ l. x ∷ l) (take_front xs ys)
 
 -- some texts were written, and the next in part
-pub texts_cut : (front : List (List ℕ)) (piece : List ℕ) (rest texts : List (List ℕ)) (e : Ended) (a c : Moment) → IsBeside a c → SinkFails a c → texts ≡ front ++ piece ∷ rest → e ≡ stopped 0 →
-    Tells a.told c.told (AddsAndPart (bytes_of front) piece) → c.writes ≡ raised a.writes (length front + 1) → EndsBy (accept (write texts)) e a c
+pub texts_cut : (front : List (List ℕ)) (piece : List ℕ) (rest texts : List (List ℕ)) (e : Outcome) (a c : Moment) → IsBeside a c → SinkFails a c → texts ≡ front ++ piece ∷ rest → e ≡ stopped 0 →
+    Tells a.told c.told (AddsAndPart (bytes_of front) piece) → c.writes ≡ raised a.writes (length front + 1) → EndsShowing (course_of (write texts)) e a c
 texts_cut front piece rest texts e a c beside fails are is added wrote =
     let before : take (length front) texts ≡ front = ap (take (length front)) are ∙ take_front front (piece ∷ rest) in
     let P : List (List ℕ) → Type 0 = λ l. Tells a.told c.told (AddsAndPart (bytes_of l) piece) in
@@ -94,8 +93,8 @@ texts_cut front piece rest texts e a c beside fails are is added wrote =
     (nothing_shown, (tt, inr (inl (0, is, record { until = until; answered = tt; held = tt; fails = fails }))))
 
 -- the same in two parts
-pub texts_stopped : (front : List (List ℕ)) (piece : List ℕ) (rest texts : List (List ℕ)) (e : Ended) (mid : Option (List ℕ)) (u : ℕ) (a c : Moment) → IsBeside a c → SinkFails a c → texts ≡ front ++ piece ∷ rest → e ≡ stopped 0 →
-    Tells a.told mid (Adds (bytes_of front)) → u ≡ raised a.writes (length front) → Tells mid c.told (AddsPrefix piece) → c.writes ≡ raised u 1 → EndsBy (accept (write texts)) e a c
+pub texts_stopped : (front : List (List ℕ)) (piece : List ℕ) (rest texts : List (List ℕ)) (e : Outcome) (mid : Option (List ℕ)) (u : ℕ) (a c : Moment) → IsBeside a c → SinkFails a c → texts ≡ front ++ piece ∷ rest → e ≡ stopped 0 →
+    Tells a.told mid (Adds (bytes_of front)) → u ≡ raised a.writes (length front) → Tells mid c.told (AddsPrefix piece) → c.writes ≡ raised u 1 → EndsShowing (course_of (write texts)) e a c
 texts_stopped front piece rest texts e mid u a c beside fails are is added wrote part once =
     texts_cut front piece rest texts e a c beside fails are is
     (tells_then a.told mid c.told (Adds (bytes_of front)) (AddsPrefix piece) (AddsAndPart (bytes_of front) piece) (λ x y z p q. (q.0, q.1 ∙ ap (λ l. l ++ take q.0 piece) p)) added part)
@@ -207,8 +206,8 @@ texts_more front last old mid new = tells_then old mid new (Adds (bytes_of front
     q ∙ (λ i. p i ++ concat_is last i) ∙ append_assoc a (bytes_of front) (bytes_of last) ∙ ap (λ l. a ++ l) (sym (flat_map-append (λ l. l) front last)))
 
 -- How the texts come to their end, from a moment before all of them to one after it, by what was told and written between.
-module _ {A : Type 0} (f : A → List ℕ) (all last : List (List ℕ)) (rest : List A) (e : Ended) (mid : Option (List ℕ)) (u : ℕ) (a c : Moment) (beside : IsBeside a c) (so_far : IsWritten f all last rest a.told mid a.writes u) where
-  pub written_stopped : (piece : List ℕ) → SinkFails a c → rest ≢ [] → piece ≡ bytes_of (take 64 (map f rest)) → e ≡ stopped 0 → Tells mid c.told (AddsPrefix piece) → c.writes ≡ raised u 1 → EndsBy (accept (write all)) e a c
+module _ {A : Type 0} (f : A → List ℕ) (all last : List (List ℕ)) (rest : List A) (e : Outcome) (mid : Option (List ℕ)) (u : ℕ) (a c : Moment) (beside : IsBeside a c) (so_far : IsWritten f all last rest a.told mid a.writes u) where
+  pub written_stopped : (piece : List ℕ) → SinkFails a c → rest ≢ [] → piece ≡ bytes_of (take 64 (map f rest)) → e ≡ stopped 0 → Tells mid c.told (AddsPrefix piece) → c.writes ≡ raised u 1 → EndsShowing (course_of (write all)) e a c
   written_stopped piece fails some is ended part once =
       let begins = piece_begins f so_far.left rest some so_far.enough in
       texts_stopped so_far.front piece (in_pieces begins.left (map f (drop 64 rest)) ++ last) all e mid u a c beside fails
@@ -219,14 +218,14 @@ module _ {A : Type 0} (f : A → List ℕ) (all last : List (List ℕ)) (rest : 
   last_are : rest ≡ [] → all ≡ so_far.front ++ last
   last_are none = so_far.pieces ∙ ap (λ l. so_far.front ++ (l ++ last)) (pieces_end f so_far.left rest none)
 
-  pub written_whole : NothingFails a c → rest ≡ [] → last ≡ [] → e ≡ done → c.told ≡ mid → c.writes ≡ u → EndsBy (accept (write all)) e a c
+  pub written_whole : NothingFails a c → rest ≡ [] → last ≡ [] → e ≡ done → c.told ≡ mid → c.writes ≡ u → EndsShowing (course_of (write all)) e a c
   written_whole quiet none no_last ended told wrote =
       let is = last_are none ∙ ap (λ l. so_far.front ++ l) no_last ∙ append-nil so_far.front in
       let P : List (List ℕ) → Type 0 = λ l. Tells a.told mid (Adds (bytes_of l)) in
       let T : Option (List ℕ) → Type 0 = λ o. Tells a.told o (Adds (bytes_of all)) in
       texts_done all e a c beside quiet ended (subst T (sym told) (subst P (sym is) so_far.told)) (wrote ∙ so_far.writes ∙ ap (raised a.writes) (sym (ap length is)))
 
-  pub written_all : (texts : List (List ℕ)) → NothingFails a c → rest ≡ [] → last ≡ texts → e ≡ done → Tells mid c.told (Adds (concat texts)) → c.writes ≡ raised u (length texts) → EndsBy (accept (write all)) e a c
+  pub written_all : (texts : List (List ℕ)) → NothingFails a c → rest ≡ [] → last ≡ texts → e ≡ done → Tells mid c.told (Adds (concat texts)) → c.writes ≡ raised u (length texts) → EndsShowing (course_of (write all)) e a c
   written_all texts quiet none one ended added once =
       let is = last_are none ∙ ap (λ l. so_far.front ++ l) one in
       let P : List (List ℕ) → Type 0 = λ l. Tells a.told c.told (Adds (bytes_of l)) in
@@ -236,7 +235,7 @@ module _ {A : Type 0} (f : A → List ℕ) (all last : List (List ℕ)) (rest : 
 
   -- the last texts were written but for one of them and those behind it
   pub written_but_some : (before : List (List ℕ)) (piece : List ℕ) (after : List (List ℕ)) → SinkFails a c → rest ≡ [] → last ≡ before ++ piece ∷ after →
-      e ≡ stopped 0 → Tells mid c.told (λ x y. AddsPrefix piece (x ++ concat before) y) → c.writes ≡ raised u (length before + 1) → EndsBy (accept (write all)) e a c
+      e ≡ stopped 0 → Tells mid c.told (λ x y. AddsPrefix piece (x ++ concat before) y) → c.writes ≡ raised u (length before + 1) → EndsShowing (course_of (write all)) e a c
   written_but_some before piece after fails none some ended part once =
       let front = so_far.front in
       let are = last_are none ∙ ap (λ l. front ++ l) some ∙ sym (append_assoc front before (piece ∷ after)) in

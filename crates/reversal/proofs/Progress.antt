@@ -38,17 +38,16 @@ use Rattle.schedule_rules.proofs.RuleLaws.{rules_moves}
 use Rattle.reverse_runner.specs.declared.fault.RunFault.TheVariants.{Keeper, Damaged, Memory, Visitor, Ended}
 use Rattle.keepers.specs.Counts.{Rose, raised}
 use Rattle.reverse_runner.specs.declared.fault.RunFault.{RunFault}
-use Rattle.requests.specs.Ending.{done, stopped}
+use Rattle.endings.specs.Outcomes.{done, stopped}
 use Rattle.reversal.specs.Job.{Run, perform}
 use Rattle.reversal.specs.Output.{line_of, Adds}
 use Rattle.reversal.specs.Moment.{Moment, NothingFails, SinkFails, KeeperFails, AllTell, AllEmpty}
 use Rattle.reversal.specs.Deeds.{Deed, States, deed_of, bytes_of, Did}
 use Rattle.reversal.specs.RunTrace.{AreOfRun, held_at_start, GoesOver, ComesToDamage, LeadTo, SameLevels, AllLevels, SparesNext, UnreachedNext, Went}
-use Rattle.reversal.specs.Course.{AddsAndPart, DidUntil, BreaksOff}
+use Rattle.reversal.specs.Course.{AddsAndPart, DidUntil, BreaksOff, EndsShowing}
 use Rattle.reversal.specs.LinesWritten.{lines_for, Writes, BreaksLines}
-use Rattle.reversal.specs.Table.{accept}
 use Rattle.reversal.specs.CommandRun.{performing}
-use Rattle.reversal.specs.Decision.{EndsBy}
+use Rattle.reversal.specs.Decision.{course_of}
 use Rattle.reversal.specs.JobModel.{Works, fault_ending}
 use Rattle.reversal.proofs.AllowedActions.{led_on}
 use Rattle.reversal.proofs.DeedSequences.{did_none, did_one_more, is_until, broke_off, failed_at, damaged_at, halted_at}
@@ -372,7 +371,7 @@ module _ {X : Type 0} (told : X → Option (List ℕ)) (writes : X → ℕ) (fir
         broke_off (map (deed_of shown s.unit s.situation.steps) list) i (deed_of shown s.unit s.situation.steps a) old mid new (get_map (deed_of shown s.unit s.situation.steps) list i a at) so_far.did
         (after.tells ∙ ap told same ∙ sym before.tells) (after.counts ∙ ap writes same ∙ sym before.counts) still called
 
-    missed_one : (fault : RunFault) → fault ≡ Visitor → Refuses told writes first s a fault x y mid new → EndsBy (accept (perform run)) (stopped (i + 1)) old new
+    missed_one : (fault : RunFault) → fault ≡ Visitor → Refuses told writes first s a fault x y mid new → EndsShowing (course_of (perform run)) (stopped (i + 1)) old new
     missed_one fault is refuses =
         let goes = may_go in
         let breaks = refuses.breaks is in
@@ -456,7 +455,7 @@ none_behind list i b short is = let far = has_length list i b is in absurd (omeg
 
 -- the whole list was performed
 pub went_whole : (first : MachineState) (s : SessionState) (list : List Action) (i : ℕ) (shown : States) (old mid : Moment) → SoFar (run_of first s list) i shown s old mid → length list ≤ i → i ≤ length list → Valid s.situation.steps s.situation.slots list →
-    EndsBy (accept (perform (run_of first s list))) done old mid
+    EndsShowing (course_of (perform (run_of first s list))) done old mid
 went_whole first s list i shown old mid so_far short within valid =
     let run = run_of first s list in
     let deeds = map (deed_of shown s.unit s.situation.steps) list in

@@ -21,8 +21,8 @@ use Rattle.reverse_runner.specs.SessionOfRun.{begun}
 use Rattle.schedule_rules.proofs.VerdictReasons.{take_one_more}
 use Rattle.reverse_queries.specs.Queries.{hands_out, front_to, up_to, IsLast}
 use Rattle.reverse_queries.specs.ListPerformance.{calls_of_all, done_after, IsOut, FaultFits, RefusedIn}
-use Rattle.requests.specs.declared.ended.Ended.{Ended as Ending}
-use Rattle.requests.specs.Ending.{done, stopped, keeper_failed, damaged}
+use Rattle.endings.specs.declared.outcome.Outcome.{Outcome}
+use Rattle.endings.specs.Outcomes.{done, stopped, keeper_failed, damaged}
 use Rattle.requests.proofs.Lists.{get_map}
 use Rattle.std.proofs.Math.Nat.{min-eq_left}
 use Rattle.reversal.specs.Job.{Run, last_of, state_of}
@@ -388,7 +388,7 @@ module _ (run : Run) (Holds : States → ℕ → Type 0) where
   with_answer answer = record { states = state_of run; answer = answer; orders = [] }
 
   -- its list was refused, of which nothing had been done before
-  pub last_refused : (fault : RunFault) (new : SessionState) (e : Ending) (a c : Moment) → length run.list ≤ 16777216 → Refused (λ action held. ⊥) run run.list fault new a c → e ≡ fault_ending (new.done + 1) fault →
+  pub last_refused : (fault : RunFault) (new : SessionState) (e : Outcome) (a c : Moment) → length run.list ≤ 16777216 → Refused (λ action held. ⊥) run run.list fault new a c → e ≡ fault_ending (new.done + 1) fault →
       c.told ≡ a.told → c.writes ≡ a.writes → fault ≢ Visitor → ((k : ℕ) (put got : List ℕ) → fault ≡ Damaged k put got → AllTell (length run.slots) a.images → ⊥) → FaultCounts fault a c → WorksBy (asking_last Holds run) e a c
   last_refused fault new e a c few refused ending told wrote seen silent counts =
       let f = unseen_deed run.unit in
@@ -396,7 +396,7 @@ module _ (run : Run) (Holds : States → ℕ → Type 0) where
       let text = writing (answer_text None ∷ []) ∷ [] in
       let broke = broken_at run.unit f (unseen_deeds run.unit) run.list text refused.place refused.next a c refused.there quiet.0 quiet.1 told wrote refused.counted refused.called in
       let count = refused.done ∙ performed_so_far refused.place (omega (arith, refused.within, few)) in
-      let E : Ending → Type 0 = λ x. WorksBy (asking_last Holds run) x a c in
+      let E : Outcome → Type 0 = λ x. WorksBy (asking_last Holds run) x a c in
       subst E (sym (ending ∙ ap (λ n. fault_ending (n + 1) fault) count))
       (refused_by run (asking_last Holds run) (last_over Holds run) (with_answer None) a c (λ tells n within. refl) fault refused.place (f refused.next) broke
       (λ action held. ⊥) refused.next refused.held refused.states refl refused.fits refused.there refused.through seen silent counts)
@@ -444,10 +444,10 @@ module _ (run : Run) (Holds : States → ℕ → Type 0) where
         (with_answer answer, ((λ tells n within. refl), inr (inl (i, refl, record { until = until; answered = answered; held = tt; fails = fails }))))
 
     -- the whole of it was written, or a part
-    pub last_told : (e : Ending) → ((e ≡ done) × Tells a.told c.told (Adds (answer_text answer)) × (c.faults ≡ a.faults)) ⊎ ((e ≡ stopped 0) × Tells a.told c.told (AddsPrefix (answer_text answer)) × Rose a.faults c.faults) →
+    pub last_told : (e : Outcome) → ((e ≡ done) × Tells a.told c.told (Adds (answer_text answer)) × (c.faults ≡ a.faults)) ⊎ ((e ≡ stopped 0) × Tells a.told c.told (AddsPrefix (answer_text answer)) × Rose a.faults c.faults) →
         KeepersAreQuiet a c → WorksBy (asking_last Holds run) e a c
     last_told e ends keepers =
-        let E : Ending → Type 0 = λ x. WorksBy (asking_last Holds run) x a c in
+        let E : Outcome → Type 0 = λ x. WorksBy (asking_last Holds run) x a c in
         elim ends [
           | inl whole ↦ subst E (sym whole.0) (inl (last_done whole.1 (record { sink = whole.2; keepers = keepers })))
           | inr part ↦ subst E (sym part.0) (inl (last_stopped part.1 (record { sink = part.2; keepers = keepers })))

@@ -26,21 +26,22 @@ use Rattle.rv_asm.proofs.SourceLaws.{one_meaning, one_fault as one_source_fault,
 use Rattle.reverse_console.specs.Script.{IsScript}
 use Rattle.reverse_console.specs.ScriptFaults.{HasFirstFault as ScriptFirst}
 use Rattle.reverse_console.proofs.ScriptWhole.{one_script, one_fault as one_script_fault, no_fault as scripts_have_no_fault}
-use Rattle.requests.specs.declared.ended.Ended.{Ended}
-use Rattle.requests.specs.Ending.{bad_program, bad_journal, bad_book, bad_text, bad_certificate, bad_source, bad_script}
+use Rattle.endings.specs.declared.outcome.Outcome.{Outcome}
+use Rattle.endings.specs.Outcomes.{bad_program, bad_journal, bad_book, bad_text, bad_certificate, bad_source, bad_script}
+use Rattle.endings.specs.Endings.{status_of}
 use Rattle.reversal.specs.JobModel.{IsRefusal}
 use Rattle.reversal.specs.InputMeaning.{HasBookFault, IsStartOf, HasProgramFault, AreItemsOf, HasJournalFault}
 
 -- a decision to refuse has a status of its own
-pub record IsRefusing (e : Ended) : Type 0 where
-  pub not_words : e.status ≢ 2
-  pub not_input : e.status ≢ 3
-  pub not_keeper : e.status ≢ 12
-  pub not_damaged : e.status ≢ 13
-  pub not_sink : e.status ≢ 14
-  pub not_memory : e.status ≢ 17
+pub record IsRefusing (e : Outcome) : Type 0 where
+  pub not_words : status_of e ≢ 2
+  pub not_input : status_of e ≢ 3
+  pub not_keeper : status_of e ≢ 12
+  pub not_damaged : status_of e ≢ 13
+  pub not_sink : status_of e ≢ 14
+  pub not_memory : status_of e ≢ 17
 
-pub refusing_at : (e : Ended) (status : ℕ) → e.status ≡ status → 3 < status → status < 12 → IsRefusing e
+pub refusing_at : (e : Outcome) (status : ℕ) → status_of e ≡ status → 3 < status → status < 12 → IsRefusing e
 refusing_at e status is above below = record {
   not_words = λ x. absurd (omega (arith, x, is, above, below));
   not_input = λ x. absurd (omega (arith, x, is, above, below));
@@ -51,7 +52,7 @@ refusing_at e status is above below = record {
 }
 
 -- a refusal for the certificate or for the keepers
-pub refusing_past : (e : Ended) (status : ℕ) → e.status ≡ status → 14 < status → status < 17 → IsRefusing e
+pub refusing_past : (e : Outcome) (status : ℕ) → status_of e ≡ status → 14 < status → status < 17 → IsRefusing e
 refusing_past e status is above below = record {
   not_words = λ x. absurd (omega (arith, x, is, above, below));
   not_input = λ x. absurd (omega (arith, x, is, above, below));
@@ -62,7 +63,7 @@ refusing_past e status is above below = record {
 }
 
 -- a refusal for the source
-pub refusing_above : (e : Ended) (status : ℕ) → e.status ≡ status → 17 < status → IsRefusing e
+pub refusing_above : (e : Outcome) (status : ℕ) → status_of e ≡ status → 17 < status → IsRefusing e
 refusing_above e status is above = record {
   not_words = λ x. absurd (omega (arith, x, is, above));
   not_input = λ x. absurd (omega (arith, x, is, above));
@@ -135,7 +136,7 @@ pub text_fault_is_other : (names : List (List ℕ)) (bytes : List ℕ) (f : Faul
 text_fault_is_other names bytes f h e = let P : Fault → Type 0 = λ x. HasFirstFault names bytes x in subst P e h
 
 -- a text that isn't read has a fault, or memory ran out
-pub text_refused : (names : List (List ℕ)) (bytes : List ℕ) (f : Fault) (e : Ended) → (f ≢ text.Memory → HasFirstFault names bytes f) → e ≡ bad_text f → IsRefusal (HasFirstFault names bytes) bad_text e
+pub text_refused : (names : List (List ℕ)) (bytes : List ℕ) (f : Fault) (e : Outcome) → (f ≢ text.Memory → HasFirstFault names bytes f) → e ≡ bad_text f → IsRefusal (HasFirstFault names bytes) bad_text e
 text_refused names bytes text.Memory e h is = inl is
 text_refused names bytes (text.At rule line column) e h is = inr (text.At rule line column, h (λ same. absurd cc), is)
 
@@ -147,7 +148,7 @@ source_fault_is_other source f (inl first) e = absurd (cc (first.is, e))
 source_fault_is_other source f (inr empty) e = absurd (cc (empty.1, e))
 
 -- a source that isn't assembled has a fault, or memory ran out
-pub source_refused : (source : List ℕ) (f : Fault) (e : Ended) → (f ≢ text.Memory → HasFault source f) → e ≡ bad_source f → IsRefusal (HasFault source) bad_source e
+pub source_refused : (source : List ℕ) (f : Fault) (e : Outcome) → (f ≢ text.Memory → HasFault source f) → e ≡ bad_source f → IsRefusal (HasFault source) bad_source e
 source_refused source text.Memory e h is = inl is
 source_refused source (text.At rule line column) e h is = inr (text.At rule line column, h (λ same. absurd cc), is)
 
@@ -155,7 +156,7 @@ pub script_fault_is_other : (steps : ℕ) (source : List ℕ) (f : Fault) → Sc
 script_fault_is_other steps source f h e = let P : Fault → Type 0 = λ x. ScriptFirst steps source x in subst P e h
 
 -- a script that isn't read has a fault, or memory ran out
-pub script_refused : (steps : ℕ) (source : List ℕ) (f : Fault) (e : Ended) → (f ≢ text.Memory → ScriptFirst steps source f) → e ≡ bad_script f → IsRefusal (ScriptFirst steps source) bad_script e
+pub script_refused : (steps : ℕ) (source : List ℕ) (f : Fault) (e : Outcome) → (f ≢ text.Memory → ScriptFirst steps source f) → e ≡ bad_script f → IsRefusal (ScriptFirst steps source) bad_script e
 script_refused steps source text.Memory e h is = inl is
 script_refused steps source (text.At rule line column) e h is = inr (text.At rule line column, h (λ same. absurd cc), is)
 
@@ -164,7 +165,7 @@ memory_by_number : (f : ElfFault) → number_of f ≡ 10 → f ≡ program.Memor
 memory_by_number program.Memory e = refl
 memory_by_number f e = absurd (omega (arith, e))
 
-pub program_refused : (raw : Bool) (stack : ℕ) (bytes : List ℕ) (f : ElfFault) (e : Ended) → (f ≢ program.Memory → HasProgramFault raw stack bytes f) → e ≡ bad_program f → IsRefusal (HasProgramFault raw stack bytes) bad_program e
+pub program_refused : (raw : Bool) (stack : ℕ) (bytes : List ℕ) (f : ElfFault) (e : Outcome) → (f ≢ program.Memory → HasProgramFault raw stack bytes f) → e ≡ bad_program f → IsRefusal (HasProgramFault raw stack bytes) bad_program e
 program_refused raw stack bytes f e h is =
     elim (cases_order (number_of f) 10) [
       | inl ten ↦ inl (is ∙ ap bad_program (memory_by_number f ten))
@@ -172,7 +173,7 @@ program_refused raw stack bytes f e h is =
     ]
 
 -- recorded input that isn't read has a fault, or memory ran out
-pub journal_refused : (bytes : Option (List ℕ)) (f : JournalFault) (e : Ended) → (f ≢ journal.Memory → HasJournalFault bytes f) → e ≡ bad_journal f → IsRefusal (HasJournalFault bytes) bad_journal e
+pub journal_refused : (bytes : Option (List ℕ)) (f : JournalFault) (e : Outcome) → (f ≢ journal.Memory → HasJournalFault bytes f) → e ≡ bad_journal f → IsRefusal (HasJournalFault bytes) bad_journal e
 journal_refused bytes journal.Memory e h is = inl is
 journal_refused bytes journal.Magic e h is = inr (journal.Magic, h (λ same. absurd cc), is)
 journal_refused bytes journal.Version e h is = inr (journal.Version, h (λ same. absurd cc), is)

@@ -18,7 +18,7 @@ use Rattle.disk_gen.specs.Plans.{HasPeriodicPlan}
 use Rattle.disk_gen.proofs.PeriodicValidity.{periodic_valid}
 use Rattle.disk_gen.proofs.Lengths.{periodic_counted}
 use Rattle.requests.specs.Request.{Choice, says_raw, stack_pages, unit_count}
-use Rattle.requests.specs.Ending.{bad_book, bad_program, bad_journal}
+use Rattle.endings.specs.Outcomes.{bad_book, bad_program, bad_journal}
 use Rattle.reversal.specs.Job.{Job, perform, write}
 use Rattle.reversal.specs.Course.{Shown}
 use Rattle.reversal.specs.Deeds.{bytes_of}

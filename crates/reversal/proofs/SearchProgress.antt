@@ -6,8 +6,8 @@ use Rattle.rv_machine.specs.MachineState.{MachineState}
 use Rattle.segment_sweep.specs.LastMatch.{Found}
 use Rattle.segment_sweep.specs.MarkedRun.{last_start}
 use Rattle.reverse_runner.specs.KeepersSeen.{Calls, Called, CalledBetween}
-use Rattle.requests.specs.declared.ended.Ended.{Ended}
-use Rattle.requests.specs.Ending.{no_memory, done, stopped}
+use Rattle.endings.specs.declared.outcome.Outcome.{Outcome}
+use Rattle.endings.specs.Outcomes.{no_memory, done, stopped}
 use Rattle.reversal.specs.Output.{Adds}
 use Rattle.reversal.specs.Moment.{Moment, KeepersAreQuiet, NothingFails, SinkFails}
 use Rattle.reversal.specs.Deeds.{no_calls, writing, Did}
@@ -87,10 +87,10 @@ module _ (first : MachineState) (journal : List (List ℕ)) (steps workers : ℕ
           (found answer, (tt, inr (inl (1, refl, record { until = until; answered = is; held = tt; fails = fails }))))
 
       -- the whole of the answer was written, or a part
-      pub seek_told : (e : Ended) → ((e ≡ done) × Tells a.told c.told (Adds (answer_text answer)) × (c.faults ≡ a.faults)) ⊎ ((e ≡ stopped 0) × Tells a.told c.told (AddsPrefix (answer_text answer)) × Rose a.faults c.faults) →
+      pub seek_told : (e : Outcome) → ((e ≡ done) × Tells a.told c.told (Adds (answer_text answer)) × (c.faults ≡ a.faults)) ⊎ ((e ≡ stopped 0) × Tells a.told c.told (AddsPrefix (answer_text answer)) × Rose a.faults c.faults) →
           KeepersAreQuiet a c → WorksBy course e a c
       seek_told e ends keepers =
-          let E : Ended → Type 0 = λ x. WorksBy course x a c in
+          let E : Outcome → Type 0 = λ x. WorksBy course x a c in
           elim ends [
             | inl whole ↦ subst E (sym whole.0) (inl (told_whole whole.1 (record { sink = whole.2; keepers = keepers })))
             | inr part ↦ subst E (sym part.0) (inl (told_part part.1 (record { sink = part.2; keepers = keepers })))

@@ -1,12 +1,12 @@
 -- The table of each command is sound.
-use Rattle.std.proofs.Common.{◌≡◌, ℕ, ◌++◌, Bool, true, List, [], ◌∷◌, length, Option, None, Some, refl, sym, ◌∙◌, ap, subst, arith, ◌*◌}
+use Rattle.std.proofs.Common.{◌≡◌, ℕ, ◌++◌, Bool, true, List, length, Option, None, Some, refl, sym, ◌∙◌, ap, subst, arith, ◌*◌}
 use Rattle.plan_types.specs.declared.action.Action.{Action}
 use Rattle.level_book.specs.BookCosts.{BookCosts, slots_of, names_of, room}
 use Rattle.level_book.specs.BookFaults.{IsBookText}
 use Rattle.level_book.specs.Valid.{Valid}
 use Rattle.action_text.specs.ScheduleText.{IsSchedule}
 use Rattle.requests.specs.Request.{Choice, says_raw, stack_pages, unit_count, Command, run, plan, plan_periodic, check, certify, cost, ask, find, asm, disasm, console, demo, worker_count}
-use Rattle.requests.specs.Ending.{bad_program, bad_journal, bad_book, bad_text, bad_certificate, bad_source, bad_script, no_plan}
+use Rattle.endings.specs.Outcomes.{bad_program, bad_journal, bad_book, bad_text, bad_certificate, bad_source, bad_script, no_plan}
 use Rattle.revolve_gen.specs.RevolveList.{revolve_list}
 use Rattle.revolve_gen.proofs.Books.{book_right}
 use Rattle.multistage_gen.proofs.PlanUniqueness.{plans_unique}
@@ -24,7 +24,7 @@ use Rattle.reversal.specs.Demo as demonstration
 use Rattle.disk_gen.proofs.DiskUniqueness.{disk_plan_unique}
 use Rattle.reversal.specs.Job.{Run, Job, perform, ask as ask_job, write, demonstrate}
 use Rattle.reversal.specs.Table.{accept}
-use Rattle.reversal.specs.InputMeaning.{HasBookFault, IsStartOf, HasProgramFault, AreItemsOf, HasJournalFault, over_run, no_table, over_bytes, in_units}
+use Rattle.reversal.specs.InputMeaning.{HasBookFault, IsStartOf, HasProgramFault, AreItemsOf, HasJournalFault, over_run, schedule_text, over_loaded, in_units}
 use Rattle.reversal.specs.Decision.{table_of}
 use Rattle.reversal.proofs.Refusals.{book_one, book_fault_one, book_excludes, start_one, program_fault_one, start_excludes, items_one, journal_fault_one, items_exclude, list_one, text_fault_one, list_excludes, IsRefusing, refusing_at, program_refuses, journal_refuses, book_refuses, text_refuses, program_fault_is_other, journal_fault_is_other, text_fault_is_other, certificate_one, certificate_fault_one, certificate_excludes, certificate_refuses, certificate_fault_is_other, source_one, source_fault_one, source_excludes, source_refuses, source_fault_is_other, script_one, script_fault_one, script_excludes, script_refuses, script_fault_is_other}
 use Rattle.cert_text.specs.Meaning.{IsCertificateText}
@@ -47,7 +47,8 @@ use Rattle.reversal.specs.CommandCertify.{certify_table}
 use Rattle.reversal.specs.CommandDemo.{demo_table}
 use Rattle.reversal.proofs.Tables.{IsMet, asks, performs, seeks, writes, moves, shows, IsRead, IsLast, IsSound}
 use Rattle.requests.specs.Bounds.{IsWithin}
-use Rattle.requests.specs.Operands.{Schedule, by_name, made, question_bound}
+use Rattle.requests.specs.Operands.{Schedule, by_name, question_bound}
+use Rattle.requests.specs.Loaded.{Loaded}
 use Rattle.rv_machine.specs.MachineState.{MachineState}
 
 -- ---- lines that commands share
@@ -253,41 +254,22 @@ console_sound options steps program journal book script counts = (
   ),
 )
 
-none_sound : IsSound no_table
-none_sound = record { one = λ c d x y. absurd x; job = λ d x. absurd x }
+over_loaded_sound : (make : Run → Job) (options : List Choice) (schedule : Schedule) (steps : ℕ) (l : Loaded) (slots : List ℕ) →
+    ((run : Run) → run.steps ≡ steps → run.unit ≡ unit_count options → Valid run.steps run.slots run.list → IsMet (make run)) → IsSound (over_loaded make options schedule steps l slots)
+over_loaded_sound make options schedule steps l slots met = over_run_sound make options steps l.program l.journal l.book (schedule_text schedule l) slots met
 
-over_bytes_sound : (make : Run → Job) (options : List Choice) (schedule : Schedule) (steps : ℕ) (bytes : List (List ℕ)) (slots : List ℕ) →
-    ((run : Run) → run.steps ≡ steps → run.unit ≡ unit_count options → Valid run.steps run.slots run.list → IsMet (make run)) → IsSound (over_bytes make options schedule steps bytes slots)
-over_bytes_sound make options (by_name _) steps (program ∷ book ∷ schedule ∷ []) slots met = over_run_sound make options steps program None book (Some schedule) slots met
-over_bytes_sound make options (by_name _) steps (program ∷ journal ∷ book ∷ schedule ∷ []) slots met = over_run_sound make options steps program (Some journal) book (Some schedule) slots met
-over_bytes_sound make options made steps (program ∷ book ∷ []) slots met = over_run_sound make options steps program None book None slots met
-over_bytes_sound make options made steps (program ∷ journal ∷ book ∷ []) slots met = over_run_sound make options steps program (Some journal) book None slots met
-over_bytes_sound make options schedule steps other slots met = none_sound
-
-pub tables_sound : (options : List Choice) (command : Command) (bytes : List (List ℕ)) (slots : List ℕ) → IsSound (table_of options command bytes slots)
-tables_sound options (run r) bytes slots = over_bytes_sound perform options r.schedule r.run.steps bytes slots (λ run steps unit valid. performs run valid refl)
-tables_sound options (ask r) bytes slots =
-    λ within. over_bytes_sound (ask_job r.question) options (by_name r.schedule) r.run.steps bytes slots (λ run steps unit valid.
+pub tables_sound : (options : List Choice) (command : Command) (l : Loaded) (slots : List ℕ) → IsSound (table_of options command l slots)
+tables_sound options (run r) l slots = over_loaded_sound perform options r.schedule r.run.steps l slots (λ run steps unit valid. performs run valid refl)
+tables_sound options (ask r) l slots =
+    λ within. over_loaded_sound (ask_job r.question) options (by_name r.schedule) r.run.steps l slots (λ run steps unit valid.
     asks r.question run (subst (λ n. IsWithin (question_bound n r.question)) (sym (λ i. unit i * steps i)) within) valid refl)
-tables_sound options (find r) (program ∷ []) slots = find_sound options r.steps r.digest program None
-tables_sound options (find r) (program ∷ journal ∷ []) slots = find_sound options r.steps r.digest program (Some journal)
-tables_sound options (find r) other slots = none_sound
-tables_sound options (cost r) (book ∷ schedule ∷ []) slots = cost_sound r.steps book schedule
-tables_sound options (cost r) other slots = none_sound
-tables_sound options (plan r) (book ∷ []) slots = plan_sound r.kind r.steps book
-tables_sound options (plan r) other slots = none_sound
-tables_sound options (plan_periodic r) (book ∷ []) slots = plan_periodic_sound r.steps r.period book
-tables_sound options (plan_periodic r) other slots = none_sound
-tables_sound options (check r) (book ∷ schedule ∷ []) slots = check_sound r.steps book schedule
-tables_sound options (check r) other slots = none_sound
-tables_sound options (certify r) (book ∷ schedule ∷ certificate ∷ []) slots = certify_sound r.steps book schedule certificate
-tables_sound options (certify r) other slots = none_sound
-tables_sound options (asm r) (source ∷ []) slots = asm_sound source
-tables_sound options (asm r) other slots = none_sound
-tables_sound options (disasm r) (program ∷ []) slots = disasm_sound program
-tables_sound options (disasm r) other slots = none_sound
-tables_sound options (console r) (program ∷ book ∷ script ∷ []) slots = console_sound options r.steps program None book script slots
-tables_sound options (console r) (program ∷ journal ∷ book ∷ script ∷ []) slots = console_sound options r.steps program (Some journal) book script slots
-tables_sound options (console r) other slots = none_sound
-tables_sound options (demo r) [] slots = demo_sound r.number r.steps r.slots
-tables_sound options (demo r) other slots = none_sound
+tables_sound options (find r) l slots = find_sound options r.steps r.digest l.program l.journal
+tables_sound options (cost r) l slots = cost_sound r.steps l.book l.schedule
+tables_sound options (plan r) l slots = plan_sound r.kind r.steps l.book
+tables_sound options (plan_periodic r) l slots = plan_periodic_sound r.steps r.period l.book
+tables_sound options (check r) l slots = check_sound r.steps l.book l.schedule
+tables_sound options (certify r) l slots = certify_sound r.steps l.book l.schedule l.certificate
+tables_sound options (asm r) l slots = asm_sound l.source
+tables_sound options (disasm r) l slots = disasm_sound l.words
+tables_sound options (console r) l slots = console_sound options r.steps l.program l.journal l.book l.script slots
+tables_sound options (demo r) l slots = demo_sound r.number r.steps r.slots

@@ -7,11 +7,11 @@ use Rattle.level_book.specs.BookCosts.{BookCosts, room}
 use Rattle.level_book.specs.Valid.{Valid}
 use Rattle.rv_machine.specs.MachineState.{MachineState}
 use Rattle.schedule_rules.proofs.RuleLaws.{one_break}
-use Rattle.requests.specs.declared.ended.Ended.{Ended}
+use Rattle.endings.specs.declared.outcome.Outcome.{Outcome}
 use Rattle.requests.specs.declared.question.Question.{Question}
 use Rattle.requests.specs.Operands.{question_bound}
 use Rattle.requests.specs.Bounds.{IsWithin}
-use Rattle.requests.specs.Ending.{invalid, out_of_range}
+use Rattle.endings.specs.Outcomes.{invalid, out_of_range}
 use Rattle.reverse_console.specs.declared.order.Order.{Order}
 use Rattle.reverse_console.specs.Marks.{MarkPlan}
 use Rattle.reversal.specs.Job.{Run, last_of, Job, perform, ask as ask_job, seek, write, console, demonstrate}
@@ -33,12 +33,12 @@ pub data IsMet (job : Job) : Type 0 where
 
 -- a refusal with a status of its own, or a job that may be accepted
 abbrev pub IsOfTable : Decision → Type 0
-IsOfTable d = ((e : Ended) × ((d ≡ refuse e) × IsRefusing e)) ⊎ ((job : Job) × ((d ≡ accept job) × IsMet job))
+IsOfTable d = ((e : Outcome) × ((d ≡ refuse e) × IsRefusing e)) ⊎ ((job : Job) × ((d ≡ accept job) × IsMet job))
 
 -- ---- what is to be shown of a table
 
 -- bytes say one thing at most, or have one fault, and not both, and are refused by it
-pub record IsRead {A F : Type 0} (IsText : A → Type 0) (HasFault : F → Type 0) (ended : F → Ended) : Type 0 where
+pub record IsRead {A F : Type 0} (IsText : A → Type 0) (HasFault : F → Type 0) (ended : F → Outcome) : Type 0 where
   pub one : IsOne IsText
   pub fault : IsOne HasFault
   pub excludes : Excludes IsText HasFault
@@ -84,10 +84,10 @@ tabulate_one steps b c d Below Other one h g = elim h [
 ]
 
 tabulate_comes_to : (steps : ℕ) (b : BookCosts) (d : Decision) (Below : Type 0) → Tabulate steps b d Below →
-    ((e : Ended) × ((d ≡ refuse e) × IsRefusing e)) ⊎ (((k : ℕ) → k < length b.levels → room b k steps ≤ 64) × Below)
+    ((e : Outcome) × ((d ≡ refuse e) × IsRefusing e)) ⊎ (((k : ℕ) → k < length b.levels → room b k steps ≤ 64) × Below)
 tabulate_comes_to steps b d Below h = elim h [ inl x ↦ inl (_, (x.1.1, refusing_at _ 10 refl (omega arith) (omega arith))) | inr y ↦ inr y ]
 
-judge_comes_to : (steps : ℕ) (slots : List Slots) (list : List Action) (d : Decision) (Below : Type 0) → Judge steps slots list d Below → ((e : Ended) × ((d ≡ refuse e) × IsRefusing e)) ⊎ (Valid steps slots list × Below)
+judge_comes_to : (steps : ℕ) (slots : List Slots) (list : List Action) (d : Decision) (Below : Type 0) → Judge steps slots list d Below → ((e : Outcome) × ((d ≡ refuse e) × IsRefusing e)) ⊎ (Valid steps slots list × Below)
 judge_comes_to steps slots list d Below h = elim h [ inl x ↦ inl (_, (x.5, refusing_at _ 8 refl (omega arith) (omega arith))) | inr y ↦ inr y ]
 
 -- ---- tables

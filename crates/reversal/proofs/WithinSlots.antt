@@ -1,5 +1,5 @@
 -- At every configuration on the way of a run each level is within its slots.
-use Rattle.std.proofs.Common.{◌≡◌, ℕ, zero, suc, ◌+◌, ◌<◌, ◌≤◌, List, [], ◌∷◌, length, take, slice_get, Option, Some, None, IsSome, refl, sym, ◌∙◌, ap, subst, arith}
+use Rattle.std.proofs.Common.{◌≡◌, ℕ, zero, suc, ◌+◌, ◌<◌, ◌≤◌, List, [], ◌∷◌, length, take, slice_get, Option, Some, IsSome, refl, sym, subst, arith}
 use Rattle.std.specs.FinMap as finmap
 use Rattle.std.proofs.lemmas.List.{length-take}
 use Rattle.std.proofs.lemmas.Option.{none-some}
@@ -21,7 +21,7 @@ use Rattle.reversal.specs.RunStart.{IsGoneOver}
 use Rattle.reversal.specs.Deeds.{States}
 use Rattle.reversal.specs.RunTrace.{GoesOver, IsWithinSlots, held_at_start}
 use Rattle.reversal.specs.Job.{Run}
-use Rattle.reversal.specs.Moment.{Moment, AllEmpty}
+use Rattle.reversal.specs.Moment.{Moment}
 
 -- what a front of a list has, the list has
 of_front : {X : Type 0} (xs : List X) (m i : ℕ) (x : X) → slice_get (take m xs) i ≡ Some x → slice_get xs i ≡ Some x

@@ -6,7 +6,7 @@ use Rattle.elf_load.specs.Raw.{AreWords}
 use Rattle.elf_load.specs.declared.fault.ElfFault.TheVariants.{RawLength}
 use Rattle.rv_asm.specs.Source.{Means, HasFault}
 use Rattle.rv_asm.specs.Laws.{AreCanonical}
-use Rattle.requests.specs.Ending.{bad_source, bad_program}
+use Rattle.endings.specs.Outcomes.{bad_source, bad_program}
 use Rattle.reversal.specs.Job.{write}
 use Rattle.reversal.specs.Plans.{in_pieces}
 use Rattle.reversal.specs.Table.{Decision, Table, Decided, accept, reads, needs, does, ends}

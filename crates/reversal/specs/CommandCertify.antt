@@ -5,7 +5,7 @@ use Rattle.bound_cert.specs.declared.verdict.Class.TheVariants as class
 use Rattle.cert_text.specs.Meaning.{IsCertificateText}
 use Rattle.cert_text.specs.Faults.{HasFirstFault as CertificateFirst}
 use Rattle.bound_cert.specs.Acceptance.{class_of}
-use Rattle.requests.specs.Ending.{bad_certificate}
+use Rattle.endings.specs.Outcomes.{bad_certificate}
 use Rattle.reversal.specs.Job.{write}
 use Rattle.reversal.specs.Table.{Decision, Table, does, Decided, reads, weighs}
 use Rattle.reversal.specs.InputMeaning.{over_valid}

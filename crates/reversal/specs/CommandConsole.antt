@@ -1,5 +1,5 @@
 -- `console`: the orders of a script move about in a run, using images that are kept at its marks.
-use Rattle.std.specs.Prelude.{◌≡◌, ◌⊎◌, ℕ, ◌+◌, ◌-◌, ◌*◌, ◌/◌, ◌<◌, ◌≤◌, max, List, [], ◌∷◌, length, Option, Some, IsSome}
+use Rattle.std.specs.Prelude.{◌≡◌, ◌⊎◌, ℕ, ◌+◌, ◌-◌, ◌*◌, ◌/◌, ◌<◌, ◌≤◌, max, List, [], ◌∷◌, length, Option, Some}
 use Rattle.keepers.specs.Claims.{Images, Tells}
 use Rattle.level_book.specs.BookCosts.{BookCosts, slots_of, total_room}
 use Rattle.rv_machine.specs.MachineState.{MachineState}
@@ -14,7 +14,7 @@ use Rattle.reverse_console.specs.ScriptFaults.{HasFirstFault}
 use Rattle.reverse_console.specs.StateSources.{Source, IsAnswerSeen, IsMarkDamaged}
 use Rattle.reverse_console.specs.MarksOfRun.{MarksTell, KeepsMarks}
 use Rattle.requests.specs.Request.{Choice}
-use Rattle.requests.specs.Ending.{no_plan, bad_script}
+use Rattle.endings.specs.Outcomes.{no_plan, bad_script}
 use Rattle.reversal.specs.Job.{console}
 use Rattle.reversal.specs.Moment.{Moment}
 use Rattle.reversal.specs.Output.{Adds}

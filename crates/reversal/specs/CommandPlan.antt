@@ -11,7 +11,7 @@ use Rattle.disk_gen.specs.DiskRevolveList.{IsDiskWritten}
 use Rattle.cert_text.specs.declared.certificate.Certificate.TheVariants as certified
 use Rattle.cert_text.specs.Canonical as certificate_text
 use Rattle.bound_cert.specs.Thresholds.{IsThresholdOf}
-use Rattle.requests.specs.Ending.{out_of_range, no_plan}
+use Rattle.endings.specs.Outcomes.{out_of_range, no_plan}
 use Rattle.multistage_gen.specs.MultistageList.{IsMultistageList}
 use Rattle.hrevolve_gen.specs.Plans as nested
 use Rattle.hrevolve_gen.specs.HRevolveList.{IsWritten}

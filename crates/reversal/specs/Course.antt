@@ -4,8 +4,8 @@ use Rattle.std.specs.Prelude.{◌≡◌, ◌⊎◌, ℕ, ◌+◌, ◌<◌, ◌�
 use Rattle.keepers.specs.Counts.{raised}
 use Rattle.keepers.specs.Claims.{Tells, AddsPrefix}
 use Rattle.reverse_runner.specs.KeepersSeen.{Called, CalledBetween}
-use Rattle.requests.specs.declared.ended.Ended.{Ended}
-use Rattle.requests.specs.Ending.{done, stopped, keeper_failed, damaged}
+use Rattle.endings.specs.declared.outcome.Outcome.{Outcome}
+use Rattle.endings.specs.Outcomes.{done, stopped, keeper_failed, damaged}
 use Rattle.reversal.specs.Output.{Adds}
 use Rattle.reversal.specs.Moment.{Moment, NothingFails, SinkFails, KeeperFails, AllTell}
 use Rattle.reversal.specs.Deeds.{Deed, States, bytes_of, bytes_written, writes_made, steps_made, calls_made, Did, CallsLevel}
@@ -117,7 +117,7 @@ pub record Halts (course : Course) (shown : Shown) (performed : ℕ) (old new : 
 
 -- How a job ends, and what it leaves. It was done, or it stopped in the next deed: the sink failed, a keeper failed, or
 -- an image was damaged. Places count from 1.
-abbrev pub Ends : Course → Shown → Ended → Moment → Moment → Type 0
+abbrev pub Ends : Course → Shown → Outcome → Moment → Moment → Type 0
 Ends course shown e old new =
     ((e ≡ done) × Done course shown old new)
     ⊎ ((performed : ℕ) × (e ≡ stopped (course.write_place (performed + 1))) × Stops course shown performed old new)
@@ -126,7 +126,7 @@ Ends course shown e old new =
     × DamagedAt course shown performed level put got old new)
 
 -- how a job ends, by what it shows
-abbrev pub EndsShowing : Course → Ended → Moment → Moment → Type 0
+abbrev pub EndsShowing : Course → Outcome → Moment → Moment → Type 0
 EndsShowing course e old new = (shown : Shown) × (course.shows shown old × Ends course shown e old new)
 
 -- memory ran out in one of its deeds

@@ -1,20 +1,23 @@
 -- The decision on a request by its inputs: one refusal with its ending, or one job. Also how a call ends by the
 -- decision. A command is a row of `table_of`, and a job one of `course_of`. A table reads like the order of refusals.
 -- The first line that isn't met decides, and the last line is the job.
-use Rattle.std.specs.Prelude.{◌≡◌, ◌⊎◌, ℕ, ◌+◌, ◌*◌, ◌≤◌, ◌++◌, slice_get, List, [], ◌∷◌, length, map, take, Option, None, Some}
+use Rattle.std.specs.Prelude.{◌≡◌, ◌⊎◌, ℕ, ◌+◌, ◌*◌, ◌≤◌, ◌++◌, slice_get, List, [], ◌∷◌, length, map, take, Option, Some}
 use Rattle.keepers.specs.Claims.{Files, Location, WhereTold}
 use Rattle.reverse_runner.specs.Rooms.{image_room, AreRoomy}
-use Rattle.requests.specs.declared.ended.Ended.{Ended}
+use Rattle.endings.specs.declared.outcome.Outcome.{Outcome}
+use Rattle.endings.specs.declared.ended.Ended.{Ended}
+use Rattle.endings.specs.Endings.{ended_of}
 use Rattle.requests.specs.Request.{Choice, unit_count, plan, plan_periodic, certify, cost, find, asm, disasm, console as console_command, demo, Command, run, check, Request, ask as ask_command}
-use Rattle.requests.specs.Ending.{unreadable, too_long}
-use Rattle.requests.specs.Operands.{by_name, question_bound}
+use Rattle.endings.specs.Outcomes.{unreadable, too_long}
+use Rattle.requests.specs.Operands.{by_name, question_bound, limit_of}
+use Rattle.requests.specs.Loaded.{Loaded, loaded_of}
 use Rattle.requests.specs.Bounds.{IsWithin}
 use Rattle.requests.specs.Inputs.{Input, inputs_of, names, contents, asked_count}
 use Rattle.reversal.specs.Job.{ask, Job, perform, seek, write, console, demonstrate}
 use Rattle.reversal.specs.Moment.{Moment}
 use Rattle.reversal.specs.Course.{Course, EndsShowing}
 use Rattle.reversal.specs.Table.{Decision, Need, Table, Decided, refuse, accept, grants}
-use Rattle.reversal.specs.InputMeaning.{no_table, over_bytes}
+use Rattle.reversal.specs.InputMeaning.{over_loaded}
 use Rattle.reversal.specs.Texts.{texts_course}
 use Rattle.reversal.specs.CommandRun.{performing}
 use Rattle.reversal.specs.CommandAsk.{asking}
@@ -32,46 +35,33 @@ use Rattle.reversal.specs.CommandFind.{find_table, searching}
 abbrev pub Take : ℕ → List Input → List (Option (List ℕ)) → Decision → (List (List ℕ) → Type 0) → Type 0
 Take place [] given d below = below []
 Take place (i ∷ is) (Some bytes ∷ given) d below =
-    Need (length bytes ≤ i.limit) (too_long place i.limit) d (Take (place + 1) is given d (λ others. below (bytes ∷ others)))
+    Need (length bytes ≤ limit_of i.kind) (too_long place (limit_of i.kind)) d (Take (place + 1) is given d (λ others. below (bytes ∷ others)))
 Take place (i ∷ is) given d below = d ≡ refuse (unreadable place)
 
--- The table of a command, by the bytes of its inputs, in order, and the keepers' slots. The number of a question is
--- within its bounds.
-abbrev pub table_of : List Choice → Command → List (List ℕ) → List ℕ → Table
-table_of options (run c) bytes slots = over_bytes perform options c.schedule c.run.steps bytes slots
-table_of options (plan c) (book ∷ []) slots = plan_table c.kind c.steps book
-table_of options (plan c) _ slots = no_table
-table_of options (plan_periodic c) (book ∷ []) slots = plan_periodic_table c.steps c.period book
-table_of options (plan_periodic c) _ slots = no_table
-table_of options (check c) (book ∷ schedule ∷ []) slots = check_table c.steps book schedule
-table_of options (check c) _ slots = no_table
-table_of options (certify c) (book ∷ schedule ∷ certificate ∷ []) slots = certify_table c.steps book schedule certificate
-table_of options (certify c) _ slots = no_table
-table_of options (cost c) (book ∷ schedule ∷ []) slots = cost_table c.steps book schedule
-table_of options (cost c) _ slots = no_table
-table_of options (ask_command c) bytes slots =
+-- The table of a command, by what was read for it and the keepers' slots. The number of a question is within its bounds.
+abbrev pub table_of : List Choice → Command → Loaded → List ℕ → Table
+table_of options (run c) l slots = over_loaded perform options c.schedule c.run.steps l slots
+table_of options (plan c) l slots = plan_table c.kind c.steps l.book
+table_of options (plan_periodic c) l slots = plan_periodic_table c.steps c.period l.book
+table_of options (check c) l slots = check_table c.steps l.book l.schedule
+table_of options (certify c) l slots = certify_table c.steps l.book l.schedule l.certificate
+table_of options (cost c) l slots = cost_table c.steps l.book l.schedule
+table_of options (ask_command c) l slots =
     grants (IsWithin (question_bound (unit_count options * c.run.steps) c.question))
-    (over_bytes (ask c.question) options (by_name c.schedule) c.run.steps bytes slots)
-table_of options (find c) (program ∷ []) slots = find_table options c.steps c.digest program None
-table_of options (find c) (program ∷ journal ∷ []) slots = find_table options c.steps c.digest program (Some journal)
-table_of options (find c) _ slots = no_table
-table_of options (asm c) (source ∷ []) slots = asm_table source
-table_of options (asm c) _ slots = no_table
-table_of options (disasm c) (program ∷ []) slots = disasm_table program
-table_of options (disasm c) _ slots = no_table
-table_of options (console_command c) (program ∷ book ∷ script ∷ []) slots = console_table options c.steps program None book script slots
-table_of options (console_command c) (program ∷ journal ∷ book ∷ script ∷ []) slots = console_table options c.steps program (Some journal) book script slots
-table_of options (console_command c) _ slots = no_table
-table_of options (demo c) [] slots = demo_table c.number c.steps c.slots
-table_of options (demo c) _ slots = no_table
+    (over_loaded (ask c.question) options (by_name c.schedule) c.run.steps l slots)
+table_of options (find c) l slots = find_table options c.steps c.digest l.program l.journal
+table_of options (asm c) l slots = asm_table l.source
+table_of options (disasm c) l slots = disasm_table l.words
+table_of options (console_command c) l slots = console_table options c.steps l.program l.journal l.book l.script slots
+table_of options (demo c) l slots = demo_table c.number c.steps c.slots
 
--- the decision on a request by the bytes of its inputs
-abbrev pub DecidesBytes : List Choice → Command → List (List ℕ) → List ℕ → Decision → Type 0
-DecidesBytes options command bytes slots d = Decided (table_of options command bytes slots) d
+-- the decision on a request by what was read for it
+abbrev pub DecidesLoaded : List Choice → Command → Loaded → List ℕ → Decision → Type 0
+DecidesLoaded options command l slots d = Decided (table_of options command l slots) d
 
--- and by what is there under their names
+-- and by what is there under the names of its inputs
 abbrev pub Decides : Request → List (Option (List ℕ)) → List ℕ → Decision → Type 0
-Decides r given slots d = Take 1 (inputs_of r.command) given d (λ bytes. DecidesBytes r.options r.command bytes slots d)
+Decides r given slots d = Take 1 (inputs_of r.command) given d (λ bytes. DecidesLoaded r.options r.command (loaded_of (inputs_of r.command) bytes) slots d)
 
 -- ---- the decision on a call
 
@@ -94,8 +84,8 @@ course_of (demonstrate number first steps slots) = demonstrating number first st
 
 -- how a call ends by a decision: with the refusal's ending, or with that of a job and what it shows
 abbrev pub EndsBy : Decision → Ended → Moment → Moment → Type 0
-EndsBy (refuse refusal) e old new = e ≡ refusal
-EndsBy (accept job) e old new = EndsShowing (course_of job) e old new
+EndsBy (refuse refusal) e old new = e ≡ ended_of refusal
+EndsBy (accept job) e old new = (outcome : Outcome) × (e ≡ ended_of outcome) × EndsShowing (course_of job) outcome old new
 
 -- the keepers are the same: each has the same slots, in the same place
 pub record StayInPlace {K : Type 0} (slots : K → ℕ) (place : K → Location) (old new : List K) : Type 0 where

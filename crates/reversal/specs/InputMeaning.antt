@@ -1,5 +1,5 @@
 -- What bytes mean, and how many tables begin: a book, a program with its recorded input, a schedule.
-use Rattle.std.specs.Prelude.{◌≡◌, ℕ, List, [], ◌∷◌, Option, None, Some}
+use Rattle.std.specs.Prelude.{◌≡◌, ℕ, List, Option, None, Some}
 use Rattle.plan_types.specs.declared.action.Action.{Action}
 use Rattle.level_book.specs.declared.book.Slots.{Slots}
 use Rattle.level_book.specs.declared.fault.BookFault.{BookFault}
@@ -13,10 +13,11 @@ pub use Rattle.elf_load.specs.Start.{IsStartOf, HasProgramFault}
 pub use Rattle.input_journal.specs.RecordedInput.{AreItemsOf, HasJournalFault}
 use Rattle.rv_machine.specs.MachineState.{MachineState}
 use Rattle.requests.specs.Operands.{Schedule, by_name, made}
+use Rattle.requests.specs.Loaded.{Loaded}
 use Rattle.requests.specs.Request.{Choice, says_raw, stack_pages, unit_count}
-use Rattle.requests.specs.Ending.{bad_program, bad_journal, bad_book, bad_text}
+use Rattle.endings.specs.Outcomes.{bad_program, bad_journal, bad_book, bad_text}
 use Rattle.reversal.specs.Job.{Run, Job}
-use Rattle.reversal.specs.Table.{Decision, Table, does, plans, Decided, reads, judges, keeps, ends}
+use Rattle.reversal.specs.Table.{Decision, Table, does, plans, Decided, reads, judges, keeps}
 
 -- ---- what bytes mean, and the faults of other bytes
 
@@ -71,18 +72,11 @@ over_run job options steps program journal book schedule counts =
 abbrev pub DecidesOver : (Run → Job) → List Choice → ℕ → List ℕ → Option (List ℕ) → List ℕ → Option (List ℕ) → List ℕ → Decision → Type 0
 DecidesOver job options steps program journal book schedule counts d = Decided (over_run job options steps program journal book schedule counts) d
 
--- no table: no request has so many inputs
-abbrev pub no_table : Table
-no_table = ends (λ d. ⊥)
+-- the text of a schedule that is read
+abbrev pub schedule_text : Schedule → Loaded → Option (List ℕ)
+schedule_text (by_name name) l = Some l.schedule
+schedule_text made l = None
 
--- what is done over a run, by the bytes of its inputs; recorded input is optional
-abbrev pub over_bytes : (Run → Job) → List Choice → Schedule → ℕ → List (List ℕ) → List ℕ → Table
-over_bytes job options (by_name _) steps (program ∷ book ∷ schedule ∷ []) slots = over_run job options steps program None book (Some schedule) slots
-over_bytes job options (by_name _) steps (program ∷ journal ∷ book ∷ schedule ∷ []) slots =
-    over_run job options steps program (Some journal) book (Some schedule) slots
-over_bytes job options made steps (program ∷ book ∷ []) slots = over_run job options steps program None book None slots
-over_bytes job options made steps (program ∷ journal ∷ book ∷ []) slots = over_run job options steps program (Some journal) book None slots
-over_bytes job options _ steps _ slots = no_table
-
-abbrev pub DecidesOverBytes : (Run → Job) → List Choice → Schedule → ℕ → List (List ℕ) → List ℕ → Decision → Type 0
-DecidesOverBytes job options schedule steps bytes slots d = Decided (over_bytes job options schedule steps bytes slots) d
+-- what is done over a run, by what was read for it
+abbrev pub over_loaded : (Run → Job) → List Choice → Schedule → ℕ → Loaded → List ℕ → Table
+over_loaded job options schedule steps l counts = over_run job options steps l.program l.journal l.book (schedule_text schedule l) counts

@@ -19,7 +19,7 @@ use Rattle.bound_cert.specs.declared.verdict.Reason.{Reason}
 use Rattle.bound_cert.specs.Acceptance.{IsFirstReason}
 use Rattle.revolve_gen.specs.Plans as revolve
 use Rattle.reverse_runner.specs.KeepersSeen.{HaveRoom}
-use Rattle.requests.specs.declared.ended.Ended.{Ended}
+use Rattle.endings.specs.declared.outcome.Outcome.{Outcome}
 use Rattle.reversal.specs.declared.job.Job as in_memory
 use Rattle.reversal.specs.declared.job.Job.TheVariants.{Perform, Ask, Find, Write, Bytes, Report, Plan, List as ListWords, Console, Demonstrate}
 use Rattle.reversal.specs.declared.planning.Plan as plan_in_memory
@@ -47,11 +47,13 @@ use Rattle.reverse_runner.specs.SessionState.{SessionState}
 use Rattle.reversal.specs.Job.{Run, Job, perform, ask, seek, write, console, demonstrate}
 use Rattle.reversal.specs.Moment.{Moment, moment, AllTell}
 use Rattle.reversal.specs.Course.{Course, EndsShowing, HaltsShowing}
-use Rattle.reversal.specs.InputMeaning.{in_units}
+use Rattle.requests.specs.Loaded.{Loaded}
+use Rattle.reversal.specs.InputMeaning.{in_units, DecidesOver}
 use Rattle.reversal.specs.Decision.{course_of, KeepsOthers, HaveRoomsFor}
 use Rattle.reverse_runner.specs.declared.fault.RunFault.{RunFault}
 use Rattle.reverse_runner.specs.declared.fault.RunFault.TheVariants as fault
-use Rattle.requests.specs.Ending.{no_memory, not_least, keeper_failed, damaged, stopped}
+use Rattle.endings.specs.Outcomes.{no_memory, not_least, keeper_failed, damaged, stopped}
+use Rattle.endings.specs.Endings.{status_of}
 
 -- the writes of a certificate, if there is one
 abbrev pub certificate_pieces : Option Certificate → List (List ℕ)
@@ -162,11 +164,22 @@ KeepersHaveRoom (Console m) counts = HaveRoom (max m.run.count 1) (slots_of m.ru
 KeepersHaveRoom (Demonstrate d) counts = Unit {0}
 
 -- A decision: a job that can be done over keepers with these slots, or a refusal. Or memory ran out.
-pub record IsDecided (Decides : Decision → Type 0) (counts : List ℕ) (result : Result in_memory.Job Ended) : Type 0 where
+pub record IsDecided (Decides : Decision → Type 0) (counts : List ℕ) (result : Result in_memory.Job Outcome) : Type 0 where
   pub accepted : IfOk result (λ job. Decides (accept (job_of job)))
   pub can_be_done : IfOk result CanBeDone
   pub room : IfOk result (λ job. KeepersHaveRoom job counts)
   pub refused : IfErr result (λ e. (e ≡ no_memory) ⊎ Decides (refuse e))
+
+-- What a list is performed over, by what was read for a run whose schedule has a name: it can be, whatever the job. Or a
+-- refusal, whatever the job; or memory ran out.
+pub record IsDecidedOver (options : List Choice) (count : ℕ) (l : Loaded) (counts : List ℕ) (result : Result Over Outcome) : Type 0 where
+  pub accepted : IfOk result (λ o. (job : Run → Job) → DecidesOver job options count l.program l.journal l.book (Some l.schedule) counts (accept (job (run_over o))))
+  pub over : IfOk result IsOver
+  pub steps : IfOk result (λ o. o.steps ≡ count)
+  pub unit : IfOk result (λ o. o.unit ≡ unit_count options)
+  pub room : IfOk result (λ o. HaveRoom o.steps (slots_of o.book) counts)
+  pub refused : (job : Run → Job) → IfErr result (λ e. (e ≡ no_memory)
+      ⊎ DecidesOver job options count l.program l.journal l.book (Some l.schedule) counts (refuse e))
 
 -- the options of a run of so many steps are within their bounds
 pub record RunFits (options : List Choice) (count : ℕ) : Type 0 where
@@ -176,40 +189,40 @@ pub record RunFits (options : List Choice) (count : ℕ) : Type 0 where
   pub instructions : unit_count options * count ≤ MOST_STEPS
 
 -- why bytes aren't read: their fault, which ends the call, or a lack of memory
-abbrev pub IsRefusal : {F : Type 0} → (F → Type 0) → (F → Ended) → Ended → Type 0
+abbrev pub IsRefusal : {F : Type 0} → (F → Type 0) → (F → Outcome) → Outcome → Type 0
 IsRefusal {F} HasFault ended e = (e ≡ no_memory) ⊎ ((fault : F) × HasFault fault × (e ≡ ended fault))
 
 -- why a list isn't shown to be least: the first reason against its certificate, or no memory
-abbrev pub IsUnweighed : ℕ → BookCosts → List Action → Certificate → Ended → Type 0
+abbrev pub IsUnweighed : ℕ → BookCosts → List Action → Certificate → Outcome → Type 0
 IsUnweighed steps book list certificate e =
     (e ≡ no_memory) ⊎ ((reason : Reason) × (IsFirstReason list steps book certificate reason × (e ≡ not_least reason)))
 
 -- the job was done, stopped, or ran out of memory, by its course
-abbrev pub WorksBy : Course → Ended → Moment → Moment → Type 0
+abbrev pub WorksBy : Course → Outcome → Moment → Moment → Type 0
 WorksBy course e old new = EndsShowing course e old new ⊎ ((e ≡ no_memory) × HaltsShowing course old new)
 
-abbrev pub Works : Job → Ended → Moment → Moment → Type 0
+abbrev pub Works : Job → Outcome → Moment → Moment → Type 0
 Works job e old new = WorksBy (course_of job) e old new
 
 -- memory ran out before anything was done: a sink, keepers and a count of steps are unchanged
-abbrev pub IsUntouched : {X K : Type 0} → Ended → X → X → K → K → ℕ → ℕ → Type 0
+abbrev pub IsUntouched : {X K : Type 0} → Outcome → X → X → K → K → ℕ → ℕ → Type 0
 IsUntouched e out out' keepers keepers' steps steps' = (e ≡ no_memory) × (out' ≡ out) × (keepers' ≡ keepers) × (steps' ≡ steps)
 
 -- How a job was done: not at all for want of memory, or as its course says. The keepers that it doesn't use are
 -- unchanged. Over keepers with room for its images, memory runs out only before anything else is done.
-pub record Does {X K : Type 0} (writing : sink.Ghosts X) (seen : storage.Ghosts K) (job : Job) (result : Ended)
+pub record Does {X K : Type 0} (writing : sink.Ghosts X) (seen : storage.Ghosts K) (job : Job) (result : Outcome)
     (out out' : X) (keepers keepers' : Vec K) (steps steps' : ℕ) : Type 0 where
   pub works : IsUntouched result out out' keepers keepers' steps steps'
       ⊎ Works job result (moment writing seen out keepers.items steps) (moment writing seen out' keepers'.items steps')
   pub others : KeepsOthers seen.slot_count seen.place (accept job) keepers.items keepers'.items
-  pub roomy : HaveRoomsFor job (rooms_by seen keepers.items) → result.status ≡ 17 → IsUntouched result out out' keepers keepers' steps steps'
+  pub roomy : HaveRoomsFor job (rooms_by seen keepers.items) → status_of result ≡ 17 → IsUntouched result out out' keepers keepers' steps steps'
 
 -- How a job was done that had all of its own memory.
-pub record DoesBegun {X K : Type 0} (writing : sink.Ghosts X) (seen : storage.Ghosts K) (job : Job) (result : Ended)
+pub record DoesBegun {X K : Type 0} (writing : sink.Ghosts X) (seen : storage.Ghosts K) (job : Job) (result : Outcome)
     (out out' : X) (keepers keepers' : List K) (steps steps' : ℕ) : Type 0 where
   pub works : Works job result (moment writing seen out keepers steps) (moment writing seen out' keepers' steps')
   pub others : KeepsOthers seen.slot_count seen.place (accept job) keepers keepers'
-  pub roomy : HaveRoomsFor job (rooms_by seen keepers) → result.status ≢ 17
+  pub roomy : HaveRoomsFor job (rooms_by seen keepers) → status_of result ≢ 17
 
 -- A session is at the start of a run, over which a list is valid. There are keepers with so many slots.
 pub record IsBegun (s : SessionState) (list : List Action) (counts : List ℕ) : Type 0 where
@@ -221,7 +234,7 @@ pub record IsBegun (s : SessionState) (list : List Action) (counts : List ℕ) :
   pub room : HaveRoom s.situation.steps s.situation.slots counts
 
 -- How a call ends if its session refused the action at a place for this fault. A session that has ended refuses none.
-abbrev pub fault_ending : ℕ → RunFault → Ended
+abbrev pub fault_ending : ℕ → RunFault → Outcome
 fault_ending place (fault.Keeper level) = keeper_failed place level
 fault_ending place (fault.Damaged level put got) = damaged place level put got
 fault_ending place fault.Visitor = stopped place

@@ -5,11 +5,11 @@ use Rattle.level_book.specs.BookCosts.{BookCosts, slots_of, room, total_room}
 use Rattle.disk_gen.specs.PeriodicList.{images}
 use Rattle.disk_gen.specs.Plans.{slots_at, HasSlots}
 use Rattle.hrevolve_gen.specs.Plans as nested
-use Rattle.requests.specs.declared.ended.Ended.{Ended}
-use Rattle.requests.specs.Ending.{no_plan}
+use Rattle.endings.specs.declared.outcome.Outcome.{Outcome}
+use Rattle.endings.specs.Outcomes.{no_plan}
 
 -- there is no periodic plan
-abbrev pub IsUnperiodic : ℕ → ℕ → BookCosts → Ended → Type 0
+abbrev pub IsUnperiodic : ℕ → ℕ → BookCosts → Outcome → Type 0
 IsUnperiodic steps period b e =
     ((length b.levels ≡ 2 → ⊥) × (e ≡ no_plan steps (total_room b steps) 2))
     ⊎ (((length b.levels ≡ 2) × ((2 ≤ steps → 2 ≤ period → 1 ≤ room b 0 steps) → ⊥) × (e ≡ no_plan steps (total_room b steps) 1))
@@ -17,11 +17,11 @@ IsUnperiodic steps period b e =
     × (e ≡ no_plan steps (total_room b steps) 4)))
 
 -- there is no plan of DiskRevolve
-abbrev pub IsUndisked : ℕ → BookCosts → Ended → Type 0
+abbrev pub IsUndisked : ℕ → BookCosts → Outcome → Type 0
 IsUndisked steps b e =
     ((length b.levels ≡ 2 → ⊥) × (e ≡ no_plan steps (total_room b steps) 2))
     ⊎ ((length b.levels ≡ 2) × (slice_get (slots_of b) 1 ≡ Some Unlimited → ⊥) × (e ≡ no_plan steps (total_room b steps) 3))
 
 -- there is no plan of H-Revolve
-abbrev pub IsUnnested : ℕ → BookCosts → Ended → Type 0
+abbrev pub IsUnnested : ℕ → BookCosts → Outcome → Type 0
 IsUnnested steps b e = (nested.HasNestedPlan steps b → ⊥) × (e ≡ no_plan steps (total_room b steps) 1)

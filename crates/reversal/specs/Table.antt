@@ -11,22 +11,22 @@ use Rattle.revolve_gen.specs.Plans as revolve
 use Rattle.cert_text.specs.declared.certificate.Certificate.{Certificate}
 use Rattle.bound_cert.specs.declared.verdict.Reason.{Reason}
 use Rattle.bound_cert.specs.Acceptance.{IsAccepted, IsFirstReason}
-use Rattle.requests.specs.declared.ended.Ended.{Ended}
-use Rattle.requests.specs.Ending.{few_keepers, small_keeper, invalid, out_of_range, no_plan, not_least}
+use Rattle.endings.specs.declared.outcome.Outcome.{Outcome}
+use Rattle.endings.specs.Outcomes.{few_keepers, small_keeper, invalid, out_of_range, no_plan, not_least}
 use Rattle.reversal.specs.Job.{Job}
 
 pub data Decision : Type 0 where
-  refuse : Ended → Decision
+  refuse : Outcome → Decision
   accept : Job → Decision
 
 -- ---- lines of tables, which commands share
 
 -- this holds and the lines below decide; otherwise the call is refused with this ending
-abbrev pub Need : Type 0 → Ended → Decision → Type 0 → Type 0
+abbrev pub Need : Type 0 → Outcome → Decision → Type 0 → Type 0
 Need Holds e d below = ((Holds → ⊥) × (d ≡ refuse e)) ⊎ (Holds × below)
 
 -- the bytes mean something, and the lines below decide by it, or their fault refuses the call
-abbrev pub Read : {A F : Type 0} → (A → Type 0) → (F → Type 0) → (F → Ended) → Decision → (A → Type 0) → Type 0
+abbrev pub Read : {A F : Type 0} → (A → Type 0) → (F → Type 0) → (F → Outcome) → Decision → (A → Type 0) → Type 0
 Read {A} {F} IsText HasFault ended d below = ((fault : F) × HasFault fault × (d ≡ refuse (ended fault))) ⊎ ((x : A) × IsText x × below x)
 
 -- the list is valid and the lines below decide; otherwise it is refused where it is first broken
@@ -78,8 +78,8 @@ Keep steps slots counts d below =
 
 -- A new line is a case here and in `Decided`, with its proofs in `proofs/Tables`.
 pub data Table : Type 1 where
-  needs : Type 0 → Ended → Table → Table
-  reads : {A F : Type 0} → (A → Type 0) → (F → Type 0) → (F → Ended) → (A → Table) → Table
+  needs : Type 0 → Outcome → Table → Table
+  reads : {A F : Type 0} → (A → Type 0) → (F → Type 0) → (F → Outcome) → (A → Table) → Table
   judges : ℕ → List Slots → List Action → Table → Table
   keeps : ℕ → List Slots → List ℕ → Table → Table
   tabulates : ℕ → BookCosts → Table → Table

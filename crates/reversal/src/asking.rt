@@ -9,16 +9,17 @@ ghost use Rattle.reverse_runner.specs.declared.fault.RunFault.TheVariants as fau
 ghost use Rattle.reversal.specs.Output.{Adds};
 ghost use Rattle.reversal.specs.Job.{ask};
 ghost use Rattle.reversal.specs.CommandAsk.{answer_text};
-ghost use Rattle.requests.specs.Ending.{done, stopped};
+ghost use Rattle.endings.specs.Outcomes.{done, stopped};
 ghost use Rattle.reversal.specs.JobModel.{run_over, run_from, CanBeAsked, Does, DoesBegun, IsBegun, fault_ending};
 ghost use Rattle.requests.specs.declared.question.Question.TheVariants as about;
 
 use crate::job::fault_ending;
+use endings::Outcome;
 use input_journal::Journal;
 use keepers::{Keeper, Sink};
 use level_book::Book;
 use plan_types::{Action, Line};
-use requests::{Ended, Question};
+use requests::Question;
 use reverse_queries::{last_change, last_write, state_at};
 use reverse_runner::{LineWriter, RunFault, Session};
 use rv_machine::{State, Steps};
@@ -52,7 +53,7 @@ impl Asking {
         keepers: &mut Vec<K>,
         out: &mut O,
         counter: &mut Steps<L>,
-    ) -> Ended
+    ) -> Outcome
         requires can_be_asked { CanBeAsked self }
         requires room { HaveRoom self.over.steps (slots_of self.over.book) (map K.slot_count keepers.old.items) }
         ensures { Does O.Sink K.Storage (ask self.question (run_over self.over)) result out.old out.new keepers.old keepers.new counter.old counter.new }
@@ -68,7 +69,7 @@ impl Asking {
         } = self.over;
         start.is_machine_state();
         let Ok(mut session) = Session::begin(alloc, start, journal, steps, unit, book) else {
-            return Ended::no_memory();
+            return Outcome::Memory;
         };
         match question {
             Question::State(place) => {
@@ -92,7 +93,7 @@ fn show_state<K: Keeper, O: Sink, L: Ledger>(
     place: u32,
     out: &mut O,
     counter: &mut Steps<L>,
-) -> Ended
+) -> Outcome
     requires begun { IsBegun session.old list.now (map K.slot_count keepers.old.items) }
     requires place { place ≤ session.old.unit * session.old.situation.steps }
     ensures { DoesBegun O.Sink K.Storage (ask (about.State place) (run_from session.old list.now)) result out.old out.new
@@ -100,7 +101,7 @@ fn show_state<K: Keeper, O: Sink, L: Ledger>(
 {
     let mut writer = LineWriter::new(out);
     match state_at(session, list, keepers, place, &mut writer, counter) {
-        Ok(()) => Ended::done(),
+        Ok(()) => Outcome::Done,
         Err(fault) => refused(session, fault),
     }
 }
@@ -113,7 +114,7 @@ fn tell_last_write<K: Keeper, O: Sink, L: Ledger>(
     address: u32,
     out: &mut O,
     counter: &mut Steps<L>,
-) -> Ended
+) -> Outcome
     requires begun { IsBegun session.old list.now (map K.slot_count keepers.old.items) }
     requires address { address ≤ LAST_WORD }
     ensures { DoesBegun O.Sink K.Storage (ask (about.LastWrite address) (run_from session.old list.now)) result out.old out.new
@@ -133,7 +134,7 @@ fn tell_last_change<K: Keeper, O: Sink, L: Ledger>(
     address: u32,
     out: &mut O,
     counter: &mut Steps<L>,
-) -> Ended
+) -> Outcome
     requires begun { IsBegun session.old list.now (map K.slot_count keepers.old.items) }
     requires address { address ≤ LAST_WORD }
     ensures { DoesBegun O.Sink K.Storage (ask (about.LastChange address) (run_from session.old list.now)) result out.old out.new
@@ -146,7 +147,7 @@ fn tell_last_change<K: Keeper, O: Sink, L: Ledger>(
 }
 
 // How a call ends if its session refused an action for this fault. The earlier actions were done.
-fn refused(session: &Session, fault: RunFault) -> Ended
+fn refused(session: &Session, fault: RunFault) -> Outcome
     requires over { fault ≢ fault_is.Ended }
     requires counts { session.now.done < 18446744073709551615 }
     ensures { result ≡ fault_ending (session.now.done + 1) fault }
@@ -155,7 +156,7 @@ fn refused(session: &Session, fault: RunFault) -> Ended
 }
 
 /// Writes the number of a step or of a state, or that there is none.
-pub fn write_answer<O: Sink>(answer: Option<u32>, out: &mut O) -> Ended
+pub fn write_answer<O: Sink>(answer: Option<u32>, out: &mut O) -> Outcome
     ensures ends { ((result ≡ done) × Tells (O.told out.old) (O.told out.new) (Adds (answer_text answer)) × (O.fault_count out.new ≡ O.fault_count out.old))
         ⊎ ((result ≡ stopped 0) × Tells (O.told out.old) (O.told out.new) (AddsPrefix (answer_text answer))
         × Rose (O.fault_count out.old) (O.fault_count out.new)) }
@@ -170,7 +171,7 @@ pub fn write_answer<O: Sink>(answer: Option<u32>, out: &mut O) -> Ended
         None => line.push(b"none\n"),
     }
     match out.write(line.bytes()) {
-        Ok(()) => Ended::done(),
-        Err(_) => Ended::stopped(0),
+        Ok(()) => Outcome::Done,
+        Err(_) => Outcome::Sink { place: 0 },
     }
 }

@@ -1,48 +1,31 @@
 // Whether a list is the least by its certificate: of all valid lists, or of its class.
-ghost use Rattle.std.specs.Prelude.{◌≡◌, ℕ, ◌≤◌, List, length, map, IfOk, IfErr};
+ghost use Rattle.std.specs.Prelude.{◌≡◌, ℕ, ◌≤◌, List, length, IfOk, IfErr};
 ghost use Rattle.plan_types.specs.declared.limits.TheConstants.{MOST_ACTIONS, MOST_STEPS};
 ghost use Rattle.level_book.specs.Valid.{Valid};
 ghost use Rattle.cert_text.specs.Meaning.{IsCertificateText};
 ghost use Rattle.cert_text.specs.Faults.{HasFirstFault};
 ghost use Rattle.bound_cert.specs.Acceptance.{class_of, IsAccepted};
-ghost use Rattle.requests.specs.Request.{Choice, certify as certify_command};
 ghost use Rattle.reversal.specs.CommandCertify.{least_line, DecidesCertify};
-ghost use Rattle.reversal.specs.Decision.{DecidesBytes};
-ghost use Rattle.requests.specs.Ending.{bad_certificate};
-ghost use Rattle.requests.specs.Inputs.{inputs_of};
-ghost use Rattle.requests.specs.InputOutcome.{AreWithinLimits};
+ghost use Rattle.endings.specs.Outcomes.{bad_certificate};
 ghost use Rattle.reversal.specs.JobModel.{IsRefusal, IsUnweighed, IsDecided};
-ghost use Rattle.requests.specs.RequestModel.{as_certify};
 
 use crate::decision::{book_in, judge, list_in};
 use crate::job::Job;
 use bound_cert::{CertVerdict, Class, check_certificate};
 use cert_text::{Certificate, read_certificate};
+use endings::Outcome;
 use level_book::Book;
 use plan_types::{Action, Line};
-use requests::{Certify, Ended};
 use std::alloc::Global;
 
-/// The decision on a request to certify a list, by the bytes of its inputs.
-pub fn decide_certify(alloc: Global, certify: &Certify<'_>, bytes: &[Vec<u8>]) -> Result<Job, Ended>
-    requires steps { certify.now.steps ≤ MOST_STEPS }
-    requires inputs { AreWithinLimits (inputs_of (certify_command (as_certify certify.now))) (map (λ b. b.items) bytes.now) }
-    ensures { (slots : List ℕ) → (options : List Choice) →
-        IsDecided (DecidesBytes options (certify_command (as_certify certify.now)) (map (λ b. b.items) bytes.now) slots) slots result }
-{
-    let [book, schedule, certificate] = bytes else {
-        unreachable!()
-    };
-    certify_texts(alloc, certify.steps as u32, book, schedule, certificate)
-}
-
-fn certify_texts(
+/// The decision on a request to certify a list.
+pub fn decide_certify(
     alloc: Global,
     steps: u32,
     book: &[u8],
     schedule: &[u8],
     certificate: &[u8],
-) -> Result<Job, Ended>
+) -> Result<Job, Outcome>
     requires steps { steps ≤ MOST_STEPS }
     requires short { length schedule.now ≤ 536870912 }
     requires small { length certificate.now ≤ 536870912 }
@@ -76,7 +59,7 @@ fn certificate_in(
     bytes: &[u8],
     steps: u32,
     book: &Book,
-) -> Result<Certificate, Ended>
+) -> Result<Certificate, Outcome>
     requires steps { steps ≤ MOST_STEPS }
     requires small { length bytes.now ≤ 536870912 }
     ensures found { IfOk result (IsCertificateText steps book.now bytes.now) }
@@ -84,7 +67,7 @@ fn certificate_in(
 {
     match read_certificate(alloc, bytes, steps, book) {
         Ok(certificate) => Ok(certificate),
-        Err(fault) => Err(Ended::bad_certificate(fault)),
+        Err(fault) => Err(Outcome::bad_certificate(fault)),
     }
 }
 
@@ -95,7 +78,7 @@ fn weigh(
     steps: u32,
     book: &Book,
     certificate: &Certificate,
-) -> Result<Class, Ended>
+) -> Result<Class, Outcome>
     requires steps { steps ≤ MOST_STEPS }
     requires few { length list.now ≤ MOST_ACTIONS }
     ensures accepted { IfOk result (λ class. (class ≡ class_of certificate.now) × IsAccepted list.now steps book.now certificate.now) }
@@ -103,6 +86,6 @@ fn weigh(
 {
     match check_certificate(alloc, list, steps, book, certificate)? {
         CertVerdict::Least(class) => Ok(class),
-        CertVerdict::Not(reason) => Err(Ended::not_least(reason)),
+        CertVerdict::Not(reason) => Err(Outcome::NotLeast(reason)),
     }
 }

@@ -8,25 +8,23 @@ ghost use Rattle.reverse_console.specs.declared.order.Order.{Order as AnOrder};
 ghost use Rattle.reverse_console.specs.Answer.{IsOrder};
 ghost use Rattle.reverse_console.specs.Script.{IsScript};
 ghost use Rattle.reverse_console.specs.ScriptFaults.{HasFirstFault};
-ghost use Rattle.requests.specs.Request.{console as console_command, stack_pages};
-ghost use Rattle.requests.specs.Inputs.{inputs_of};
-ghost use Rattle.requests.specs.InputOutcome.{AreWithinLimits};
-ghost use Rattle.requests.specs.RequestModel.{as_console};
-ghost use Rattle.requests.specs.Ending.{no_plan, bad_script};
+ghost use Rattle.requests.specs.Request.{stack_pages};
+ghost use Rattle.endings.specs.Outcomes.{no_plan, bad_script};
 ghost use Rattle.reversal.specs.CommandConsole.{DecidesConsole};
-ghost use Rattle.reversal.specs.Decision.{DecidesBytes};
 ghost use Rattle.reversal.specs.JobModel.{moves, CanAnswerOrders, IsRefusal, Does, text_of, IsDecided};
+ghost use Rattle.requests.specs.Loaded.{IsWithinLimits};
+ghost use Rattle.requests.specs.InputOutcome.{contents_of};
 
 use crate::decision::{book_in, journal_in, keep, start_of};
 use crate::job::{Job, fault_ending};
+use endings::Outcome;
 use keepers::{Keeper, Sink};
 use level_book::Book;
-use requests::{Ended, Options};
+use requests::{Loaded, Options};
 use reverse_console::laws::the_marks_have_levels;
 use reverse_console::{Console, MarkedRun, Order, answer_all, read_orders};
 use rv_machine::Steps;
 use std::alloc::Global;
-use std::mem;
 use std::sync::ledger::Ledger;
 
 /// A run with marks, and the orders of a script.
@@ -45,7 +43,7 @@ impl ConsoleRun {
         keepers: &mut Vec<K>,
         out: &mut O,
         counter: &mut Steps<L>,
-    ) -> Ended
+    ) -> Outcome
         requires can_be_done { CanAnswerOrders self }
         requires room { HaveRoom (max self.run.count 1) (slots_of self.run.book) (map K.slot_count keepers.old.items) }
         ensures { Does O.Sink K.Storage (moves self) result out.old out.new keepers.old keepers.new counter.old counter.new }
@@ -58,7 +56,7 @@ impl ConsoleRun {
             Ok(mut console) => {
                 console.sees_its_run();
                 match answer_all(&mut console, &orders, keepers, out, counter) {
-                    Ok(()) => Ended::done(),
+                    Ok(()) => Outcome::Done,
                     Err(stop) => fault_ending(u64::from(stop.order), stop.fault),
                 }
             }
@@ -66,74 +64,27 @@ impl ConsoleRun {
     }
 }
 
-// The texts of a console's run, and that of the orders.
-#[derive(Drop)]
-struct Texts<'a> {
-    program: &'a [u8],
-    journal: Option<Vec<u8>>,
-    book: &'a [u8],
-    script: &'a [u8],
-}
-
-/// The decision on a console request, by the bytes of its inputs and the keepers' slots.
+/// The decision on a console request of so many steps, by what was read for it and the keepers' slots.
 pub fn decide_console(
     alloc: Global,
     options: &Options,
-    console: &requests::Console<'_>,
-    bytes: &mut [Vec<u8>],
-    counts: &[u32],
-) -> Result<Job, Ended>
-    requires stack { (1 ≤ stack_pages options.now) × (stack_pages options.now ≤ 1024) }
-    requires steps { console.now.steps ≤ MOST_STEPS }
-    requires inputs { AreWithinLimits (inputs_of (console_command (as_console console.now))) (map (λ b. b.items) bytes.old) }
-    ensures { IsDecided
-        (DecidesBytes options.now (console_command (as_console console.now)) (map (λ b. b.items) bytes.old) counts.now)
-        counts.now result }
-{
-    let steps = console.steps as u32;
-    match bytes {
-        [program, book, script] => {
-            let texts = Texts {
-                program: program.as_slice(),
-                journal: None,
-                book: book.as_slice(),
-                script: script.as_slice(),
-            };
-            decide_texts(alloc, options, steps, texts, counts)
-        }
-        [program, journal, book, script] => {
-            let texts = Texts {
-                program: program.as_slice(),
-                journal: Some(mem::replace(journal, Vec::new(alloc))),
-                book: book.as_slice(),
-                script: script.as_slice(),
-            };
-            decide_texts(alloc, options, steps, texts, counts)
-        }
-        _ => unreachable!(),
-    }
-}
-
-fn decide_texts(
-    alloc: Global,
-    options: &Options,
     steps: u32,
-    texts: Texts<'_>,
+    loaded: &mut Loaded,
     counts: &[u32],
-) -> Result<Job, Ended>
+) -> Result<Job, Outcome>
     requires stack { (1 ≤ stack_pages options.now) × (stack_pages options.now ≤ 1024) }
     requires steps { steps ≤ MOST_STEPS }
-    requires short { length texts.script.now ≤ 1048576 }
+    requires inputs { IsWithinLimits (contents_of loaded.old) }
     ensures { IsDecided
-        (DecidesConsole options.now steps texts.entry.program.now (text_of texts.entry.journal) texts.entry.book.now texts.entry.script.now counts.now)
+        (DecidesConsole options.now steps loaded.old.program.items (text_of loaded.old.journal) loaded.old.book.items loaded.old.script.items counts.now)
         counts.now result }
 {
-    let book = book_in(alloc, texts.book)?;
+    let book = book_in(alloc, &loaded.book)?;
     keep(steps.max(1), &book, counts)?;
     find_slot(steps, &book)?;
-    let start = start_of(alloc, options, texts.program)?;
-    let journal = journal_in(alloc, texts.journal)?;
-    let orders = orders_in(alloc, texts.script, steps)?;
+    let start = start_of(alloc, options, &loaded.program)?;
+    let journal = journal_in(alloc, loaded.journal.take())?;
+    let orders = orders_in(alloc, &loaded.script, steps)?;
     let run = MarkedRun {
         start,
         journal,
@@ -144,18 +95,22 @@ fn decide_texts(
 }
 
 // Requires a slot for a mark on some level of the book.
-fn find_slot(steps: u32, book: &Book) -> Result<(), Ended>
+fn find_slot(steps: u32, book: &Book) -> Result<(), Outcome>
     ensures slots { OnOk result (1 ≤ total_room book.now (max steps 1)) }
     ensures refused { IfErr result (λ e. (1 ≤ total_room book.now (max steps 1) → ⊥) × (e ≡ no_plan steps (total_room book.now steps) 1)) }
 {
     if book.total_room(steps.max(1)) == 0 {
-        return Err(Ended::no_plan(steps, book.total_room(steps), 1));
+        return Err(Outcome::NoPlan {
+            steps,
+            room: book.total_room(steps),
+            rule: 1,
+        });
     }
     Ok(())
 }
 
 // The orders that a script means in a run of so many steps.
-fn orders_in(alloc: Global, bytes: &[u8], steps: u32) -> Result<Vec<Order>, Ended>
+fn orders_in(alloc: Global, bytes: &[u8], steps: u32) -> Result<Vec<Order>, Outcome>
     requires steps { steps ≤ MOST_STEPS }
     requires short { length bytes.now ≤ 1048576 }
     ensures found { IfOk result (λ orders. IsScript steps bytes.now orders.items) }
@@ -165,6 +120,6 @@ fn orders_in(alloc: Global, bytes: &[u8], steps: u32) -> Result<Vec<Order>, Ende
 {
     match read_orders(alloc, bytes, steps) {
         Ok(orders) => Ok(orders),
-        Err(fault) => Err(Ended::bad_script(fault)),
+        Err(fault) => Err(Outcome::bad_script(fault)),
     }
 }

@@ -1,30 +1,26 @@
 // What a schedule costs.
-ghost use Rattle.std.specs.Prelude.{◌≡◌, ℕ, ◌*◌, ◌^◌, ◌<◌, ◌≤◌, List, length, map};
+ghost use Rattle.std.specs.Prelude.{◌≡◌, ℕ, ◌*◌, ◌^◌, ◌<◌, ◌≤◌, List, length};
 ghost use Rattle.plan_types.specs.declared.limits.TheConstants.{MOST_ACTIONS, MOST_COST, MOST_STEPS};
 ghost use Rattle.level_book.specs.BookCosts.{slots_of};
 ghost use Rattle.level_book.specs.Valid.{Valid};
 ghost use Rattle.cost_fold.specs.CountsOf.{all_of};
 ghost use Rattle.cost_report.specs.Report.{report_lines};
-ghost use Rattle.requests.specs.Request.{Choice, cost as cost_command};
 ghost use Rattle.reversal.specs.Job.{write};
 ghost use Rattle.reversal.specs.Moment.{Moment, beside};
-ghost use Rattle.reversal.specs.Table.{accept};
-ghost use Rattle.reversal.specs.Decision.{EndsBy, DecidesBytes};
+ghost use Rattle.reversal.specs.Course.{EndsShowing};
+ghost use Rattle.reversal.specs.Decision.{course_of};
 ghost use Rattle.reversal.specs.CommandCost.{DecidesCost};
-ghost use Rattle.requests.specs.Inputs.{inputs_of};
-ghost use Rattle.requests.specs.InputOutcome.{AreWithinLimits};
 ghost use Rattle.reversal.specs.JobModel.{IsDecided};
 ghost use Rattle.reversal.specs.CostReport.{list_report};
-ghost use Rattle.requests.specs.RequestModel.{as_cost};
 
 use crate::decision::{book_in, judge, list_in};
 use crate::job::Job;
 use cost_fold::{Counts, tally};
 use cost_report::report;
+use endings::Outcome;
 use keepers::Sink;
 use level_book::Book;
 use plan_types::Action;
-use requests::{Cost, Ended};
 use std::alloc::Global;
 
 /// The counts of a list, and the book that gives the costs.
@@ -36,33 +32,21 @@ pub struct CostReport {
 
 impl CostReport {
     /// Writes what the counts cost, a line in each write.
-    pub fn write<O: Sink>(self, out: &mut O) -> Ended
+    pub fn write<O: Sink>(self, out: &mut O) -> Outcome
         requires { all_of self.counts * MOST_COST < 2 ^ 64 }
-        ensures { (other : Moment) (steps : ℕ) → EndsBy (accept (write (report_lines self.book self.counts))) result
+        ensures { (other : Moment) (steps : ℕ) → EndsShowing (course_of (write (report_lines self.book self.counts))) result
             (beside O.Sink other out.old steps)
             (beside O.Sink other out.new steps) }
     {
         match report(&self.counts, &self.book, out) {
-            Ok(()) => Ended::done(),
-            Err(_) => Ended::stopped(0),
+            Ok(()) => Outcome::Done,
+            Err(_) => Outcome::Sink { place: 0 },
         }
     }
 }
 
-/// The decision on a request for the cost of a schedule, by the bytes of its inputs.
-pub fn decide_cost(alloc: Global, cost: &Cost<'_>, bytes: &[Vec<u8>]) -> Result<Job, Ended>
-    requires steps { cost.now.steps ≤ MOST_STEPS }
-    requires inputs { AreWithinLimits (inputs_of (cost_command (as_cost cost.now))) (map (λ b. b.items) bytes.now) }
-    ensures { (slots : List ℕ) → (options : List Choice) →
-        IsDecided (DecidesBytes options (cost_command (as_cost cost.now)) (map (λ b. b.items) bytes.now) slots) slots result }
-{
-    let [book, schedule] = bytes else {
-        unreachable!()
-    };
-    cost_texts(alloc, cost.steps as u32, book, schedule)
-}
-
-fn cost_texts(alloc: Global, steps: u32, book: &[u8], schedule: &[u8]) -> Result<Job, Ended>
+/// The decision on a request for the cost of a schedule.
+pub fn decide_cost(alloc: Global, steps: u32, book: &[u8], schedule: &[u8]) -> Result<Job, Outcome>
     requires steps { steps ≤ MOST_STEPS }
     requires short { length schedule.now ≤ 536870912 }
     ensures { (counts : List ℕ) → IsDecided (DecidesCost steps book.now schedule.now) counts result }

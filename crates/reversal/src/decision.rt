@@ -1,5 +1,5 @@
 // The decision on a request by its inputs: a job, or a refusal.
-ghost use Rattle.std.specs.Prelude.{◌≡◌, ◌⊎◌, ℕ, ◌*◌, ◌≤◌, ◌++◌, List, length, map, codes, decimal, IfOk, IfErr, OnOk};
+ghost use Rattle.std.specs.Prelude.{◌≡◌, ◌⊎◌, ℕ, ◌*◌, ◌≤◌, ◌++◌, List, length, codes, decimal, IfOk, IfErr, OnOk};
 ghost use Rattle.std.specs.List.{AllByRecursion};
 ghost use Rattle.plan_types.specs.declared.limits.TheConstants.{MOST_STEPS};
 ghost use Rattle.level_book.specs.BookCosts.{slots_of, names_of};
@@ -8,19 +8,19 @@ ghost use Rattle.level_book.specs.Valid.{Valid, BrokenAt};
 ghost use Rattle.action_text.specs.ScheduleText.{IsSchedule};
 ghost use Rattle.action_text.specs.Faults.{HasFirstFault};
 ghost use Rattle.reverse_runner.specs.KeepersSeen.{HaveRoom};
-ghost use Rattle.requests.specs.Request.{Choice, Run as RunCommand, run as run_command, ask as ask_command, check as check_command, says_raw, stack_pages, worker_count, unit_count};
-ghost use Rattle.requests.specs.Operands.{by_name, question_bound};
+ghost use Rattle.requests.specs.Request.{run as run_command, ask as ask_command, says_raw, stack_pages, worker_count, unit_count};
+ghost use Rattle.requests.specs.Operands.{question_bound};
 ghost use Rattle.requests.specs.Bounds.{numbers, IsWithin};
-ghost use Rattle.reversal.specs.Table.{accept, refuse, Keep};
-ghost use Rattle.reversal.specs.InputMeaning.{HasBookFault, IsStartOf, HasProgramFault, AreItemsOf, HasJournalFault, DecidesOver, DecidesOverBytes};
-ghost use Rattle.reversal.specs.Decision.{DecidesBytes};
+ghost use Rattle.reversal.specs.Table.{refuse, Keep};
+ghost use Rattle.reversal.specs.InputMeaning.{HasBookFault, IsStartOf, HasProgramFault, AreItemsOf, HasJournalFault};
+ghost use Rattle.reversal.specs.Decision.{DecidesLoaded};
 ghost use Rattle.reversal.specs.CommandCheck.{DecidesCheck};
-ghost use Rattle.requests.specs.Ending.{no_memory, bad_program, bad_journal, bad_book, bad_text, invalid};
-ghost use Rattle.requests.specs.Inputs.{inputs_of};
-ghost use Rattle.requests.specs.InputOutcome.{AreWithinLimits};
-ghost use Rattle.reversal.specs.Job.{Run as ARun, Job as AJob, perform};
-ghost use Rattle.reversal.specs.JobModel.{run_over, job_of, IsOver, CanBeDone, HasWorkers, KeepersHaveRoom, IsRefusal, text_of, IsDecided, RunFits};
-ghost use Rattle.requests.specs.RequestModel.{request_of, as_run_backward, as_ask, as_check};
+ghost use Rattle.endings.specs.Outcomes.{no_memory, bad_program, bad_journal, bad_book, bad_text, invalid};
+ghost use Rattle.reversal.specs.Job.{perform};
+ghost use Rattle.reversal.specs.JobModel.{run_over, job_of, IsOver, CanBeDone, HasWorkers, KeepersHaveRoom, IsRefusal, text_of, IsDecided, IsDecidedOver, RunFits};
+ghost use Rattle.requests.specs.RequestModel.{request_of, as_run_backward, as_ask};
+ghost use Rattle.requests.specs.Loaded.{IsWithinLimits};
+ghost use Rattle.requests.specs.InputOutcome.{contents_of};
 
 use crate::actions::{Actions, Listed};
 use crate::asking::{Asking, Over};
@@ -32,60 +32,63 @@ use crate::demo::decide_demo;
 use crate::finding::decide_find;
 use crate::job::{Job, Performance};
 use crate::listing::decide_disasm;
-use crate::plan_kinds::{decide_plan, decide_plan_periodic};
+use crate::periodic::decide_periodic;
+use crate::plan_kinds::decide_plan;
 use crate::planning::decide_made;
 use action_text::read_actions;
 use elf_load::load_start;
+use endings::Outcome;
 use input_journal::{Journal, read_recorded};
 use level_book::{Book, read_book};
 use plan_types::{Action, Line};
-use requests::{Ask, Check, Command, Ended, Options, Request, RunBackward, Schedule};
+use requests::{Ask, Command, Loaded, Options, Request, RunBackward, Schedule};
 use rv_machine::State;
 use schedule_rules::{Verdict, check};
 use std::alloc::Global;
-use std::mem;
 use std::thread::Threads;
 
-// The texts of a run.
-#[derive(Drop)]
-struct Texts<'a> {
-    program: &'a [u8],
-    journal: Option<Vec<u8>>,
-    book: &'a [u8],
-    schedule: &'a [u8],
-}
-
-/// The decision on a request by the bytes of its inputs and the numbers of the keepers' slots. The request's numbers
-/// are within their bounds.
+/// The decision on a request by what was read for it and the numbers of the keepers' slots. The request's numbers are
+/// within their bounds.
 pub fn decide<R: Threads + Sync>(
     rt: &R,
     alloc: Global,
     request: &Request<'_>,
-    bytes: &mut [Vec<u8>],
+    loaded: &mut Loaded,
     counts: &[u32],
-) -> Result<Job, Ended>
+) -> Result<Job, Outcome>
     requires numbers { AllByRecursion IsWithin (numbers (request_of request.now)) }
-    requires inputs { AreWithinLimits (inputs_of (request_of request.now).command) (map (λ b. b.items) bytes.old) }
+    requires inputs { IsWithinLimits (contents_of loaded.old) }
     ensures { IsDecided
-        (DecidesBytes (request_of request.now).options (request_of request.now).command (map (λ b. b.items) bytes.old) counts.now)
+        (DecidesLoaded (request_of request.now).options (request_of request.now).command (contents_of loaded.old) counts.now)
         counts.now result }
 {
+    let options = &request.options;
     match &request.command {
-        Command::Run(backward) => decide_run(alloc, &request.options, backward, bytes, counts),
-        Command::Ask(ask) => decide_ask(alloc, &request.options, ask, bytes, counts),
-        Command::Plan(plan) => {
-            let workers = request.options.worker_count() as u32;
-            decide_plan(rt, alloc, workers, plan, bytes)
+        Command::Run(backward) => decide_run(alloc, options, backward, loaded, counts),
+        Command::Ask(ask) => decide_ask(alloc, options, ask, loaded, counts),
+        Command::Plan(plan) => decide_plan(rt, alloc, workers_of(options), plan, &loaded.book),
+        Command::PlanPeriodic(plan) => decide_periodic(alloc, plan, &loaded.book),
+        Command::Check(check) => {
+            decide_check(alloc, check.steps as u32, &loaded.book, &loaded.schedule)
         }
-        Command::PlanPeriodic(plan) => decide_plan_periodic(alloc, plan, bytes),
-        Command::Check(check) => decide_check(alloc, check, bytes),
-        Command::Certify(certify) => decide_certify(alloc, certify, bytes),
-        Command::Cost(cost) => decide_cost(alloc, cost, bytes),
-        Command::Find(find) => decide_find(alloc, &request.options, find, bytes),
-        Command::Asm(asm) => decide_asm(alloc, asm, bytes),
-        Command::Disasm(disasm) => decide_disasm(alloc, disasm, bytes),
+        Command::Certify(certify) => {
+            let steps = certify.steps as u32;
+            decide_certify(
+                alloc,
+                steps,
+                &loaded.book,
+                &loaded.schedule,
+                &loaded.certificate,
+            )
+        }
+        Command::Cost(cost) => {
+            decide_cost(alloc, cost.steps as u32, &loaded.book, &loaded.schedule)
+        }
+        Command::Find(find) => decide_find(alloc, options, find, loaded),
+        Command::Asm(_) => decide_asm(alloc, &loaded.source),
+        Command::Disasm(_) => decide_disasm(alloc, &loaded.words),
         Command::Console(console) => {
-            decide_console(alloc, &request.options, console, bytes, counts)
+            decide_console(alloc, options, console.steps as u32, loaded, counts)
         }
         Command::Demo(demo) => decide_demo(alloc, demo),
     }
@@ -96,24 +99,24 @@ fn decide_run(
     alloc: Global,
     options: &Options,
     backward: &RunBackward<'_>,
-    bytes: &mut [Vec<u8>],
+    loaded: &mut Loaded,
     counts: &[u32],
-) -> Result<Job, Ended>
+) -> Result<Job, Outcome>
     requires run { RunFits options.now backward.now.run.steps }
     requires workers { (1 ≤ worker_count options.now) × (worker_count options.now ≤ 64) }
-    requires inputs { AreWithinLimits (inputs_of (run_command (as_run_backward backward.now))) (map (λ b. b.items) bytes.old) }
+    requires inputs { IsWithinLimits (contents_of loaded.old) }
     ensures decided { IsDecided
-        (DecidesBytes options.now (run_command (as_run_backward backward.now)) (map (λ b. b.items) bytes.old) counts.now)
+        (DecidesLoaded options.now (run_command (as_run_backward backward.now)) (contents_of loaded.old) counts.now)
         counts.now result }
     ensures workers { IfOk result (HasWorkers (worker_count options.now)) }
 {
     let steps = backward.run.steps as u32;
     match backward.schedule {
         Schedule::Named(_) => {
-            let over = decide_over(alloc, options, steps, bytes, counts)?;
+            let over = decide_over(alloc, options, steps, loaded, counts)?;
             Ok(performance(over, workers_of(options)))
         }
-        Schedule::Made => decide_made(alloc, options, steps, bytes, counts),
+        Schedule::Made => decide_made(alloc, options, steps, loaded, counts),
     }
 }
 
@@ -148,88 +151,37 @@ fn decide_ask(
     alloc: Global,
     options: &Options,
     ask: &Ask<'_>,
-    bytes: &mut [Vec<u8>],
+    loaded: &mut Loaded,
     counts: &[u32],
-) -> Result<Job, Ended>
+) -> Result<Job, Outcome>
     requires run { RunFits options.now ask.now.run.steps }
     requires question { IsWithin (question_bound (unit_count options.now * ask.now.run.steps) ask.now.question) }
-    requires inputs { AreWithinLimits (inputs_of (ask_command (as_ask ask.now))) (map (λ b. b.items) bytes.old) }
-    ensures { IsDecided (DecidesBytes options.now (ask_command (as_ask ask.now)) (map (λ b. b.items) bytes.old) counts.now) counts.now result }
+    requires inputs { IsWithinLimits (contents_of loaded.old) }
+    ensures { IsDecided (DecidesLoaded options.now (ask_command (as_ask ask.now)) (contents_of loaded.old) counts.now) counts.now result }
 {
     let steps = ask.run.steps as u32;
-    let over = decide_over(alloc, options, steps, bytes, counts)?;
+    let over = decide_over(alloc, options, steps, loaded, counts)?;
     let question = ask.question;
     Ok(Job::Ask(Asking { question, over }))
 }
 
-// What a list is performed over, by the bytes of a run's inputs; its schedule is read.
+// What a list is performed over, by what was read for a run whose schedule has a name.
 fn decide_over(
     alloc: Global,
     options: &Options,
     steps: u32,
-    bytes: &mut [Vec<u8>],
+    loaded: &mut Loaded,
     counts: &[u32],
-) -> Result<Over, Ended>
+) -> Result<Over, Outcome>
     requires run { RunFits options.now steps }
-    requires inputs { (r : RunCommand) × (name : List ℕ)
-        × AreWithinLimits (inputs_of (run_command (record { run = r; schedule = by_name name }))) (map (λ b. b.items) bytes.old) }
-    ensures accepted { IfOk result (λ o. (job : ARun → AJob) (name : List ℕ) →
-        DecidesOverBytes job options.now (by_name name) steps (map (λ b. b.items) bytes.old) counts.now (accept (job (run_over o)))) }
-    ensures over { IfOk result IsOver }
-    ensures steps { IfOk result (λ o. o.steps ≡ steps) }
-    ensures unit { IfOk result (λ o. o.unit ≡ unit_count options.now) }
-    ensures room { IfOk result (λ o. HaveRoom o.steps (slots_of o.book) counts.now) }
-    ensures refused { (job : ARun → AJob) (name : List ℕ) → IfErr result (λ e. (e ≡ no_memory)
-        ⊎ DecidesOverBytes job options.now (by_name name) steps (map (λ b. b.items) bytes.old) counts.now (refuse e)) }
+    requires inputs { IsWithinLimits (contents_of loaded.old) }
+    ensures { IsDecidedOver options.now steps (contents_of loaded.old) counts.now result }
 {
-    match bytes {
-        [program, book, schedule] => {
-            let texts = Texts {
-                program: program.as_slice(),
-                journal: None,
-                book: book.as_slice(),
-                schedule: schedule.as_slice(),
-            };
-            decide_texts(alloc, options, steps, texts, counts)
-        }
-        [program, journal, book, schedule] => {
-            let texts = Texts {
-                program: program.as_slice(),
-                journal: Some(mem::replace(journal, Vec::new(alloc))),
-                book: book.as_slice(),
-                schedule: schedule.as_slice(),
-            };
-            decide_texts(alloc, options, steps, texts, counts)
-        }
-        _ => unreachable!(),
-    }
-}
-
-fn decide_texts(
-    alloc: Global,
-    options: &Options,
-    steps: u32,
-    texts: Texts<'_>,
-    counts: &[u32],
-) -> Result<Over, Ended>
-    requires run { RunFits options.now steps }
-    requires short { length texts.schedule.now ≤ 536870912 }
-    ensures accepted { IfOk result (λ o. (job : ARun → AJob) →
-        DecidesOver job options.now steps texts.entry.program.now (text_of texts.entry.journal) texts.entry.book.now (Some texts.entry.schedule.now)
-        counts.now (accept (job (run_over o)))) }
-    ensures over { IfOk result IsOver }
-    ensures steps { IfOk result (λ o. o.steps ≡ steps) }
-    ensures unit { IfOk result (λ o. o.unit ≡ unit_count options.now) }
-    ensures room { IfOk result (λ o. HaveRoom o.steps (slots_of o.book) counts.now) }
-    ensures refused { (job : ARun → AJob) → IfErr result (λ e. (e ≡ no_memory)
-        ⊎ DecidesOver job options.now steps texts.entry.program.now (text_of texts.entry.journal) texts.entry.book.now (Some texts.entry.schedule.now)
-        counts.now (refuse e)) }
-{
-    let book = book_in(alloc, texts.book)?;
+    let book = book_in(alloc, &loaded.book)?;
     keep(steps, &book, counts)?;
-    let start = start_of(alloc, options, texts.program)?;
-    let journal = journal_in(alloc, texts.journal)?;
-    let list = list_in(alloc, texts.schedule, &book)?;
+    let start = start_of(alloc, options, &loaded.program)?;
+    let journal = journal_in(alloc, loaded.journal.take())?;
+    let list = list_in(alloc, &loaded.schedule, &book)?;
     judge(alloc, &list, steps, &book)?;
     Ok(Over {
         start,
@@ -242,19 +194,7 @@ fn decide_texts(
 }
 
 // The decision on a request to check a schedule.
-fn decide_check(alloc: Global, check: &Check<'_>, bytes: &[Vec<u8>]) -> Result<Job, Ended>
-    requires steps { check.now.steps ≤ MOST_STEPS }
-    requires inputs { AreWithinLimits (inputs_of (check_command (as_check check.now))) (map (λ b. b.items) bytes.now) }
-    ensures { (slots : List ℕ) → (options : List Choice) →
-        IsDecided (DecidesBytes options (check_command (as_check check.now)) (map (λ b. b.items) bytes.now) slots) slots result }
-{
-    let [book, schedule] = bytes else {
-        unreachable!()
-    };
-    judge_texts(alloc, check.steps as u32, book, schedule)
-}
-
-fn judge_texts(alloc: Global, steps: u32, book: &[u8], schedule: &[u8]) -> Result<Job, Ended>
+fn decide_check(alloc: Global, steps: u32, book: &[u8], schedule: &[u8]) -> Result<Job, Outcome>
     requires steps { steps ≤ MOST_STEPS }
     requires short { length schedule.now ≤ 536870912 }
     ensures { (counts : List ℕ) → IsDecided (DecidesCheck steps book.now schedule.now) counts result }
@@ -277,7 +217,7 @@ fn valid_line(count: usize) -> Line
 }
 
 // The book that bytes mean.
-pub(crate) fn book_in(alloc: Global, bytes: &[u8]) -> Result<Book, Ended>
+pub(crate) fn book_in(alloc: Global, bytes: &[u8]) -> Result<Book, Outcome>
     ensures found { IfOk result (IsBookText bytes.now) }
     ensures refused { IfErr result (IsRefusal (HasBookFault bytes.now) bad_book) }
 {
@@ -285,25 +225,28 @@ pub(crate) fn book_in(alloc: Global, bytes: &[u8]) -> Result<Book, Ended>
 }
 
 // Requires a keeper for each level, with as many slots as a run of so many steps can use.
-pub(crate) fn keep(steps: u32, book: &Book, counts: &[u32]) -> Result<(), Ended>
+pub(crate) fn keep(steps: u32, book: &Book, counts: &[u32]) -> Result<(), Outcome>
     ensures room { OnOk result (HaveRoom steps (slots_of book.now) counts.now) }
     ensures refused { IfErr result (λ e. Keep steps (slots_of book.now) counts.now (refuse e) ⊥) }
 {
     let levels = book.levels();
     if counts.len() < levels as usize {
-        return Err(Ended::few_keepers(levels, counts.len() as u64));
+        return Err(Outcome::FewKeepers {
+            levels,
+            keepers: counts.len() as u64,
+        });
     }
     for level in 0..levels {
         let slots = counts[level as usize];
         if slots < book.room(level, steps) {
-            return Err(Ended::small_keeper(level, slots));
+            return Err(Outcome::SmallKeeper { level, slots });
         }
     }
     Ok(())
 }
 
 // The start state of a program.
-pub(crate) fn start_of(alloc: Global, options: &Options, bytes: &[u8]) -> Result<State, Ended>
+pub(crate) fn start_of(alloc: Global, options: &Options, bytes: &[u8]) -> Result<State, Outcome>
     requires { (1 ≤ stack_pages options.now) × (stack_pages options.now ≤ 1024) }
     ensures found { IfOk result (IsStartOf (says_raw options.now) (stack_pages options.now) bytes.now) }
     ensures refused { IfErr result (IsRefusal (HasProgramFault (says_raw options.now) (stack_pages options.now) bytes.now) bad_program) }
@@ -329,7 +272,7 @@ pub(crate) fn workers_of(options: &Options) -> u32
 }
 
 // The recorded input, which keeps the bytes of its journal; none where there is no journal.
-pub(crate) fn journal_in(alloc: Global, bytes: Option<Vec<u8>>) -> Result<Journal, Ended>
+pub(crate) fn journal_in(alloc: Global, bytes: Option<Vec<u8>>) -> Result<Journal, Outcome>
     ensures found { IfOk result (AreItemsOf (text_of bytes)) }
     ensures refused { IfErr result (IsRefusal (HasJournalFault (text_of bytes)) bad_journal) }
 {
@@ -337,26 +280,26 @@ pub(crate) fn journal_in(alloc: Global, bytes: Option<Vec<u8>>) -> Result<Journa
 }
 
 // The list that the bytes of a schedule mean over the levels of a book.
-pub(crate) fn list_in(alloc: Global, bytes: &[u8], book: &Book) -> Result<Vec<Action>, Ended>
+pub(crate) fn list_in(alloc: Global, bytes: &[u8], book: &Book) -> Result<Vec<Action>, Outcome>
     requires { length bytes.now ≤ 536870912 }
     ensures found { IfOk result (λ list. IsSchedule (names_of book.now) bytes.now list.items) }
     ensures refused { IfErr result (IsRefusal (HasFirstFault (names_of book.now) bytes.now) bad_text) }
 {
     match read_actions(alloc, bytes, book) {
         Ok(list) => Ok(list),
-        Err(fault) => Err(Ended::bad_text(fault)),
+        Err(fault) => Err(Outcome::bad_text(fault)),
     }
 }
 
 // Judges a list.
-pub(crate) fn judge(alloc: Global, list: &[Action], steps: u32, book: &Book) -> Result<(), Ended>
+pub(crate) fn judge(alloc: Global, list: &[Action], steps: u32, book: &Book) -> Result<(), Outcome>
     requires { steps ≤ MOST_STEPS }
     ensures valid { OnOk result (Valid steps (slots_of book.now) list.now) }
-    ensures broken { IfErr result (λ e. (e ≡ no_memory) ⊎ ((e ≡ invalid e.place e.more e.rule)
-        × BrokenAt steps (slots_of book.now) list.now e.place e.rule e.more × (Valid steps (slots_of book.now) list.now → ⊥))) }
+    ensures broken { IfErr result (λ e. (e ≡ no_memory) ⊎ ((place : ℕ) × (rule : ℕ) × (level : ℕ) × (e ≡ invalid place level rule)
+        × BrokenAt steps (slots_of book.now) list.now place rule level × (Valid steps (slots_of book.now) list.now → ⊥))) }
 {
     match check(alloc, list, steps, book)? {
         Verdict::Valid => Ok(()),
-        Verdict::Broken { place, rule, level } => Err(Ended::invalid(place, level, rule)),
+        Verdict::Broken { place, rule, level } => Err(Outcome::Invalid { place, level, rule }),
     }
 }

@@ -17,22 +17,24 @@ ghost use Rattle.rv_decode.specs.Ranges.{HasRanges};
 ghost use Rattle.rv_decode.specs.Words.{word_of};
 ghost use Rattle.reversal.specs.Demo.{drawn, instruction_of, program, demo_list, summary_text};
 ghost use Rattle.reversal.specs.Output.{lines_down};
-ghost use Rattle.requests.specs.Ending.{no_memory};
+ghost use Rattle.endings.specs.Outcomes.{no_memory};
 ghost use Rattle.reversal.specs.JobModel.{IsShowable, Works, IsDecided};
 
 use crate::job::Job;
 use crate::line_hasher::LineHasher;
 use elf_load::load_raw;
+use endings::Outcome;
 use input_journal::Journal;
 use keepers::{MemoryKeeper, Sink};
 use level_book::Book;
 use pebble_bound::least_forward;
 use plan_types::Line;
-use requests::{Demo, Ended, push_digest};
+use requests::Demo;
 use reverse_runner::Session;
 use revolve_gen::{GenFault, Revolve};
 use rv_decode::{Inst, encode};
 use rv_machine::{State, Steps};
+use state_image::push_digest;
 use std::alloc::{AllocError, Global};
 use std::sync::ledger::Ledger;
 
@@ -45,7 +47,7 @@ const STACK: u32 = 16;
 const DRAWS: u32 = 62;
 
 /// The decision on a request for a demonstration.
-pub fn decide_demo(alloc: Global, demo: &Demo) -> Result<Job, Ended>
+pub fn decide_demo(alloc: Global, demo: &Demo) -> Result<Job, Outcome>
     requires number { demo.now.number ≤ 4294967295 }
     requires steps { demo.now.steps ≤ MOST_STEPS }
     requires slots { demo.now.slots ≤ MOST_SLOTS }
@@ -56,7 +58,11 @@ pub fn decide_demo(alloc: Global, demo: &Demo) -> Result<Job, Ended>
     let slots = demo.slots as u32;
     let room = Book::plain(slots).total_room(steps);
     if steps >= 2 && room == 0 {
-        return Err(Ended::no_plan(steps, room, 1));
+        return Err(Outcome::NoPlan {
+            steps,
+            room,
+            rule: 1,
+        });
     }
     let start = start_of(alloc, number)?;
     Ok(Job::Demonstrate(Demonstration {
@@ -68,14 +74,14 @@ pub fn decide_demo(alloc: Global, demo: &Demo) -> Result<Job, Ended>
 }
 
 // The first state of the program made from a number. Its bytes are few and whole words, so only memory can run out.
-fn start_of(alloc: Global, number: u32) -> Result<State, Ended>
+fn start_of(alloc: Global, number: u32) -> Result<State, Outcome>
     ensures found { IfOk result (IsRawProgram (program number) 16) }
     ensures refused { IfErr result (λ e. e ≡ no_memory) }
 {
     let bytes = program(alloc, number)?;
     match load_raw(alloc, &bytes, STACK) {
         Ok(start) => Ok(start),
-        Err(_) => Err(Ended::no_memory()),
+        Err(_) => Err(Outcome::Memory),
     }
 }
 
@@ -172,7 +178,7 @@ impl Demonstration {
         alloc: Global,
         out: &mut O,
         counter: &mut Steps<L>,
-    ) -> Ended
+    ) -> Outcome
         requires { IsShowable self }
         ensures { (other : Moment) → ((result ≡ no_memory) × (out.new ≡ out.old) × (counter.new ≡ counter.old))
             ⊎ Works (demonstrate self.number self.start self.steps self.slots) result
@@ -186,14 +192,14 @@ impl Demonstration {
             slots,
         } = self;
         let Ok(mut run) = Demonstrated::begin(alloc, start, steps, slots) else {
-            return Ended::no_memory();
+            return Outcome::Memory;
         };
         let Some(digest) = run.digest(counter) else {
-            return Ended::no_memory();
+            return Outcome::Memory;
         };
         match out.write(summary(number, steps, slots, &digest).bytes()) {
-            Ok(()) => Ended::done(),
-            Err(_) => Ended::stopped(0),
+            Ok(()) => Outcome::Done,
+            Err(_) => Outcome::Sink { place: 0 },
         }
     }
 }
@@ -269,7 +275,7 @@ fn summary(number: u32, steps: u32, slots: u32, digest: &[u8; 32]) -> Line
     push_number(&mut line, b" ", slots as u64);
     push_number(&mut line, b"\nforward ", forward_steps(steps, slots));
     push_number(&mut line, b"\nlines ", steps as u64 + 1);
-    line.push(b"\nsha256 ");
+    line.push(b"\nsha256");
     push_digest(&mut line, digest);
     line.push(b"\n");
     line

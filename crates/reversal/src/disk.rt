@@ -5,7 +5,7 @@ ghost use Rattle.cost_tables.specs.TableRows.{FastestTablesFit};
 ghost use Rattle.disk_gen.specs.DiskPlans.{HasDiskPlan};
 ghost use Rattle.disk_gen.specs.DiskRows.{AreDiskFor, disk_tables_in};
 ghost use Rattle.reversal.specs.CommandPlan.{DecidesPlanDisk};
-ghost use Rattle.requests.specs.Ending.{no_memory};
+ghost use Rattle.endings.specs.Outcomes.{no_memory};
 ghost use Rattle.reversal.specs.JobModel.{IsDecided};
 ghost use Rattle.reversal.specs.NoPlans.{IsUndisked};
 
@@ -15,8 +15,8 @@ use crate::job::Job;
 use crate::planning::certified_text;
 use bound_cert::certify_disk;
 use disk_gen::{DiskTables, disk_list};
+use endings::Outcome;
 use level_book::Book;
-use requests::Ended;
 use revolve_gen::GenFault;
 use std::alloc::Global;
 use std::thread::Threads;
@@ -32,7 +32,7 @@ pub fn disk_text<R: Threads + Sync>(
     workers: u32,
     steps: u32,
     book: &[u8],
-) -> Result<Job, Ended>
+) -> Result<Job, Outcome>
     requires workers { (1 ≤ workers) × (workers ≤ 64) }
     requires steps { steps ≤ 8192 }
     ensures { (counts : List ℕ) → IsDecided (DecidesPlanDisk steps book.now) counts result }
@@ -41,7 +41,11 @@ pub fn disk_text<R: Threads + Sync>(
     let _levels = book.levels();
     let room = book.room(0, steps);
     if room > MOST_IMAGES {
-        return Err(Ended::out_of_range(room as u64, MOST_IMAGES as u64, 9));
+        return Err(Outcome::Limit {
+            number: room as u64,
+            bound: MOST_IMAGES as u64,
+            rule: 9,
+        });
     }
     let tables = tables_for(rt, alloc, workers, steps, &book)?;
     let list = disk_list(alloc, &tables, steps, &book)?;
@@ -58,7 +62,7 @@ fn tables_for<R: Threads + Sync>(
     workers: u32,
     steps: u32,
     book: &Book,
-) -> Result<DiskTables, Ended>
+) -> Result<DiskTables, Outcome>
     requires workers { (1 ≤ workers) × (workers ≤ 64) }
     requires fits { FastestTablesFit steps book.now }
     ensures sizes { IfOk result (AreDiskFor steps book.now) }
@@ -68,7 +72,11 @@ fn tables_for<R: Threads + Sync>(
 {
     match DiskTables::build(rt, alloc, steps, book, workers) {
         Ok(tables) => Ok(tables),
-        Err(GenFault::NoPlan(rule)) => Err(Ended::no_plan(steps, book.total_room(steps), rule)),
-        Err(GenFault::Memory) => Err(Ended::no_memory()),
+        Err(GenFault::NoPlan(rule)) => Err(Outcome::NoPlan {
+            steps,
+            room: book.total_room(steps),
+            rule,
+        }),
+        Err(GenFault::Memory) => Err(Outcome::Memory),
     }
 }

@@ -1,29 +1,24 @@
 // The search of a run for the last state with a digest.
-ghost use Rattle.std.specs.Prelude.{ℕ, ◌≤◌, List, map};
+ghost use Rattle.std.specs.Prelude.{ℕ, ◌≤◌, List};
 ghost use Rattle.plan_types.specs.declared.limits.TheConstants.{MOST_STEPS};
-ghost use Rattle.requests.specs.Request.{find as find_command, stack_pages, worker_count};
-ghost use Rattle.requests.specs.Inputs.{inputs_of};
-ghost use Rattle.requests.specs.InputOutcome.{AreWithinLimits};
-ghost use Rattle.requests.specs.RequestModel.{as_find};
-ghost use Rattle.requests.specs.Ending.{no_memory};
+ghost use Rattle.requests.specs.Request.{stack_pages, worker_count};
 ghost use Rattle.reversal.specs.Job.{seek};
 ghost use Rattle.reversal.specs.Moment.{Moment, beside};
 ghost use Rattle.reversal.specs.Table.{Decided};
 ghost use Rattle.reversal.specs.CommandFind.{find_table};
-ghost use Rattle.reversal.specs.Decision.{DecidesBytes};
 ghost use Rattle.reversal.specs.JobModel.{IsSearchable, Works, text_of, IsDecided};
 
 use crate::asking::write_answer;
 use crate::decision::{journal_in, start_of};
 use crate::job::Job;
+use endings::Outcome;
 use input_journal::Journal;
 use keepers::Sink;
 use plan_types::NoGate;
-use requests::{Ended, Find, Options};
+use requests::{Find, Loaded, Options};
 use rv_machine::{State, Steps};
 use segment_sweep::{Marks, find_digest};
 use std::alloc::Global;
-use std::mem;
 use std::sync::ledger::Ledger;
 use std::thread::Threads;
 
@@ -46,7 +41,7 @@ impl Finding {
         alloc: Global,
         out: &mut O,
         counter: &mut Steps<L>,
-    ) -> Ended
+    ) -> Outcome
         requires { IsSearchable self }
         ensures { (other : Moment) → Works (seek self.start self.journal self.steps self.workers self.digest) result
             (beside O.Sink other out.old counter.old)
@@ -60,54 +55,30 @@ impl Finding {
             digest,
         } = self;
         let Ok(marks) = Marks::make(alloc, &start, &journal, steps, workers, counter) else {
-            return Ended::no_memory();
+            return Outcome::Memory;
         };
         let Ok(place) = find_digest(rt, alloc, &marks, &journal, &digest, &NoGate) else {
-            return Ended::no_memory();
+            return Outcome::Memory;
         };
         write_answer(place, out)
     }
 }
 
-/// The decision on a search for the last state with a digest, by the bytes of its inputs.
+/// The decision on a search for the last state with a digest.
 pub fn decide_find(
     alloc: Global,
     options: &Options,
     find: &Find<'_>,
-    bytes: &mut [Vec<u8>],
-) -> Result<Job, Ended>
-    requires stack { (1 ≤ stack_pages options.now) × (stack_pages options.now ≤ 1024) }
-    requires workers { (1 ≤ worker_count options.now) × (worker_count options.now ≤ 64) }
-    requires steps { find.now.steps ≤ MOST_STEPS }
-    requires inputs { AreWithinLimits (inputs_of (find_command (as_find find.now))) (map (λ b. b.items) bytes.old) }
-    ensures { (slots : List ℕ) →
-        IsDecided (DecidesBytes options.now (find_command (as_find find.now)) (map (λ b. b.items) bytes.old) slots) slots result }
-{
-    match bytes {
-        [program] => find_in(alloc, options, find, program.as_slice(), None),
-        [program, journal] => {
-            let journal = mem::replace(journal, Vec::new(alloc));
-            find_in(alloc, options, find, program.as_slice(), Some(journal))
-        }
-        _ => unreachable!(),
-    }
-}
-
-fn find_in(
-    alloc: Global,
-    options: &Options,
-    find: &Find<'_>,
-    program: &[u8],
-    journal: Option<Vec<u8>>,
-) -> Result<Job, Ended>
+    loaded: &mut Loaded,
+) -> Result<Job, Outcome>
     requires stack { (1 ≤ stack_pages options.now) × (stack_pages options.now ≤ 1024) }
     requires workers { (1 ≤ worker_count options.now) × (worker_count options.now ≤ 64) }
     requires steps { find.now.steps ≤ MOST_STEPS }
     ensures { (counts : List ℕ) →
-        IsDecided (Decided (find_table options.now find.now.steps find.now.digest program.now (text_of journal))) counts result }
+        IsDecided (Decided (find_table options.now find.now.steps find.now.digest loaded.old.program.items (text_of loaded.old.journal))) counts result }
 {
-    let start = start_of(alloc, options, program)?;
-    let journal = journal_in(alloc, journal)?;
+    let start = start_of(alloc, options, &loaded.program)?;
+    let journal = journal_in(alloc, loaded.journal.take())?;
     Ok(Job::Find(Finding {
         start,
         journal,

@@ -8,7 +8,7 @@ ghost use Rattle.hrevolve_gen.specs.HRevolveList.{IsWritten};
 ghost use Rattle.hrevolve_gen.specs.Plans.{HasNestedPlan};
 ghost use Rattle.reversal.specs.Table.{IsFirstWide};
 ghost use Rattle.reversal.specs.CommandPlan.{DecidesPlanHrevolve};
-ghost use Rattle.requests.specs.Ending.{no_memory, out_of_range};
+ghost use Rattle.endings.specs.Outcomes.{no_memory};
 ghost use Rattle.reversal.specs.JobModel.{IsDecided};
 ghost use Rattle.reversal.specs.NoPlans.{IsUnnested};
 
@@ -18,10 +18,10 @@ use crate::job::Job;
 use crate::planning::certified_text;
 use bound_cert::certify_nested;
 use cost_tables::Tables;
+use endings::Outcome;
 use hrevolve_gen::hrevolve_list;
 use level_book::Book;
 use plan_types::Action;
-use requests::Ended;
 use revolve_gen::GenFault;
 use std::alloc::Global;
 use std::thread::Threads;
@@ -37,14 +37,18 @@ pub fn hrevolve_text<R: Threads + Sync>(
     workers: u32,
     steps: u32,
     book: &[u8],
-) -> Result<Job, Ended>
+) -> Result<Job, Outcome>
     requires workers { (1 ≤ workers) × (workers ≤ 64) }
     requires steps { steps ≤ 2048 }
     ensures { (counts : List ℕ) → IsDecided (DecidesPlanHrevolve steps book.now) counts result }
 {
     let book = book_in(alloc, book)?;
     if let Some(level) = first_wide(steps, &book) {
-        return Err(Ended::out_of_range(book.room(level, steps) as u64, MOST_IMAGES as u64, 9));
+        return Err(Outcome::Limit {
+            number: book.room(level, steps) as u64,
+            bound: MOST_IMAGES as u64,
+            rule: 9,
+        });
     }
     let tables = Tables::build(rt, alloc, steps, &book, workers)?;
     let list = list_for(alloc, &tables, steps, &book)?;
@@ -67,7 +71,7 @@ fn first_wide(steps: u32, book: &Book) -> Option<u8>
 }
 
 // The list that is read from the tables for so many steps and a book.
-fn list_for(alloc: Global, tables: &Tables, steps: u32, book: &Book) -> Result<Vec<Action>, Ended>
+fn list_for(alloc: Global, tables: &Tables, steps: u32, book: &Book) -> Result<Vec<Action>, Outcome>
     requires fits { TablesFit steps book.now }
     requires sizes { AreFor steps book.now tables.now }
     requires greatest { IsGreatest steps book.now (tables_in tables.now) }
@@ -78,7 +82,11 @@ fn list_for(alloc: Global, tables: &Tables, steps: u32, book: &Book) -> Result<V
 {
     match hrevolve_list(alloc, tables, steps, book) {
         Ok(list) => Ok(list),
-        Err(GenFault::NoPlan(_)) => Err(Ended::no_plan(steps, book.total_room(steps), 1)),
-        Err(GenFault::Memory) => Err(Ended::no_memory()),
+        Err(GenFault::NoPlan(_)) => Err(Outcome::NoPlan {
+            steps,
+            room: book.total_room(steps),
+            rule: 1,
+        }),
+        Err(GenFault::Memory) => Err(Outcome::Memory),
     }
 }

@@ -11,8 +11,8 @@ ghost use Rattle.reverse_runner.specs.declared.fault.RunFault.TheVariants as fau
 ghost use Rattle.reversal.specs.Job.{perform, write};
 ghost use Rattle.reversal.specs.Moment.{Moment, beside, AllEmpty};
 ghost use Rattle.reversal.specs.ActionsLeft.{left_of};
-ghost use Rattle.reversal.specs.Table.{accept};
-ghost use Rattle.reversal.specs.Decision.{EndsBy};
+ghost use Rattle.reversal.specs.Course.{EndsShowing};
+ghost use Rattle.reversal.specs.Decision.{course_of};
 ghost use Rattle.reversal.specs.RunStart.{Begins};
 ghost use Rattle.reversal.specs.JobModel.{performed_run, run_from, job_of, IsPerformable, CanBeDone, KeepersHaveRoom, IsBegun, Does, DoesBegun, fault_ending};
 
@@ -24,11 +24,11 @@ use crate::demo::Demonstration;
 use crate::finding::Finding;
 use crate::listing::Listing;
 use crate::planning::Plan;
+use endings::Outcome;
 use input_journal::Journal;
 use keepers::{Keeper, Sink};
 use level_book::Book;
 use plan_types::{Action, Line};
-use requests::Ended;
 use reverse_runner::{LineWriter, RunFault, Session};
 use rv_machine::{State, Steps};
 use std::alloc::Global;
@@ -112,7 +112,7 @@ impl Job {
         keepers: &mut Vec<K>,
         out: &mut O,
         counter: &mut Steps<L>,
-    ) -> Ended
+    ) -> Outcome
         requires can_be_done { CanBeDone self }
         requires room { KeepersHaveRoom self (map K.slot_count keepers.old.items) }
         ensures { Does O.Sink K.Storage (job_of self) result out.old out.new keepers.old keepers.new counter.old counter.new }
@@ -141,7 +141,7 @@ impl Performance {
         keepers: &mut Vec<K>,
         out: &mut O,
         counter: &mut Steps<L>,
-    ) -> Ended
+    ) -> Outcome
         requires can_be_done { IsPerformable self }
         requires room { HaveRoom self.steps (slots_of self.book) (map K.slot_count keepers.old.items) }
         ensures { Does O.Sink K.Storage (perform (performed_run self)) result out.old out.new keepers.old keepers.new counter.old counter.new }
@@ -157,10 +157,10 @@ impl Performance {
         } = self;
         start.is_machine_state();
         let Ok(digesters) = Digesters::begin(alloc, &start, unit, workers) else {
-            return Ended::no_memory();
+            return Outcome::Memory;
         };
         match Session::begin(alloc, start, journal, steps, unit, book) {
-            Err(_) => Ended::no_memory(),
+            Err(_) => Outcome::Memory,
             Ok(mut session) => {
                 perform_all(
                     rt,
@@ -177,14 +177,14 @@ impl Performance {
 }
 
 // Writes bytes in one piece.
-fn write_bytes<O: Sink>(bytes: &[u8], out: &mut O) -> Ended
-    ensures { (other : Moment) (steps : ℕ) → EndsBy (accept (write (bytes.now ∷ []))) result
+fn write_bytes<O: Sink>(bytes: &[u8], out: &mut O) -> Outcome
+    ensures { (other : Moment) (steps : ℕ) → EndsShowing (course_of (write (bytes.now ∷ []))) result
         (beside O.Sink other out.old steps)
         (beside O.Sink other out.new steps) }
 {
     match out.write(bytes) {
-        Ok(()) => Ended::done(),
-        Err(_) => Ended::stopped(0),
+        Ok(()) => Outcome::Done,
+        Err(_) => Outcome::Sink { place: 0 },
     }
 }
 
@@ -197,7 +197,7 @@ fn perform_all<R: Threads + Sync, K: Keeper, O: Sink, L: Ledger>(
     keepers: &mut Vec<K>,
     out: &mut O,
     counter: &mut Steps<L>,
-) -> Ended
+) -> Outcome
     requires begun { IsBegun session.old (left_of actions.old) (map K.slot_count keepers.old.items) }
     requires alone { (told : ℕ → Option Images) → AllEmpty (length session.old.situation.slots) told → AreAlone (levels_of session.old told) }
     requires pages { AllByRecursion (HasPages session.old.work) digesters }
@@ -214,7 +214,7 @@ fn perform_all<R: Threads + Sync, K: Keeper, O: Sink, L: Ledger>(
             Err(fault) => return fault_ending(place, fault),
         }
     }
-    Ended::done()
+    Outcome::Done
 }
 
 // Takes the digests of the lines of a Reverse, before it is performed.
@@ -234,15 +234,20 @@ fn digest_lines<R: Threads + Sync>(
 }
 
 /// How a call ends if its session refused the action, or its console the order, at this place for this fault.
-pub fn fault_ending(place: u64, fault: RunFault) -> Ended
+pub fn fault_ending(place: u64, fault: RunFault) -> Outcome
     requires over { fault ≢ fault_is.Ended }
     ensures { result ≡ fault_ending place fault }
 {
     match fault {
-        RunFault::Keeper(level) => Ended::keeper_failed(place, level),
-        RunFault::Damaged { level, put, got } => Ended::damaged(place, level, &put, &got),
-        RunFault::Visitor => Ended::stopped(place),
-        RunFault::Memory => Ended::no_memory(),
+        RunFault::Keeper(level) => Outcome::Keeper { place, level },
+        RunFault::Damaged { level, put, got } => Outcome::Damaged {
+            place,
+            level,
+            put,
+            got,
+        },
+        RunFault::Visitor => Outcome::Sink { place },
+        RunFault::Memory => Outcome::Memory,
         RunFault::Ended => unreachable!(),
     }
 }

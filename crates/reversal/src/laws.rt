@@ -47,8 +47,9 @@ ghost use Rattle.level_book.specs.Configuration.{Configuration, start};
 ghost use Rattle.level_book.specs.Valid.{Leads, Valid};
 ghost use Rattle.reverse_runner.specs.ActionEffects.{Holdings};
 ghost use Rattle.reversal.specs.Moment.{Moment, NothingRises, AllTell};
-ghost use Rattle.requests.specs.declared.ended.Ended.{Ended};
-ghost use Rattle.requests.specs.Ending.{done};
+ghost use Rattle.endings.specs.declared.ended.Ended.{Ended};
+ghost use Rattle.endings.specs.Endings.{ended_of};
+ghost use Rattle.endings.specs.Outcomes.{done};
 ghost use Rattle.reverse_console.specs.MarksOfRun.{MarksTell};
 ghost use Rattle.reversal.specs.Output.{line_of, lines_down, Adds};
 ghost use Rattle.reversal.specs.Course.{Shown, Done, Stops, FailsAt, DamagedAt, Halts};
@@ -87,7 +88,7 @@ pub fn scripts_write_the_answers_to_their_orders()
 /// damaged then.
 pub fn accepted_jobs_are_done()
     ensures { (job : Job) (e : Ended) (old new : Moment) → EndsBy (accept job) e old new → AllTell (course_of job).levels old.images →
-        NothingRises old new → (e ≡ done) × ((shown : Shown) × Done (course_of job) shown old new) }
+        NothingRises old new → (e ≡ ended_of done) × ((shown : Shown) × Done (course_of job) shown old new) }
 {}
 
 /// A certified list is the least. Suppose that a request to certify one is accepted. Then the schedule is a valid list,

@@ -30,4 +30,5 @@ mod planning;
 mod top;
 
 pub use crate::top::reversal;
-pub use requests::{Ended, KeepAt, Words, ended_text, keeper_places};
+pub use endings::{Ended, ended_text};
+pub use requests::{KeepAt, Words, keeper_places};

@@ -2,24 +2,20 @@
 ghost use Rattle.std.specs.Prelude.{◌≡◌, ℕ, ◌+◌, ◌≤◌, ◌%◌, ◌++◌, List, length, map, take, drop, IfOk};
 ghost use Rattle.std.specs.List.{AllByRecursion};
 ghost use Rattle.std.specs.Vec.{vec_len, vec_capacity};
-ghost use Rattle.requests.specs.Request.{Choice, disasm as disasm_command};
-ghost use Rattle.requests.specs.Inputs.{inputs_of};
-ghost use Rattle.requests.specs.InputOutcome.{AreWithinLimits};
-ghost use Rattle.requests.specs.RequestModel.{as_disasm};
 ghost use Rattle.reversal.specs.Job.{write};
 ghost use Rattle.reversal.specs.Moment.{Moment, beside};
 ghost use Rattle.reversal.specs.Deeds.{bytes_of};
-ghost use Rattle.reversal.specs.Table.{accept};
 ghost use Rattle.reversal.specs.CommandAsm.{word_bytes, DecidesDisasm};
-ghost use Rattle.reversal.specs.Decision.{EndsBy, DecidesBytes};
+ghost use Rattle.reversal.specs.Course.{EndsShowing};
+ghost use Rattle.reversal.specs.Decision.{course_of};
 ghost use Rattle.reversal.specs.Listing.{ended_line, word_pieces, IsWord};
 ghost use Rattle.reversal.specs.JobModel.{IsDecided};
 
 use crate::job::Job;
 use elf_load::ElfFault;
+use endings::Outcome;
 use keepers::Sink;
 use plan_types::Line;
-use requests::{Disasm, Ended};
 use rv_asm::disassemble;
 use std::alloc::{AllocError, Global};
 
@@ -37,9 +33,9 @@ pub struct Listing {
 
 impl Listing {
     /// Writes the line of each word, in pieces of sixty-four lines. It takes no memory.
-    pub fn write<O: Sink>(self, out: &mut O) -> Ended
+    pub fn write<O: Sink>(self, out: &mut O) -> Outcome
         requires { 5184 ≤ vec_capacity self.piece }
-        ensures { (other : Moment) (steps : ℕ) → EndsBy (accept (write (word_pieces self.words.items))) result
+        ensures { (other : Moment) (steps : ℕ) → EndsShowing (course_of (write (word_pieces self.words.items))) result
             (beside O.Sink other out.old steps)
             (beside O.Sink other out.new steps) }
     {
@@ -49,10 +45,10 @@ impl Listing {
             rest = next_piece(rest, &mut piece);
             match out.write(&piece) {
                 Ok(()) => {}
-                Err(_) => return Ended::stopped(0),
+                Err(_) => return Outcome::Sink { place: 0 },
             }
         }
-        Ended::done()
+        Outcome::Done
     }
 }
 
@@ -84,21 +80,12 @@ fn push_line(word: u32, line: &mut Line, piece: &mut Vec<u8>)
     piece.extend_from_slice(line.bytes()).unwrap();
 }
 
-/// The decision on a request to disassemble a raw program, by its bytes.
-pub fn decide_disasm(alloc: Global, disasm: &Disasm<'_>, bytes: &[Vec<u8>]) -> Result<Job, Ended>
-    requires { AreWithinLimits (inputs_of (disasm_command (as_disasm disasm.now))) (map (λ b. b.items) bytes.now) }
-    ensures { (slots : List ℕ) → (options : List Choice) →
-        IsDecided (DecidesBytes options (disasm_command (as_disasm disasm.now)) (map (λ b. b.items) bytes.now) slots) slots result }
-{
-    let [program] = bytes else { unreachable!() };
-    list_words(alloc, program)
-}
-
-fn list_words(alloc: Global, program: &[u8]) -> Result<Job, Ended>
+/// The decision on a request to disassemble a raw program.
+pub fn decide_disasm(alloc: Global, program: &[u8]) -> Result<Job, Outcome>
     ensures { (counts : List ℕ) → IsDecided (DecidesDisasm program.now) counts result }
 {
     if program.is_empty() || program.len() % 4 != 0 {
-        return Err(Ended::from(ElfFault::RawLength(program.len() as u64)));
+        return Err(Outcome::from(ElfFault::RawLength(program.len() as u64)));
     }
     let words = words_in(alloc, program)?;
     let piece = Vec::with_capacity(alloc, PIECE)?;

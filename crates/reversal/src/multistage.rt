@@ -7,7 +7,7 @@ ghost use Rattle.revolve_gen.specs.Multistage.{IsMultistage};
 ghost use Rattle.multistage_gen.specs.Plan.{IsPlaced};
 ghost use Rattle.multistage_gen.specs.MultistageList.{IsMultistageList};
 ghost use Rattle.reversal.specs.CommandPlan.{DecidesPlanMultistage};
-ghost use Rattle.requests.specs.Ending.{no_memory, no_plan};
+ghost use Rattle.endings.specs.Outcomes.{no_memory, no_plan};
 ghost use Rattle.reversal.specs.JobModel.{IsDecided};
 
 use crate::actions::Actions;
@@ -15,14 +15,14 @@ use crate::decision::book_in;
 use crate::job::Job;
 use crate::planning::certified_text;
 use bound_cert::certify_places;
+use endings::Outcome;
 use level_book::Book;
 use multistage_gen::Multistage;
-use requests::Ended;
 use revolve_gen::GenFault;
 use std::alloc::Global;
 
 /// The decision on a multistage plan by the bytes of its book: the texts of its list and certificate.
-pub fn multistage_text(alloc: Global, steps: u32, book: &[u8]) -> Result<Job, Ended>
+pub fn multistage_text(alloc: Global, steps: u32, book: &[u8]) -> Result<Job, Outcome>
     requires steps { steps ≤ MOST_STEPS }
     ensures { (counts : List ℕ) → IsDecided (DecidesPlanMultistage steps book.now) counts result }
 {
@@ -34,7 +34,7 @@ pub fn multistage_text(alloc: Global, steps: u32, book: &[u8]) -> Result<Job, En
 }
 
 // The multistage plan for so many steps and a book.
-fn plan_for(alloc: Global, steps: u32, book: &Book) -> Result<Multistage, Ended>
+fn plan_for(alloc: Global, steps: u32, book: &Book) -> Result<Multistage, Outcome>
     requires { steps ≤ MOST_STEPS }
     ensures list { IfOk result (λ plan. IsMultistageList steps book.now plan.actions) }
     ensures class { IfOk result (λ plan. IsMultistage steps book.now plan.actions) }
@@ -45,7 +45,11 @@ fn plan_for(alloc: Global, steps: u32, book: &Book) -> Result<Multistage, Ended>
 {
     match Multistage::begin(alloc, steps, book) {
         Ok(plan) => Ok(plan),
-        Err(GenFault::NoPlan(rule)) => Err(Ended::no_plan(steps, book.total_room(steps), rule)),
-        Err(GenFault::Memory) => Err(Ended::no_memory()),
+        Err(GenFault::NoPlan(rule)) => Err(Outcome::NoPlan {
+            steps,
+            room: book.total_room(steps),
+            rule,
+        }),
+        Err(GenFault::Memory) => Err(Outcome::Memory),
     }
 }

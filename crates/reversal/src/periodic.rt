@@ -5,7 +5,7 @@ ghost use Rattle.level_book.specs.BookCosts.{total_room};
 ghost use Rattle.disk_gen.specs.PeriodicList.{periodic_list};
 ghost use Rattle.disk_gen.specs.Plans.{HasPeriodicPlan};
 ghost use Rattle.reversal.specs.CommandPlan.{DecidesPlanPeriodic};
-ghost use Rattle.requests.specs.Ending.{no_memory};
+ghost use Rattle.endings.specs.Outcomes.{no_memory};
 ghost use Rattle.reversal.specs.JobModel.{IsDecided};
 ghost use Rattle.reversal.specs.NoPlans.{IsUnperiodic};
 
@@ -14,26 +14,27 @@ use crate::decision::book_in;
 use crate::job::Job;
 use crate::planning::list_text;
 use disk_gen::Periodic;
+use endings::Outcome;
 use level_book::Book;
-use requests::Ended;
+use requests::PlanPeriodic;
 use revolve_gen::GenFault;
 use std::alloc::Global;
 
-/// The decision on a periodic plan by the bytes of its book: the text of its list.
-pub fn periodic_text(alloc: Global, steps: u32, period: u32, book: &[u8]) -> Result<Job, Ended>
-    requires steps { steps ≤ MOST_STEPS }
-    requires some { 1 ≤ period }
-    requires small { period ≤ MOST_STEPS }
-    ensures { (counts : List ℕ) → IsDecided (DecidesPlanPeriodic steps period book.now) counts result }
+/// The decision on a request for a periodic plan: the text of its list.
+pub fn decide_periodic(alloc: Global, plan: &PlanPeriodic<'_>, book: &[u8]) -> Result<Job, Outcome>
+    requires steps { plan.now.steps ≤ MOST_STEPS }
+    requires some { 1 ≤ plan.now.period }
+    requires small { plan.now.period ≤ MOST_STEPS }
+    ensures { (counts : List ℕ) → IsDecided (DecidesPlanPeriodic plan.now.steps plan.now.period book.now) counts result }
 {
     let book = book_in(alloc, book)?;
-    let periodic = periodic_for(alloc, steps, period, &book)?;
+    let periodic = periodic_for(alloc, plan.steps as u32, plan.period as u32, &book)?;
     let job = list_text(alloc, Actions::Periodic(periodic), book)?;
     Ok(job)
 }
 
 // The periodic list for so many steps, a period and a book.
-fn periodic_for(alloc: Global, steps: u32, period: u32, book: &Book) -> Result<Periodic, Ended>
+fn periodic_for(alloc: Global, steps: u32, period: u32, book: &Book) -> Result<Periodic, Outcome>
     requires steps { steps ≤ MOST_STEPS }
     requires some { 1 ≤ period }
     requires small { period ≤ MOST_STEPS }
@@ -43,7 +44,11 @@ fn periodic_for(alloc: Global, steps: u32, period: u32, book: &Book) -> Result<P
 {
     match Periodic::new(alloc, steps, period, book) {
         Ok(periodic) => Ok(periodic),
-        Err(GenFault::NoPlan(rule)) => Err(Ended::no_plan(steps, book.total_room(steps), rule)),
-        Err(GenFault::Memory) => Err(Ended::no_memory()),
+        Err(GenFault::NoPlan(rule)) => Err(Outcome::NoPlan {
+            steps,
+            room: book.total_room(steps),
+            rule,
+        }),
+        Err(GenFault::Memory) => Err(Outcome::Memory),
     }
 }

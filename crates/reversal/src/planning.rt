@@ -9,18 +9,16 @@ ghost use Rattle.action_text.specs.Canonical.{HasSpelling};
 ghost use Rattle.cert_text.specs.Canonical.{pieces};
 ghost use Rattle.revolve_gen.specs.Plans.{HasPlan};
 ghost use Rattle.revolve_gen.specs.RevolveList.{revolve_list};
-ghost use Rattle.requests.specs.Request.{Run as RunCommand, run as run_command, worker_count};
+ghost use Rattle.requests.specs.Request.{worker_count};
 ghost use Rattle.requests.specs.Operands.{made};
 ghost use Rattle.reversal.specs.Job.{perform, write};
 ghost use Rattle.reversal.specs.Moment.{Moment, beside};
 ghost use Rattle.reversal.specs.Deeds.{bytes_of};
-ghost use Rattle.reversal.specs.Table.{accept};
-ghost use Rattle.reversal.specs.InputMeaning.{DecidesOver, DecidesOverBytes};
-ghost use Rattle.reversal.specs.Decision.{EndsBy};
+ghost use Rattle.reversal.specs.InputMeaning.{DecidesOver};
+ghost use Rattle.reversal.specs.Course.{EndsShowing};
+ghost use Rattle.reversal.specs.Decision.{course_of};
 ghost use Rattle.reversal.specs.CommandPlan.{DecidesPlanRevolve};
-ghost use Rattle.requests.specs.Ending.{no_memory, no_plan};
-ghost use Rattle.requests.specs.Inputs.{inputs_of};
-ghost use Rattle.requests.specs.InputOutcome.{AreWithinLimits};
+ghost use Rattle.endings.specs.Outcomes.{no_memory, no_plan};
 ghost use Rattle.reversal.specs.ActionsLeft.{left_of};
 ghost use Rattle.reversal.specs.JobModel.{job_of, pieces_of, IsWritable, CanBeDone, HasWorkers, KeepersHaveRoom, text_of, IsDecided, RunFits};
 ghost use Rattle.reversal.specs.Plans.{line_of_action, list_pieces};
@@ -31,81 +29,39 @@ use crate::job::{Job, Performance};
 use action_text::print_action;
 use bound_cert::certify_revolve;
 use cert_text::{Certificate, print_certificate};
+use endings::Outcome;
 use keepers::Sink;
 use level_book::Book;
 use plan_types::Line;
-use requests::{Ended, Options};
+use requests::{Loaded, Options};
 use revolve_gen::{GenFault, Revolve};
 use std::alloc::{AllocError, Global};
-use std::mem;
 
 // The lines of a plan in one write, and their most bytes.
 const LINES: usize = 64;
 
 const PIECE: usize = 5_184;
 
-// The texts of a run whose list is made.
-#[derive(Drop)]
-struct Texts<'a> {
-    program: &'a [u8],
-    journal: Option<Vec<u8>>,
-    book: &'a [u8],
-}
-
-/// The decision on a run whose list is made, by the bytes of its inputs and the keepers' slots.
+/// The decision on a run whose list is made, by what was read for it and the keepers' slots.
 pub fn decide_made(
     alloc: Global,
     options: &Options,
     steps: u32,
-    bytes: &mut [Vec<u8>],
+    loaded: &mut Loaded,
     counts: &[u32],
-) -> Result<Job, Ended>
-    requires run { RunFits options.now steps }
-    requires workers { (1 ≤ worker_count options.now) × (worker_count options.now ≤ 64) }
-    requires inputs { (r : RunCommand) × AreWithinLimits (inputs_of (run_command (record { run = r; schedule = made }))) (map (λ b. b.items) bytes.old) }
-    ensures decided { IsDecided (DecidesOverBytes perform options.now made steps (map (λ b. b.items) bytes.old) counts.now) counts.now result }
-    ensures workers { IfOk result (HasWorkers (worker_count options.now)) }
-{
-    match bytes {
-        [program, book] => {
-            let texts = Texts {
-                program: program.as_slice(),
-                journal: None,
-                book: book.as_slice(),
-            };
-            decide_texts(alloc, options, steps, texts, counts)
-        }
-        [program, journal, book] => {
-            let texts = Texts {
-                program: program.as_slice(),
-                journal: Some(mem::replace(journal, Vec::new(alloc))),
-                book: book.as_slice(),
-            };
-            decide_texts(alloc, options, steps, texts, counts)
-        }
-        _ => unreachable!(),
-    }
-}
-
-fn decide_texts(
-    alloc: Global,
-    options: &Options,
-    steps: u32,
-    texts: Texts<'_>,
-    counts: &[u32],
-) -> Result<Job, Ended>
+) -> Result<Job, Outcome>
     requires run { RunFits options.now steps }
     requires workers { (1 ≤ worker_count options.now) × (worker_count options.now ≤ 64) }
     ensures decided { IsDecided
-        (DecidesOver perform options.now steps texts.entry.program.now (text_of texts.entry.journal) texts.entry.book.now None counts.now)
+        (DecidesOver perform options.now steps loaded.old.program.items (text_of loaded.old.journal) loaded.old.book.items None counts.now)
         counts.now result }
     ensures workers { IfOk result (HasWorkers (worker_count options.now)) }
 {
-    let book = book_in(alloc, texts.book)?;
+    let book = book_in(alloc, &loaded.book)?;
     keep(steps, &book, counts)?;
     let revolve = revolve_for(alloc, steps, &book)?;
-    let start = start_of(alloc, options, texts.program)?;
-    let journal = journal_in(alloc, texts.journal)?;
+    let start = start_of(alloc, options, &loaded.program)?;
+    let journal = journal_in(alloc, loaded.journal.take())?;
     Ok(Job::Perform(Performance {
         start,
         journal,
@@ -118,7 +74,7 @@ fn decide_texts(
 }
 
 /// The decision on a plan of Revolve by its book: the texts of its list and certificate.
-pub fn revolve_text(alloc: Global, steps: u32, book: &[u8]) -> Result<Job, Ended>
+pub fn revolve_text(alloc: Global, steps: u32, book: &[u8]) -> Result<Job, Outcome>
     requires steps { steps ≤ MOST_STEPS }
     ensures { (counts : List ℕ) → IsDecided (DecidesPlanRevolve steps book.now) counts result }
 {
@@ -167,7 +123,7 @@ pub fn certified_text(
 }
 
 // The list of Revolve for so many steps and a book.
-fn revolve_for(alloc: Global, steps: u32, book: &Book) -> Result<Revolve, Ended>
+fn revolve_for(alloc: Global, steps: u32, book: &Book) -> Result<Revolve, Outcome>
     requires { steps ≤ MOST_STEPS }
     ensures list { IfOk result (λ r. r ≡ revolve_list steps book.now) }
     ensures plan { OnOk result (HasPlan steps (total_room book.now steps)) }
@@ -176,8 +132,12 @@ fn revolve_for(alloc: Global, steps: u32, book: &Book) -> Result<Revolve, Ended>
 {
     match Revolve::new(alloc, steps, book) {
         Ok(revolve) => Ok(revolve),
-        Err(GenFault::NoPlan(_)) => Err(Ended::no_plan(steps, book.total_room(steps), 1)),
-        Err(GenFault::Memory) => Err(Ended::no_memory()),
+        Err(GenFault::NoPlan(_)) => Err(Outcome::NoPlan {
+            steps,
+            room: book.total_room(steps),
+            rule: 1,
+        }),
+        Err(GenFault::Memory) => Err(Outcome::Memory),
     }
 }
 
@@ -193,24 +153,24 @@ pub struct Plan {
 impl Plan {
     /// Writes the text of the list, in pieces of sixty-four lines. Then it writes that of the certificate, if there is
     /// one.
-    pub fn write<O: Sink>(mut self, out: &mut O) -> Ended
+    pub fn write<O: Sink>(mut self, out: &mut O) -> Outcome
         requires { IsWritable self }
-        ensures { (other : Moment) (steps : ℕ) → EndsBy (accept (write (pieces_of self))) result
+        ensures { (other : Moment) (steps : ℕ) → EndsShowing (course_of (write (pieces_of self))) result
             (beside O.Sink other out.old steps)
             (beside O.Sink other out.new steps) }
     {
         while self.next_piece() {
             match out.write(&self.piece) {
                 Ok(()) => {}
-                Err(_) => return Ended::stopped(0),
+                Err(_) => return Outcome::Sink { place: 0 },
             }
         }
         let Some(certificate) = &self.certificate else {
-            return Ended::done();
+            return Outcome::Done;
         };
         match print_certificate(certificate, out) {
-            Ok(()) => Ended::done(),
-            Err(_) => Ended::stopped(0),
+            Ok(()) => Outcome::Done,
+            Err(_) => Outcome::Sink { place: 0 },
         }
     }
 

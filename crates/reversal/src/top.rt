@@ -12,14 +12,17 @@ ghost use Rattle.reversal.specs.Decision.{course_of, Comes, StayInPlace, KeepsOt
 ghost use Rattle.reversal.specs.Job.{Job as AJob};
 ghost use Rattle.reversal.specs.Moment.{moment};
 ghost use Rattle.reversal.specs.Course.{HaltsShowing};
-ghost use Rattle.requests.specs.Ending.{no_memory};
+ghost use Rattle.endings.specs.declared.outcome.Outcome.{Outcome as AnOutcome};
+ghost use Rattle.endings.specs.Outcomes.{no_memory, unreadable};
+ghost use Rattle.endings.specs.Endings.{ended_of, status_of};
 ghost use Rattle.requests.specs.RequestModel.{request_of};
 ghost use Rattle.reversal.specs.JobModel.{job_of, CanBeDone, KeepersHaveRoom};
 
 use crate::decision::decide;
 use crate::job::Job;
+use endings::{Ended, Outcome};
 use keepers::{Inputs, Keeper, Sink};
-use requests::{Ended, Request, Words, read_inputs, read_request};
+use requests::{Request, Words, read_inputs, read_request};
 use rv_machine::Steps;
 use std::alloc::{AllocError, Global};
 use std::sync::ledger::Ledger;
@@ -40,7 +43,7 @@ pub fn reversal<R: Threads + Sync, I: Inputs, K: Keeper, O: Sink, L: Ledger>(
     ensures words { (result.status ≡ 2) ↔ ((r : ARequest) → Says (words_of words.now) r → ⊥) }
 
     // Words that are no request, or have a number out of bounds, are refused before any input is read.
-    ensures unread { (e : Ended) → RefusesWords (words_of words.now) e → (result ≡ e) × (inputs.new ≡ inputs.old) }
+    ensures unread { (o : AnOutcome) → RefusesWords (words_of words.now) o → (result ≡ ended_of o) × (inputs.new ≡ inputs.old) }
 
     // The requested names are the first few of the request's inputs, perhaps none, in the order of the words.
     ensures asked { (r : ARequest) → Asks (words_of words.now) r → (k : ℕ) × (I.asked inputs.new ≡ I.asked inputs.old ++ take k (names (inputs_of r.command))) }
@@ -48,7 +51,7 @@ pub fn reversal<R: Threads + Sync, I: Inputs, K: Keeper, O: Sink, L: Ledger>(
     // Status 3 names the input that can't be read. Up to the count's end, the inputs' count of faults rises exactly
     // then.
     ensures input { (r : ARequest) → Asks (words_of words.now) r → result.status ≡ 3 →
-        FailsAtInput (inputs_of r.command) (I.told inputs.old) result (I.asked inputs.old) (I.asked inputs.new) }
+        (result ≡ ended_of (unreadable result.place)) × FailsAtInput (inputs_of r.command) (I.told inputs.old) result.place (I.asked inputs.old) (I.asked inputs.new) }
     ensures input_cause { result.status ≡ 3 → Rose (I.fault_count inputs.old) (I.fault_count inputs.new) }
     ensures input_quiet { result.status ≢ 3 → I.fault_count inputs.new ≡ I.fault_count inputs.old }
 
@@ -62,7 +65,7 @@ pub fn reversal<R: Threads + Sync, I: Inputs, K: Keeper, O: Sink, L: Ledger>(
         × BeginsBy d }
 
     // If memory runs out, nothing was done, or a part of a decided job. Over keepers with room it is nothing in a run.
-    ensures memory { result.status ≡ 17 → (result ≡ no_memory) × (((out.new ≡ out.old) × (keepers.new ≡ keepers.old) × (steps.new ≡ steps.old))
+    ensures memory { result.status ≡ 17 → (result ≡ ended_of no_memory) × (((out.new ≡ out.old) × (keepers.new ≡ keepers.old) × (steps.new ≡ steps.old))
         ⊎ ((r : ARequest) × Asks (words_of words.now) r × (job : AJob)
         × Comes r (I.told inputs.old) (I.asked inputs.old) (I.asked inputs.new) (map K.slot_count keepers.old.items) (accept job)
         × Begins job
@@ -79,17 +82,17 @@ pub fn reversal<R: Threads + Sync, I: Inputs, K: Keeper, O: Sink, L: Ledger>(
     ensures untouched { (IsOfJob result.status → ⊥) → (out.new ≡ out.old) × (keepers.new ≡ keepers.old) × (steps.new ≡ steps.old) }
 {
     let Some(request) = read_request(&words.list) else {
-        return Ended::no_request();
+        return Ended::from(Outcome::Words);
     };
     if let Some(refusal) = request.refusal() {
-        return refusal;
+        return Ended::from(refusal);
     }
     match prepared(rt, alloc, &request, inputs, keepers) {
         Ok(job) => {
             job.begins();
-            job.work(rt, alloc, keepers, out, steps)
+            Ended::from(job.work(rt, alloc, keepers, out, steps))
         }
-        Err(refusal) => refusal,
+        Err(refusal) => Ended::from(refusal),
     }
 }
 
@@ -100,25 +103,25 @@ fn prepared<R: Threads + Sync, I: Inputs, K: Keeper>(
     request: &Request<'_>,
     inputs: &mut I,
     keepers: &[K],
-) -> Result<Job, Ended>
+) -> Result<Job, Outcome>
     requires { AllByRecursion IsWithin (numbers (request_of request.now)) }
     ensures comes { IfOk result (λ job. Comes (request_of request.now) (I.told inputs.old) (I.asked inputs.old) (I.asked inputs.new)
         (map K.slot_count keepers.now) (accept (job_of job))) }
     ensures can_be_done { IfOk result CanBeDone }
     ensures room { IfOk result (λ job. KeepersHaveRoom job (map K.slot_count keepers.now)) }
-    ensures refused { IfErr result (λ e. FailsAtInput (inputs_of (request_of request.now).command) (I.told inputs.old) e (I.asked inputs.old)
-        (I.asked inputs.new)
+    ensures refused { IfErr result (λ e. ((place : ℕ) × (e ≡ unreadable place)
+        × FailsAtInput (inputs_of (request_of request.now).command) (I.told inputs.old) place (I.asked inputs.old) (I.asked inputs.new))
         ⊎ (e ≡ no_memory)
-        ⊎ ((e.status ≢ 3) × (e.status ≢ 17) × (e.status ≢ 2) × (e.status ≢ 12) × (e.status ≢ 14)
+        ⊎ ((status_of e ≢ 3) × (status_of e ≢ 17) × (status_of e ≢ 2) × (status_of e ≢ 12) × (status_of e ≢ 14)
         × Comes (request_of request.now) (I.told inputs.old) (I.asked inputs.old) (I.asked inputs.new) (map K.slot_count keepers.now) (refuse e))) }
     ensures asked { (k : ℕ) × (I.asked inputs.new ≡ I.asked inputs.old ++ take k (names (inputs_of (request_of request.now).command))) }
     ensures quiet { IfOk result (λ _. I.fault_count inputs.new ≡ I.fault_count inputs.old) }
-    ensures cause { IfErr result (λ e. e.status ≡ 3 → Rose (I.fault_count inputs.old) (I.fault_count inputs.new)) }
-    ensures no_cause { IfErr result (λ e. e.status ≢ 3 → I.fault_count inputs.new ≡ I.fault_count inputs.old) }
+    ensures cause { IfErr result (λ e. status_of e ≡ 3 → Rose (I.fault_count inputs.old) (I.fault_count inputs.new)) }
+    ensures no_cause { IfErr result (λ e. status_of e ≢ 3 → I.fault_count inputs.new ≡ I.fault_count inputs.old) }
 {
-    let mut bytes = read_inputs(alloc, &request.command, inputs)?;
+    let mut loaded = read_inputs(alloc, &request.command, inputs)?;
     let counts = slot_counts(alloc, keepers)?;
-    decide(rt, alloc, request, &mut bytes, &counts)
+    decide(rt, alloc, request, &mut loaded, &counts)
 }
 
 // The number of slots of each keeper.

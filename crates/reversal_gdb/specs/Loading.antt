@@ -11,21 +11,22 @@ use Rattle.elf_load.specs.declared.fault.ElfFault.{ElfFault}
 use Rattle.elf_load.specs.Start.{IsStartOf, HasProgramFault}
 use Rattle.run_timeline.specs.declared.timeline.TheConstants.{MARK_PAGE_BYTES, MARK_REST_BYTES}
 use Rattle.run_timeline.specs.TimelineState.{TimelineState, marks_for}
-use Rattle.requests.specs.declared.ended.Ended.{Ended}
-use Rattle.requests.specs.Operands.{program_input, journal_input}
+use Rattle.endings.specs.declared.outcome.Outcome.{Outcome}
+use Rattle.requests.specs.declared.input_kind.InputKind.TheVariants as input
+use Rattle.requests.specs.Operands.{limit_of, named}
 use Rattle.requests.specs.InputOutcome.{IsThere, IsLonger}
-use Rattle.requests.specs.Ending.{bad_program, bad_journal, no_memory, too_long, unreadable}
+use Rattle.endings.specs.Outcomes.{bad_program, bad_journal, no_memory, too_long, unreadable}
 use Rattle.reversal_gdb.specs.declared.words.Run.{Run}
 
 -- the bytes of the program, and of the journal if the run has one
 abbrev pub IsProgramText : Option Files → Run → List ℕ → Type 0
-IsProgramText told run = IsThere told (program_input run.program.now)
+IsProgramText told run = IsThere told (named input.Program run.program.now)
 
 abbrev pub IsJournalText : Option Files → Option (List ℕ) → Option (List ℕ) → Type 0
 IsJournalText told None None = Unit {0}
 IsJournalText told None (Some bytes) = ⊥
 IsJournalText told (Some name) None = ⊥
-IsJournalText told (Some name) (Some bytes) = IsThere told (journal_input name) bytes
+IsJournalText told (Some name) (Some bytes) = IsThere told (named input.Journal name) bytes
 
 abbrev pub journal_name : Run → Option (List ℕ)
 journal_name run = option_map (λ name. name.now) run.journal
@@ -47,15 +48,15 @@ pub record IsLoaded (run : Run) (told : Option Files) (t : TimelineState) : Type
   pub room : t.room ≡ marks_for (budget_for run.options.marks (length (page_numbers t.run.first.memory))) (length (page_numbers t.run.first.memory))
 
 -- the first input is the program, the second the journal
-abbrev pub IsUnread : {I : Type 0} (seen : Ghosts I) → Run → I → I → Ended → Type 0
+abbrev pub IsUnread : {I : Type 0} (seen : Ghosts I) → Run → I → I → Outcome → Type 0
 IsUnread seen run old new e =
     (((e ≡ unreadable 1) ⊎ (e ≡ unreadable 2)) × Rose (seen.fault_count old) (seen.fault_count new))
-    ⊎ ((e ≡ too_long 1 (program_input run.program.now).limit) × IsLonger (seen.told old) (program_input run.program.now))
-    ⊎ ((name : List ℕ) × (journal_name run ≡ Some name) × (e ≡ too_long 2 (journal_input name).limit) × IsLonger (seen.told old) (journal_input name))
+    ⊎ ((e ≡ too_long 1 (limit_of input.Program)) × IsLonger (seen.told old) (named input.Program run.program.now))
+    ⊎ ((name : List ℕ) × (journal_name run ≡ Some name) × (e ≡ too_long 2 (limit_of input.Journal)) × IsLonger (seen.told old) (named input.Journal name))
 
 -- Why a run isn't loaded: memory ran out, an input can't be read or is too long, or the program or the journal has this
 -- first fault.
-abbrev pub IsUnloaded : {I : Type 0} (seen : Ghosts I) → Run → I → I → Ended → Type 0
+abbrev pub IsUnloaded : {I : Type 0} (seen : Ghosts I) → Run → I → I → Outcome → Type 0
 IsUnloaded seen run old new e =
     (e ≡ no_memory)
     ⊎ IsUnread seen run old new e

@@ -18,7 +18,9 @@ pub record IsNumberOf (text : Option Text) (default low high n : ℕ) : Type 0 w
   pub least : low ≤ n
   pub greatest : n ≤ high
 
--- a flag is set if its value is true, and not if it is false; clap gives it the value false where the words don't have it
+-- A flag is set if its value is true, and not if it is false or there is none. clap gives it the value false where the
+-- words don't have it.
 pub record IsFlagOf (value : Option Text) (is_set : Bool) : Type 0 where
   pub set : value ≡ Some (codes "true") → is_set ≡ true
   pub unset : value ≡ Some (codes "false") → is_set ≡ false
+  pub absent : value ≡ None → is_set ≡ false

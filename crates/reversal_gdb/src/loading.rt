@@ -4,9 +4,10 @@ ghost use Rattle.reversal_gdb.specs.Loading.{IsLoaded, IsUnloaded, budget_for};
 
 use crate::words::Run;
 use elf_load::load_start;
+use endings::Outcome;
 use input_journal::read_recorded;
 use keepers::Inputs;
-use requests::{Ended, journal_input, program_input, read_input};
+use requests::{InputKind, read_input};
 use run_timeline::{MARK_PAGE_BYTES, MARK_REST_BYTES, Timeline};
 use std::alloc::Global;
 
@@ -18,12 +19,17 @@ pub fn timeline_of<I: Inputs>(
     alloc: Global,
     run: &Run<'_>,
     inputs: &mut I,
-) -> Result<Timeline, Ended>
+) -> Result<Timeline, Outcome>
     ensures loaded { IfOk result (IsLoaded run.now (I.told inputs.old)) }
     ensures refused { IfErr result (IsUnloaded I.Inputs run.now inputs.old inputs.new) }
 {
     let options = &run.options;
-    let program = read_input(alloc, 1, &program_input(run.program.as_bytes()), inputs)?;
+    let program = read_input(
+        alloc,
+        1,
+        &InputKind::Program.named(run.program.as_bytes()),
+        inputs,
+    )?;
     let start = load_start(
         alloc,
         options.is_raw(),
@@ -31,7 +37,12 @@ pub fn timeline_of<I: Inputs>(
         options.stack_pages(),
     )?;
     let journal = match run.journal {
-        Some(name) => Some(read_input(alloc, 2, &journal_input(name.as_bytes()), inputs)?),
+        Some(name) => Some(read_input(
+            alloc,
+            2,
+            &InputKind::Journal.named(name.as_bytes()),
+            inputs,
+        )?),
         None => None,
     };
     let journal = read_recorded(alloc, journal)?;

@@ -5,7 +5,7 @@
 
 ghost use Rattle.std.specs.Prelude.{◌≡◌, ◌≢◌, ◌<◌};
 ghost use Rattle.gdb_session.specs.declared.server.ServeFault.TheVariants as fault_is;
-ghost use Rattle.requests.specs.Ending.{no_memory, stopped};
+ghost use Rattle.endings.specs.Outcomes.{no_memory, stopped};
 
 mod loading;
 mod options;
@@ -17,10 +17,9 @@ use crate::loading::timeline_of;
 use crate::std_line::StdLine;
 use crate::usage::USAGE;
 use crate::words::{Asked, Run, read_words};
+use endings::{Ended, Outcome, write_report};
 use gdb_session::{ServeFault, serve};
 use keepers::{FileInputs, SystemDisk};
-use plan_types::Line;
-use requests::{Ended, ended_text};
 use rv_machine::Steps;
 use std::env;
 use std::io::{self, Write};
@@ -49,9 +48,14 @@ fn main(rt: HostRuntime) -> ExitCode {
                 return ExitCode::from(17);
             };
             let mut line = StdLine::new(threads, rt.alloc(), rt.stdin(), rt.stdin(), rt.stdout());
-            let ended = session::<HostRuntime, Brand>(&rt, &run, &mut line, Blank::new(1));
+            let ended = Ended::from(session::<HostRuntime, Brand>(
+                &rt,
+                &run,
+                &mut line,
+                Blank::new(1),
+            ));
             // Where standard error can't be written, the status still tells how the session ended.
-            let _ = report(&mut rt.stderr(), &ended);
+            let _ = write_report(&mut rt.stderr(), &ended);
             ExitCode::from(ended.status)
         }
     }
@@ -76,14 +80,14 @@ fn session<R: Threads + Drop, L: Ledger>(
     run: &Run<'_>,
     line: &mut StdLine<R>,
     blank: Blank,
-) -> Ended
+) -> Outcome
     requires name { blank.name ≡ L.name }
     requires parts { blank.parts ≡ L.parts }
     requires some { 0 < blank.parts }
 {
     match answered::<R, L>(rt, run, line, blank) {
-        Ok(()) => Ended::done(),
-        Err(ended) => ended,
+        Ok(()) => Outcome::Done,
+        Err(outcome) => outcome,
     }
 }
 
@@ -93,14 +97,14 @@ fn answered<R: Threads + Drop, L: Ledger>(
     run: &Run<'_>,
     line: &mut StdLine<R>,
     blank: Blank,
-) -> Result<(), Ended>
+) -> Result<(), Outcome>
     requires name { blank.name ≡ L.name }
     requires parts { blank.parts ≡ L.parts }
     requires some { 0 < blank.parts }
 {
     let alloc = rt.alloc();
     let Ok(files) = rt.clone() else {
-        return Err(Ended::no_memory());
+        return Err(Outcome::Memory);
     };
     let mut inputs = FileInputs::new(SystemDisk::new(files), alloc);
     let timeline = timeline_of(alloc, run, &mut inputs)?;
@@ -109,23 +113,12 @@ fn answered<R: Threads + Drop, L: Ledger>(
 }
 
 // The ending after a fault.
-fn ending_of(fault: ServeFault) -> Ended
+fn ending_of(fault: ServeFault) -> Outcome
     ensures memory { fault ≡ fault_is.Memory → result ≡ no_memory }
     ensures stopped { fault ≢ fault_is.Memory → result ≡ stopped 0 }
 {
     match fault {
-        ServeFault::Memory => Ended::no_memory(),
-        _ => Ended::stopped(0),
+        ServeFault::Memory => Outcome::Memory,
+        _ => Outcome::Sink { place: 0 },
     }
-}
-
-// Writes how a session ended: nothing for status 0, and else its text and a line end.
-fn report<W: Write>(err: &mut W, ended: &Ended) -> io::Result<()> {
-    if ended.status == 0 {
-        return Ok(());
-    }
-    let mut line = Line::new();
-    ended_text(ended, &mut line);
-    err.write_all(line.bytes())?;
-    err.write_all(b"\n")
 }

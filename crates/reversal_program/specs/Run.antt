@@ -7,11 +7,13 @@ use Rattle.keepers.specs.ExternalState.{writer_of, writes_of, sink_faults_of}
 use Rattle.keepers.specs.declared.any_keeper.AnyKeeper.{AnyKeeper}
 use Rattle.keepers.specs.declared.stdout_sink.StdoutSink.{StdoutSink}
 use Rattle.reverse_runner.specs.KeepersSeen.{by_number}
-use Rattle.requests.specs.declared.ended.Ended.{Ended}
+use Rattle.endings.specs.declared.ended.Ended.{Ended}
 use Rattle.requests.specs.Request.{Request, Says}
 use Rattle.requests.specs.Bounds.{RefusesWords, Asks}
 use Rattle.requests.specs.Inputs.{inputs_of, names, FailsAtInput}
-use Rattle.requests.specs.Ending.{no_memory}
+use Rattle.endings.specs.declared.outcome.Outcome.{Outcome}
+use Rattle.endings.specs.Outcomes.{no_memory, unreadable}
+use Rattle.endings.specs.Endings.{ended_of}
 use Rattle.reversal.specs.Table.{Decision, accept}
 use Rattle.reversal.specs.RunStart.{Begins, BeginsBy}
 use Rattle.reversal.specs.Decision.{course_of, Comes, StayInPlace, KeepsOthers, HaveRoomsFor, EndsBy, IsOfJob}
@@ -41,9 +43,10 @@ pub record IsRun {D W : Type 0} (told : D → Option Files) (contents : W → Op
     (asked asked' : List (List ℕ)) (input_faults input_faults' : ℕ) (keepers keepers' : List (AnyKeeper D)) (out out' : StdoutSink W) (steps steps' : ℕ)
     (ended : Ended) : Type 0 where
   pub says : (ended.status ≡ 2) ↔ ((r : Request) → Says words r → ⊥)
-  pub unread : (e : Ended) → RefusesWords words e → (ended ≡ e) × (asked' ≡ asked) × (input_faults' ≡ input_faults)
+  pub unread : (o : Outcome) → RefusesWords words o → (ended ≡ ended_of o) × (asked' ≡ asked) × (input_faults' ≡ input_faults)
   pub asks : (r : Request) → Asks words r → (k : ℕ) × (asked' ≡ asked ++ take k (names (inputs_of r.command)))
-  pub input : (r : Request) → Asks words r → ended.status ≡ 3 → FailsAtInput (inputs_of r.command) given ended asked asked'
+  pub input : (r : Request) → Asks words r → ended.status ≡ 3 →
+      (ended ≡ ended_of (unreadable ended.place)) × FailsAtInput (inputs_of r.command) given ended.place asked asked'
   pub input_cause : ended.status ≡ 3 → Rose input_faults input_faults'
   pub input_quiet : ended.status ≢ 3 → input_faults' ≡ input_faults
   pub decided : (r : Request) → Asks words r → ended.status ≢ 3 → ended.status ≢ 17 → (d : Decision)
@@ -51,7 +54,7 @@ pub record IsRun {D W : Type 0} (told : D → Option Files) (contents : W → Op
       × KeepsOthers slots_of place_of d keepers keepers'
       × EndsBy d ended (seen told contents out keepers steps) (seen told contents out' keepers' steps')
       × BeginsBy d
-  pub memory : ended.status ≡ 17 → (ended ≡ no_memory) × (((out' ≡ out) × (keepers' ≡ keepers) × (steps' ≡ steps))
+  pub memory : ended.status ≡ 17 → (ended ≡ ended_of no_memory) × (((out' ≡ out) × (keepers' ≡ keepers) × (steps' ≡ steps))
       ⊎ ((r : Request) × Asks words r × (job : Job)
       × Comes r given asked asked' (map slots_of keepers) (accept job)
       × Begins job

@@ -11,9 +11,10 @@ ghost use Rattle.reverse_runner.specs.KeepersSeen.{by_number};
 ghost use Rattle.reversal.specs.CommandRun.{performing};
 ghost use Rattle.reversal.specs.Course.{Shown, Done};
 ghost use Rattle.keepers.specs.declared.stdout_sink.StdoutSink.{StdoutSink as AStdoutSink};
-ghost use Rattle.requests.specs.declared.ended.Ended.{Ended as AnEnded};
+ghost use Rattle.endings.specs.declared.ended.Ended.{Ended as AnEnded};
 ghost use Rattle.requests.specs.Bounds.{Asks};
-ghost use Rattle.requests.specs.Ending.{done, no_memory};
+ghost use Rattle.endings.specs.Outcomes.{done, no_memory};
+ghost use Rattle.endings.specs.Endings.{ended_of};
 ghost use Rattle.requests.specs.Inputs.{inputs_of, contents};
 ghost use Rattle.requests.specs.Request.{Request as ARequest};
 ghost use Rattle.reversal.specs.Decision.{course_of, Decides, StayInPlace};
@@ -53,7 +54,7 @@ pub fn accepted_requests_are_done<D: Disk, W: Output>()
         IsRun D.told W.contents words (Some files) asked asked2 input_faults input_faults2 before after out out2 steps steps2 ended →
         (r : ARequest) → Asks words r → (job : AJob) → Decides r (contents files (inputs_of r.command)) (map slots_of before) (accept job) →
         AllTell (course_of job).levels (by_number None (told_of D.told) before) → (Rose input_faults input_faults2 → ⊥) →
-        NothingRises (seen D.told W.contents out before steps) (seen D.told W.contents out2 after steps2) → (ended ≡ done) ⊎ (ended ≡ no_memory) }
+        NothingRises (seen D.told W.contents out before steps) (seen D.told W.contents out2 after steps2) → (ended ≡ ended_of done) ⊎ (ended ≡ ended_of no_memory) }
 {
     decisions_are_unique();
     accepted_jobs_are_done();

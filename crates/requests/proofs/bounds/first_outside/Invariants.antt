@@ -1,6 +1,6 @@
 use Rattle.std.proofs.Common.{drop}
 use Rattle.std.specs.List.{AllByRecursion}
-use Rattle.requests.specs.declared.ended.Ended.{Ended}
+use Rattle.endings.specs.declared.outcome.Outcome.{Outcome}
 use Rattle.requests.specs.Bounds.{IsWithin, RefusesFirst}
 use Rattle.requests.proofs.bounds.first_outside.Given as goal
 
@@ -8,5 +8,5 @@ use Rattle.requests.proofs.bounds.first_outside.Given as goal
 abbrev pub invariant-loop-bounded : goal.invariant-loop-bounded
 invariant-loop-bounded l = record {
   all : AllByRecursion IsWithin (drop l.bounded-index l.numbers) → AllByRecursion IsWithin l.numbers;
-  first : (e : Ended) → RefusesFirst (drop l.bounded-index l.numbers) e → RefusesFirst l.numbers e;
+  first : (e : Outcome) → RefusesFirst (drop l.bounded-index l.numbers) e → RefusesFirst l.numbers e;
 }

@@ -11,11 +11,12 @@ use Rattle.reverse_runner.specs.ActionEffects.{Holdings}
 use Rattle.reverse_queries.specs.HoldingsTrace.{GoesThrough}
 use Rattle.reverse_queries.specs.ListPerformance.{done_after, MissesState, FaultFits, RefusedIn}
 use Rattle.reverse_queries.specs.Queries.{front_to}
-use Rattle.requests.specs.declared.ended.Ended.{Ended}
+use Rattle.endings.specs.declared.outcome.Outcome.{Outcome}
 use Rattle.requests.specs.declared.question.Question.TheVariants.{State}
 use Rattle.reversal.specs.Job.{ask}
 use Rattle.reversal.specs.Moment.{moment, NothingFails}
-use Rattle.requests.specs.Ending.{done}
+use Rattle.endings.specs.Outcomes.{done}
+use Rattle.endings.specs.Endings.{status_of}
 use Rattle.reversal.specs.JobModel.{Works, fault_ending, run_from}
 use Rattle.reversal.specs.Output.{Adds}
 use Rattle.reversal.proofs.QuestionProgress.{front_shorter, performed_so_far, is_visitor, state_done, state_ended}
@@ -54,13 +55,12 @@ returns-in-Ok g c =
     let quiet : NothingFails old (new c.state_at.new.visitor.out.now) =
     record { sink = c.state_at.ensures.seen.faults.quiet (λ e. cc) ∙ ap g.O.Sink.fault_count same; keepers = λ j. c.state_at.ensures.kept.quiet j (λ e. cc) } in
     let P : g.row.O.Denot → Type 0 = λ o. Works (ask (State place) run) done old (new o) in
-    let E : Ended → Type 0 = λ e. Works (ask (State place) run) e old (new c.out-1.given.0) in
     record {
-      works = subst E (sym c.done.ensures) (subst P (sym last)
+      works = subst P (sym last)
           (inl (state_done run place old (new c.state_at.new.visitor.out.now) found.states end c.requires.place c.requires.begun.valid refl through
-          (λ tells. found.holds.of_run session.work c.requires.begun.state (c.requires.begun.stands told tells)) (subst T same got.1) (subst C same got.2) ok.performed.counted ok.performed.called quiet)));
+          (λ tells. found.holds.of_run session.work c.requires.begun.state (c.requires.begun.stands told tells)) (subst T same got.1) (subst C same got.2) ok.performed.counted ok.performed.called quiet));
       others = (record { slots_same = c.state_at.ensures.kept.slots; places_same = c.state_at.ensures.kept.places }, past_others g.K.Storage _ _ _ _ c.state_at.ensures.kept);
-      roomy = λ roomy e. (let status = ap (λ (x : Ended). x.status) c.done.ensures in absurd (omega (arith, status, e)));
+      roomy = λ roomy e. (let zero : 0 ≡ 17 = e in absurd (omega (arith, zero)));
     }
 
 pub returns-in-Err : goal.returns-in-Err
@@ -101,7 +101,7 @@ returns-in-Err g c =
       keepers_quiet = λ j ne. all.kept.quiet j (isnt _ ne);
     } in
     let P : g.row.O.Denot → Type 0 = λ o. Works (ask (State place) run) (fault_ending (refused.place + 1) fault) old (new o) in
-    let E : Ended → Type 0 = λ e. Works (ask (State place) run) e old (new c.out-1.given.0) in
+    let E : Outcome → Type 0 = λ e. Works (ask (State place) run) e old (new c.out-1.given.0) in
     record {
       works = subst E (sym (c.refused.ensures ∙ ap (λ n. fault_ending (n + 1) fault) count)) (subst P (sym last)
           (state_ended run place Missing fault c.state_at.new.session old (new v.out.now) refused
@@ -112,6 +112,6 @@ returns-in-Err g c =
           (λ k put got e tells. all.spared.undamaged session.work c.requires.begun.state (stands tells) k put got (is _ e)) counts));
       others = (record { slots_same = c.state_at.ensures.kept.slots; places_same = c.state_at.ensures.kept.places }, past_others g.K.Storage _ _ _ _ c.state_at.ensures.kept);
       roomy = λ roomy e.
-          (let wants = is_memory (c.state_at.new.session.done + 1) fault (λ q. all.spared.not_ended (is _ q)) (sym (ap (λ (x : Ended). x.status) c.refused.ensures) ∙ e) in
+          (let wants = is_memory (c.state_at.new.session.done + 1) fault (λ q. all.spared.not_ended (is _ q)) (sym (ap status_of c.refused.ensures) ∙ e) in
           all.spared.roomy roomy (is _ wants));
     }

@@ -9,7 +9,7 @@ use Rattle.reversal.specs.Moment.{moment}
 use Rattle.reversal.specs.JobModel.{run_from}
 use Rattle.reversal.proofs.Progress.{FaultCounts, same_Err}
 use Rattle.reversal.proofs.QuestionProgress.{last_told, last_refused, is_found}
-use Rattle.requests.specs.declared.ended.Ended.{Ended}
+use Rattle.endings.specs.Endings.{status_of}
 use Rattle.reverse_runner.proofs.KeeperCalls.{past_others}
 use Rattle.reversal.proofs.MemoryFaults.{is_memory}
 use Rattle.reversal.proofs.asking.tell_last_write.Goals as goal
@@ -27,8 +27,8 @@ returns-in-Ok g c =
           c.write_answer.ensures.calls ok.performed.counted ok.performed.called c.write_answer.result c.write_answer.ensures.ends (λ j. c.last_write.ensures.kept.quiet j (λ e. cc));
       others = (record { slots_same = c.last_write.ensures.kept.slots; places_same = c.last_write.ensures.kept.places }, past_others g.K.Storage _ _ _ _ c.last_write.ensures.kept);
       roomy = λ roomy e. elim c.write_answer.ensures.ends [
-        | inl done ↦ let status = ap (λ (x : Ended). x.status) done.0 in absurd (omega (arith, status, e))
-        | inr stopped ↦ let status = ap (λ (x : Ended). x.status) stopped.0 in absurd (omega (arith, status, e))
+        | inl done ↦ let status = ap status_of done.0 in absurd (omega (arith, status, e))
+        | inr stopped ↦ let status = ap status_of stopped.0 in absurd (omega (arith, status, e))
       ];
     }
 
@@ -56,6 +56,6 @@ returns-in-Err g c =
           (λ k put got e tells. all.spared.undamaged session.work c.requires.begun.state (c.requires.begun.stands told tells) k put got (is _ e)) counts;
       others = (record { slots_same = c.last_write.ensures.kept.slots; places_same = c.last_write.ensures.kept.places }, past_others g.K.Storage _ _ _ _ c.last_write.ensures.kept);
       roomy = λ roomy e.
-          (let wants = is_memory (c.last_write.new.session.done + 1) fault (λ q. all.spared.not_ended (is _ q)) (sym (ap (λ (x : Ended). x.status) c.refused.ensures) ∙ e) in
+          (let wants = is_memory (c.last_write.new.session.done + 1) fault (λ q. all.spared.not_ended (is _ q)) (sym (ap status_of c.refused.ensures) ∙ e) in
           all.spared.roomy roomy (is _ wants));
     }

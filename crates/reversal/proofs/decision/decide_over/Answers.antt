@@ -1,42 +1,95 @@
-use Rattle.std.proofs.Common.{◌≡◌, ◌⊎◌, ◌∙◌, ℕ, List, [], ◌∷◌, map, Vec, Global, IfOk, IfErr, sym, subst, arith}
-use Rattle.reversal.specs.Table.{accept, refuse}
-use Rattle.reversal.specs.Job.{Run, Job}
-use Rattle.reversal.specs.JobModel.{run_over}
-use Rattle.reversal.specs.InputMeaning.{DecidesOverBytes}
-use Rattle.requests.specs.Ending.{no_memory}
-use Rattle.requests.specs.Operands.{by_name}
-use Rattle.requests.proofs.InputSequence.{three_texts, four_texts}
-use Rattle.reversal.proofs.TopCall.{if_okay}
+use Rattle.std.proofs.Common.{◌≡◌, ℕ, List, Some, sym, subst, rules}
+use Rattle.plan_types.specs.declared.action.Action.{Action}
+use Rattle.level_book.specs.BookCosts.{slots_of, names_of}
+use Rattle.level_book.specs.BookFaults.{IsBookText}
+use Rattle.level_book.specs.Valid.{Valid}
+use Rattle.action_text.specs.ScheduleText.{IsSchedule}
+use Rattle.action_text.specs.Faults.{HasFirstFault}
+use Rattle.endings.specs.declared.outcome.Outcome.{Outcome}
+use Rattle.endings.specs.Outcomes.{bad_program, bad_journal, bad_book, bad_text}
+use Rattle.requests.specs.Request.{says_raw, stack_pages}
+use Rattle.reversal.specs.Table.{refuse, accept, Keep}
+use Rattle.requests.specs.InputOutcome.{contents_of}
+use Rattle.reversal.specs.InputMeaning.{HasBookFault, IsStartOf, HasProgramFault, AreItemsOf, HasJournalFault, DecidesOver, in_units}
+use Rattle.reversal.specs.JobModel.{IsRefusal, text_of}
+use Rattle.reversal.proofs.DecisionLaws.{IsBroken, read_refuses, read_passes, judge_refuses, over_by_book, over_by_keepers, over_by_program, over_by_journal, over_by_list, over_accepted}
+use Rattle.reversal.proofs.Decisions.{over_error}
 use Rattle.reversal.proofs.decision.decide_over.Goals as goal
 
-pub returns-in-len3-clause-accepted : goal.returns-in-len3-clause-accepted
-returns-in-len3-clause-accepted c =
-    let same = three_texts c.args.bytes.now c.result-item.result c.result-item-then-bytes-lt4.result c.result-item-then-bytes-lt4-2.result (omega arith) c.result-item.is c.result-item-then-bytes-lt4.is c.result-item-then-bytes-lt4-2.is in
-    let deref : c.as_slice.result.now ∷ c.as_slice-in-len3.result.now ∷ c.as_slice-in-len3-2.result.now ∷ [] ≡ map (λ (t : Vec ℕ Global). t.items) c.args.bytes.now =
-    (λ i. c.as_slice.ensures.value i ∷ c.as_slice-in-len3.ensures.value i ∷ c.as_slice-in-len3-2.ensures.value i ∷ []) ∙ sym same in
-    let P : List (List ℕ) → Type 0 = λ l. IfOk c.decide_texts.result (λ o. (job : Run → Job) (name : List ℕ) → DecidesOverBytes job c.args.options.now (by_name name) c.args.steps l c.args.counts.now (accept (job (run_over o)))) in
-    subst P deref (if_okay c.decide_texts.result _ _ (λ o h job name. h job) c.decide_texts.ensures.accepted)
+pub returns-in_err-book : goal.returns-in_err-book
+returns-in_err-book c =
+    let texts = contents_of c.args.loaded.now in
+    over_error _ _ texts _ c.from_residual.result _ c.from_residual.ensures.1 (λ e gives job.
+    let same : c.in_err-book.field-0.0 ≡ e = cc in
+    let P : Outcome → Type 0 = λ x. IsRefusal (HasBookFault texts.book) bad_book x in
+    over_by_book job c.args.options.now c.args.steps texts.program texts.journal texts.book (Some texts.schedule) c.args.counts.now e (subst P same (subst (λ (t : List ℕ). IsRefusal (HasBookFault t) bad_book c.in_err-book.field-0.0) c.deref.ensures.value c.in_err-book.ensures.refused)))
 
-pub returns-in-len3-clause-refused : goal.returns-in-len3-clause-refused
-returns-in-len3-clause-refused c =
-    let same = three_texts c.args.bytes.now c.result-item.result c.result-item-then-bytes-lt4.result c.result-item-then-bytes-lt4-2.result (omega arith) c.result-item.is c.result-item-then-bytes-lt4.is c.result-item-then-bytes-lt4-2.is in
-    let deref : c.as_slice.result.now ∷ c.as_slice-in-len3.result.now ∷ c.as_slice-in-len3-2.result.now ∷ [] ≡ map (λ (t : Vec ℕ Global). t.items) c.args.bytes.now =
-    (λ i. c.as_slice.ensures.value i ∷ c.as_slice-in-len3.ensures.value i ∷ c.as_slice-in-len3-2.ensures.value i ∷ []) ∙ sym same in
-    let P : List (List ℕ) → Type 0 = λ l. (job : Run → Job) (name : List ℕ) → IfErr c.decide_texts.result (λ e. (e ≡ no_memory) ⊎ DecidesOverBytes job c.args.options.now (by_name name) c.args.steps l c.args.counts.now (refuse e)) in
-    subst P deref (λ job name. c.decide_texts.ensures.refused job)
+pub returns-in_err-keep : goal.returns-in_err-keep
+returns-in_err-keep c =
+    let texts = contents_of c.args.loaded.now in
+    over_error _ _ texts _ c.from_residual-in_err-keep.result _ c.from_residual-in_err-keep.ensures.1 (λ e gives job.
+    let same : c.in_err-keep.field-0.0 ≡ e = cc in
+    let P : Outcome → Type 0 = λ x. Keep c.args.steps (slots_of c.in_ok-book.book) c.args.counts.now (refuse x) ⊥ in
+    over_by_keepers job c.args.options.now c.args.steps texts.program texts.journal texts.book (Some texts.schedule) c.args.counts.now e c.in_ok-book.book (subst (λ (t : List ℕ). IsBookText t c.in_ok-book.book) c.deref.ensures.value c.in_ok-book.ensures.found) (subst P same c.in_err-keep.ensures.refused))
 
-pub returns-in-len4-clause-accepted : goal.returns-in-len4-clause-accepted
-returns-in-len4-clause-accepted c =
-    let same = four_texts c.args.bytes.now c.result-item-then-bytes-lt5.result c.result-item-then-bytes-lt5-2.result c.result-item-then-bytes-lt5-3.result c.result-item-then-bytes-lt5-4.result (omega arith) c.result-item-then-bytes-lt5.is c.result-item-then-bytes-lt5-2.is c.result-item-then-bytes-lt5-3.is c.result-item-then-bytes-lt5-4.is in
-    let deref : c.as_slice-in-len4.result.now ∷ c.replace.result.items ∷ c.as_slice-in-len4-2.result.now ∷ c.as_slice-in-len4-3.result.now ∷ [] ≡ map (λ (t : Vec ℕ Global). t.items) c.args.bytes.now =
-    (λ i. c.as_slice-in-len4.ensures.value i ∷ (c.replace.ensures.value i).items ∷ c.as_slice-in-len4-2.ensures.value i ∷ c.as_slice-in-len4-3.ensures.value i ∷ []) ∙ sym same in
-    let P : List (List ℕ) → Type 0 = λ l. IfOk c.decide_texts-in-len4.result (λ o. (job : Run → Job) (name : List ℕ) → DecidesOverBytes job c.args.options.now (by_name name) c.args.steps l c.args.counts.now (accept (job (run_over o)))) in
-    subst P deref (if_okay c.decide_texts-in-len4.result _ _ (λ o h job name. h job) c.decide_texts-in-len4.ensures.accepted)
+pub returns-in_err-start : goal.returns-in_err-start
+returns-in_err-start c =
+    let texts = contents_of c.args.loaded.now in
+    over_error _ _ texts _ c.from_residual-in_err-start.result _ c.from_residual-in_err-start.ensures.1 (λ e gives job.
+    let same : c.in_err-start.field-0.0 ≡ e = cc in
+    let P : Outcome → Type 0 = λ x. IsRefusal (HasProgramFault (says_raw c.args.options.now) (stack_pages c.args.options.now) texts.program) bad_program x in
+    over_by_program job c.args.options.now c.args.steps texts.program texts.journal texts.book (Some texts.schedule) c.args.counts.now e c.in_ok-book.book (subst (λ (t : List ℕ). IsBookText t c.in_ok-book.book) c.deref.ensures.value c.in_ok-book.ensures.found) c.in_ok-keep.ensures.room tt (subst P same (subst (λ (t : List ℕ). IsRefusal (HasProgramFault (says_raw c.args.options.now) (stack_pages c.args.options.now) t) bad_program c.in_err-start.field-0.0) c.deref-2.ensures.value c.in_err-start.ensures.refused)))
 
-pub returns-in-len4-clause-refused : goal.returns-in-len4-clause-refused
-returns-in-len4-clause-refused c =
-    let same = four_texts c.args.bytes.now c.result-item-then-bytes-lt5.result c.result-item-then-bytes-lt5-2.result c.result-item-then-bytes-lt5-3.result c.result-item-then-bytes-lt5-4.result (omega arith) c.result-item-then-bytes-lt5.is c.result-item-then-bytes-lt5-2.is c.result-item-then-bytes-lt5-3.is c.result-item-then-bytes-lt5-4.is in
-    let deref : c.as_slice-in-len4.result.now ∷ c.replace.result.items ∷ c.as_slice-in-len4-2.result.now ∷ c.as_slice-in-len4-3.result.now ∷ [] ≡ map (λ (t : Vec ℕ Global). t.items) c.args.bytes.now =
-    (λ i. c.as_slice-in-len4.ensures.value i ∷ (c.replace.ensures.value i).items ∷ c.as_slice-in-len4-2.ensures.value i ∷ c.as_slice-in-len4-3.ensures.value i ∷ []) ∙ sym same in
-    let P : List (List ℕ) → Type 0 = λ l. (job : Run → Job) (name : List ℕ) → IfErr c.decide_texts-in-len4.result (λ e. (e ≡ no_memory) ⊎ DecidesOverBytes job c.args.options.now (by_name name) c.args.steps l c.args.counts.now (refuse e)) in
-    subst P deref (λ job name. c.decide_texts-in-len4.ensures.refused job)
+pub returns-in_err-journal : goal.returns-in_err-journal
+returns-in_err-journal c =
+    let texts = contents_of c.args.loaded.now in
+    over_error _ _ texts _ c.from_residual-in_err-journal.result _ c.from_residual-in_err-journal.ensures.1 (λ e gives job.
+    let same : c.in_err-journal.field-0.0 ≡ e = cc in
+    let P : Outcome → Type 0 = λ x. IsRefusal (HasJournalFault texts.journal) bad_journal x in
+    over_by_journal job c.args.options.now c.args.steps texts.program texts.journal texts.book (Some texts.schedule) c.args.counts.now e c.in_ok-book.book (subst (λ (t : List ℕ). IsBookText t c.in_ok-book.book) c.deref.ensures.value c.in_ok-book.ensures.found) c.in_ok-keep.ensures.room tt c.in_ok-start.start (subst (λ (t : List ℕ). IsStartOf (says_raw c.args.options.now) (stack_pages c.args.options.now) t c.in_ok-start.start) c.deref-2.ensures.value c.in_ok-start.ensures.found) (subst P same (subst (λ t. IsRefusal (HasJournalFault (text_of t)) bad_journal c.in_err-journal.field-0.0) c.take.ensures.value c.in_err-journal.ensures.refused)))
+
+pub returns-in_err-list : goal.returns-in_err-list
+returns-in_err-list c =
+    let texts = contents_of c.args.loaded.now in
+    over_error _ _ texts _ c.from_residual-in_err-list.result _ c.from_residual-in_err-list.ensures.1 (λ e gives job.
+    let same : c.in_err-list.field-0.0 ≡ e = cc in
+    let P : Outcome → Type 0 = λ x. IsRefusal (HasFirstFault (names_of c.in_ok-book.book) texts.schedule) bad_text x in
+    over_by_list job c.args.options.now c.args.steps texts.program texts.journal texts.book (Some texts.schedule) c.args.counts.now e c.in_ok-book.book (subst (λ (t : List ℕ). IsBookText t c.in_ok-book.book) c.deref.ensures.value c.in_ok-book.ensures.found) c.in_ok-keep.ensures.room tt c.in_ok-start.start (subst (λ (t : List ℕ). IsStartOf (says_raw c.args.options.now) (stack_pages c.args.options.now) t c.in_ok-start.start) c.deref-2.ensures.value c.in_ok-start.ensures.found) c.in_ok-journal.journal (subst (λ t. AreItemsOf (text_of t) c.in_ok-journal.journal) c.take.ensures.value c.in_ok-journal.ensures.found)
+    (read_refuses (IsSchedule (names_of c.in_ok-book.book) texts.schedule) (HasFirstFault (names_of c.in_ok-book.book) texts.schedule) bad_text e _ (subst P same (subst (λ (t : List ℕ). IsRefusal (HasFirstFault (names_of c.in_ok-book.book) t) bad_text c.in_err-list.field-0.0) c.deref-3.ensures.value c.in_err-list.ensures.refused))))
+
+pub returns-in_err-judge : goal.returns-in_err-judge
+returns-in_err-judge c =
+    let texts = contents_of c.args.loaded.now in
+    over_error _ _ texts _ c.from_residual-in_err-judge.result _ c.from_residual-in_err-judge.ensures.1 (λ e gives job.
+    let same : c.in_err-judge.field-0.0 ≡ e = cc in
+    let slots = slots_of c.in_ok-book.book in
+    let L : List Action → Type 0 = λ l. IsBroken c.args.steps slots l c.in_err-judge.field-0.0 in
+    let P : Outcome → Type 0 = λ x. IsBroken c.args.steps slots c.in_ok-list.list.items x in
+    over_by_list job c.args.options.now c.args.steps texts.program texts.journal texts.book (Some texts.schedule) c.args.counts.now e c.in_ok-book.book (subst (λ (t : List ℕ). IsBookText t c.in_ok-book.book) c.deref.ensures.value c.in_ok-book.ensures.found) c.in_ok-keep.ensures.room tt c.in_ok-start.start (subst (λ (t : List ℕ). IsStartOf (says_raw c.args.options.now) (stack_pages c.args.options.now) t c.in_ok-start.start) c.deref-2.ensures.value c.in_ok-start.ensures.found) c.in_ok-journal.journal (subst (λ t. AreItemsOf (text_of t) c.in_ok-journal.journal) c.take.ensures.value c.in_ok-journal.ensures.found)
+    (read_passes (IsSchedule (names_of c.in_ok-book.book) texts.schedule) (HasFirstFault (names_of c.in_ok-book.book) texts.schedule) bad_text e _ c.in_ok-list.list.items (subst (λ (t : List ℕ). IsSchedule (names_of c.in_ok-book.book) t c.in_ok-list.list.items) c.deref-3.ensures.value c.in_ok-list.ensures.found)
+    (judge_refuses c.args.steps slots c.in_ok-list.list.items e _ (subst P same (subst L c.deref-4.ensures.value c.in_err-judge.ensures.broken)))))
+
+pub returns : goal.returns
+returns c =
+    let texts = contents_of c.args.loaded.now in
+    let o = c.args.options.now in
+    let b = c.in_ok-book.book in
+    let V : List Action → Type 0 = λ x. Valid c.args.steps (slots_of b) x in
+    let is_book = subst (λ (t : List ℕ). IsBookText t b) c.deref.ensures.value c.in_ok-book.ensures.found in
+    let is_start = subst (λ (t : List ℕ). IsStartOf (says_raw o) (stack_pages o) t c.in_ok-start.start) c.deref-2.ensures.value c.in_ok-start.ensures.found in
+    let are_items = subst (λ t. AreItemsOf (text_of t) c.in_ok-journal.journal) c.take.ensures.value c.in_ok-journal.ensures.found in
+    let is_list = subst (λ (t : List ℕ). IsSchedule (names_of b) t c.in_ok-list.list.items) c.deref-3.ensures.value c.in_ok-list.ensures.found in
+    let valid = subst V c.deref-4.ensures.value c.in_ok-judge.ensures.valid in
+    record {
+      accepted = λ job.
+          let U : ℕ → Type 0 = λ unit. DecidesOver job o c.args.steps texts.program texts.journal texts.book (Some texts.schedule) c.args.counts.now
+          (accept (job (in_units unit c.in_ok-start.start c.in_ok-journal.journal c.args.steps (slots_of b) c.in_ok-list.list.items))) in
+          subst U (sym c.unit_of.ensures)
+          (over_accepted job o c.args.steps texts.program texts.journal texts.book (Some texts.schedule) c.args.counts.now b c.in_ok-start.start c.in_ok-journal.journal c.in_ok-list.list.items
+          is_book c.in_ok-keep.ensures.room tt is_start are_items (is_list, valid));
+      over = search rules;
+      steps = search rules;
+      unit = search rules;
+      room = search rules;
+      refused = search rules;
+    }

@@ -1,5 +1,5 @@
 use Rattle.std.proofs.Common.{◌≡◌, ℕ, Bool, subst}
-use Rattle.requests.specs.Ending.{bad_program}
+use Rattle.endings.specs.Outcomes.{bad_program}
 use Rattle.requests.specs.Request.{says_raw, stack_pages}
 use Rattle.reversal.specs.InputMeaning.{IsStartOf, HasProgramFault}
 use Rattle.reversal.specs.JobModel.{IsRefusal}

@@ -1,8 +1,8 @@
 use Rattle.std.proofs.Common.{◌≡◌, inl, inr, refl, ◌∙◌, ap, subst, arith}
 use Rattle.level_book.specs.BookCosts.{BookCosts, plain, total_room}
 use Rattle.revolve_gen.specs.Plans.{HasPlan}
-use Rattle.requests.specs.declared.ended.Ended.{Ended}
-use Rattle.requests.specs.Ending.{no_memory}
+use Rattle.endings.specs.declared.outcome.Outcome.{Outcome}
+use Rattle.endings.specs.Outcomes.{no_memory}
 use Rattle.reversal.proofs.Decisions.{by_error}
 use Rattle.reversal.proofs.demo.decide_demo.Goals.{else-steps-ge2-via-then-steps-ge2+else-room-eq0, else-steps-ge2-via-else-steps-ge2}
 use Rattle.reversal.proofs.demo.decide_demo.Goals as goal
@@ -30,5 +30,5 @@ pub returns-in_err-start : goal.returns-in_err-start
 returns-in_err-start c counts =
     by_error _ _ c.from_residual.result _ c.from_residual.ensures.1 (λ e gives.
     let same : c.in_err-start.field-0.0 ≡ e = cc in
-    let P : Ended → Type 0 = λ x. x ≡ no_memory in
+    let P : Outcome → Type 0 = λ x. x ≡ no_memory in
     inl (subst P same c.in_err-start.ensures.refused))

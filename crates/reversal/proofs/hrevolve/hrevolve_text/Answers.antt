@@ -7,9 +7,9 @@ use Rattle.cost_tables.specs.TableRows.{TablesFit}
 use Rattle.cert_text.specs.declared.certificate.Certificate.TheVariants.{Nested}
 use Rattle.cert_text.specs.Canonical as certificate_text
 use Rattle.cert_text.specs.Meaning.{HasText}
-use Rattle.requests.specs.declared.ended.Ended.{Ended}
+use Rattle.endings.specs.declared.outcome.Outcome.{Outcome}
 use Rattle.reversal.specs.Job.{Job, write}
-use Rattle.requests.specs.Ending.{bad_book, no_memory, out_of_range}
+use Rattle.endings.specs.Outcomes.{bad_book, no_memory, out_of_range}
 use Rattle.reversal.specs.Plans.{list_pieces}
 use Rattle.reversal.specs.NoPlans.{IsUnnested}
 use Rattle.reversal.specs.InputMeaning.{HasBookFault}
@@ -26,7 +26,7 @@ pub returns-in_err-book : goal.returns-in_err-book
 returns-in_err-book g c counts =
     by_error _ _ c.from_residual.result _ c.from_residual.ensures.1 (λ e gives.
     let same : c.in_err-book.field-0.0 ≡ e = cc in
-    let P : Ended → Type 0 = λ x. IsRefusal (HasBookFault c.args.book.now) bad_book x in
+    let P : Outcome → Type 0 = λ x. IsRefusal (HasBookFault c.args.book.now) bad_book x in
     hrevolve_by_book c.args.steps c.args.book.now e (subst P same c.in_err-book.ensures.refused))
 
 pub build-requires-clause-fits : goal.build-requires-clause-fits
@@ -36,13 +36,13 @@ pub list_for-requires-clause-fits : goal.list_for-requires-clause-fits
 list_for-requires-clause-fits g c = record { few = c.requires.steps; narrow = c.in_default.ensures }
 
 pub returns-in-Some : goal.returns-in-Some
-returns-in-Some g c counts = record { accepted = tt; can_be_done = tt; room = tt; refused = inr (hrevolve_by_room c.args.steps c.args.book.now _ c.in_ok-book.book c.in-Some.level c.in_ok-book.ensures.found c.in-Some.ensures (c.out_of_range.ensures ∙ ap (λ n. out_of_range n 64 9) c.room.ensures)) }
+returns-in-Some g c counts = record { accepted = tt; can_be_done = tt; room = tt; refused = inr (hrevolve_by_room c.args.steps c.args.book.now _ c.in_ok-book.book c.in-Some.level c.in_ok-book.ensures.found c.in-Some.ensures (ap (λ n. out_of_range n 64 9) c.room.ensures)) }
 
 pub returns-in_err-list : goal.returns-in_err-list
 returns-in_err-list g c counts =
     by_error _ _ c.from_residual-in_err-list.result _ c.from_residual-in_err-list.ensures.1 (λ e gives.
     let same : c.in_err-list.field-0.0 ≡ e = cc in
-    let P : Ended → Type 0 = λ x. (x ≡ no_memory) ⊎ IsUnnested c.args.steps c.in_ok-book.book x in
+    let P : Outcome → Type 0 = λ x. (x ≡ no_memory) ⊎ IsUnnested c.args.steps c.in_ok-book.book x in
     hrevolve_by_plan c.args.steps c.args.book.now e c.in_ok-book.book c.in_ok-book.ensures.found c.in_default.ensures (subst P same c.in_err-list.ensures.refused))
 
 pub certified_text-requires : goal.certified_text-requires

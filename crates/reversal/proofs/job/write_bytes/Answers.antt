@@ -9,7 +9,7 @@ pub returns-in-Ok : goal.returns-in-Ok
 returns-in-Ok g c other steps =
     let text : List ℕ = c.args.bytes.now in
     let P : List ℕ → Type 0 = λ l. Tells (g.O.Sink.told c.args.out.now) (g.O.Sink.told c.write.new.self) (Adds l) in
-    texts_done (text ∷ []) _ _ _ (record { steps = refl; calls = refl }) (record { sink = c.in-Ok.ensures.quiet; keepers = λ k. refl }) c.done.ensures
+    texts_done (text ∷ []) _ _ _ (record { steps = refl; calls = refl }) (record { sink = c.in-Ok.ensures.quiet; keepers = λ k. refl }) refl
     (subst P (sym (append-nil text)) c.in-Ok.ensures.ok) c.in-Ok.ensures.calls
 
 pub returns-in-Err : goal.returns-in-Err
@@ -17,4 +17,4 @@ returns-in-Err g c other steps =
     let text : List ℕ = c.args.bytes.now in
     let P : List ℕ → Type 0 = λ l. Tells (g.O.Sink.told c.args.out.now) (g.O.Sink.told c.write.new.self) (AddsPrefix l) in
     texts_stopped [] text [] (text ∷ []) _ (g.O.Sink.told c.args.out.now) (g.O.Sink.call_count c.args.out.now) _ _ (record { steps = refl; calls = refl }) (record { sink = c.in-Err.ensures.cause; keepers = λ k. refl }) refl
-    c.stopped.ensures (tells_nothing _ _ refl) (raised_none _) c.in-Err.ensures.refused c.in-Err.ensures.calls
+    refl (tells_nothing _ _ refl) (raised_none _) c.in-Err.ensures.refused c.in-Err.ensures.calls

@@ -1,15 +1,29 @@
-use Rattle.std.proofs.Common.{◌≡◌, ◌∙◌, ℕ, List, [], ◌∷◌, map, Vec, Global, sym, subst, arith}
-use Rattle.requests.specs.Request.{disasm}
-use Rattle.reversal.specs.Decision.{DecidesBytes}
-use Rattle.reversal.specs.JobModel.{IsDecided}
-use Rattle.requests.specs.RequestModel.{as_disasm}
-use Rattle.reversal.proofs.Decisions.{by_another}
-use Rattle.requests.proofs.InputSequence.{one_text}
+use Rattle.std.proofs.Common.{◌≡◌, ◌==◌, ◌<◌, false, inr, List, ℕ, length, map, sym, ap, arith, rules}
+use Rattle.std.proofs.lemmas.Bool.Decides.{nat_tests}
+use Rattle.reversal.specs.Job.{write}
+use Rattle.reversal.specs.Table.{accept}
+use Rattle.reversal.specs.Listing.{word_line}
+use Rattle.reversal.proofs.WordLists.{lines_are_canonical, listing_is}
 use Rattle.reversal.proofs.listing.decide_disasm.Goals as goal
 
+some_bytes : (n : ℕ) → (n == 0) ≡ false → 0 < n
+some_bytes n h = grind (arith, nat_tests)
+
 pub returns : goal.returns
-returns c slots options =
-    let same = one_text c.args.bytes.now c.program-item.result (omega arith) c.program-item.is in
-    let deref : c.deref.result.now ∷ [] ≡ map (λ (t : Vec ℕ Global). t.items) c.args.bytes.now = (λ i. c.deref.ensures.value i ∷ []) ∙ sym same in
-    let P : List (List ℕ) → Type 0 = λ l. IsDecided (DecidesBytes options (disasm (as_disasm c.args.disasm.now)) l slots) slots c.list_words.result in
-    subst P deref (by_another _ _ slots c.list_words.result (c.list_words.ensures slots) (λ d h. h))
+returns c counts =
+    let words = c.in_ok-words.words.items in
+    record {
+      accepted = inr (
+        record { some = some_bytes (length c.args.program.now) (sym c.if-is_empty.ensures); whole = c.if-program-ne0.false },
+        record {
+          words = words;
+          bytes = c.in_ok-words.ensures.bytes;
+          lines = map word_line words;
+          canonical = lines_are_canonical words c.in_ok-words.ensures.small;
+          does = ap (λ (l : List (List ℕ)). accept (write l)) (sym (listing_is words));
+        },
+      );
+      can_be_done = search rules;
+      room = tt;
+      refused = tt;
+    }

@@ -1,15 +1,26 @@
-use Rattle.std.proofs.Common.{◌≡◌, ◌∙◌, ℕ, List, [], ◌∷◌, map, Vec, Global, sym, subst, arith}
-use Rattle.requests.specs.Request.{plan}
-use Rattle.reversal.specs.Decision.{DecidesBytes}
+use Rattle.std.proofs.Common.{sym, subst}
+use Rattle.requests.specs.declared.kind.PlanKind.{PlanKind}
+use Rattle.reversal.specs.CommandPlan.{DecidesPlan}
 use Rattle.reversal.specs.JobModel.{IsDecided}
-use Rattle.requests.specs.RequestModel.{as_plan}
 use Rattle.reversal.proofs.Decisions.{by_another}
-use Rattle.requests.proofs.InputSequence.{one_text}
 use Rattle.reversal.proofs.plan_kinds.decide_plan.Goals as goal
 
-pub returns : goal.returns
-returns g c slots options =
-    let same = one_text c.args.bytes.now c.book-item.result (omega arith) c.book-item.is in
-    let deref : c.deref.result.now ∷ [] ≡ map (λ (t : Vec ℕ Global). t.items) c.args.bytes.now = (λ i. c.deref.ensures.value i ∷ []) ∙ sym same in
-    let P : List (List ℕ) → Type 0 = λ l. IsDecided (DecidesBytes options (plan (as_plan c.args.plan.now)) l slots) slots c.kind_text.result in
-    subst P deref (by_another _ _ slots c.kind_text.result (c.kind_text.ensures slots) (λ d h. h))
+pub returns-in-Revolve : goal.returns-in-Revolve
+returns-in-Revolve g c counts =
+    let P : PlanKind → Type 0 = λ kind. IsDecided (DecidesPlan kind c.args.plan.now.steps c.args.book.now) counts c.revolve_text.result in
+    subst P (sym c.in-Revolve.is) (by_another _ _ counts c.revolve_text.result (c.revolve_text.ensures counts) (λ d h. h))
+
+pub returns-in-Multistage : goal.returns-in-Multistage
+returns-in-Multistage g c counts =
+    let P : PlanKind → Type 0 = λ kind. IsDecided (DecidesPlan kind c.args.plan.now.steps c.args.book.now) counts c.multistage_text.result in
+    subst P (sym c.in-Multistage.is) (by_another _ _ counts c.multistage_text.result (c.multistage_text.ensures counts) (λ d h. h))
+
+pub returns-in-Disk : goal.returns-in-Disk
+returns-in-Disk g c counts =
+    let P : PlanKind → Type 0 = λ kind. IsDecided (DecidesPlan kind c.args.plan.now.steps c.args.book.now) counts c.disk_text.result in
+    subst P (sym c.in-Disk.is) (by_another _ _ counts c.disk_text.result (c.disk_text.ensures counts) (λ d h. h))
+
+pub returns-in-Hrevolve : goal.returns-in-Hrevolve
+returns-in-Hrevolve g c counts =
+    let P : PlanKind → Type 0 = λ kind. IsDecided (DecidesPlan kind c.args.plan.now.steps c.args.book.now) counts c.hrevolve_text.result in
+    subst P (sym c.in-Hrevolve.is) (by_another _ _ counts c.hrevolve_text.result (c.hrevolve_text.ensures counts) (λ d h. h))

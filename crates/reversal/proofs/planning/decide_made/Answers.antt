@@ -1,24 +1,84 @@
-use Rattle.std.proofs.Common.{◌≡◌, ◌∙◌, ℕ, List, [], ◌∷◌, map, Vec, Global, sym, subst, arith}
-use Rattle.reversal.specs.InputMeaning.{DecidesOverBytes}
+use Rattle.std.proofs.Common.{◌≡◌, ◌≤◌, ◌*◌, ℕ, refl, sym, subst, List, length, None, arith}
+use Rattle.plan_types.specs.declared.action.Action.{Action}
+use Rattle.level_book.specs.BookCosts.{slots_of}
+use Rattle.revolve_gen.specs.RevolveList.{revolve_list}
+use Rattle.endings.specs.declared.outcome.Outcome.{Outcome}
 use Rattle.reversal.specs.Job.{perform}
-use Rattle.reversal.specs.JobModel.{IsDecided}
-use Rattle.requests.specs.Operands.{made}
-use Rattle.requests.proofs.InputSequence.{two_texts, three_texts}
-use Rattle.reversal.proofs.Decisions.{by_another}
+use Rattle.endings.specs.Outcomes.{bad_book, bad_program, bad_journal}
+use Rattle.requests.specs.Request.{says_raw, stack_pages, unit_count}
+use Rattle.reversal.specs.Table.{Keep, refuse, accept}
+use Rattle.reversal.specs.InputMeaning.{HasBookFault, HasProgramFault, HasJournalFault, DecidesOver, in_units, IsStartOf, AreItemsOf}
+use Rattle.reversal.specs.JobModel.{IsRefusal, text_of}
+use Rattle.level_book.specs.Valid.{Valid}
+use Rattle.level_book.specs.BookFaults.{IsBookText}
+use Rattle.requests.specs.InputOutcome.{contents_of}
+use Rattle.reversal.proofs.RevolvePlan.{plan_valid, plan_few}
+use Rattle.reversal.proofs.DecisionLaws.{IsUnplanned, plan_refuses, over_by_book, over_by_keepers, over_behind_keepers, over_by_program, over_by_journal, over_accepted}
+use Rattle.reversal.proofs.Decisions.{by_error}
 use Rattle.reversal.proofs.planning.decide_made.Goals as goal
 
-pub returns-in-len2-clause-decided : goal.returns-in-len2-clause-decided
-returns-in-len2-clause-decided c =
-    let same = two_texts c.args.bytes.now c.result-item.result c.result-item-then-bytes-lt3.result (omega arith) c.result-item.is c.result-item-then-bytes-lt3.is in
-    let deref : c.as_slice.result.now ∷ c.as_slice-in-len2.result.now ∷ [] ≡ map (λ (t : Vec ℕ Global). t.items) c.args.bytes.now =
-    (λ i. c.as_slice.ensures.value i ∷ c.as_slice-in-len2.ensures.value i ∷ []) ∙ sym same in
-    let P : List (List ℕ) → Type 0 = λ l. IsDecided (DecidesOverBytes perform c.args.options.now made c.args.steps l c.args.counts.now) c.args.counts.now c.decide_texts.result in
-    subst P deref (by_another _ _ c.args.counts.now c.decide_texts.result c.decide_texts.ensures.decided (λ d h. h))
+pub returns-in_err-book-clause-decided : goal.returns-in_err-book-clause-decided
+returns-in_err-book-clause-decided c =
+    let texts = contents_of c.args.loaded.now in
+    by_error _ _ c.from_residual.result _ c.from_residual.ensures.1 (λ e gives.
+    let same : c.in_err-book.field-0.0 ≡ e = cc in
+    let P : Outcome → Type 0 = λ x. IsRefusal (HasBookFault texts.book) bad_book x in
+    over_by_book perform c.args.options.now c.args.steps texts.program texts.journal texts.book None c.args.counts.now e (subst P same (subst (λ (t : List ℕ). IsRefusal (HasBookFault t) bad_book c.in_err-book.field-0.0) c.deref.ensures.value c.in_err-book.ensures.refused)))
 
-pub returns-in-len3-clause-decided : goal.returns-in-len3-clause-decided
-returns-in-len3-clause-decided c =
-    let same = three_texts c.args.bytes.now c.result-item-then-bytes-lt4.result c.result-item-then-bytes-lt4-2.result c.result-item-then-bytes-lt4-3.result (omega arith) c.result-item-then-bytes-lt4.is c.result-item-then-bytes-lt4-2.is c.result-item-then-bytes-lt4-3.is in
-    let deref : c.as_slice-in-len3.result.now ∷ c.replace.result.items ∷ c.as_slice-in-len3-2.result.now ∷ [] ≡ map (λ (t : Vec ℕ Global). t.items) c.args.bytes.now =
-    (λ i. c.as_slice-in-len3.ensures.value i ∷ (c.replace.ensures.value i).items ∷ c.as_slice-in-len3-2.ensures.value i ∷ []) ∙ sym same in
-    let P : List (List ℕ) → Type 0 = λ l. IsDecided (DecidesOverBytes perform c.args.options.now made c.args.steps l c.args.counts.now) c.args.counts.now c.decide_texts-in-len3.result in
-    subst P deref (by_another _ _ c.args.counts.now c.decide_texts-in-len3.result c.decide_texts-in-len3.ensures.decided (λ d h. h))
+pub returns-in_err-keep-clause-decided : goal.returns-in_err-keep-clause-decided
+returns-in_err-keep-clause-decided c =
+    let texts = contents_of c.args.loaded.now in
+    by_error _ _ c.from_residual-in_err-keep.result _ c.from_residual-in_err-keep.ensures.1 (λ e gives.
+    let same : c.in_err-keep.field-0.0 ≡ e = cc in
+    let P : Outcome → Type 0 = λ x. Keep c.args.steps (slots_of c.in_ok-book.book) c.args.counts.now (refuse x) ⊥ in
+    over_by_keepers perform c.args.options.now c.args.steps texts.program texts.journal texts.book None c.args.counts.now e c.in_ok-book.book (subst (λ (t : List ℕ). IsBookText t c.in_ok-book.book) c.deref.ensures.value c.in_ok-book.ensures.found) (subst P same c.in_err-keep.ensures.refused))
+
+pub returns-in_err-revolve-clause-decided : goal.returns-in_err-revolve-clause-decided
+returns-in_err-revolve-clause-decided c =
+    let texts = contents_of c.args.loaded.now in
+    by_error _ _ c.from_residual-in_err-revolve.result _ c.from_residual-in_err-revolve.ensures.1 (λ e gives.
+    let same : c.in_err-revolve.field-0.0 ≡ e = cc in
+    let P : Outcome → Type 0 = λ x. IsUnplanned c.args.steps c.in_ok-book.book x in
+    over_behind_keepers perform c.args.options.now c.args.steps texts.program texts.journal texts.book None c.args.counts.now e c.in_ok-book.book (subst (λ (t : List ℕ). IsBookText t c.in_ok-book.book) c.deref.ensures.value c.in_ok-book.ensures.found) c.in_ok-keep.ensures.room (plan_refuses c.args.steps c.in_ok-book.book e _ (subst P same c.in_err-revolve.ensures.refused)))
+
+pub returns-in_err-start-clause-decided : goal.returns-in_err-start-clause-decided
+returns-in_err-start-clause-decided c =
+    let texts = contents_of c.args.loaded.now in
+    by_error _ _ c.from_residual-in_err-start.result _ c.from_residual-in_err-start.ensures.1 (λ e gives.
+    let same : c.in_err-start.field-0.0 ≡ e = cc in
+    let P : Outcome → Type 0 = λ x. IsRefusal (HasProgramFault (says_raw c.args.options.now) (stack_pages c.args.options.now) texts.program) bad_program x in
+    over_by_program perform c.args.options.now c.args.steps texts.program texts.journal texts.book None c.args.counts.now e c.in_ok-book.book (subst (λ (t : List ℕ). IsBookText t c.in_ok-book.book) c.deref.ensures.value c.in_ok-book.ensures.found) c.in_ok-keep.ensures.room c.in_ok-revolve.ensures.plan (subst P same (subst (λ (t : List ℕ). IsRefusal (HasProgramFault (says_raw c.args.options.now) (stack_pages c.args.options.now) t) bad_program c.in_err-start.field-0.0) c.deref-2.ensures.value c.in_err-start.ensures.refused)))
+
+pub returns-in_err-journal-clause-decided : goal.returns-in_err-journal-clause-decided
+returns-in_err-journal-clause-decided c =
+    let texts = contents_of c.args.loaded.now in
+    by_error _ _ c.from_residual-in_err-journal.result _ c.from_residual-in_err-journal.ensures.1 (λ e gives.
+    let same : c.in_err-journal.field-0.0 ≡ e = cc in
+    let P : Outcome → Type 0 = λ x. IsRefusal (HasJournalFault texts.journal) bad_journal x in
+    over_by_journal perform c.args.options.now c.args.steps texts.program texts.journal texts.book None c.args.counts.now e c.in_ok-book.book (subst (λ (t : List ℕ). IsBookText t c.in_ok-book.book) c.deref.ensures.value c.in_ok-book.ensures.found) c.in_ok-keep.ensures.room c.in_ok-revolve.ensures.plan c.in_ok-start.start (subst (λ (t : List ℕ). IsStartOf (says_raw c.args.options.now) (stack_pages c.args.options.now) t c.in_ok-start.start) c.deref-2.ensures.value c.in_ok-start.ensures.found) (subst P same (subst (λ t. IsRefusal (HasJournalFault (text_of t)) bad_journal c.in_err-journal.field-0.0) c.take.ensures.value c.in_err-journal.ensures.refused)))
+
+pub returns-clause-decided : goal.returns-clause-decided
+returns-clause-decided c =
+    let texts = contents_of c.args.loaded.now in
+    let o = c.args.options.now in
+    let D : ℕ → List Action → Type 0 = λ unit l. DecidesOver perform o c.args.steps texts.program texts.journal texts.book None c.args.counts.now
+    (accept (perform (in_units unit c.in_ok-start.start c.in_ok-journal.journal c.args.steps (slots_of c.in_ok-book.book) l))) in
+    let b = c.in_ok-book.book in
+    let F : List Action → Type 0 = λ l. length l ≤ 16777216 in
+    let V : List Action → Type 0 = λ l. Valid c.args.steps (slots_of b) l in
+    let same = c.unit_of.ensures in
+    let I : ℕ → Type 0 = λ unit. unit * c.args.steps ≤ 1000000 in
+    record {
+      accepted = subst (λ unit. D unit c.in_ok-revolve.revolve) (sym c.unit_of.ensures) (subst (D (unit_count o)) (sym c.in_ok-revolve.ensures.list)
+          (over_accepted perform o c.args.steps texts.program texts.journal texts.book None c.args.counts.now c.in_ok-book.book c.in_ok-start.start c.in_ok-journal.journal (revolve_list c.args.steps c.in_ok-book.book)
+          (subst (λ (t : List ℕ). IsBookText t c.in_ok-book.book) c.deref.ensures.value c.in_ok-book.ensures.found) c.in_ok-keep.ensures.room c.in_ok-revolve.ensures.plan (subst (λ (t : List ℕ). IsStartOf (says_raw c.args.options.now) (stack_pages c.args.options.now) t c.in_ok-start.start) c.deref-2.ensures.value c.in_ok-start.ensures.found) (subst (λ t. AreItemsOf (text_of t) c.in_ok-journal.journal) c.take.ensures.value c.in_ok-journal.ensures.found) refl));
+      can_be_done = record {
+        steps = c.requires.run.steps;
+        unit = (omega (arith, same, c.requires.run.unit.0), omega (arith, same, c.requires.run.unit.1));
+        instructions = subst I (sym same) c.requires.run.instructions;
+        few = subst F (sym c.in_ok-revolve.ensures.list) (plan_few c.args.steps b c.requires.run.steps c.in_ok-revolve.ensures.plan);
+        valid = subst V (sym c.in_ok-revolve.ensures.list) (plan_valid c.args.steps b c.in_ok-revolve.ensures.plan);
+      };
+      room = c.in_ok-keep.ensures.room;
+      refused = tt;
+    }

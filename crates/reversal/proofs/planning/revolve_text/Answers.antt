@@ -4,9 +4,9 @@ use Rattle.plan_types.specs.declared.action.Action.{Action}
 use Rattle.level_book.specs.BookCosts.{names_of}
 use Rattle.action_text.specs.Canonical.{HasSpelling}
 use Rattle.cert_text.specs.Canonical as certificate
-use Rattle.requests.specs.declared.ended.Ended.{Ended}
+use Rattle.endings.specs.declared.outcome.Outcome.{Outcome}
 use Rattle.reversal.specs.Job.{Job, write}
-use Rattle.requests.specs.Ending.{bad_book}
+use Rattle.endings.specs.Outcomes.{bad_book}
 use Rattle.reversal.specs.Plans.{list_pieces}
 use Rattle.reversal.specs.InputMeaning.{HasBookFault}
 use Rattle.reversal.specs.CommandPlan.{DecidesPlanRevolve}
@@ -21,14 +21,14 @@ pub returns-in_err-book : goal.returns-in_err-book
 returns-in_err-book c counts =
     by_error _ _ c.from_residual.result _ c.from_residual.ensures.1 (λ e gives.
     let same : c.in_err-book.field-0.0 ≡ e = cc in
-    let P : Ended → Type 0 = λ x. IsRefusal (HasBookFault c.args.book.now) bad_book x in
+    let P : Outcome → Type 0 = λ x. IsRefusal (HasBookFault c.args.book.now) bad_book x in
     plan_by_book c.args.steps c.args.book.now e (subst P same c.in_err-book.ensures.refused))
 
 pub returns-in_err-revolve : goal.returns-in_err-revolve
 returns-in_err-revolve c counts =
     by_error _ _ c.from_residual-in_err-revolve.result _ c.from_residual-in_err-revolve.ensures.1 (λ e gives.
     let same : c.in_err-revolve.field-0.0 ≡ e = cc in
-    let P : Ended → Type 0 = λ x. IsUnplanned c.args.steps c.in_ok-book.book x in
+    let P : Outcome → Type 0 = λ x. IsUnplanned c.args.steps c.in_ok-book.book x in
     plan_by_plan c.args.steps c.args.book.now e c.in_ok-book.book c.in_ok-book.ensures.found (subst P same c.in_err-revolve.ensures.refused))
 
 pub certified_text-requires : goal.certified_text-requires

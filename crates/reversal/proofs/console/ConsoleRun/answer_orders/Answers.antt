@@ -13,8 +13,9 @@ use Rattle.reverse_runner.specs.Rooms.{rooms_by}
 use Rattle.reverse_runner.proofs.Rooms.{still_roomy}
 use Rattle.reverse_console.specs.Causes.{fault_of}
 use Rattle.reverse_console.proofs.Scripts.{if_ok_at, same_err, still_by}
-use Rattle.requests.specs.declared.ended.Ended.{Ended}
-use Rattle.requests.specs.Ending.{done}
+use Rattle.endings.specs.declared.outcome.Outcome.{Outcome}
+use Rattle.endings.specs.Outcomes.{done}
+use Rattle.endings.specs.Endings.{status_of}
 use Rattle.reversal.specs.Job.{console}
 use Rattle.reversal.specs.Moment.{moment}
 use Rattle.reversal.specs.CommandConsole.{IsOfMarks}
@@ -45,7 +46,7 @@ returns-in-Err g c =
     let p : MarkPlan = plan_of m.run in
     let a = moment g.O.Sink g.K.Storage c.args.out.now c.args.keepers.now.items c.args.counter.now in
     let b = moment g.O.Sink g.K.Storage c.args.out.now c.begin.new.keepers.items c.begin.new.steps in
-    let E : Ended → Type 0 = λ e. Works (moves m) e a b in
+    let E : Outcome → Type 0 = λ e. Works (moves m) e a b in
     record {
       works = inr (subst E (sym c.fault_ending.ensures)
           (marks_refused m.run.start m.run.journal p m.orders.items a b refl refl c.begin.ensures.puts.counted_at_most.0 c.begin.ensures.puts.counted_at_most.1 c.begin.ensures.puts.called_at_most refl fault c.in-Err.ensures.puts.putting
@@ -54,7 +55,7 @@ returns-in-Err g c =
           (λ k e. c.begin.ensures.puts.put_until k (c.in-Err.is ∙ ap Err e))));
       others = (record { slots_same = c.begin.ensures.kept.slots; places_same = c.begin.ensures.kept.places }, past_others g.K.Storage _ _ _ _ c.begin.ensures.kept);
       roomy = λ has e.
-          (let wants = is_memory 0 fault (λ q. absurd (subst (IsOfPutting (plan_of c.args.self.run)) q c.in-Err.ensures.puts.putting)) (sym (ap (λ (x : Ended). x.status) c.fault_ending.ensures) ∙ e) in
+          (let wants = is_memory 0 fault (λ q. absurd (subst (IsOfPutting (plan_of c.args.self.run)) q c.in-Err.ensures.puts.putting)) (sym (ap status_of c.fault_ending.ensures) ∙ e) in
           let none = c.begin.ensures.roomy has (c.in-Err.is ∙ ap Err wants) in
           (c.fault_ending.ensures ∙ ap (fault_ending 0) wants, refl, none.0, none.1));
     }
@@ -73,18 +74,17 @@ returns-in-Ok-answer_all g c =
     let states = λ (tells : MarksTell p a.images). c.sees_its_run.ensures.states m.run.start told c.is_machine_state.ensures (stands tells) in
     let sees = λ (tells : MarksTell p a.images). c.sees_its_run.ensures.answers m.run.start told c.is_machine_state.ensures (stands tells) in
     let quiet = λ (j : ℕ). c.begin.ensures.kept.quiet j (λ e. absurd (cc (c.in-Ok.is, e))) in
-    let E : Ended → Type 0 = λ e. Works (moves m) e a b in
     let J : List Order → Type 0 = λ l. Works (console m.run.start m.run.journal p l) done a b in
     let are = c.answer_all.ensures.keepers.are in
     let S : MarkPlan → Type 0 = λ q. (k : ℕ) → length q.slots ≤ k → slice_get c.answer_all.new.keepers.items k ≡ slice_get c.begin.new.keepers.items k in
     let others = subst S c.in-Ok.ensures.begun.0 (past_others g.K.Storage _ _ _ _ are) in
     record {
-      works = inr (subst E (sym c.done.ensures) (subst J c.deref.ensures.value
+      works = inr (subst J c.deref.ensures.value
           (all_answered m.run.start m.run.journal p c.deref.result.now from a b made.place c.answer_all.new.console.place c.begin.new.steps (calls_to g.K.Storage c.begin.new.keepers.items)
           is c.in-Ok.ensures.begun.2 c.in-Ok.ensures.puts.counted c.in-Ok.ensures.puts.called states sees c.in-Ok-answer_all.ensures.answers.written
-          (record { sink = c.in-Ok-answer_all.ensures.faults.quiet (λ e. absurd cc); keepers = λ k. still_by g.K.Storage _ c.answer_all.result _ _ _ c.in-Ok-answer_all.is c.answer_all.ensures.keepers.are k ∙ quiet k }))));
+          (record { sink = c.in-Ok-answer_all.ensures.faults.quiet (λ e. absurd cc); keepers = λ k. still_by g.K.Storage _ c.answer_all.result _ _ _ c.in-Ok-answer_all.is c.answer_all.ensures.keepers.are k ∙ quiet k })));
       others = (record { slots_same = are.slots ∙ c.begin.ensures.kept.slots; places_same = are.places ∙ c.begin.ensures.kept.places }, λ k past. others k past ∙ past_others g.K.Storage _ _ _ _ c.begin.ensures.kept k past);
-      roomy = λ has e. (let status = ap (λ (x : Ended). x.status) c.done.ensures in absurd (omega (arith, status, e)));
+      roomy = λ has e. (let zero : 0 ≡ 17 = e in absurd (omega (arith, zero)));
     }
 
 pub returns : goal.returns
@@ -105,7 +105,7 @@ returns g c =
     let before = c.begin.new.keepers.items in
     let after = c.answer_all.new.keepers.items in
     let quiet = λ (j : ℕ). c.begin.ensures.kept.quiet j (λ e. absurd (cc (c.in-Ok.is, e))) in
-    let E : Ended → Type 0 = λ e. Works (moves m) e a b in
+    let E : Outcome → Type 0 = λ e. Works (moves m) e a b in
     let J : List Order → Type 0 = λ l. Works (console m.run.start m.run.journal p l) (fault_ending stop.order stop.fault) a b in
     let N : ℕ → Type 0 = λ n. Works (moves m) (fault_ending n stop.fault) a b in
     let are = c.answer_all.ensures.keepers.are in
@@ -125,7 +125,7 @@ returns g c =
           c.answer_all.ensures.spared.undamaged m.run.start c.is_machine_state.ensures here k put got (ap fault_of c.in-Err-answer_all.is ∙ ap Err e))))));
       others = (record { slots_same = are.slots ∙ c.begin.ensures.kept.slots; places_same = are.places ∙ c.begin.ensures.kept.places }, λ k past. others k past ∙ past_others g.K.Storage _ _ _ _ c.begin.ensures.kept k past);
       roomy = λ has e.
-          (let status = sym (ap (λ (x : Ended). x.status) c.fault_ending-in-Err-answer_all.ensures) ∙ e in
+          (let status = sym (ap status_of c.fault_ending-in-Err-answer_all.ensures) ∙ e in
           let wants = is_memory c.from.result stop.fault (λ q. c.answer_all.ensures.spared.not_ended (ap fault_of c.in-Err-answer_all.is ∙ ap Err q)) status in
           let plan = ap (λ (q : MarkPlan). q.slots) c.in-Ok.ensures.begun.0 in
           let here = still_roomy m.run.start made.work (slots_of m.run.book) made.plan.slots (rooms_by g.K.Storage c.args.keepers.now.items) (rooms_by g.K.Storage c.begin.new.keepers.items) c.in-Ok.ensures.marks.machine plan c.begin.ensures.kept.rooms has in

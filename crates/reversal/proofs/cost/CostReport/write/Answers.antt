@@ -10,11 +10,11 @@ pub returns-in-Ok : goal.returns-in-Ok
 returns-in-Ok g c other steps =
     let lines = report_lines c.args.self.book c.args.self.counts in
     let P : List ℕ → Type 0 = λ l. Tells (g.O.Sink.told c.args.out.now) (g.O.Sink.told c.report.new.out) (Adds l) in
-    texts_done lines _ _ _ (record { steps = refl; calls = refl }) (record { sink = c.in-Ok.ensures.quiet; keepers = λ k. refl }) c.done.ensures (subst P (concat_is lines) c.in-Ok.ensures.ok) c.in-Ok.ensures.calls
+    texts_done lines _ _ _ (record { steps = refl; calls = refl }) (record { sink = c.in-Ok.ensures.quiet; keepers = λ k. refl }) refl (subst P (concat_is lines) c.in-Ok.ensures.ok) c.in-Ok.ensures.calls
 
 pub returns-in-Err : goal.returns-in-Err
 returns-in-Err g c other steps =
     let stop = c.in-Err.ensures.stopped in
     let P : List ℕ → Type 0 = λ l. Tells (g.O.Sink.told c.args.out.now) (g.O.Sink.told c.report.new.out) (λ a b. AddsPrefix stop.line (a ++ l) b) in
     texts_cut stop.before stop.line stop.after (report_lines c.args.self.book c.args.self.counts) _ _ _ (record { steps = refl; calls = refl }) (record { sink = c.in-Err.ensures.cause; keepers = λ k. refl })
-    stop.in_order c.stopped.ensures (subst P (concat_is stop.before) stop.told) stop.calls
+    stop.in_order refl (subst P (concat_is stop.before) stop.told) stop.calls

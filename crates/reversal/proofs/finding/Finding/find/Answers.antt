@@ -1,10 +1,7 @@
-use Rattle.std.proofs.Common.{ℕ, refl, sym, subst}
+use Rattle.std.proofs.Common.{ℕ, refl, subst}
 use Rattle.segment_sweep.specs.LastMatch.{Found}
-use Rattle.requests.specs.declared.ended.Ended.{Ended}
-use Rattle.reversal.specs.Job.{seek}
 use Rattle.reversal.specs.Moment.{Moment, beside}
 use Rattle.reversal.specs.CommandFind.{quest_of}
-use Rattle.reversal.specs.JobModel.{Works}
 use Rattle.reversal.proofs.SearchProgress.{marking_halted, seeking_halted, seek_told}
 use Rattle.reversal.proofs.finding.Finding.find.Goals as goal
 
@@ -12,8 +9,7 @@ pub returns-in_default : goal.returns-in_default
 returns-in_default g c other =
     let f = c.args.self in
     let seen : ℕ → Moment = λ steps. beside g.O.Sink other c.args.out.now steps in
-    let E : Ended → Type 0 = λ e. Works (seek f.start f.journal f.steps f.workers f.digest) e (seen c.args.counter.now) (seen c.make.new.steps) in
-    subst E (sym c.no_memory.ensures) (marking_halted f.start f.journal f.steps f.workers f.digest (seen c.args.counter.now) (seen c.make.new.steps) refl refl refl c.make.ensures.least c.make.ensures.most (record { sink = refl; keepers = λ k. refl }))
+    marking_halted f.start f.journal f.steps f.workers f.digest (seen c.args.counter.now) (seen c.make.new.steps) refl refl refl c.make.ensures.least c.make.ensures.most (record { sink = refl; keepers = λ k. refl })
 
 pub returns : goal.returns
 returns g c other =
@@ -27,5 +23,4 @@ pub returns-in_default-find_digest : goal.returns-in_default-find_digest
 returns-in_default-find_digest g c other =
     let f = c.args.self in
     let seen : ℕ → Moment = λ steps. beside g.O.Sink other c.args.out.now steps in
-    let E : Ended → Type 0 = λ e. Works (seek f.start f.journal f.steps f.workers f.digest) e (seen c.args.counter.now) (seen c.make.new.steps) in
-    subst E (sym c.no_memory-in_default-find_digest.ensures) (seeking_halted f.start f.journal f.steps f.workers f.digest (seen c.args.counter.now) (seen c.make.new.steps) refl c.in-Ok.ensures.counted refl refl (record { sink = refl; keepers = λ k. refl }))
+    seeking_halted f.start f.journal f.steps f.workers f.digest (seen c.args.counter.now) (seen c.make.new.steps) refl c.in-Ok.ensures.counted refl refl (record { sink = refl; keepers = λ k. refl })

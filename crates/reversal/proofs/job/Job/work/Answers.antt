@@ -2,8 +2,8 @@ use Rattle.std.proofs.Common.{ℕ, List, [], ◌∷◌, inl, inr, refl, sym, sub
 use Rattle.reversal.specs.declared.job.Job.{Job}
 use Rattle.reversal.specs.Job.{write}
 use Rattle.reversal.specs.Moment.{moment}
-use Rattle.reversal.specs.Table.{accept}
-use Rattle.reversal.specs.Decision.{EndsBy}
+use Rattle.reversal.specs.Course.{EndsShowing}
+use Rattle.reversal.specs.Decision.{course_of}
 use Rattle.reversal.specs.JobModel.{job_of, Does}
 use Rattle.reversal.proofs.JobResults.{does_alone}
 use Rattle.reversal.proofs.job.Job.work.Goals as goal
@@ -29,7 +29,7 @@ returns-in-Write g c =
     let old = moment g.O.Sink g.K.Storage c.args.out.now c.args.keepers.now.items c.args.counter.now in
     let new = moment g.O.Sink g.K.Storage c.write_bytes.new.out c.args.keepers.now.items c.args.counter.now in
     let P : Job → Type 0 = λ j. Does g.O.Sink g.K.Storage (job_of j) c.write_bytes.result c.args.out.now c.write_bytes.new.out c.args.keepers.now c.args.keepers.now c.args.counter.now c.args.counter.now in
-    let W : List ℕ → Type 0 = λ l. EndsBy (accept (write (l ∷ []))) c.write_bytes.result old new in
+    let W : List ℕ → Type 0 = λ l. EndsShowing (course_of (write (l ∷ []))) c.write_bytes.result old new in
     subst P (sym c.in-Write.is) (does_alone g.O.Sink g.K.Storage _ _ _ _ _ _ _ (λ none. none) (inr (inl (subst W c.bytes.ensures.value (c.write_bytes.ensures old c.args.counter.now)))))
 
 pub returns-in-Bytes : goal.returns-in-Bytes
@@ -37,7 +37,7 @@ returns-in-Bytes g c =
     let old = moment g.O.Sink g.K.Storage c.args.out.now c.args.keepers.now.items c.args.counter.now in
     let new = moment g.O.Sink g.K.Storage c.write_bytes-in-Bytes.new.out c.args.keepers.now.items c.args.counter.now in
     let P : Job → Type 0 = λ j. Does g.O.Sink g.K.Storage (job_of j) c.write_bytes-in-Bytes.result c.args.out.now c.write_bytes-in-Bytes.new.out c.args.keepers.now c.args.keepers.now c.args.counter.now c.args.counter.now in
-    let W : List ℕ → Type 0 = λ l. EndsBy (accept (write (l ∷ []))) c.write_bytes-in-Bytes.result old new in
+    let W : List ℕ → Type 0 = λ l. EndsShowing (course_of (write (l ∷ []))) c.write_bytes-in-Bytes.result old new in
     subst P (sym c.in-Bytes.is) (does_alone g.O.Sink g.K.Storage _ _ _ _ _ _ _ (λ none. none) (inr (inl (subst W c.deref.ensures.value (c.write_bytes-in-Bytes.ensures old c.args.counter.now)))))
 
 pub returns-in-Report : goal.returns-in-Report

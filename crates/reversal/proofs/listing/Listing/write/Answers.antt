@@ -35,7 +35,7 @@ returns-in-Err g c other steps =
     let P : List ℕ → Type 0 = λ l. Tells (g.O.Sink.told c.loop-rest.out) (g.O.Sink.told c.write.new.self) (AddsPrefix l) in
     let N : ℕ → Type 0 = λ n. Rose n (g.O.Sink.fault_count c.write.new.self) in
     written_stopped ended_line _ [] rest _ (g.O.Sink.told c.loop-rest.out) (g.O.Sink.call_count c.loop-rest.out) _ _ (record { steps = refl; calls = refl }) inv.so_far c.next_piece-rest.new.piece.items
-    (record { sink = subst N inv.faults c.in-Err.ensures.cause; keepers = λ k. refl }) (some_left rest (sym c.is_empty.ensures ∙ c.loop-rest-test.true)) c.next_piece-rest.ensures.piece c.stopped.ensures
+    (record { sink = subst N inv.faults c.in-Err.ensures.cause; keepers = λ k. refl }) (some_left rest (sym c.is_empty.ensures ∙ c.loop-rest-test.true)) c.next_piece-rest.ensures.piece refl
     (subst P c.deref.ensures.value c.in-Err.ensures.refused) c.in-Err.ensures.calls
 
 pub returns : goal.returns
@@ -43,4 +43,4 @@ returns g c other steps =
     let inv = c.loop-rest.invariant in
     let rest = c.loop-rest.rest.now in
     written_whole ended_line _ [] rest _ (g.O.Sink.told c.loop-rest.out) (g.O.Sink.call_count c.loop-rest.out) _ _ (record { steps = refl; calls = refl }) inv.so_far (record { sink = inv.faults; keepers = λ k. refl })
-    (none_left_of rest (sym c.is_empty.ensures ∙ c.loop-rest-test.false)) refl c.done.ensures refl refl
+    (none_left_of rest (sym c.is_empty.ensures ∙ c.loop-rest-test.false)) refl refl refl refl

@@ -56,7 +56,7 @@ returns-in-Err g c other steps =
     let P : List ℕ → Type 0 = λ l. Tells (g.O.Sink.told c.loop-out.out) (g.O.Sink.told c.write.new.self) (AddsPrefix l) in
     let N : ℕ → Type 0 = λ n. Rose n (g.O.Sink.fault_count c.write.new.self) in
     written_stopped f _ _ rest _ (g.O.Sink.told c.loop-out.out) (g.O.Sink.call_count c.loop-out.out) _ _ (record { steps = refl; calls = refl }) inv.so_far c.next_piece.new.self.piece.items
-    (record { sink = subst N inv.faults c.in-Err.ensures.cause; keepers = λ k. refl }) (c.loop-out-test.ensures.some.0 refl) is c.stopped.ensures (subst P c.deref.ensures.value c.in-Err.ensures.refused) c.in-Err.ensures.calls
+    (record { sink = subst N inv.faults c.in-Err.ensures.cause; keepers = λ k. refl }) (c.loop-out-test.ensures.some.0 refl) is refl (subst P c.deref.ensures.value c.in-Err.ensures.refused) c.in-Err.ensures.calls
 
 pub returns-in_default : goal.returns-in_default
 returns-in_default g c other steps =
@@ -65,7 +65,7 @@ returns-in_default g c other steps =
     let none = none_behind (left_of c.loop-out.self.actions) (λ some. c.loop-out-test.ensures.some.1 some) in
     let same : c.args.self.certificate ≡ None = sym (c.next_piece.ensures.kept.1 ∙ inv.certificate) ∙ c.in_default.is in
     written_whole f _ _ (left_of c.loop-out.self.actions) _ (g.O.Sink.told c.loop-out.out) (g.O.Sink.call_count c.loop-out.out) _ _ (record { steps = refl; calls = refl }) inv.so_far
-    (record { sink = inv.faults; keepers = λ k. refl }) none (ap certificate_pieces same) c.done.ensures refl refl
+    (record { sink = inv.faults; keepers = λ k. refl }) none (ap certificate_pieces same) refl refl refl
 
 pub returns-in-Ok-print_certificate : goal.returns-in-Ok-print_certificate
 returns-in-Ok-print_certificate g c other steps =
@@ -76,7 +76,7 @@ returns-in-Ok-print_certificate g c other steps =
     let C : List ℕ → Type 0 = λ l. Tells (g.O.Sink.told c.loop-out.out) (g.O.Sink.told c.print_certificate.new.out) (Adds l) in
     written_all f _ _ (left_of c.loop-out.self.actions) _ (g.O.Sink.told c.loop-out.out) (g.O.Sink.call_count c.loop-out.out) _ _ (record { steps = refl; calls = refl }) inv.so_far (certificate.pieces c.in-Some.certificate)
     (record { sink = c.in-Ok-print_certificate.ensures.quiet ∙ inv.faults; keepers = λ k. refl }) none
-    (ap certificate_pieces same) c.done-in-Ok-print_certificate.ensures (subst C (sym (joined c.in-Some.certificate)) c.in-Ok-print_certificate.ensures.ok) c.in-Ok-print_certificate.ensures.calls
+    (ap certificate_pieces same) refl (subst C (sym (joined c.in-Some.certificate)) c.in-Ok-print_certificate.ensures.ok) c.in-Ok-print_certificate.ensures.calls
 
 pub returns : goal.returns
 returns g c other steps =
@@ -88,4 +88,4 @@ returns g c other steps =
     let N : ℕ → Type 0 = λ n. Rose n (g.O.Sink.fault_count c.print_certificate.new.out) in
     written_but_some f _ _ (left_of c.loop-out.self.actions) _ (g.O.Sink.told c.loop-out.out) (g.O.Sink.call_count c.loop-out.out) _ _ (record { steps = refl; calls = refl }) inv.so_far stop.before stop.line stop.after
     (record { sink = subst N inv.faults c.in-Err-print_certificate.ensures.cause; keepers = λ k. refl }) none
-    (ap certificate_pieces same ∙ stop.in_order) c.stopped-in-Err-print_certificate.ensures stop.told stop.calls
+    (ap certificate_pieces same ∙ stop.in_order) refl stop.told stop.calls

@@ -40,6 +40,7 @@ returns-clause-some c =
       raw = record {
         set = λ e. c.get_flag.ensures.value (one_text-rows found (codes "raw") ∙ e);
         unset = λ e. c.get_flag.ensures.other (one_text-rows found (codes "raw") ∙ e);
+        absent = λ e. c.get_flag.ensures.none (one_text-rows found (codes "raw") ∙ e);
       };
       stack = subst S (c.get_str.ensures ∙ first_value-rows found (codes "stack")) c.in_ok-stack.ensures.some;
       most = subst N (c.get_str-2.ensures ∙ first_value-rows found (codes "most")) c.in_ok-most.ensures.some;
