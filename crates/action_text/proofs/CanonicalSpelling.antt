@@ -14,7 +14,8 @@ use Rattle.plan_types.specs.declared.action.Dest.{Dest}
 use Rattle.plan_types.specs.declared.action.Dest.TheVariants as dest
 use Rattle.plan_types.specs.declared.action.Action.{Action}
 use Rattle.plan_types.specs.declared.action.Action.TheVariants as action
-use Rattle.action_text.specs.declared.fault.LineFault.{LineFault}
+use Rattle.action_text.specs.declared.fault.Rule.{Rule}
+use Rattle.line_texts.specs.declared.fault.LineFault.{LineFault}
 use Rattle.action_text.specs.CursorState.{first_line, later_lines, seen}
 use Rattle.action_text.specs.Meaning.{Says}
 use Rattle.action_text.specs.ScheduleText.{texts}
@@ -216,9 +217,9 @@ first_is (b ∷ bs) rest all ends = first_more b bs rest all.0 (first_is bs rest
 said_is_read : (names : List (List ℕ)) (line : List ℕ) (later : List (List ℕ)) (a : Action) → AreNames names → Says names (texts line) a → line_of names false (whole_line line later) ≡ Ok (Some a)
 said_is_read names line later a are says = by_answer (line_of names false (whole_line line later)) (line_answer names 0 line later are)
   where
-    by_answer : (r : Result (Option Action) LineFault) → IsAnswer names 0 line r → r ≡ Ok (Some a)
+    by_answer : (r : Result (Option Action) (LineFault Rule)) → IsAnswer names 0 line r → r ≡ Ok (Some a)
     by_answer (Ok None) is = absurd (said_not_passed names line a are says (is.none refl))
-    by_answer (Ok (Some b)) is = ap (λ (x : Action). done LineFault (Some x)) (one_action names (texts line) b a are (is.some b refl) says)
+    by_answer (Ok (Some b)) is = ap (λ (x : Action). done (LineFault Rule) (Some x)) (one_action names (texts line) b a are (is.some b refl) says)
     by_answer (Err f) is = absurd (omega (arith, said_no_fault names 0 line a (number_of_rule f.rule) f.column are says is.1))
 
 pub line_written : (names : List (List ℕ)) (start : ℕ) (bytes rest : List ℕ) (a : Action) → AreNames names → start ≡ length bytes → IsActionAt names bytes a rest → ends_line rest ≡ true →

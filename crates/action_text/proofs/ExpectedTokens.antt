@@ -7,7 +7,7 @@ use Rattle.plan_types.specs.declared.action.Dest.{Dest}
 use Rattle.plan_types.specs.declared.action.Dest.TheVariants.{Work, Level}
 use Rattle.action_text.specs.declared.fault.Rule.{Rule}
 use Rattle.action_text.specs.declared.fault.Rule.TheVariants as rule
-use Rattle.action_text.specs.declared.fault.LineFault.{LineFault}
+use Rattle.line_texts.specs.declared.fault.LineFault.{LineFault}
 use Rattle.action_text.specs.declared.words.Place.{Place}
 use Rattle.action_text.specs.declared.words.Place.TheVariants as at
 use Rattle.action_text.specs.Tokens.{starts_run}
@@ -268,7 +268,7 @@ next_ok names w rest x real e =
     ]
 
 -- the next token doesn't fit, or there is none
-pub data IsLeft (names : List (List ℕ)) (w : Want) (rest : Rest) (f : LineFault) : Type 0 where
+pub data IsLeft (names : List (List ℕ)) (w : Want) (rest : Rest) (f : LineFault Rule) : Type 0 where
   nothing : rest.tokens ≡ [] → number_of_rule f.rule ≡ 1 → f.column ≡ rest.end → IsLeft names w rest f
   unfit : (t : Token) (ts : List Token) → rest.tokens ≡ t ∷ ts → (TakesToken names w t.text → ⊥) → number_of_rule f.rule ≡ rule_at (Some w) t.text → f.column ≡ t.column → IsLeft names w rest f
 
@@ -282,9 +282,9 @@ left_of names w (t ∷ ts) rest are is fails =
     IsLeft.unfit t ts is (λ fit. cc (rw text at fails, fits_passes names w t.text are fit))
     (ap (λ (x : List ℕ). number_of_rule (rule_of w x)) text ∙ rule_numbered w t.text) (ap (λ (xs : List Token). column_in xs rest.end) is)
 
-pub next_err : (names : List (List ℕ)) (w : Want) (rest : Rest) (f : LineFault) → AreNames names → next names w rest ≡ Err f → IsLeft names w rest f
+pub next_err : (names : List (List ℕ)) (w : Want) (rest : Rest) (f : LineFault Rule) → AreNames names → next names w rest ≡ Err f → IsLeft names w rest f
 next_err names w rest f are e =
     elim (chosen (test_of names w (text_at rest)) (Ok (text_at rest, behind rest)) (Err (record { rule = rule_of w (text_at rest); column = column_at rest })) (Err f) (sym (next_is names w rest) ∙ e)) [
       | inl h ↦ absurd (not_both _ f h.1)
-      | inr h ↦ subst (λ (g : LineFault). IsLeft names w rest g) (err_is (List ℕ × Rest) _ f h.1) (left_of names w rest.tokens rest are refl h.0)
+      | inr h ↦ subst (λ (g : LineFault Rule). IsLeft names w rest g) (err_is (List ℕ × Rest) _ f h.1) (left_of names w rest.tokens rest are refl h.0)
     ]

@@ -1,7 +1,8 @@
 -- What is read of a line whose first token is a word, and of one whose isn't.
 use Rattle.std.proofs.Common.{◌≡◌, ℕ, Bool, true, false, List, Option, Some, None, Result, Err, refl, sym, ap, ◌∙◌, inl, inr}
 use Rattle.plan_types.specs.declared.action.Action.{Action}
-use Rattle.action_text.specs.declared.fault.LineFault.{LineFault}
+use Rattle.action_text.specs.declared.fault.Rule.{Rule}
+use Rattle.line_texts.specs.declared.fault.LineFault.{LineFault}
 use Rattle.action_text.specs.declared.words.Kind.{Kind}
 use Rattle.action_text.specs.Tokens.{starts_run}
 use Rattle.line_texts.proofs.Steps.{which}
@@ -9,13 +10,13 @@ use Rattle.action_text.specs.CursorState.{Rest}
 use Rattle.action_text.specs.Parser.{text_at, column_at, behind, says_nothing, not_action, word_next, kind_of, arguments_of, profiled, action_of, line_of}
 use Rattle.line_texts.specs.Parsers.{◌>>=◌}
 
-pub line_unnamed : (names : List (List ℕ)) (full : Bool) (old seen : Rest) (fault : LineFault) → says_nothing old.tokens ≡ false → seen ≡ old →
+pub line_unnamed : (names : List (List ℕ)) (full : Bool) (old seen : Rest) (fault : LineFault Rule) → says_nothing old.tokens ≡ false → seen ≡ old →
     (starts_run (text_at seen) ≡ false) × (fault ≡ not_action (column_at seen)) → line_of names full old ≡ Err fault
 unfolding line_of word_next
 line_unnamed names full old seen fault some same is =
     let none : starts_run (text_at old) ≡ false = ap (λ (r : Rest). starts_run (text_at r)) (sym same) ∙ is.0 in
     let fault_is : not_action (column_at old) ≡ fault = ap (λ (r : Rest). not_action (column_at r)) (sym same) ∙ sym is.1 in
-    rw (some, none) (ap (λ (f : LineFault). let r : Result (Option Action) LineFault = Err f in r) fault_is)
+    rw (some, none) (ap (λ (f : LineFault Rule). let r : Result (Option Action) (LineFault Rule) = Err f in r) fault_is)
 
 pub line_named : (names : List (List ℕ)) (full : Bool) (old seen next : Rest) (text : List ℕ) (column : ℕ) → says_nothing old.tokens ≡ false → seen ≡ old →
     (starts_run (text_at seen) ≡ true) × (text ≡ text_at seen) × (column ≡ column_at seen) × (next ≡ behind seen) →

@@ -6,7 +6,8 @@ use Rattle.std.specs.Str.{bytes_eq}
 use Rattle.std.proofs.lemmas.Bool.{eqb-true, eqb-false}
 use Rattle.level_book.specs.Names.{AreNames}
 use Rattle.plan_types.specs.declared.action.Action.{Action}
-use Rattle.action_text.specs.declared.fault.LineFault.{LineFault}
+use Rattle.action_text.specs.declared.fault.Rule.{Rule}
+use Rattle.line_texts.specs.declared.fault.LineFault.{LineFault}
 use Rattle.action_text.specs.declared.words.Kind.{Kind}
 use Rattle.action_text.specs.declared.words.Kind.TheVariants as kind
 use Rattle.action_text.specs.Tokens.{starts_run, tokens}
@@ -51,7 +52,7 @@ end_ok rest xs e = elim (chosen (is_nothing rest.tokens) (Ok []) (Err (not_actio
 all_passed : (names : List (List ℕ)) (ws : List Want) (rest : Rest) (xs : List (List ℕ)) → AllReal ws → all_of names ws rest ≡ Ok xs → AllPass names ws xs × (texts_of rest.tokens ≡ xs)
 all_passed names [] rest xs real e =
     let none : xs ≡ [] = end_ok rest xs e in
-    let over : rest.tokens ≡ [] = ended rest rest.tokens refl (e ∙ ap (λ (ys : List (List ℕ)). done LineFault ys) none) in
+    let over : rest.tokens ≡ [] = ended rest rest.tokens refl (e ∙ ap (λ (ys : List (List ℕ)). done (LineFault Rule) ys) none) in
     (subst (λ (ys : List (List ℕ)). AllPass names [] ys) (sym none) tt, ap texts_of over ∙ sym none)
 all_passed names (w ∷ ws) rest xs real e =
     let a = bind_ok (next names w rest) (λ x. all_of names ws x.1 >>= λ ys. Ok (x.0 ∷ ys)) xs e in
@@ -64,27 +65,27 @@ all_passed names (w ∷ ws) rest xs real e =
     )
 
 -- a row isn't taken whole: a token doesn't fit or stands behind it, or the line ends too early
-pub data IsStuck (names : List (List ℕ)) (ws : List Want) (ts : List Token) (end : ℕ) (f : LineFault) : Type 0 where
+pub data IsStuck (names : List (List ℕ)) (ws : List Want) (ts : List Token) (end : ℕ) (f : LineFault Rule) : Type 0 where
   at_token : (before : List Token) (t : Token) (after : List Token) (next : Option Want) → ts ≡ before ++ t ∷ after → FitFront names before ws next →
       ((other : Option Want) → FitFront names (before ++ t ∷ []) ws other → ⊥) → number_of_rule f.rule ≡ rule_at next t.text → f.column ≡ t.column → IsStuck names ws ts end f
   at_end : (w : Want) → FitFront names ts ws (Some w) → number_of_rule f.rule ≡ 1 → f.column ≡ end → IsStuck names ws ts end f
 
-left_over : (names : List (List ℕ)) (rest : Rest) (f : LineFault) (ts : List Token) → rest.tokens ≡ ts → end_next rest ≡ Err f → IsStuck names [] ts rest.end f
+left_over : (names : List (List ℕ)) (rest : Rest) (f : LineFault Rule) (ts : List Token) → rest.tokens ≡ ts → end_next rest ≡ Err f → IsStuck names [] ts rest.end f
 unfolding end_next column_at
 left_over names rest f [] is e = absurd (not_both [] f (rw (ap is_nothing is) at e))
 left_over names rest f (t ∷ ts) is e =
     let some : is_nothing rest.tokens ≡ false = ap is_nothing is in
     let fault : not_action (column_at rest) ≡ f = err_is (List (List ℕ)) _ f (rw some at e) in
     let column : column_at rest ≡ t.column = ap (λ (xs : List Token). column_in xs rest.end) is in
-    IsStuck.at_token [] t ts None refl refl (λ other fit. fit) (ap (λ (g : LineFault). number_of_rule g.rule) (sym fault)) (ap (λ (g : LineFault). g.column) (sym fault) ∙ column)
+    IsStuck.at_token [] t ts None refl refl (λ other fit. fit) (ap (λ (g : LineFault Rule). number_of_rule g.rule) (sym fault)) (ap (λ (g : LineFault Rule). g.column) (sym fault) ∙ column)
 
-longer_stuck : (names : List (List ℕ)) (w : Want) (ws : List Want) (t : Token) (ts : List Token) (end : ℕ) (f : LineFault) → TakesToken names w t.text →
+longer_stuck : (names : List (List ℕ)) (w : Want) (ws : List Want) (t : Token) (ts : List Token) (end : ℕ) (f : LineFault Rule) → TakesToken names w t.text →
     IsStuck names ws ts end f → IsStuck names (w ∷ ws) (t ∷ ts) end f
 longer_stuck names w ws t ts end f fit (IsStuck.at_token before u after next parts front stops rule column) =
     IsStuck.at_token (t ∷ before) u after next (ap (λ (xs : List Token). t ∷ xs) parts) (fit, front) (λ other whole. stops other whole.1) rule column
 longer_stuck names w ws t ts end f fit (IsStuck.at_end v front rule column) = IsStuck.at_end v (fit, front) rule column
 
-stuck : (names : List (List ℕ)) (ws : List Want) (rest : Rest) (f : LineFault) → AreNames names → AllReal ws → all_of names ws rest ≡ Err f → IsStuck names ws rest.tokens rest.end f
+stuck : (names : List (List ℕ)) (ws : List Want) (rest : Rest) (f : LineFault Rule) → AreNames names → AllReal ws → all_of names ws rest ≡ Err f → IsStuck names ws rest.tokens rest.end f
 stuck names [] rest f are real e = left_over names rest f rest.tokens refl e
 stuck names (w ∷ ws) rest f are real e = elim (bind_err (next names w rest) (λ x. all_of names ws x.1 >>= λ ys. Ok (x.0 ∷ ys)) f e) [
   | inl first ↦ elim (next_err names w rest f are first) [
@@ -235,7 +236,7 @@ pub record IsReadLine (names : List (List ℕ)) (count : ℕ) (line : List ℕ) 
   pub some : (a : Action) → found ≡ Some a → Says names (texts line) a
 
 -- a line's fault, where so many actions were read
-abbrev pub IsLineFault : List (List ℕ) → ℕ → List ℕ → LineFault → Type 0
+abbrev pub IsLineFault : List (List ℕ) → ℕ → List ℕ → LineFault Rule → Type 0
 IsLineFault names done line f = (IsPassed line → ⊥) × FaultIn names done line (number_of_rule f.rule) f.column
 
 not_full : (names : List (List ℕ)) (count : ℕ) (ts : List Token) → eqb count 16777216 ≡ false → (c : ℕ) → IsTooMany names count ts c → ⊥
@@ -273,7 +274,7 @@ too_many names count line t ts k parts named full =
     }) refl
 
 -- a row that isn't taken whole
-stuck_line : (names : List (List ℕ)) (count : ℕ) (line : List ℕ) (t : Token) (ts : List Token) (k : Kind) (f : LineFault) → tokens 1 line ≡ t ∷ ts → kind_of t.text ≡ Some k → eqb count 16777216 ≡ false →
+stuck_line : (names : List (List ℕ)) (count : ℕ) (line : List ℕ) (t : Token) (ts : List Token) (k : Kind) (f : LineFault Rule) → tokens 1 line ≡ t ∷ ts → kind_of t.text ≡ Some k → eqb count 16777216 ≡ false →
     IsStuck names (wants_of k) ts (length line + 1) f → FaultIn names count line (number_of_rule f.rule) f.column
 stuck_line names count line t ts k f parts named room (IsStuck.at_token before u after next split front stops rule column) =
     FaultIn.unexpected (not_full names count (tokens 1 line) room) (record {
@@ -310,12 +311,12 @@ no_profile names count line t ts k xs are parts named room pass is none =
 -- ---- what was read of a line
 
 -- what an answer says of a line: its action, or its fault
-abbrev pub IsAnswer : List (List ℕ) → ℕ → List ℕ → Result (Option Action) LineFault → Type 0
+abbrev pub IsAnswer : List (List ℕ) → ℕ → List ℕ → Result (Option Action) (LineFault Rule) → Type 0
 IsAnswer names count line (Ok found) = IsReadLine names count line found
 IsAnswer names count line (Err f) = IsLineFault names count line f
 
-answers : (names : List (List ℕ)) (count : ℕ) (line : List ℕ) (r s : Result (Option Action) LineFault) → r ≡ s → IsAnswer names count line s → IsAnswer names count line r
-answers names count line r s same is = subst (λ (x : Result (Option Action) LineFault). IsAnswer names count line x) (sym same) is
+answers : (names : List (List ℕ)) (count : ℕ) (line : List ℕ) (r s : Result (Option Action) (LineFault Rule)) → r ≡ s → IsAnswer names count line s → IsAnswer names count line r
+answers names count line r s same is = subst (λ (x : Result (Option Action) (LineFault Rule)). IsAnswer names count line x) (sym same) is
 
 passed_line : (names : List (List ℕ)) (count : ℕ) (line : List ℕ) (found : Option Action) → found ≡ None → IsPassed line → IsReadLine names count line found
 passed_line names count line found none passed = record { none = λ _. passed; room = λ some. absurd (some none); some = λ a is. absurd (cc (none, is)) }
@@ -341,7 +342,7 @@ unnamed text other (Some k) e = absurd (cc (ap starts_run (kind_name text k e), 
 
 -- the arguments of a kind were read, or aren't whole
 arguments_answer : (names : List (List ℕ)) (count : ℕ) (line : List ℕ) (t : Token) (ts : List Token) (k : Kind) (rest : Rest) → AreNames names → IsSome line t ts → kind_of t.text ≡ Some k →
-    eqb count 16777216 ≡ false → rest.tokens ≡ ts → rest.end ≡ length line + 1 → (read : Result (List (List ℕ)) LineFault) → all_of names (wants_of k) rest ≡ read →
+    eqb count 16777216 ≡ false → rest.tokens ≡ ts → rest.end ≡ length line + 1 → (read : Result (List (List ℕ)) (LineFault Rule)) → all_of names (wants_of k) rest ≡ read →
     IsAnswer names count line ((read >>= λ xs. Ok (said names k xs)) >>= profiled t.column)
 arguments_answer names count line t ts k rest are is named room tokens_are end_is (Err f) e =
     let whole = stuck names (wants_of k) rest f are (kind_real k) e in

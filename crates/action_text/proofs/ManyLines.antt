@@ -2,7 +2,8 @@
 use Rattle.std.proofs.Common.{◌≡◌, ℕ, suc, ◌+◌, Bool, true, false, eqb, List, [], ◌∷◌, ◌++◌, length, Option, Result, Ok, Err, refl, sym, ap, ◌∙◌}
 use Rattle.std.specs.Option.{option_to_list}
 use Rattle.plan_types.specs.declared.action.Action.{Action}
-use Rattle.action_text.specs.declared.fault.LineFault.{LineFault}
+use Rattle.action_text.specs.declared.fault.Rule.{Rule}
+use Rattle.line_texts.specs.declared.fault.LineFault.{LineFault}
 use Rattle.line_texts.specs.declared.fault.Fault.{Fault}
 use Rattle.line_texts.specs.Lines.{lines}
 use Rattle.action_text.specs.CursorState.{Rest}
@@ -11,10 +12,10 @@ use Rattle.line_texts.specs.Parsers.{◌>>=◌}
 use Rattle.action_text.proofs.NextToken.{lines_are}
 
 -- how a line goes on that was read, or that has a fault
-abbrev go_on : List (List ℕ) → List Action → ℕ → List (List ℕ) → Result (Option Action) LineFault → Result (List Action) Fault
+abbrev go_on : List (List ℕ) → List Action → ℕ → List (List ℕ) → Result (Option Action) (LineFault Rule) → Result (List Action) Fault
 go_on names list n later read = in_line n read >>= λ found. lines_of names (list ++ option_to_list found) (n + 1) later
 
-pub here_err : (names : List (List ℕ)) (list : List Action) (n : ℕ) (rest : Rest) (full : Bool) (fault : LineFault) → full ≡ eqb (length list) 16777216 →
+pub here_err : (names : List (List ℕ)) (list : List Action) (n : ℕ) (rest : Rest) (full : Bool) (fault : LineFault Rule) → full ≡ eqb (length list) 16777216 →
     line_of names full rest ≡ Err fault → here_of names list n rest ≡ Err (fault_at n fault)
 unfolding here_of
 here_err names list n rest full fault is read = ap (λ (b : Bool). go_on names list n rest.later (line_of names b rest)) (sym is) ∙ ap (go_on names list n rest.later) read

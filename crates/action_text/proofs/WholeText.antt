@@ -6,7 +6,8 @@ use Rattle.std.proofs.lemmas.List.{append-nil}
 use Rattle.std.specs.Global.{Vec}
 use Rattle.level_book.specs.Names.{AreNames}
 use Rattle.plan_types.specs.declared.action.Action.{Action}
-use Rattle.action_text.specs.declared.fault.LineFault.{LineFault}
+use Rattle.action_text.specs.declared.fault.Rule.{Rule}
+use Rattle.line_texts.specs.declared.fault.LineFault.{LineFault}
 use Rattle.line_texts.specs.declared.fault.Fault.{Fault}
 use Rattle.line_texts.specs.declared.fault.Fault.TheVariants.{At, Memory}
 use Rattle.action_text.specs.Meaning.{Says, IsPassed}
@@ -130,7 +131,7 @@ record IsReadUpTo (names : List (List ℕ)) (ls : List (List ℕ)) (list : List 
   more : List Action
   says : LinesSay names before more
   few : length list ≤ 16777216 → length (list ++ more) ≤ 16777216
-  fault : LineFault
+  fault : LineFault Rule
   is : IsLineFault names (length (list ++ more)) here fault
   answer : e ≡ fault_at (n + length before) fault
 
@@ -186,7 +187,7 @@ one_more names line ls list n (Some a) (Err e) is read =
       answer = read.answer ∙ ap (λ (k : ℕ). fault_at k read.fault) (omega arith);
     }
 
-first_fault_here : (names : List (List ℕ)) (line : List ℕ) (ls : List (List ℕ)) (list : List Action) (n : ℕ) (f : LineFault) → IsLineFault names (length list) line f → IsReadUpTo names (line ∷ ls) list n (fault_at n f)
+first_fault_here : (names : List (List ℕ)) (line : List ℕ) (ls : List (List ℕ)) (list : List Action) (n : ℕ) (f : LineFault Rule) → IsLineFault names (length list) line f → IsReadUpTo names (line ∷ ls) list n (fault_at n f)
 first_fault_here names line ls list n f is = record {
   before = [];
   here = line;
@@ -205,7 +206,7 @@ unfolding lines_of
 are_read names [] list n are = record { more = []; parts = sym (append-nil list); says = tt; few = λ few. few }
 are_read names (line ∷ ls) list n are = by_line (line_of names (eqb (length list) 16777216) (whole_line line ls)) refl (line_answer names (length list) line ls are) (λ found. are_read names ls (list ++ option_to_list found) (n + 1) are)
   where
-    by_line : (r : Result (Option Action) LineFault) → line_of names (eqb (length list) 16777216) (whole_line line ls) ≡ r → IsAnswer names (length list) line r →
+    by_line : (r : Result (Option Action) (LineFault Rule)) → line_of names (eqb (length list) 16777216) (whole_line line ls) ≡ r → IsAnswer names (length list) line r →
         ((found : Option Action) → AreRead names ls (list ++ option_to_list found) (n + 1) (lines_of names (list ++ option_to_list found) (n + 1) ls)) →
         AreRead names (line ∷ ls) list n (in_line n r >>= λ found. lines_of names (list ++ option_to_list found) (n + 1) ls)
     by_line (Ok found) e answer others = one_more names line ls list n found _ answer (others found)

@@ -9,3 +9,4 @@ pub mod CursorState
 pub mod Bytes
 pub mod Parser
 pub mod CanonicalPrefix
+pub mod Prelude

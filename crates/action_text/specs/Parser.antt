@@ -12,7 +12,7 @@ use Rattle.plan_types.specs.declared.action.Action.{Action}
 use Rattle.plan_types.specs.declared.action.Action.TheVariants.{Forward, Reverse, Copy, Move, EndForward, EndReverse}
 use Rattle.action_text.specs.declared.fault.Rule.{Rule}
 use Rattle.action_text.specs.declared.fault.Rule.TheVariants as rule
-use Rattle.action_text.specs.declared.fault.LineFault.{LineFault}
+use Rattle.line_texts.specs.declared.fault.LineFault.{LineFault}
 use Rattle.line_texts.specs.declared.fault.Fault.{Fault}
 use Rattle.line_texts.specs.declared.fault.Fault.TheVariants.{At}
 use Rattle.action_text.specs.declared.words.Place.{Place}
@@ -103,11 +103,11 @@ abbrev pub TakesWord : Bool → List ℕ → Rest → Rest → Type 0
 TakesWord true word old new = (bytes_eq (text_at old) word ≡ true) × (starts_run (text_at old) ≡ true) × (new ≡ behind old)
 TakesWord false word old new = (bytes_eq (text_at old) word ≡ false) × (new ≡ old)
 
-abbrev pub not_action : ℕ → LineFault
+abbrev pub not_action : ℕ → LineFault Rule
 not_action column = record { rule = rule.NotAction; column = column }
 
 -- the next token, if it passes the test, and otherwise the fault at its place
-abbrev pub take_if : (List ℕ → Bool) → (List ℕ → Rule) → Rest → Result (List ℕ × Rest) LineFault
+abbrev pub take_if : (List ℕ → Bool) → (List ℕ → Rule) → Rest → Result (List ℕ × Rest) (LineFault Rule)
 take_if test rule rest = if test (text_at rest) then Ok (text_at rest, behind rest) else Err (record { rule = rule (text_at rest); column = column_at rest })
 
 abbrev pub number_rule : List ℕ → Rule
@@ -116,28 +116,28 @@ number_rule text = if starts_with_digit text then rule.Number else rule.NotActio
 abbrev pub level_rule : List ℕ → Rule
 level_rule text = if starts_run text then rule.Level else rule.NotAction
 
-unfoldable pub mark_next : List ℕ → Rest → Result (List ℕ × Rest) LineFault
+unfoldable pub mark_next : List ℕ → Rest → Result (List ℕ × Rest) (LineFault Rule)
 mark_next wanted = take_if (λ text. bytes_eq text wanted) (λ _. rule.NotAction)
 
-unfoldable pub word_next : Rest → Result (List ℕ × Rest) LineFault
+unfoldable pub word_next : Rest → Result (List ℕ × Rest) (LineFault Rule)
 word_next = take_if starts_run (λ _. rule.NotAction)
 
-unfoldable pub number_next : Rest → Result (List ℕ × Rest) LineFault
+unfoldable pub number_next : Rest → Result (List ℕ × Rest) (LineFault Rule)
 number_next = take_if (λ text. starts_run text && is_some (number_of text)) number_rule
 
-unfoldable pub truth_next : Rest → Result (List ℕ × Rest) LineFault
+unfoldable pub truth_next : Rest → Result (List ℕ × Rest) (LineFault Rule)
 truth_next = take_if (λ text. starts_run text && is_some (truth_of text)) (λ _. rule.NotAction)
 
-unfoldable pub level_next : List (List ℕ) → Rest → Result (List ℕ × Rest) LineFault
+unfoldable pub level_next : List (List ℕ) → Rest → Result (List ℕ × Rest) (LineFault Rule)
 level_next names = take_if (λ text. starts_run text && is_some (level_of names text)) level_rule
 
-unfoldable pub target_next : List (List ℕ) → Rest → Result (List ℕ × Rest) LineFault
+unfoldable pub target_next : List (List ℕ) → Rest → Result (List ℕ × Rest) (LineFault Rule)
 target_next names = take_if (λ text. starts_run text && is_some (target_of names text)) level_rule
 
-unfoldable pub place_next : List (List ℕ) → Rest → Result (List ℕ × Rest) LineFault
+unfoldable pub place_next : List (List ℕ) → Rest → Result (List ℕ × Rest) (LineFault Rule)
 place_next names = take_if (λ text. starts_run text && is_some (place_of names text)) level_rule
 
-abbrev pub next : List (List ℕ) → Want → Rest → Result (List ℕ × Rest) LineFault
+abbrev pub next : List (List ℕ) → Want → Rest → Result (List ℕ × Rest) (LineFault Rule)
 next names (exactly wanted) rest = mark_next wanted rest
 next names number rest = number_next rest
 next names truth rest = truth_next rest
@@ -150,11 +150,11 @@ abbrev pub is_nothing : List Token → Bool
 is_nothing [] = true
 is_nothing (t ∷ ts) = false
 
-unfoldable pub end_next : Rest → Result (List (List ℕ)) LineFault
+unfoldable pub end_next : Rest → Result (List (List ℕ)) (LineFault Rule)
 end_next rest = if is_nothing rest.tokens then Ok [] else Err (not_action (column_at rest))
 
 -- texts that fit these wants, and nothing after them
-abbrev pub all_of : List (List ℕ) → List Want → Rest → Result (List (List ℕ)) LineFault
+abbrev pub all_of : List (List ℕ) → List Want → Rest → Result (List (List ℕ)) (LineFault Rule)
 all_of names [] rest = end_next rest
 all_of names (w ∷ ws) rest = next names w rest >>= λ x. all_of names ws x.1 >>= λ xs. Ok (x.0 ∷ xs)
 
@@ -205,16 +205,16 @@ said names kind.EndForward xs = Some EndForward
 said names kind.EndReverse xs = Some EndReverse
 
 -- the arguments of an action, and what they say
-unfoldable pub arguments_of : List (List ℕ) → Kind → Rest → Result (Option Action) LineFault
+unfoldable pub arguments_of : List (List ℕ) → Kind → Rest → Result (Option Action) (LineFault Rule)
 arguments_of names k rest = all_of names (wants_of k) rest >>= λ xs. Ok (said names k xs)
 
 -- arguments that don't fit together are a fault at the name
-abbrev pub profiled : ℕ → Option Action → Result (Option Action) LineFault
+abbrev pub profiled : ℕ → Option Action → Result (Option Action) (LineFault Rule)
 profiled column None = Err (record { rule = rule.Profile; column = column })
 profiled column (Some a) = Ok (Some a)
 
 -- the action of this kind, whose name is in this column, after so many actions
-abbrev pub action_of : List (List ℕ) → Bool → ℕ → Option Kind → Rest → Result (Option Action) LineFault
+abbrev pub action_of : List (List ℕ) → Bool → ℕ → Option Kind → Rest → Result (Option Action) (LineFault Rule)
 action_of names full column None rest = Err (record { rule = rule.NotAction; column = column })
 action_of names full column (Some k) rest =
     if full then Err (record { rule = rule.TooMany; column = column }) else (arguments_of names k rest >>= profiled column)
@@ -225,7 +225,7 @@ says_nothing [] = true
 says_nothing (t ∷ ts) = bytes_eq t.text (codes "#")
 
 -- the action of a line, or none
-unfoldable pub line_of : List (List ℕ) → Bool → Rest → Result (Option Action) LineFault
+unfoldable pub line_of : List (List ℕ) → Bool → Rest → Result (Option Action) (LineFault Rule)
 line_of names full rest =
     if says_nothing rest.tokens then Ok None
     else (word_next rest >>= λ x. action_of names full (column_at rest) (kind_of x.0) x.1)
@@ -240,10 +240,10 @@ number_of_rule rule.Profile = 4
 number_of_rule rule.TooMany = 5
 
 -- a fault of a line with this number
-abbrev pub fault_at : ℕ → LineFault → Fault
+abbrev pub fault_at : ℕ → LineFault Rule → Fault
 fault_at line fault = At (number_of_rule fault.rule) line fault.column
 
-abbrev pub in_line : {A : Type 0} → ℕ → Result A LineFault → Result A Fault
+abbrev pub in_line : {A : Type 0} → ℕ → Result A (LineFault Rule) → Result A Fault
 in_line line (Ok x) = Ok x
 in_line line (Err fault) = Err (fault_at line fault)
 

@@ -2,7 +2,7 @@
 // spelled in another way. Then the tokens decide.
 ghost use Rattle.std.specs.Prelude.{◌≡◌, ◌≤◌, List, ℕ, ◌++◌, codes, IfSome};
 ghost use Rattle.plan_types.specs.declared.limits.TheConstants.{MOST_STEPS};
-ghost use Rattle.level_book.specs.BookCosts.{names_of};
+ghost use Rattle.level_book.specs.Prelude.{names_of};
 ghost use Rattle.action_text.specs.CanonicalPrefix.{IsLevelAt, IsDestAt, IsKeepAt, IsImageAt, IsActionAt};
 
 use crate::cursor::{behind_front, starts_run};

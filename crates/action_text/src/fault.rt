@@ -1,42 +1,23 @@
-// A fault within a line of a schedule.
-ghost use Rattle.std.specs.Prelude.{◌≡◌};
-ghost use Rattle.action_text.specs.Parser.{fault_at};
+// The rules of a line of a schedule.
 
-use line_texts::Fault;
+use line_texts::Rules;
 
-// The rules of a line, by their names.
+// By their numbers.
 #[derive(Clone, Copy)]
 pub(crate) enum Rule {
-    NotAction,
+    NotAction = 1,
     Number,
     Level,
     Profile,
     TooMany,
 }
 
-// A fault within a line.
-#[derive(Clone, Copy)]
-pub(crate) struct LineFault {
-    pub rule: Rule,
-    pub column: u32,
-}
+impl Rules for Rule {
+    ghost use Rattle.action_text.specs.Parser.{number_of_rule};
 
-impl LineFault {
-    // A fault of a line, as one of the text whose line has this number.
-    pub(crate) fn at(self, line: u32) -> Fault
-        ensures { result ≡ fault_at line self }
-    {
-        let rule = match self.rule {
-            Rule::NotAction => 1,
-            Rule::Number => 2,
-            Rule::Level => 3,
-            Rule::Profile => 4,
-            Rule::TooMany => 5,
-        };
-        Fault::At {
-            rule,
-            line,
-            column: self.column,
-        }
+    ghost number_of = { number_of_rule };
+
+    fn number(self) -> u8 {
+        self as u8
     }
 }

@@ -1,19 +1,20 @@
 // The fields of an action. Each is the next token of its line, and returns a value.
 ghost use Rattle.std.specs.Prelude.{◌≡◌, ◌≤◌, Some, Ok, Err, MatchResult, IfOk, OnOk};
 ghost use Rattle.plan_types.specs.declared.limits.TheConstants.{MOST_STEPS};
-ghost use Rattle.level_book.specs.BookCosts.{names_of};
+ghost use Rattle.level_book.specs.Prelude.{names_of};
 ghost use Rattle.action_text.specs.Parser.{text_at, number_of, truth_of, level_of, target_of, place_of, number_next, truth_next, level_next, target_next, place_next, number_rule, not_action};
 
 use crate::cursor::{Cursor, Word};
-use crate::fault::{LineFault, Rule};
+use crate::fault::Rule;
 use crate::words::{Place, take_level, take_place, take_target, take_truth};
 use level_book::Book;
+use line_texts::LineFault;
 use plan_types::Dest;
 
 // Reads a number.
 #[tactic(auto, unfolding(crate::specs::Parser::number_next))]
 #[inline(always)]
-pub(crate) fn next_number(cursor: &mut Cursor) -> Result<u32, LineFault>
+pub(crate) fn next_number(cursor: &mut Cursor) -> Result<u32, LineFault<Rule>>
     ensures value { MatchResult result
         (λ x. (number_next cursor.old ≡ Ok (text_at cursor.old, cursor.new))
         × (number_of (text_at cursor.old) ≡ Some x))
@@ -30,7 +31,7 @@ pub(crate) fn next_number(cursor: &mut Cursor) -> Result<u32, LineFault>
 // Reads a truth value.
 #[tactic(auto, unfolding(crate::specs::Parser::truth_next))]
 #[inline(always)]
-pub(crate) fn next_truth(cursor: &mut Cursor) -> Result<bool, LineFault>
+pub(crate) fn next_truth(cursor: &mut Cursor) -> Result<bool, LineFault<Rule>>
     ensures value { MatchResult result
         (λ x. (truth_next cursor.old ≡ Ok (text_at cursor.old, cursor.new))
         × (truth_of (text_at cursor.old) ≡ Some x))
@@ -46,7 +47,7 @@ pub(crate) fn next_truth(cursor: &mut Cursor) -> Result<bool, LineFault>
 // Reads the name of a level.
 #[tactic(auto, unfolding(crate::specs::Parser::level_next))]
 #[inline(always)]
-pub(crate) fn next_level(cursor: &mut Cursor, book: &Book) -> Result<u8, LineFault>
+pub(crate) fn next_level(cursor: &mut Cursor, book: &Book) -> Result<u8, LineFault<Rule>>
     ensures value { MatchResult result
         (λ x. (level_next (names_of book.now) cursor.old ≡ Ok (text_at cursor.old, cursor.new))
         × (level_of (names_of book.now) (text_at cursor.old) ≡ Some x))
@@ -62,7 +63,7 @@ pub(crate) fn next_level(cursor: &mut Cursor, book: &Book) -> Result<u8, LineFau
 // Reads the name of a level or the work state.
 #[tactic(auto, unfolding(crate::specs::Parser::target_next))]
 #[inline(always)]
-pub(crate) fn next_target(cursor: &mut Cursor, book: &Book) -> Result<Dest, LineFault>
+pub(crate) fn next_target(cursor: &mut Cursor, book: &Book) -> Result<Dest, LineFault<Rule>>
     ensures value { MatchResult result
         (λ x. (target_next (names_of book.now) cursor.old ≡ Ok (text_at cursor.old, cursor.new))
         × (target_of (names_of book.now) (text_at cursor.old) ≡ Some x))
@@ -78,7 +79,7 @@ pub(crate) fn next_target(cursor: &mut Cursor, book: &Book) -> Result<Dest, Line
 // Reads the name of a level, the work state or none.
 #[tactic(auto, unfolding(crate::specs::Parser::place_next))]
 #[inline(always)]
-pub(crate) fn next_place(cursor: &mut Cursor, book: &Book) -> Result<Place, LineFault>
+pub(crate) fn next_place(cursor: &mut Cursor, book: &Book) -> Result<Place, LineFault<Rule>>
     ensures value { MatchResult result
         (λ x. (place_next (names_of book.now) cursor.old ≡ Ok (text_at cursor.old, cursor.new))
         × (place_of (names_of book.now) (text_at cursor.old) ≡ Some x))
@@ -92,7 +93,7 @@ pub(crate) fn next_place(cursor: &mut Cursor, book: &Book) -> Result<Place, Line
 }
 
 // The fault where a number is expected.
-fn number_fault(word: &Word) -> LineFault
+fn number_fault(word: &Word) -> LineFault<Rule>
     ensures { result ≡ record { rule = number_rule word.now.text.now; column = word.now.column } }
 {
     let is_digit = match word.text {
@@ -110,7 +111,7 @@ fn number_fault(word: &Word) -> LineFault
 }
 
 // The fault where a level is expected. A word is a run.
-fn level_fault(word: &Word) -> LineFault
+fn level_fault(word: &Word) -> LineFault<Rule>
     ensures { result ≡ record { rule = Rule.Level; column = word.now.column } }
 {
     LineFault {
@@ -120,7 +121,7 @@ fn level_fault(word: &Word) -> LineFault
 }
 
 // The fault where something else is expected.
-fn other_fault(word: &Word) -> LineFault
+fn other_fault(word: &Word) -> LineFault<Rule>
     ensures { result ≡ not_action word.now.column }
 {
     LineFault {

@@ -1,16 +1,17 @@
 // A line of a schedule, with a function for each kind of action.
 ghost use Rattle.std.specs.Prelude.{◌≡◌, ◌≤◌, [], OnOk};
 ghost use Rattle.plan_types.specs.declared.limits.TheConstants.{MOST_STEPS};
-ghost use Rattle.level_book.specs.BookCosts.{names_of};
+ghost use Rattle.line_texts.specs.Prelude.{Gives};
+ghost use Rattle.level_book.specs.Prelude.{names_of};
 ghost use Rattle.action_text.specs.declared.words.Kind.TheVariants as kinds;
 ghost use Rattle.action_text.specs.Parser.{arguments_of, forward_said, reverse_said, line_of};
-ghost use Rattle.line_texts.specs.Parsers.{Gives};
 
 use crate::cursor::Cursor;
-use crate::fault::{LineFault, Rule};
+use crate::fault::Rule;
 use crate::fields::{next_level, next_number, next_place, next_target, next_truth};
 use crate::words::{Kind, Place, take_kind};
 use level_book::Book;
+use line_texts::LineFault;
 use plan_types::{Action, Keep};
 
 // The action that the line means, or None where it means nothing. `full`: no more actions are allowed.
@@ -18,7 +19,7 @@ pub(crate) fn line(
     cursor: &mut Cursor,
     book: &Book,
     full: bool,
-) -> Result<Option<Action>, LineFault>
+) -> Result<Option<Action>, LineFault<Rule>>
     ensures value { Gives (λ found. found) result (line_of (names_of book.now) full cursor.old) }
     ensures later { OnOk result (cursor.new.later ≡ cursor.old.later) }
 {
@@ -33,7 +34,11 @@ pub(crate) fn line(
 // Reads a line by its tokens, in any spelling.
 #[inline(never)]
 #[tactic(auto, unfolding(crate::specs::Parser::line_of))]
-fn line_by_tokens(cursor: &mut Cursor, book: &Book, full: bool) -> Result<Option<Action>, LineFault>
+fn line_by_tokens(
+    cursor: &mut Cursor,
+    book: &Book,
+    full: bool,
+) -> Result<Option<Action>, LineFault<Rule>>
     ensures value { Gives (λ found. found) result (line_of (names_of book.now) full cursor.old) }
     ensures later { OnOk result (cursor.new.later ≡ cursor.old.later) }
 {
@@ -64,7 +69,11 @@ fn line_by_tokens(cursor: &mut Cursor, book: &Book, full: bool) -> Result<Option
 
 // The action of this kind in the rest of the line, or None if its arguments don't fit together.
 #[tactic(auto, unfolding(crate::specs::Parser::arguments_of))]
-fn arguments(kind: Kind, cursor: &mut Cursor, book: &Book) -> Result<Option<Action>, LineFault>
+fn arguments(
+    kind: Kind,
+    cursor: &mut Cursor,
+    book: &Book,
+) -> Result<Option<Action>, LineFault<Rule>>
     ensures value { Gives (λ found. found) result (arguments_of (names_of book.now) kind cursor.old) }
     ensures later { OnOk result (cursor.new.later ≡ cursor.old.later) }
 {
@@ -80,7 +89,7 @@ fn arguments(kind: Kind, cursor: &mut Cursor, book: &Book) -> Result<Option<Acti
 
 // The arguments of a Forward.
 #[tactic(auto, unfolding(crate::specs::Parser::arguments_of))]
-fn forward(cursor: &mut Cursor, book: &Book) -> Result<Option<Action>, LineFault>
+fn forward(cursor: &mut Cursor, book: &Book) -> Result<Option<Action>, LineFault<Rule>>
     ensures value { Gives (λ found. found) result (arguments_of (names_of book.now) kinds.Forward cursor.old) }
     ensures later { OnOk result (cursor.new.later ≡ cursor.old.later) }
 {
@@ -115,7 +124,7 @@ fn forward_said(from: u32, to: u32, state: bool, tape: bool, place: Place) -> Op
 
 // The arguments of a Reverse.
 #[tactic(auto, unfolding(crate::specs::Parser::arguments_of))]
-fn reverse(cursor: &mut Cursor) -> Result<Option<Action>, LineFault>
+fn reverse(cursor: &mut Cursor) -> Result<Option<Action>, LineFault<Rule>>
     ensures value { Gives (λ found. found) result (arguments_of [] kinds.Reverse cursor.old) }
     ensures later { OnOk result (cursor.new.later ≡ cursor.old.later) }
 {
@@ -144,7 +153,7 @@ fn reverse_said(from: u32, to: u32, is_true: bool) -> Option<Action>
 
 // The arguments of a Copy.
 #[tactic(auto, unfolding(crate::specs::Parser::arguments_of))]
-fn copy(cursor: &mut Cursor, book: &Book) -> Result<Option<Action>, LineFault>
+fn copy(cursor: &mut Cursor, book: &Book) -> Result<Option<Action>, LineFault<Rule>>
     ensures value { Gives (λ found. found) result (arguments_of (names_of book.now) kinds.Copy cursor.old) }
     ensures later { OnOk result (cursor.new.later ≡ cursor.old.later) }
 {
@@ -161,7 +170,7 @@ fn copy(cursor: &mut Cursor, book: &Book) -> Result<Option<Action>, LineFault>
 
 // The arguments of a Move.
 #[tactic(auto, unfolding(crate::specs::Parser::arguments_of))]
-fn move_(cursor: &mut Cursor, book: &Book) -> Result<Option<Action>, LineFault>
+fn move_(cursor: &mut Cursor, book: &Book) -> Result<Option<Action>, LineFault<Rule>>
     ensures value { Gives (λ found. found) result (arguments_of (names_of book.now) kinds.Move cursor.old) }
     ensures later { OnOk result (cursor.new.later ≡ cursor.old.later) }
 {
@@ -178,7 +187,7 @@ fn move_(cursor: &mut Cursor, book: &Book) -> Result<Option<Action>, LineFault>
 
 // The brackets of an EndForward.
 #[tactic(auto, unfolding(crate::specs::Parser::arguments_of))]
-fn end_forward(cursor: &mut Cursor) -> Result<Option<Action>, LineFault>
+fn end_forward(cursor: &mut Cursor) -> Result<Option<Action>, LineFault<Rule>>
     ensures value { Gives (λ found. found) result (arguments_of [] kinds.EndForward cursor.old) }
     ensures later { OnOk result (cursor.new.later ≡ cursor.old.later) }
 {
@@ -190,7 +199,7 @@ fn end_forward(cursor: &mut Cursor) -> Result<Option<Action>, LineFault>
 
 // The brackets of an EndReverse.
 #[tactic(auto, unfolding(crate::specs::Parser::arguments_of))]
-fn end_reverse(cursor: &mut Cursor) -> Result<Option<Action>, LineFault>
+fn end_reverse(cursor: &mut Cursor) -> Result<Option<Action>, LineFault<Rule>>
     ensures value { Gives (λ found. found) result (arguments_of [] kinds.EndReverse cursor.old) }
     ensures later { OnOk result (cursor.new.later ≡ cursor.old.later) }
 {

@@ -1,7 +1,7 @@
 // The numbers of a schedule, up to 1,000,000.
 ghost use Rattle.std.specs.Prelude.{◌≤◌, IfSome};
 ghost use Rattle.plan_types.specs.declared.limits.TheConstants.{MOST_STEPS};
-ghost use Rattle.line_texts.specs.Parsers.{GivesSome, number_at};
+ghost use Rattle.line_texts.specs.Prelude.{GivesSome, number_at};
 
 use plan_types::MOST_STEPS;
 

@@ -1,7 +1,7 @@
 // The canonical spelling of an action.
 ghost use Rattle.std.specs.Prelude.{◌≡◌, ◌≤◌, ◌+◌, ◌++◌, length, codes, decimal};
 ghost use Rattle.plan_types.specs.declared.limits.TheConstants.{MOST_STEPS};
-ghost use Rattle.level_book.specs.BookCosts.{names_of};
+ghost use Rattle.level_book.specs.Prelude.{names_of};
 ghost use Rattle.action_text.specs.Canonical.{canonical, HasSpelling, IsLevelOf, IsKeepOf, IsDestOf, one_number, name_of, keep_text, copy_text, dest_text};
 
 use level_book::Book;

@@ -2,12 +2,12 @@
 ghost use Rattle.std.specs.Prelude.{◌≡◌, ◌≢◌, ◌⊎◌, ◌<◌, ◌^◌, ◌++◌, List, length, MatchResult, IfOk, IfErr, OnOk};
 ghost use Rattle.std.specs.Option.{option_to_list};
 ghost use Rattle.plan_types.specs.declared.action.Action.{Action};
-ghost use Rattle.level_book.specs.BookCosts.{names_of};
 ghost use Rattle.line_texts.specs.declared.fault.Fault.{Fault};
+ghost use Rattle.line_texts.specs.Prelude.{GivesUnlessMemory};
+ghost use Rattle.level_book.specs.Prelude.{names_of};
 ghost use Rattle.action_text.specs.ScheduleText.{IsSchedule};
 ghost use Rattle.action_text.specs.Faults.{HasFirstFault};
 ghost use Rattle.action_text.specs.Parser.{reading};
-ghost use Rattle.line_texts.specs.Parsers.{GivesUnlessMemory};
 
 use crate::cursor::Cursor;
 use crate::line::line;

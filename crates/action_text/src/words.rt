@@ -1,5 +1,5 @@
 // The words of a line, and their meanings.
-ghost use Rattle.level_book.specs.BookCosts.{names_of};
+ghost use Rattle.level_book.specs.Prelude.{names_of};
 ghost use Rattle.action_text.specs.Parser.{text_at, truth_of, level_of, target_of, place_of, kind_of, Takes};
 
 use crate::cursor::Cursor;

@@ -3,3 +3,4 @@ pub mod TableTests
 pub mod Acceptance
 pub mod Verdicts
 pub mod Laws
+pub mod Prelude

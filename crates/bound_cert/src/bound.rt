@@ -1,7 +1,7 @@
 // The number of a certificate.
 ghost use Rattle.std.specs.Prelude.{◌≡◌, ◌≤◌, min};
 ghost use Rattle.plan_types.specs.declared.limits.TheConstants.{MOST_STEPS};
-ghost use Rattle.binomials.specs.Binomials.{beta_before};
+ghost use Rattle.binomials.specs.Prelude.{beta_before};
 ghost use Rattle.bound_cert.specs.Verdicts.{FindsNumber};
 
 use binomials::beta;

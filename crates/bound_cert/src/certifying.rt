@@ -1,23 +1,16 @@
 // The certificates of lists that are planned.
 ghost use Rattle.std.specs.Prelude.{◌≡◌, ◌≤◌, ◌+◌, ℕ, List};
-ghost use Rattle.plan_types.specs.declared.limits.TheConstants.{MOST_STEPS};
 ghost use Rattle.plan_types.specs.declared.action.Action.{Action};
-ghost use Rattle.level_book.specs.BookCosts.{BookCosts, IsWithinLimits, slots_of, total_room};
-ghost use Rattle.level_book.specs.Valid.{Valid};
-ghost use Rattle.level_book.specs.CostFold.{forward};
-ghost use Rattle.level_book.specs.UnderTable.{IsGreatest};
-ghost use Rattle.level_book.specs.DiskUnderTable.{IsGreatestDisk};
-ghost use Rattle.binomials.specs.Advances.{repeats, least_advances};
-ghost use Rattle.revolve_gen.specs.Plans.{HasPlan};
-ghost use Rattle.revolve_gen.specs.RevolveList.{revolve_list};
-ghost use Rattle.multistage_gen.specs.Plan.{IsPlaced};
-ghost use Rattle.multistage_gen.specs.MultistageList.{IsMultistageList};
-ghost use Rattle.cost_tables.specs.TableRows.{AreFor, TablesFit, FastestTablesFit, tables_in};
+ghost use Rattle.plan_types.specs.declared.limits.TheConstants.{MOST_STEPS};
+ghost use Rattle.level_book.specs.Prelude.{BookCosts, IsWithinLimits, slots_of, total_room, Valid, forward, IsGreatest, IsGreatestDisk};
+ghost use Rattle.binomials.specs.Prelude.{repeats, least_advances};
+ghost use Rattle.revolve_gen.specs.Prelude.{HasPlan, revolve_list};
+ghost use Rattle.multistage_gen.specs.Prelude.{IsPlaced, IsMultistageList};
+ghost use Rattle.cost_tables.specs.Prelude.{AreFor, TablesFit, FastestTablesFit, tables_in};
+ghost use Rattle.hrevolve_gen.specs.Prelude.{IsWritten};
+ghost use Rattle.disk_gen.specs.Prelude.{AreDiskFor, disk_tables_in, IsDiskWritten};
+ghost use Rattle.cert_text.specs.Prelude.{HasText};
 ghost use Rattle.hrevolve_gen.specs.Plans as nested;
-ghost use Rattle.hrevolve_gen.specs.HRevolveList.{IsWritten};
-ghost use Rattle.disk_gen.specs.DiskRows.{AreDiskFor, disk_tables_in};
-ghost use Rattle.disk_gen.specs.DiskRevolveList.{IsDiskWritten};
-ghost use Rattle.cert_text.specs.Meaning.{HasText};
 ghost use Rattle.bound_cert.specs.Acceptance.{IsAccepted, IsPlaces};
 ghost use Rattle.bound_cert.specs.Thresholds.{IsThresholdOf};
 

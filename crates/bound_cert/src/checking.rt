@@ -1,13 +1,9 @@
 // Whether a certificate is accepted for a list.
 ghost use Rattle.std.specs.Prelude.{◌≡◌, ◌≤◌, ◌↔◌, ℕ, List, length, IfOk};
-ghost use Rattle.plan_types.specs.declared.limits.TheConstants.{MOST_ACTIONS, MOST_STEPS};
 ghost use Rattle.plan_types.specs.declared.action.Action.{Action};
-ghost use Rattle.level_book.specs.BookCosts.{slots_of};
-ghost use Rattle.level_book.specs.Valid.{Valid};
-ghost use Rattle.level_book.specs.CostFold.{forward, cost};
-ghost use Rattle.level_book.specs.NestedClass.{Nested};
-ghost use Rattle.level_book.specs.DiskClass.{Disk};
-ghost use Rattle.revolve_gen.specs.Multistage.{IsMultistage};
+ghost use Rattle.plan_types.specs.declared.limits.TheConstants.{MOST_ACTIONS, MOST_STEPS};
+ghost use Rattle.level_book.specs.Prelude.{slots_of, Valid, forward, cost, Nested, Disk};
+ghost use Rattle.revolve_gen.specs.Prelude.{IsMultistage};
 ghost use Rattle.cert_text.specs.declared.certificate.Certificate.{Certificate};
 ghost use Rattle.bound_cert.specs.declared.verdict.Class.{Class};
 ghost use Rattle.bound_cert.specs.declared.verdict.Reason.{Reason};

@@ -1,7 +1,7 @@
 // Laws of certificates and of thresholds. Each function does nothing; its contract is the law.
 ghost use Rattle.std.specs.Prelude.{ℕ, List};
 ghost use Rattle.plan_types.specs.declared.action.Action.{Action};
-ghost use Rattle.level_book.specs.BookCosts.{BookCosts};
+ghost use Rattle.level_book.specs.Prelude.{BookCosts};
 ghost use Rattle.cert_text.specs.declared.certificate.Certificate.{Certificate};
 ghost use Rattle.bound_cert.specs.Laws.{AcceptedOrRefused, PlanHasThreshold};
 

@@ -1,12 +1,11 @@
 // Whether a threshold fits the places of a list.
 ghost use Rattle.std.specs.Prelude.{◌≡◌, ℕ, ◌<◌, ◌≤◌, ◌^◌, List, length, slice_index, IfOk};
-ghost use Rattle.plan_types.specs.declared.limits.TheConstants.{MOST_ACTIONS, MOST_STEPS};
 ghost use Rattle.plan_types.specs.declared.action.Action.{Action};
+ghost use Rattle.plan_types.specs.declared.limits.TheConstants.{MOST_ACTIONS, MOST_STEPS};
 ghost use Rattle.level_book.specs.declared.book.Level.{Level};
-ghost use Rattle.level_book.specs.BookCosts.{BookCosts, slots_of, room};
-ghost use Rattle.level_book.specs.Valid.{Valid};
-ghost use Rattle.revolve_gen.specs.Places.{places_on};
-ghost use Rattle.multistage_gen.specs.Threshold.{AreSavings};
+ghost use Rattle.level_book.specs.Prelude.{BookCosts, slots_of, room, Valid};
+ghost use Rattle.revolve_gen.specs.Prelude.{places_on};
+ghost use Rattle.multistage_gen.specs.Prelude.{AreSavings};
 ghost use Rattle.cert_text.specs.declared.certificate.Certificate.{Certificate};
 ghost use Rattle.bound_cert.specs.Thresholds.{AreOn, IsGreatestSlow};
 ghost use Rattle.bound_cert.specs.Verdicts.{IsVerdict, FindsOn, FindsMisfit};

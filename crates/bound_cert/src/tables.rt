@@ -1,13 +1,9 @@
 // Whether tables show that a list costs the least of its class.
 ghost use Rattle.std.specs.Prelude.{◌≡◌, ◌≤◌, ◌<◌, length, IfOk};
 ghost use Rattle.plan_types.specs.declared.limits.TheConstants.{MOST_ACTIONS, MOST_STEPS};
-ghost use Rattle.level_book.specs.BookCosts.{slots_of};
-ghost use Rattle.level_book.specs.Valid.{Valid};
-ghost use Rattle.level_book.specs.CostFold.{cost};
-ghost use Rattle.level_book.specs.UnderTable.{top_entry};
-ghost use Rattle.level_book.specs.DiskUnderTable.{disk_top_entry};
-ghost use Rattle.cost_tables.specs.TableRows.{AreFor, tables_in, value_of};
-ghost use Rattle.disk_gen.specs.DiskRows.{disk_tables_in};
+ghost use Rattle.level_book.specs.Prelude.{slots_of, Valid, cost, top_entry, disk_top_entry};
+ghost use Rattle.cost_tables.specs.Prelude.{AreFor, tables_in, value_of};
+ghost use Rattle.disk_gen.specs.Prelude.{disk_tables_in};
 ghost use Rattle.cert_text.specs.declared.certificate.Certificate.{Certificate};
 ghost use Rattle.bound_cert.specs.Verdicts.{IsVerdict, IsTopVerdict};
 

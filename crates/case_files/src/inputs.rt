@@ -26,7 +26,7 @@ struct Input {
 }
 
 /// The inputs of the file with this name, if it has any. It prints that there are none.
-pub fn read_inputs(rt: &HostRuntime, name: &str) -> io::Result<Option<Inputs>> {
+pub(crate) fn read_inputs(rt: &HostRuntime, name: &str) -> io::Result<Option<Inputs>> {
     let text = fs::read_to_string(rt, name)?;
     match inputs_of(rt.alloc(), text.as_str()) {
         Ok(inputs) => Ok(Some(inputs)),

@@ -1,32 +1,56 @@
 // Runs the case of each line.
 
 use crate::fault::CaseFault;
+use crate::inputs::{Inputs, read_inputs};
 use serde_json::Value;
 use std::alloc::Global;
+use std::process::ExitCode;
 use std::{fs, io};
 
-/// What runs a case.
+/// What came otherwise than a case says, if anything did.
+pub type Difference = Result<Option<String>, CaseFault>;
+
+/// What runs a case over inputs.
 pub trait Cases {
-    /// What came otherwise than a case says, if anything did.
-    fn difference(&self, alloc: Global, case: &Value) -> Result<Option<String>, CaseFault>;
+    fn difference(&self, alloc: Global, inputs: &Inputs, case: &Value) -> Difference;
 }
 
-/// Whether all cases of these files passed. It prints how many of each file did.
-pub fn run_files<C: Cases>(rt: &HostRuntime, cases: &C, names: &[String]) -> io::Result<bool> {
+/// Whether all cases passed. The first word names a file of inputs, each other one a file of cases. It prints how many
+/// of each file did.
+pub fn run_files<C: Cases>(rt: &HostRuntime, cases: &C, words: &[String]) -> io::Result<bool> {
+    let Some((name, files)) = words.split_first() else {
+        return Ok(false);
+    };
+    let Some(inputs) = read_inputs(rt, name.as_str())? else {
+        return Ok(false);
+    };
     let mut all = true;
-    for name in names {
-        all &= run_file(rt, cases, name.as_str())?;
+    for file in files {
+        all &= run_file(rt, cases, &inputs, file.as_str())?;
     }
     Ok(all)
 }
 
-fn run_file<C: Cases>(rt: &HostRuntime, cases: &C, name: &str) -> io::Result<bool> {
+/// The status of a program whose cases passed, or not.
+pub fn exit_code(passed: io::Result<bool>) -> ExitCode {
+    match passed {
+        Ok(true) => ExitCode::SUCCESS,
+        _ => ExitCode::FAILURE,
+    }
+}
+
+fn run_file<C: Cases>(
+    rt: &HostRuntime,
+    cases: &C,
+    inputs: &Inputs,
+    name: &str,
+) -> io::Result<bool> {
     let text = fs::read_to_string(rt, name)?;
     let mut passed = 0u64;
     let mut failed = 0u64;
     for (index, line) in text.as_str().lines().enumerate() {
         let number = (index as u64).saturating_add(1);
-        if run_line(rt, cases, name, number, line)? {
+        if run_line(rt, cases, inputs, name, number, line)? {
             passed = passed.saturating_add(1);
         } else {
             failed = failed.saturating_add(1);
@@ -40,6 +64,7 @@ fn run_file<C: Cases>(rt: &HostRuntime, cases: &C, name: &str) -> io::Result<boo
 fn run_line<C: Cases>(
     rt: &HostRuntime,
     cases: &C,
+    inputs: &Inputs,
     name: &str,
     number: u64,
     line: &str,
@@ -48,7 +73,7 @@ fn run_line<C: Cases>(
         println!(rt; "{name}:{number} is no JSON text")?;
         return Ok(false);
     };
-    match cases.difference(rt.alloc(), &case) {
+    match cases.difference(rt.alloc(), inputs, &case) {
         Ok(None) => return Ok(true),
         Ok(Some(difference)) => println!(rt; "{name}:{number} {difference}")?,
         Err(CaseFault::Form) => println!(rt; "{name}:{number} is no case")?,

@@ -9,7 +9,8 @@ use Rattle.cost_tables.specs.declared.cost.Cost.TheVariants.{Never}
 use Rattle.cost_tables.specs.TableRows.{value_of}
 use Rattle.cert_text.specs.MarkedLines.{CertificateLine}
 use Rattle.cert_text.specs.Words.{texts_of}
-use Rattle.cert_text.specs.declared.fault.LineFault.{LineFault}
+use Rattle.cert_text.specs.declared.fault.Rule.{Rule}
+use Rattle.line_texts.specs.declared.fault.LineFault.{LineFault}
 use Rattle.line_texts.specs.declared.fault.Fault.{Fault}
 use Rattle.line_texts.specs.declared.fault.Fault.TheVariants.{At, Memory}
 use Rattle.cert_text.specs.Meaning.{HasWord}
@@ -113,7 +114,7 @@ reads_then x y s t a b c first second = record {
 }
 
 -- all entries were read, by how the line went on
-pub entries_end : {T : Type 0} (answer : Result T LineFault) (i : ℕ) (row : List Cost) (n : ℕ) (a b : Left) → i ≡ n → length row ≡ n → ReadsEntries i row a b →
+pub entries_end : {T : Type 0} (answer : Result T (LineFault Rule)) (i : ℕ) (row : List Cost) (n : ℕ) (a b : Left) → i ≡ n → length row ≡ n → ReadsEntries i row a b →
     MatchResult answer (λ _. b.words ≡ []) (λ fault. IsWordFault [] b.words b.end (number_of_rule fault.rule) fault.column) →
     MatchResult answer (λ _. (texts a.words ≡ map cost_word row) × FitAll (replicate n an_entry) a.words × ((j : ℕ) → j < n → HasWord (value_of (get_or row j Never))))
     (λ fault. IsWordFault (replicate n an_entry) a.words a.end (number_of_rule fault.rule) fault.column)

@@ -9,3 +9,4 @@ pub mod Laws
 pub mod ReaderState
 pub mod Rows
 pub mod LineWrites
+pub mod Prelude

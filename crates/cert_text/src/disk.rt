@@ -1,8 +1,8 @@
 // Texts of disk tables.
 ghost use Rattle.std.specs.Prelude.{◌≡◌, ◌⊎◌, ◌++◌, length, map, MatchResult};
 ghost use Rattle.std.specs.List.{range_with_len, flat_map};
-ghost use Rattle.cost_tables.specs.TableRows.{FastestTablesFit};
 ghost use Rattle.line_texts.specs.declared.fault.Fault.{Fault};
+ghost use Rattle.cost_tables.specs.Prelude.{FastestTablesFit};
 ghost use Rattle.cert_text.specs.declared.kind.Kind.TheVariants as kind;
 ghost use Rattle.cert_text.specs.Words.{texts_of};
 ghost use Rattle.cert_text.specs.WordLines.{level_lines, column_lines};

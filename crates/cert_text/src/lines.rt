@@ -1,6 +1,6 @@
 // The certificate lines of a text.
 ghost use Rattle.std.specs.Prelude.{◌≡◌, ◌<◌, ◌≤◌, ◌+◌, ◌-◌, ◌^◌, ℕ, [], ◌∷◌, length, MatchResult};
-ghost use Rattle.line_texts.specs.Lines.{lines};
+ghost use Rattle.line_texts.specs.Prelude.{lines};
 ghost use Rattle.cert_text.specs.MarkedLines.{is_marked, marked, line_count};
 
 use line_texts::length_before;

@@ -1,8 +1,8 @@
 // Texts of tables over the levels of a book.
 ghost use Rattle.std.specs.Prelude.{◌≡◌, ◌⊎◌, ◌<◌, ◌≤◌, ◌+◌, ℕ, [], ◌∷◌, ◌++◌, length, map, codes, slice_index_or, MatchResult, IfOk};
 ghost use Rattle.std.specs.List.{range_with_len, flat_map};
-ghost use Rattle.cost_tables.specs.TableRows.{TablesFit, tables_in};
 ghost use Rattle.line_texts.specs.declared.fault.Fault.{Fault};
+ghost use Rattle.cost_tables.specs.Prelude.{TablesFit, tables_in};
 ghost use Rattle.cert_text.specs.declared.kind.Kind.TheVariants as kind;
 ghost use Rattle.cert_text.specs.Words.{texts_of};
 ghost use Rattle.cert_text.specs.WordLines.{row_lines, level_lines};
@@ -12,13 +12,13 @@ ghost use Rattle.cert_text.specs.Faults.{IsWordFault, IsLineFault};
 ghost use Rattle.cert_text.specs.ReaderState.{IsAt, IsAmong, number_of_rule, texts};
 ghost use Rattle.cert_text.specs.Rows.{Reads, KeepsFresh, KeepsHeld, KeepsLevels, wants_for};
 
-use crate::fault::LineFault;
+use crate::fault::Rule;
 use crate::reader::Reader;
 use crate::rows::{put_fresh, put_held, read_row};
 use crate::words::Words;
 use cost_tables::{Cost, Tables};
 use level_book::Book;
-use line_texts::Fault;
+use line_texts::{Fault, LineFault};
 use std::alloc::{AllocError, Global};
 
 // Reads the lines of tables after the line that names them.
@@ -72,7 +72,7 @@ pub(crate) fn read_end(reader: &mut Reader<'_>) -> Result<(), Fault>
 }
 
 // The word of that line.
-fn end_word(words: &mut Words<'_>) -> Result<(), LineFault>
+fn end_word(words: &mut Words<'_>) -> Result<(), LineFault<Rule>>
     ensures { MatchResult result
         (λ _. texts words.old.words ≡ codes "end" ∷ [])
         (λ fault. IsWordFault (this_word (codes "end") ∷ []) words.old.words words.old.end (number_of_rule fault.rule) fault.column) }

@@ -1,6 +1,6 @@
 // Words of a line, written some at a time.
 ghost use Rattle.std.specs.Prelude.{◌≡◌, ◌+◌, ◌*◌, ◌≤◌, [], ◌∷◌, ◌++◌, length, codes, decimal, OnOk, OnErr};
-ghost use Rattle.keepers.specs.LineWrites.{seen, AddsLines, StopsIn};
+ghost use Rattle.keepers.specs.Prelude.{seen, AddsLines, StopsIn};
 ghost use Rattle.cert_text.specs.Canonical.{pieces_from};
 ghost use Rattle.cert_text.specs.LineWrites.{Puts, StopsAt};
 

@@ -1,8 +1,6 @@
 // The canonical text of a certificate.
 ghost use Rattle.std.specs.Prelude.{◌≡◌, ◌++◌, length, OnOk, OnErr};
-ghost use Rattle.keepers.specs.Counts.{Rose, raised};
-ghost use Rattle.keepers.specs.Claims.{Tells, AddsPrefix};
-ghost use Rattle.keepers.specs.LineWrites.{seen, AddsLines, StopsIn};
+ghost use Rattle.keepers.specs.Prelude.{Rose, raised, Tells, AddsPrefix, seen, AddsLines, StopsIn};
 ghost use Rattle.cert_text.specs.Canonical.{pieces, canonical};
 
 use crate::certificate::Certificate;

@@ -1,7 +1,7 @@
 // The canonical text of disk tables.
 ghost use Rattle.std.specs.Prelude.{◌∷◌, [], codes, OnOk, OnErr};
-ghost use Rattle.disk_gen.specs.DiskRows.{disk_tables_in};
-ghost use Rattle.keepers.specs.LineWrites.{seen, AddsLines, StopsIn};
+ghost use Rattle.disk_gen.specs.Prelude.{disk_tables_in};
+ghost use Rattle.keepers.specs.Prelude.{seen, AddsLines, StopsIn};
 ghost use Rattle.cert_text.specs.declared.certificate.Certificate.TheVariants as certificate;
 ghost use Rattle.cert_text.specs.WordLines.{row_line};
 ghost use Rattle.cert_text.specs.Canonical.{pieces};

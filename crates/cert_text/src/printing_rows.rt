@@ -1,8 +1,8 @@
 // The canonical text of tables.
 ghost use Rattle.std.specs.Prelude.{◌+◌, ◌<◌, ◌≤◌, ◌∷◌, [], codes, decimal, length, slice_index_or, OnOk, OnErr};
 ghost use Rattle.std.specs.List.{range_with_len, flat_map};
-ghost use Rattle.cost_tables.specs.TableRows.{tables_in};
-ghost use Rattle.keepers.specs.LineWrites.{seen, AddsLines, StopsIn};
+ghost use Rattle.cost_tables.specs.Prelude.{tables_in};
+ghost use Rattle.keepers.specs.Prelude.{seen, AddsLines, StopsIn};
 ghost use Rattle.cert_text.specs.declared.certificate.Certificate.TheVariants as certificate;
 ghost use Rattle.cert_text.specs.WordLines.{row_line, row_lines, level_lines};
 ghost use Rattle.cert_text.specs.Canonical.{pieces};

@@ -1,10 +1,10 @@
 // Texts that are read as certificates.
 ghost use Rattle.std.specs.Prelude.{◌≡◌, ◌⊎◌, ◌<◌, ◌≤◌, ◌^◌, ℕ, [], ◌∷◌, length, decimal, MatchResult, IfOk, IfErr, Ok, Err};
 ghost use Rattle.plan_types.specs.declared.limits.TheConstants.{MOST_STEPS};
-ghost use Rattle.cert_text.specs.declared.reading.TheConstants.{MOST_REPEATS};
-ghost use Rattle.level_book.specs.BookCosts.{BookCosts};
-ghost use Rattle.cert_text.specs.declared.certificate.Certificate.{Certificate};
 ghost use Rattle.line_texts.specs.declared.fault.Fault.{Fault};
+ghost use Rattle.level_book.specs.Prelude.{BookCosts};
+ghost use Rattle.cert_text.specs.declared.reading.TheConstants.{MOST_REPEATS};
+ghost use Rattle.cert_text.specs.declared.certificate.Certificate.{Certificate};
 ghost use Rattle.cert_text.specs.Grammar.{first_wants};
 ghost use Rattle.cert_text.specs.Meaning.{IsCertificateText};
 ghost use Rattle.cert_text.specs.Words.{words_of, end_of};
@@ -13,7 +13,7 @@ ghost use Rattle.cert_text.specs.ReaderState.{IsAt, IsSizedFault, IsRestFault, S
 
 use crate::certificate::Certificate;
 use crate::disk::read_disk;
-use crate::fault::LineFault;
+use crate::fault::Rule;
 use crate::kind::Kind;
 use crate::lines::MarkedLine;
 use crate::nested::read_nested;
@@ -22,7 +22,7 @@ use crate::words::Words;
 use cost_tables::Tables;
 use disk_gen::DiskTables;
 use level_book::Book;
-use line_texts::Fault;
+use line_texts::{Fault, LineFault};
 use std::alloc::Global;
 
 /// The greatest number of repeats that a text may name.
@@ -101,7 +101,7 @@ fn revolve(
 }
 
 // The repeats and the value, with no word after them.
-fn repeats(words: &mut Words<'_>) -> Result<(u64, u64), LineFault>
+fn repeats(words: &mut Words<'_>) -> Result<(u64, u64), LineFault<Rule>>
     ensures { MatchResult result
         (λ p. (p.0 ≤ MOST_REPEATS) × (p.1 < 2 ^ 64) × (texts words.old.words ≡ decimal p.0 ∷ decimal p.1 ∷ []))
         (λ fault. IsWordFault (first_wants Kind.Revolve) words.old.words words.old.end (number_of_rule fault.rule) fault.column) }
@@ -128,7 +128,7 @@ fn places(number: u32, words: &mut Words<'_>, reader: &mut Reader<'_>) -> Result
 }
 
 // The threshold, with no word after it.
-fn threshold(words: &mut Words<'_>) -> Result<u64, LineFault>
+fn threshold(words: &mut Words<'_>) -> Result<u64, LineFault<Rule>>
     ensures { MatchResult result
         (λ n. (n < 2 ^ 64) × (texts words.old.words ≡ decimal n ∷ []))
         (λ fault. IsWordFault (first_wants Kind.Places) words.old.words words.old.end (number_of_rule fault.rule) fault.column) }

@@ -1,18 +1,18 @@
 // Lines of entries of tables.
 ghost use Rattle.std.specs.Prelude.{◌≡◌, ◌<◌, ◌≤◌, ◌+◌, ℕ, [], ◌∷◌, ◌++◌, length, map, replicate, decimal, slice_index_or, MatchResult};
 ghost use Rattle.cost_tables.specs.declared.cost.Cost.{Cost};
-ghost use Rattle.cost_tables.specs.TableRows.{tables_in, value_of};
+ghost use Rattle.cost_tables.specs.Prelude.{tables_in, value_of};
 ghost use Rattle.cert_text.specs.Meaning.{HasWord};
 ghost use Rattle.cert_text.specs.Grammar.{an_entry, row_wants};
 ghost use Rattle.cert_text.specs.Faults.{FitAll, IsWordFault};
 ghost use Rattle.cert_text.specs.ReaderState.{IsAmong, number_of_rule, texts};
 ghost use Rattle.cert_text.specs.Rows.{Reads, KeepsFresh, KeepsHeld, cost_word};
 
-use crate::fault::LineFault;
+use crate::fault::Rule;
 use crate::reader::Reader;
 use crate::words::Words;
 use cost_tables::{Cost, Tables};
-use line_texts::Fault;
+use line_texts::{Fault, LineFault};
 
 // Reads a line of level k and m free slots into a row.
 pub(crate) fn read_row(
@@ -43,7 +43,7 @@ fn row_words(
     m: u32,
     words: &mut Words<'_>,
     row: &mut [Cost],
-) -> Result<(), LineFault>
+) -> Result<(), LineFault<Rule>>
     ensures { MatchResult result
         (λ _. (texts words.old.words ≡ (letter.now ∷ decimal k ∷ decimal m ∷ []) ++ map cost_word row.new)
         × FitAll (row_wants (letter.now ∷ decimal k ∷ decimal m ∷ []) (length row.old)) words.old.words × ((i : ℕ) → i < length row.old →
@@ -58,7 +58,7 @@ fn row_words(
 }
 
 // As many entries as a row has, and no word after them.
-fn entries(words: &mut Words<'_>, row: &mut [Cost]) -> Result<(), LineFault>
+fn entries(words: &mut Words<'_>, row: &mut [Cost]) -> Result<(), LineFault<Rule>>
     ensures { MatchResult result
         (λ _. (texts words.old.words ≡ map cost_word row.new) × FitAll (replicate (length row.old) an_entry) words.old.words × ((i : ℕ) →
         i < length row.old → HasWord (value_of (slice_index_or row.new i Cost.Never))))
@@ -90,7 +90,11 @@ pub(crate) fn read_column(
 }
 
 // The words of such a line.
-fn column_words(letters: &[u8], words: &mut Words<'_>, row: &mut [Cost]) -> Result<(), LineFault>
+fn column_words(
+    letters: &[u8],
+    words: &mut Words<'_>,
+    row: &mut [Cost],
+) -> Result<(), LineFault<Rule>>
     ensures { MatchResult result
         (λ _. (texts words.old.words ≡ (letters.now ∷ []) ++ map cost_word row.new)
         × FitAll (row_wants (letters.now ∷ []) (length row.old)) words.old.words × ((i : ℕ) → i < length row.old →

@@ -1,17 +1,17 @@
 // The words of a line, one after the other.
 ghost use Rattle.std.specs.Prelude.{◌≡◌, ◌<◌, ◌≤◌, ◌+◌, ◌^◌, List, [], ◌∷◌, length, decimal, MatchOption, MatchResult};
+ghost use Rattle.cost_tables.specs.Prelude.{value_of};
 ghost use Rattle.cert_text.specs.declared.kind.Kind.{Kind};
 ghost use Rattle.cert_text.specs.Grammar.{Want, this_word, number_to, an_entry, TakesWord, kind_word};
-ghost use Rattle.cost_tables.specs.TableRows.{value_of};
 ghost use Rattle.cert_text.specs.WordLines.{entry_word};
 ghost use Rattle.cert_text.specs.Meaning.{HasWord};
 ghost use Rattle.cert_text.specs.Faults.{IsWordFault, Names, first_column};
 ghost use Rattle.cert_text.specs.ReaderState.{left, Takes, number_of_rule};
 
-use crate::fault::{LineFault, Rule};
+use crate::fault::Rule;
 use crate::kind::Kind;
 use cost_tables::Cost;
-use line_texts::{NoBlanks, Token, Tokens, number_of};
+use line_texts::{LineFault, NoBlanks, Token, Tokens, number_of};
 use plan_types::Line;
 use std::marker::Model;
 
@@ -97,7 +97,7 @@ impl<'a> Words<'a> {
     }
 
     // Reads the next word, which must be a number of at most `most`.
-    pub(crate) fn number(&mut self, most: u64) -> Result<u64, LineFault>
+    pub(crate) fn number(&mut self, most: u64) -> Result<u64, LineFault<Rule>>
         ensures { MatchResult result
             (λ n. (n ≤ most) × Takes (decimal n) self.old self.new)
             (λ fault. (more : List Want) → IsWordFault (number_to most ∷ more) self.old.words self.old.end (number_of_rule fault.rule) fault.column) }
@@ -118,7 +118,7 @@ impl<'a> Words<'a> {
     }
 
     // Reads the next word, which must be this one.
-    pub(crate) fn this_word(&mut self, text: &[u8]) -> Result<(), LineFault>
+    pub(crate) fn this_word(&mut self, text: &[u8]) -> Result<(), LineFault<Rule>>
         ensures { MatchResult result
             (λ _. Takes text.now self.old self.new)
             (λ fault. (more : List Want) → IsWordFault (this_word text.now ∷ more) self.old.words self.old.end (number_of_rule fault.rule) fault.column) }
@@ -139,7 +139,7 @@ impl<'a> Words<'a> {
     }
 
     // Reads the next word, which must be this number.
-    pub(crate) fn this_number(&mut self, n: u64) -> Result<(), LineFault>
+    pub(crate) fn this_number(&mut self, n: u64) -> Result<(), LineFault<Rule>>
         ensures { MatchResult result
             (λ _. Takes (decimal n) self.old self.new)
             (λ fault. (more : List Want) → IsWordFault (this_word (decimal n) ∷ more) self.old.words self.old.end (number_of_rule fault.rule) fault.column) }
@@ -150,7 +150,7 @@ impl<'a> Words<'a> {
     }
 
     // Reads the next word, which must be an entry of a table.
-    pub(crate) fn entry(&mut self) -> Result<Cost, LineFault>
+    pub(crate) fn entry(&mut self) -> Result<Cost, LineFault<Rule>>
         ensures { MatchResult result
             (λ cost. HasWord (value_of cost) × Takes (entry_word (value_of cost)) self.old self.new)
             (λ fault. (more : List Want) → IsWordFault (an_entry ∷ more) self.old.words self.old.end (number_of_rule fault.rule) fault.column) }
@@ -171,7 +171,7 @@ impl<'a> Words<'a> {
     }
 
     // Checks that no word is left.
-    pub(crate) fn finish(&mut self) -> Result<(), LineFault>
+    pub(crate) fn finish(&mut self) -> Result<(), LineFault<Rule>>
         ensures { MatchResult result
             (λ _. self.old.words ≡ [])
             (λ fault. IsWordFault [] self.old.words self.old.end (number_of_rule fault.rule) fault.column) }

@@ -18,7 +18,7 @@ use Rattle.level_book.specs.NestedClass.{Image, GoesOnTop, KeepsFaster, IsNested
 use Rattle.level_book.specs.UnderTable.{write_cost, read_cost}
 use Rattle.class_bounds.proofs.Bounds.{Within, within_more, same_entry, Rates, IsBound}
 use Rattle.class_bounds.proofs.Potential
-use Rattle.class_bounds.proofs.Potential.{on_level, NotPast, Before, Stacked, level, free, Back, Owed, owed_before, back_more, past, back_stale, advanced, stored, fresh_owed, stored_stale, taped, copied, moved_stale, moved_taped, moved_stored, Sum}
+use Rattle.class_bounds.proofs.Potential.{on_level, Stacked, level, free, Back, Owed, owed_before, back_more, advanced, stored, fresh_owed, stored_stale, taped, copied, moved_stale, moved_taped, moved_stored}
 use Rattle.class_bounds.proofs.Costs.{cost_forward, cost_tape, cost_store, cost_reverse, cost_copy, cost_move, cost_end_forward}
 use Rattle.class_bounds.proofs.HeldImages.{before_top, not_past_later, level_known, level_on_top, Standing, slot_left, stands_start, stands_on, stands_stored, stands_moved}
 

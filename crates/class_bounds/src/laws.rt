@@ -1,9 +1,7 @@
 // Laws over the classes of lists and their tables. Each function does nothing; its contract is the law.
 ghost use Rattle.std.specs.Prelude.{ℕ, List};
 ghost use Rattle.plan_types.specs.declared.action.Action.{Action};
-ghost use Rattle.level_book.specs.BookCosts.{BookCosts};
-ghost use Rattle.level_book.specs.UnderTable.{Tables};
-ghost use Rattle.level_book.specs.DiskUnderTable.{DiskTables};
+ghost use Rattle.level_book.specs.Prelude.{BookCosts, Tables, DiskTables};
 ghost use Rattle.class_bounds.specs.Laws.{NestedCostsAtLeast, LeastOfTheNested, DiskCostsAtLeast, LeastOfTheDisk};
 
 /// A nested list costs at least the top entry of every under-table.

@@ -1,9 +1,8 @@
 -- The class, by the levels that were found.
-use Rattle.std.proofs.Common.{◌≡◌, ◌==◌, ◌↔◌, ℕ, zero, suc, ◌+◌, ◌<◌, ◌≤◌, cond, List, [], ◌∷◌, length, map, get_or, Option, Some, None, MatchOption, refl, sym, ap, subst, ◌∙◌, arith}
+use Rattle.std.proofs.Common.{◌≡◌, ◌==◌, ℕ, zero, suc, ◌<◌, cond, List, [], ◌∷◌, length, map, get_or, Option, Some, None, MatchOption, refl, sym, ap, subst, ◌∙◌, arith}
 use Rattle.std.specs.List.{slice_get}
 use Rattle.plan_types.specs.declared.action.Action.{Action}
 use Rattle.level_book.specs.declared.book.Level.{Level}
-use Rattle.level_book.specs.declared.book.Slots.{Slots}
 use Rattle.level_book.specs.declared.book.Slots.TheVariants.{Count}
 use Rattle.level_book.specs.BookCosts.{BookCosts, slots_of, total_room}
 use Rattle.revolve_gen.specs.Places.{places_on, level_at}
@@ -13,7 +12,7 @@ use Rattle.revolve_gen.specs.Multistage.{HasPlaces, HasLevels, IsMultistage}
 use Rattle.revolve_gen.specs.RevolveList.{revolve_list}
 use Rattle.revolve_gen.proofs.StackPlaces.{levels_free, used_same}
 use Rattle.class_rules.specs.PlaceLevels.{HasPlaceLevels}
-use Rattle.class_rules.specs.LevelInference.{Agrees, AreTheLevels, Fit}
+use Rattle.class_rules.specs.LevelInference.{AreTheLevels, Fit}
 
 -- the slots of a level of the book
 slots_at : (levels : List Level) (k : ℕ) (level : Level) → slice_get levels k ≡ Some level → get_or (map (λ (level : Level). level.slots) levels) k (Count 0) ≡ level.slots

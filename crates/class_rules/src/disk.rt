@@ -1,8 +1,7 @@
 // Whether a list is in the disk class.
 ghost use Rattle.std.specs.Prelude.{◌≡◌, ◌↔◌, ◌≤◌, [], ◌∷◌, length, slice_get, Some, IfOk, IsTrue};
 ghost use Rattle.plan_types.specs.declared.limits.TheConstants.{MOST_STEPS};
-ghost use Rattle.level_book.specs.BookCosts.{slots_of};
-ghost use Rattle.level_book.specs.DiskClass.{Disk, ForwardsFirst, NeverStores};
+ghost use Rattle.level_book.specs.Prelude.{slots_of, Disk, ForwardsFirst, NeverStores};
 
 use crate::nested::in_nested;
 use level_book::{Book, Slots};

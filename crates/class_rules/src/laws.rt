@@ -2,7 +2,7 @@
 ghost use Rattle.std.specs.Prelude.{ℕ, List};
 ghost use Rattle.plan_types.specs.declared.action.Action.{Action};
 ghost use Rattle.level_book.specs.declared.book.Slots.{Slots};
-ghost use Rattle.level_book.specs.BookCosts.{BookCosts};
+ghost use Rattle.level_book.specs.Prelude.{BookCosts};
 ghost use Rattle.class_rules.specs.Laws.{NestedOrNot, DiskOrNot, MultistageOrNot, PlacesHaveLevels};
 
 /// A valid list is in the nested class or it isn't.

@@ -1,9 +1,8 @@
 // Whether a list is in the multistage class.
 ghost use Rattle.std.specs.Prelude.{◌≡◌, ◌↔◌, ℕ, ◌+◌, ◌≤◌, max, false, length, MatchOption, IfOk, IsTrue, vec_len};
 ghost use Rattle.plan_types.specs.declared.limits.TheConstants.{MOST_STEPS};
-ghost use Rattle.level_book.specs.BookCosts.{slots_of};
-ghost use Rattle.revolve_gen.specs.Stack.{placed};
-ghost use Rattle.revolve_gen.specs.Multistage.{IsMultistage, HasPlaces};
+ghost use Rattle.level_book.specs.Prelude.{slots_of};
+ghost use Rattle.revolve_gen.specs.Prelude.{placed, IsMultistage, HasPlaces};
 ghost use Rattle.class_rules.specs.PlaceLevels.{HasPlaceLevels};
 ghost use Rattle.class_rules.specs.LevelInference.{level_named, Agrees, AreTheLevels, Fit};
 

@@ -1,8 +1,7 @@
 // Whether a list is in the nested class.
 ghost use Rattle.std.specs.Prelude.{◌↔◌, ◌≤◌, [], ◌∷◌, IfOk, IsTrue, MatchOption};
 ghost use Rattle.plan_types.specs.declared.limits.TheConstants.{MOST_STEPS};
-ghost use Rattle.level_book.specs.BookCosts.{slots_of};
-ghost use Rattle.level_book.specs.NestedClass.{Nested, IsNestedFrom, KeepsFaster};
+ghost use Rattle.level_book.specs.Prelude.{slots_of, Nested, IsNestedFrom, KeepsFaster};
 ghost use Rattle.class_rules.specs.Stacks.{images_of, IsStack};
 
 use crate::stack::Stack;

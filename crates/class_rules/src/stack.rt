@@ -1,6 +1,6 @@
 // The images that are held, in the order of their storing.
 ghost use Rattle.std.specs.Prelude.{◌≡◌, ◌↔◌, [], ◌∷◌, IfOk, IsTrue};
-ghost use Rattle.level_book.specs.NestedClass.{GoesOnTop, IsNewest, older_than_newest};
+ghost use Rattle.level_book.specs.Prelude.{GoesOnTop, IsNewest, older_than_newest};
 ghost use Rattle.class_rules.specs.Stacks.{images_of, IsStack};
 
 use std::alloc::{AllocError, Global};

@@ -1,3 +1,4 @@
 pub mod TotalCount
 pub mod CountableActions
 pub mod CountsOf
+pub mod Prelude

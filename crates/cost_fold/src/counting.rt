@@ -2,7 +2,7 @@
 ghost use Rattle.std.specs.Prelude.{◌≡◌, ℕ, ◌+◌, ◌*◌, ◌^◌, ◌<◌, ◌≤◌, length, slice_index, cond};
 ghost use Rattle.std.specs.List.{AllByRecursion};
 ghost use Rattle.plan_types.specs.declared.limits.TheConstants.{MOST_ACTIONS, MOST_COST};
-ghost use Rattle.level_book.specs.CostFold.{steps_of, is_taped, is_reversed, is_write, is_read, forward, taped, reversed, writes, reads};
+ghost use Rattle.level_book.specs.Prelude.{steps_of, is_taped, is_reversed, is_write, is_read, forward, taped, reversed, writes, reads};
 ghost use Rattle.cost_fold.specs.CountableActions.{CanBeTallied};
 ghost use Rattle.cost_fold.specs.CountsOf.{HasRoomForOne, all_of};
 

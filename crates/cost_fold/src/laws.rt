@@ -1,7 +1,7 @@
 // Laws over the counts of lists. Each function does nothing; its contract is the law.
 ghost use Rattle.std.specs.Prelude.{◌≡◌, ◌+◌, ◌++◌, ℕ, List};
 ghost use Rattle.plan_types.specs.declared.action.Action.{Action};
-ghost use Rattle.level_book.specs.CostFold.{forward, taped, reversed, writes, reads};
+ghost use Rattle.level_book.specs.Prelude.{forward, taped, reversed, writes, reads};
 
 /// The counts of two lists, one after the other, are the sums of their counts.
 pub fn counts_add_up()

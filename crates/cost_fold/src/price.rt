@@ -1,7 +1,7 @@
 // What counts cost by a book.
 ghost use Rattle.std.specs.Prelude.{◌≡◌, List};
 ghost use Rattle.plan_types.specs.declared.action.Action.{Action};
-ghost use Rattle.level_book.specs.CostFold.{cost};
+ghost use Rattle.level_book.specs.Prelude.{cost};
 ghost use Rattle.cost_fold.specs.CountsOf.{AreCountsOf, price};
 
 use crate::counts::Counts;

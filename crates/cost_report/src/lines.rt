@@ -1,7 +1,7 @@
 // The lines of a report, each in one write.
 ghost use Rattle.std.specs.Prelude.{◌≡◌, ◌+◌, ◌<◌, ◌≤◌, [], ◌∷◌, ◌++◌, length, decimal, OnOk, OnErr};
+ghost use Rattle.keepers.specs.Prelude.{seen, AddsLines, StopsIn};
 ghost use Rattle.cost_report.specs.Report.{count_line, level_line};
-ghost use Rattle.keepers.specs.LineWrites.{seen, AddsLines, StopsIn};
 
 use cost_fold::Counts;
 use keepers::{Sink, SinkFault};

@@ -1,9 +1,7 @@
 // The report of counts.
 ghost use Rattle.std.specs.Prelude.{◌≡◌, ◌++◌, length, OnOk, OnErr};
-ghost use Rattle.keepers.specs.Counts.{Rose, raised};
-ghost use Rattle.keepers.specs.Claims.{Tells, AddsPrefix};
+ghost use Rattle.keepers.specs.Prelude.{Rose, raised, Tells, AddsPrefix, seen, AddsLines, StopsIn};
 ghost use Rattle.cost_report.specs.Report.{step_lines, level_lines, report_lines, report_text};
-ghost use Rattle.keepers.specs.LineWrites.{seen, AddsLines, StopsIn};
 
 use crate::lines::{write_count, write_level};
 use cost_fold::{Counts, total};

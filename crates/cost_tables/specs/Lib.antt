@@ -7,3 +7,4 @@ pub mod Entries
 pub mod Levels
 pub mod Rows
 pub mod TableInvariant
+pub mod Prelude

@@ -26,8 +26,8 @@ fn cost_of(n: u64) -> Cost
     }
 }
 
-// The entries of numbers in memory.
-fn costs_of(alloc: Global, numbers: &[u64]) -> Result<Vec<Cost>, AllocError>
+/// The entries of numbers in memory, each below `NEVER`, or that for Never.
+pub fn costs_of(alloc: Global, numbers: &[u64]) -> Result<Vec<Cost>, AllocError>
     ensures { IfOk result (λ costs. map value_of costs.items ≡ map entry numbers.now) }
 {
     let mut costs = Vec::with_capacity(alloc, numbers.len())?;

@@ -1,7 +1,6 @@
 // Laws over tables. Each function does nothing; its contract is the law.
 ghost use Rattle.std.specs.Prelude.{ℕ};
-ghost use Rattle.level_book.specs.BookCosts.{BookCosts};
-ghost use Rattle.level_book.specs.UnderTable.{Tables};
+ghost use Rattle.level_book.specs.Prelude.{BookCosts, Tables};
 ghost use Rattle.cost_tables.specs.Laws.{GreatestIsExact, GreatestExist};
 
 /// In the greatest under-table for at most 8,192 steps and a book's costs each entry is attained.

@@ -13,8 +13,8 @@ pub mod laws;
 mod rows;
 mod sharing;
 mod tables;
-#[cfg(test)]
-mod tests;
 
+pub use crate::cells::costs_of;
 pub use crate::cost::{Cost, are_short};
+pub use crate::rows::NEVER;
 pub use crate::tables::Tables;

@@ -9,8 +9,8 @@ use plan_types::Gate;
 use std::alloc::{AllocError, Global};
 use std::thread::Threads;
 
-// Never in memory, above all other entries.
-pub(crate) const NEVER: u64 = 2305843009213693952;
+/// Never in memory, above all other entries.
+pub const NEVER: u64 = 2305843009213693952;
 
 // The entries for stretches of one length, at each number of free slots. In the first entries the first state is in
 // work, in the second it is held.

@@ -1,6 +1,6 @@
 // Tables of least costs.
 ghost use Rattle.std.specs.Prelude.{◌≡◌, ◌↔◌, ℕ, ◌+◌, ◌^◌, ◌<◌, ◌≤◌, true, length, All, IfOk, slice_index};
-ghost use Rattle.level_book.specs.UnderTable.{IsGreatest};
+ghost use Rattle.level_book.specs.Prelude.{IsGreatest};
 ghost use Rattle.cost_tables.specs.TableRows.{AreFor, TablesFit, FastestTablesFit, fastest, tables_in, value_of};
 ghost use Rattle.cost_tables.specs.Shapes.{AreShaped, AreShort};
 ghost use Rattle.cost_tables.specs.TableUpdates.{AreAllNever, IsOther};
@@ -329,7 +329,7 @@ impl Tables {
 }
 
 // The costs of stretches without an image: one step alone.
-pub(crate) fn first_base(alloc: Global, steps: u32, one: u64) -> Result<Vec<u64>, AllocError>
+fn first_base(alloc: Global, steps: u32, one: u64) -> Result<Vec<u64>, AllocError>
     requires { one ≤ 2 ^ 61 }
     ensures count { IfOk result (λ base. length base.items ≡ steps) }
     ensures low { IfOk result (λ base. All (λ n. n ≤ 2 ^ 61) base.items) }

@@ -2,14 +2,14 @@
 use Rattle.std.proofs.Common.{◌≡◌, ℕ, zero, suc, ◌+◌, ◌-◌, ◌*◌, false, List, [], ◌∷◌, ◌++◌, refl, sym, ap, ◌∙◌, arith, append_assoc}
 use Rattle.plan_types.specs.declared.action.Keep.TheVariants.{Nothing}
 use Rattle.plan_types.specs.declared.action.Action.{Action}
-use Rattle.plan_types.specs.declared.action.Action.TheVariants.{Forward, EndForward, EndReverse}
+use Rattle.plan_types.specs.declared.action.Action.TheVariants.{Forward, EndReverse}
 use Rattle.level_book.specs.BookCosts.{BookCosts, room}
 use Rattle.level_book.specs.CostFold.{cost}
-use Rattle.level_book.specs.UnderTable.{sum_of, write_cost, read_cost, number}
+use Rattle.level_book.specs.UnderTable.{write_cost, read_cost, number}
 use Rattle.level_book.specs.DiskUnderTable.{DiskTables, disk_top_entry}
-use Rattle.hrevolve_gen.specs.HRevolveList.{Part, actions}
+use Rattle.hrevolve_gen.specs.HRevolveList.{actions}
 use Rattle.hrevolve_gen.proofs.Costs.{cost_forward, cost_store, cost_copy, cost_move, cost_end_forward, cost_end_reverse, cost_nothing}
-use Rattle.hrevolve_gen.proofs.PartCosts.{IsSum, sum_some, part_cost}
+use Rattle.hrevolve_gen.proofs.PartCosts.{sum_some, part_cost}
 use Rattle.hrevolve_gen.proofs.PartReads.{some_of}
 use Rattle.disk_gen.specs.ReadableDiskTables.{IsDiskExact}
 use Rattle.disk_gen.specs.DiskRevolveList.{HeldPart, finally, again, DiskPart, alone, parted, held_actions, disk_actions, fast_tables, ReadsHeld, ReadsDisk, IsDiskWritten}

@@ -1,5 +1,5 @@
 -- The greatest tables over both levels are exact.
-use Rattle.std.proofs.Common.{◌≡◌, ◌≢◌, ℕ, zero, suc, ◌+◌, ◌-◌, ◌*◌, ◌<◌, ◌≤◌, ◌^◌, min, cond, nat_lt, List, [], ◌∷◌, length, refl, sym, ap, ◌∙◌, subst, add-one, arith, inl, inr}
+use Rattle.std.proofs.Common.{◌≡◌, ◌≢◌, ℕ, zero, suc, ◌+◌, ◌-◌, ◌*◌, ◌<◌, ◌≤◌, min, cond, nat_lt, List, [], ◌∷◌, length, refl, sym, ap, ◌∙◌, subst, add-one, arith, inl, inr}
 use Rattle.std.proofs.lemmas.Bool.{cases_lt, lt-ltb, le-ltb}
 use Rattle.level_book.specs.declared.book.Level.{Level}
 use Rattle.level_book.specs.BookCosts.{BookCosts, room, IsWithinLimits}

@@ -1,13 +1,11 @@
 -- There are greatest disk tables, in whole rows, and from such tables a list can be read.
-use Rattle.std.proofs.Common.{◌≡◌, ◌≢◌, ◌⊎◌, ℕ, zero, suc, ◌+◌, ◌-◌, ◌*◌, ◌<◌, ◌≤◌, ◌^◌, false, List, [], ◌∷◌, ◌++◌, length, get_or, refl, sym, ap, ◌∙◌, subst, arith, inl, inr}
-use Rattle.std.proofs.lemmas.Bool.{cases_lt}
-use Rattle.plan_types.specs.declared.action.Action.{Action}
+use Rattle.std.proofs.Common.{◌≡◌, ◌≢◌, ℕ, zero, suc, ◌+◌, ◌-◌, ◌*◌, ◌<◌, ◌≤◌, false, List, [], ◌∷◌, ◌++◌, get_or, refl, sym, ap, ◌∙◌, subst, arith, inl, inr}
 use Rattle.plan_types.specs.declared.action.Action.TheVariants.{EndForward, EndReverse}
 use Rattle.level_book.specs.declared.book.Level.{Level}
-use Rattle.level_book.specs.BookCosts.{BookCosts, room, IsWithinLimits}
-use Rattle.level_book.specs.UnderTable.{Entry, number, never, IsAtMost, IsGreatest, sum_of, write_cost, read_cost}
+use Rattle.level_book.specs.BookCosts.{BookCosts, room}
+use Rattle.level_book.specs.UnderTable.{Entry, number, never, IsAtMost, sum_of, write_cost, read_cost}
 use Rattle.level_book.specs.DiskUnderTable.{DiskTables, IsDiskUnderTable, IsGreatestDisk}
-use Rattle.cost_tables.specs.Entries.{never_in_memory, entry}
+use Rattle.cost_tables.specs.Entries.{entry}
 use Rattle.cost_tables.specs.ExactTables.{IsExact}
 use Rattle.cost_tables.specs.TableRows.{fastest, tables_in}
 use Rattle.cost_tables.proofs.TableExistence.{made, made_at, made_long, greatest_exist}
@@ -17,13 +15,13 @@ use Rattle.hrevolve_gen.specs.HRevolveList.{Part, Reads}
 use Rattle.hrevolve_gen.proofs.ListExistence.{same_or_other, never_first, never_second, first_same, on_levels}
 use Rattle.disk_gen.specs.DiskPlans.{HasDiskPlan}
 use Rattle.disk_gen.specs.ReadableDiskTables.{IsDiskExact}
-use Rattle.disk_gen.specs.DiskRows.{DiskRows, disk_tables_in}
+use Rattle.disk_gen.specs.DiskRows.{DiskRows}
 use Rattle.disk_gen.specs.DiskRevolveList.{fast_tables, HeldPart, finally, again, DiskPart, alone, parted, held_split, disk_split, disk_actions, ReadsHeld, ReadsDisk}
 use Rattle.disk_gen.specs.Laws.{GreatestDiskExist, DiskListExists}
 use Rattle.disk_gen.proofs.DiskColumns.{AreSmall}
 use Rattle.disk_gen.proofs.DiskExactness.{worked_out}
 use Rattle.disk_gen.proofs.DiskRowExtension.{entry_below}
-use Rattle.disk_gen.proofs.DiskGreatestTable.{over, columns_greatest}
+use Rattle.disk_gen.proofs.DiskGreatestTable.{columns_greatest}
 
 -- ---- what holds of disk tables holds of others with the same entries
 

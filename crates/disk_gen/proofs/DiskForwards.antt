@@ -1,9 +1,9 @@
 -- Forwards alone stand before EndForward, and nothing is stored on level 1 behind it.
-use Rattle.std.proofs.Common.{◌≡◌, ◌==◌, ℕ, zero, suc, ◌+◌, ◌-◌, ◌≤◌, cond, Bool, true, false, List, [], ◌∷◌, ◌++◌, refl, sym, ap, ◌∙◌, subst, arith, inl, inr, append_assoc, eq-eqb}
+use Rattle.std.proofs.Common.{◌≡◌, ◌==◌, ℕ, zero, suc, ◌+◌, ◌-◌, cond, Bool, true, false, List, [], ◌∷◌, ◌++◌, sym, subst, arith, inl, inr, append_assoc, eq-eqb}
 use Rattle.std.proofs.lemmas.Bool.{cases_Bool}
 use Rattle.plan_types.specs.declared.action.Keep.TheVariants.{Tape}
 use Rattle.plan_types.specs.declared.action.Action.{Action}
-use Rattle.plan_types.specs.declared.action.Action.TheVariants.{Forward, Reverse, EndForward, EndReverse}
+use Rattle.plan_types.specs.declared.action.Action.TheVariants.{Forward, Reverse, EndForward}
 use Rattle.level_book.specs.BookCosts.{BookCosts, room}
 use Rattle.level_book.specs.UnderTable.{Tables}
 use Rattle.level_book.specs.DiskClass.{NeverStores, ForwardsFirst}

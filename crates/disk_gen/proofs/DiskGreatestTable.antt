@@ -1,10 +1,9 @@
 -- The tables over both levels are the greatest, over the greatest ones of level 0 alone.
-use Rattle.std.proofs.Common.{◌≡◌, ℕ, zero, suc, ◌+◌, ◌-◌, ◌*◌, ◌<◌, ◌≤◌, List, [], ◌∷◌, length, refl, sym, ap, ◌∙◌, subst, add-one, arith}
+use Rattle.std.proofs.Common.{◌≡◌, ℕ, zero, suc, ◌+◌, ◌-◌, ◌*◌, ◌<◌, ◌≤◌, List, [], ◌∷◌, sym, ap, ◌∙◌, subst, arith}
 use Rattle.level_book.specs.declared.book.Level.{Level}
 use Rattle.level_book.specs.BookCosts.{BookCosts, room}
 use Rattle.level_book.specs.UnderTable.{Entry, number, never, Tables, IsAtMost, IsUnderTable, IsGreatest, sum_of, write_cost, read_cost}
 use Rattle.level_book.specs.DiskUnderTable.{DiskTables, IsDiskUnderTable, IsGreatestDisk}
-use Rattle.cost_tables.specs.TableRows.{fastest}
 use Rattle.cost_tables.specs.Entries.{entry}
 use Rattle.disk_gen.specs.DiskRevolveList.{fast_tables}
 use Rattle.disk_gen.proofs.DiskColumns.{AreColumns, AreSmall, fast_clause, split_clause, stored_clause, moved_clause, copied_clause, fresh_above, held_above}

@@ -1,5 +1,5 @@
 -- The whole list is in the disk class.
-use Rattle.std.proofs.Common.{◌≡◌, ℕ, zero, suc, ◌+◌, ◌<◌, ◌≤◌, List, [], ◌∷◌, ◌++◌, length, true, get_or, slice_get, Some, refl, sym, ap, ◌∙◌, subst, arith}
+use Rattle.std.proofs.Common.{◌≡◌, ℕ, zero, suc, ◌+◌, ◌<◌, List, [], ◌∷◌, ◌++◌, length, true, get_or, slice_get, Some, refl, sym, ap, ◌∙◌, subst, arith}
 use Rattle.std.proofs.lemmas.Bool.{lt-ltb}
 use Rattle.std.proofs.lemmas.List.{length-map}
 use Rattle.plan_types.specs.declared.action.Action.{Action}
@@ -9,7 +9,7 @@ use Rattle.level_book.specs.declared.book.Slots.TheVariants.{Count, Unlimited}
 use Rattle.level_book.specs.BookCosts.{BookCosts, slots_of, room, least}
 use Rattle.level_book.specs.Configuration.{start}
 use Rattle.level_book.specs.Valid.{Valid}
-use Rattle.level_book.specs.NestedClass.{Nested, IsNestedFrom}
+use Rattle.level_book.specs.NestedClass.{IsNestedFrom}
 use Rattle.level_book.specs.DiskClass.{Disk, ForwardsFirst}
 use Rattle.level_book.specs.DiskUnderTable.{DiskTables}
 use Rattle.hrevolve_gen.proofs.HeldImages.{leads_on, At}

@@ -1,5 +1,5 @@
 -- A part of a disk list is nested, and leads on.
-use Rattle.std.proofs.Common.{◌≡◌, ◌==◌, ℕ, zero, suc, ◌+◌, ◌-◌, ◌<◌, ◌≤◌, false, ◌&&◌, ◌||◌, List, [], ◌∷◌, ◌++◌, length, refl, sym, ap, ◌∙◌, subst, arith, append_assoc, eq-eqb}
+use Rattle.std.proofs.Common.{◌≡◌, ℕ, ◌+◌, ◌-◌, ◌<◌, ◌≤◌, false, ◌||◌, List, ◌∷◌, ◌++◌, length, refl, sym, ap, ◌∙◌, subst, arith, append_assoc, eq-eqb}
 use Rattle.plan_types.specs.declared.action.Keep.TheVariants.{Nothing, Store}
 use Rattle.plan_types.specs.declared.action.Dest.TheVariants.{Work}
 use Rattle.plan_types.specs.declared.action.Action.{Action}

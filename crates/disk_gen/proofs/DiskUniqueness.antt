@@ -9,7 +9,7 @@ use Rattle.level_book.specs.DiskUnderTable.{DiskTables, IsGreatestDisk}
 use Rattle.hrevolve_gen.specs.HRevolveList.{Part, one, faster, split, Reads}
 use Rattle.hrevolve_gen.proofs.PlanUniqueness.{same_entry, first_alike}
 use Rattle.hrevolve_gen.proofs.OnePart.{same_part}
-use Rattle.disk_gen.specs.DiskRevolveList.{HeldPart, finally, again, DiskPart, alone, parted, disk_actions, fast_tables, IsLeast, held_split, disk_split, ReadsHeld, ReadsDisk, IsDiskWritten}
+use Rattle.disk_gen.specs.DiskRevolveList.{HeldPart, finally, again, DiskPart, alone, parted, disk_actions, fast_tables, IsLeast, held_split, disk_split, ReadsHeld, ReadsDisk}
 use Rattle.disk_gen.specs.Laws.{DiskPlanIsUnique}
 
 -- ---- one part is read at most

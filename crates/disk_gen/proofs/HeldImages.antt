@@ -1,12 +1,12 @@
 -- What is held on the way: the first i stretches have their images on level 1, and the stack of a stretch is on level 0.
-use Rattle.std.proofs.Common.{◌≡◌, ◌==◌, ℕ, zero, suc, ◌+◌, ◌-◌, ◌*◌, ◌<◌, ◌≤◌, min, Bool, true, false, cond, nat_lt, List, length, get_or, map, refl, sym, ap, subst, ◌∙◌, inl, inr, arith, add-one}
+use Rattle.std.proofs.Common.{◌≡◌, ◌==◌, ℕ, zero, suc, ◌+◌, ◌-◌, ◌*◌, ◌<◌, ◌≤◌, Bool, true, false, cond, nat_lt, List, length, get_or, map, refl, sym, ap, subst, inl, inr, arith, add-one}
 use Rattle.std.specs.FinSet as set
 use Rattle.std.proofs.lemmas.Bool.{cases_lt, lt-ltb, le-ltb}
 use Rattle.level_book.specs.declared.book.Slots.{Slots}
 use Rattle.level_book.specs.declared.book.Slots.TheVariants.{Count, Unlimited}
 use Rattle.level_book.specs.BookCosts.{least}
 use Rattle.revolve_gen.specs.Places.{places_on, HasMore, IsRoomy}
-use Rattle.revolve_gen.proofs.HeldImages.{Images, on, stored, Holds, holds_more}
+use Rattle.revolve_gen.proofs.HeldImages.{Images, stored, Holds, holds_more}
 use Rattle.revolve_gen.proofs.RevolveValidity.{none_held}
 use Rattle.disk_gen.specs.Plans.{HasSlots}
 

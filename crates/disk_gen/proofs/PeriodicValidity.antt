@@ -4,22 +4,21 @@ use Rattle.std.specs.FinSet as set
 use Rattle.std.proofs.lemmas.List.{length-map}
 use Rattle.plan_types.specs.declared.action.Keep.TheVariants.{Nothing, Store}
 use Rattle.plan_types.specs.declared.action.Dest.TheVariants.{Work}
-use Rattle.plan_types.specs.declared.action.Action.{Action}
 use Rattle.plan_types.specs.declared.action.Action.TheVariants.{Forward, Copy, Move, EndReverse}
 use Rattle.level_book.specs.declared.book.Level.{Level}
 use Rattle.level_book.specs.declared.book.Slots.{Slots}
 use Rattle.level_book.specs.declared.book.Slots.TheVariants.{Count}
 use Rattle.level_book.specs.BookCosts.{BookCosts, slots_of, room}
 use Rattle.level_book.specs.Configuration.{Configuration}
-use Rattle.level_book.specs.Valid.{Leads, Valid}
+use Rattle.level_book.specs.Valid.{Leads}
 use Rattle.binomials.specs.Advances.{split}
 use Rattle.binomials.specs.Laws.{IsStretch}
 use Rattle.revolve_gen.specs.RevolveList.{one_step, fresh, held}
 use Rattle.revolve_gen.proofs.RevolveRules.{planned}
 use Rattle.revolve_gen.proofs.HeldImages.{Images, on, stored, there, on_stored, released, room_at}
 use Rattle.revolve_gen.proofs.RevolveValidity.{at, leads_on, listed, both}
-use Rattle.disk_gen.specs.PeriodicList.{images, last_steps, ahead, back, periodic, periodic_list}
-use Rattle.disk_gen.specs.Plans.{HasSlots, HasPeriodicPlan}
+use Rattle.disk_gen.specs.PeriodicList.{images, last_steps, ahead, back}
+use Rattle.disk_gen.specs.Plans.{HasSlots}
 use Rattle.disk_gen.specs.Laws.{PeriodicIsValid}
 use Rattle.disk_gen.proofs.StretchCounts.{images_fit, last_some, last_planned, each_planned}
 use Rattle.disk_gen.proofs.HeldImages.{level_to, from_i, kept, kept_slow, kept_holds, room_slots, fewer_slots, slow_roomy, roomy}

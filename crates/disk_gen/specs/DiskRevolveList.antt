@@ -1,5 +1,5 @@
 -- Which list is read from disk tables.
-use Rattle.std.specs.Prelude.{◌≡◌, ◌≢◌, ℕ, zero, suc, ◌+◌, ◌-◌, ◌*◌, ◌<◌, ◌≤◌, true, false, List, [], ◌∷◌, ◌++◌}
+use Rattle.std.specs.Prelude.{◌≡◌, ◌≢◌, ℕ, zero, suc, ◌+◌, ◌-◌, ◌*◌, ◌<◌, ◌≤◌, false, List, [], ◌∷◌, ◌++◌}
 use Rattle.plan_types.specs.declared.action.Keep.TheVariants.{Nothing, Store}
 use Rattle.plan_types.specs.declared.action.Dest.TheVariants.{Work}
 use Rattle.plan_types.specs.declared.action.Action.{Action}

@@ -8,3 +8,4 @@ pub mod DiskShapes
 pub mod DiskInvariant
 pub mod DiskRevolveList
 pub mod ReadableDiskTables
+pub mod Prelude

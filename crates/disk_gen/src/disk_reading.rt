@@ -1,11 +1,7 @@
 // The list for memory and an unlimited disk, as it is read from the disk tables.
-ghost use Rattle.std.specs.Prelude.{◌≡◌, ◌≢◌, ◌<◌, ◌≤◌, ◌+◌, ◌-◌, ◌*◌, ◌^◌, ℕ, true, false, length, IfOk, slice_index};
-ghost use Rattle.level_book.specs.BookCosts.{slots_of};
-ghost use Rattle.level_book.specs.CostFold.{cost};
-ghost use Rattle.level_book.specs.DiskClass.{Disk};
-ghost use Rattle.level_book.specs.DiskUnderTable.{IsGreatestDisk, disk_top_entry};
-ghost use Rattle.level_book.specs.UnderTable.{number, sum_of};
-ghost use Rattle.cost_tables.specs.TableRows.{FastestTablesFit, value_of};
+ghost use Rattle.std.specs.Prelude.{◌≡◌, ◌≢◌, ◌<◌, ◌≤◌, ◌+◌, ◌-◌, ◌*◌, ◌^◌, ℕ, true, false, IfOk, slice_index};
+ghost use Rattle.level_book.specs.Prelude.{slots_of, cost, Disk, IsGreatestDisk, disk_top_entry, number, sum_of};
+ghost use Rattle.cost_tables.specs.Prelude.{FastestTablesFit, value_of};
 ghost use Rattle.disk_gen.specs.DiskRows.{AreDiskFor, disk_tables_in};
 ghost use Rattle.disk_gen.specs.DiskRevolveList.{IsDiskWritten};
 ghost use Rattle.disk_gen.specs.ReadableDiskTables.{CanReadDisk, IsHeldMore, IsDiskMore};

@@ -1,24 +1,18 @@
 // Tables of least costs over two levels, the slow one unlimited.
 ghost use Rattle.std.specs.Prelude.{◌≡◌, ◌≢◌, ◌↔◌, ℕ, ◌+◌, ◌-◌, ◌<◌, ◌≤◌, ◌^◌, true, All, length, map, IfOk, IfErr, OnOk, slice_index};
-ghost use Rattle.level_book.specs.UnderTable.{number};
-ghost use Rattle.level_book.specs.DiskUnderTable.{IsGreatestDisk};
-ghost use Rattle.cost_tables.specs.Entries.{entry, least_split};
-ghost use Rattle.cost_tables.specs.TableRows.{FastestTablesFit, tables_in, value_of};
-ghost use Rattle.cost_tables.specs.TableUpdates.{IsOther};
+ghost use Rattle.level_book.specs.Prelude.{number, IsGreatestDisk};
+ghost use Rattle.cost_tables.specs.Prelude.{entry, least_split, FastestTablesFit, tables_in, value_of, IsOther};
 ghost use Rattle.disk_gen.specs.DiskPlans.{HasDiskPlan, IsDiskFault};
 ghost use Rattle.disk_gen.specs.DiskRows.{AreDiskSized, AreDiskFor, AreAllNeverDisk, disk_tables_in};
 ghost use Rattle.disk_gen.specs.DiskShapes.{AreDiskShaped, AreDiskShort};
 ghost use Rattle.disk_gen.specs.DiskInvariant.{IsHeldColumn, IsFreshColumn};
 
-use cost_tables::{Cost, Tables, are_short};
+use cost_tables::{Cost, NEVER, Tables, are_short, costs_of};
 use level_book::{Book, Slots};
 use revolve_gen::GenFault;
 use std::alloc::{AllocError, Global};
 use std::marker::Model;
 use std::thread::Threads;
-
-// Never in memory, above all other entries.
-const NEVER: u64 = 2305843009213693952;
 
 /// Tables of least costs, for a number of steps and a book of memory and an unlimited disk.
 #[derive(Drop)]
@@ -243,28 +237,6 @@ impl DiskTables {
     {
         &self.fast
     }
-}
-
-// The entry of a number in memory.
-fn cost_of(n: u64) -> Cost
-    ensures { value_of result ≡ entry n }
-{
-    if n < NEVER {
-        Cost::Number(n)
-    } else {
-        Cost::Never
-    }
-}
-
-// The entries of numbers in memory.
-fn costs_of(alloc: Global, numbers: &[u64]) -> Result<Vec<Cost>, AllocError>
-    ensures { IfOk result (λ costs. map value_of costs.items ≡ map entry numbers.now) }
-{
-    let mut costs = Vec::with_capacity(alloc, numbers.len())?;
-    for n in numbers {
-        costs.push(cost_of(*n))?;
-    }
-    Ok(costs)
 }
 
 // So many entries, each of them Never.

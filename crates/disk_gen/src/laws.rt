@@ -1,8 +1,7 @@
 // Laws over the lists. Each function does nothing; its contract is the law.
 ghost use Rattle.std.specs.Prelude.{ℕ, List};
 ghost use Rattle.plan_types.specs.declared.action.Action.{Action};
-ghost use Rattle.level_book.specs.BookCosts.{BookCosts};
-ghost use Rattle.level_book.specs.DiskUnderTable.{DiskTables};
+ghost use Rattle.level_book.specs.Prelude.{BookCosts, DiskTables};
 ghost use Rattle.disk_gen.specs.Laws.{StretchesAreLeast, PeriodicIsValid, PeriodicIsCounted, DiskPlanIsUnique, GreatestDiskExist, DiskListExists, DiskListEndsForward};
 
 /// The number of stretches is the least whole n with steps ≤ n · period.

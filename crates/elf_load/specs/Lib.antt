@@ -6,3 +6,4 @@ pub mod Start
 pub mod Laws
 pub mod HeaderFields
 pub mod Spans
+pub mod Prelude

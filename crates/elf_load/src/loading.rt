@@ -1,8 +1,8 @@
 // The start state of a program.
 ghost use Rattle.std.specs.Prelude.{◌≡◌, ◌≢◌, ◌⊎◌, ◌↔◌, ◌+◌, ◌/◌, ◌%◌, ◌^◌, ◌≤◌, ◌<◌, ℕ, List, length, vec_len, map, Contains, MatchResult, IfOk, IfErr, OnOk, IsTrue};
 ghost use Rattle.std.specs.List.{All};
-ghost use Rattle.rv_pages.specs.Memory.{IsMapped};
-ghost use Rattle.rv_machine.specs.MachineState.{MachineState};
+ghost use Rattle.rv_pages.specs.Prelude.{IsMapped};
+ghost use Rattle.rv_machine.specs.Prelude.{MachineState};
 ghost use Rattle.elf_load.specs.Program.{stack_start, AreMapped, with_pieces, start_at};
 ghost use Rattle.elf_load.specs.Raw.{IsRawProgram};
 ghost use Rattle.elf_load.specs.Elf.{IsProgram};

@@ -1,3 +1,4 @@
 pub mod Outcomes
 pub mod Endings
 pub mod Texts
+pub mod Prelude

@@ -16,7 +16,7 @@ mod case;
 mod reply;
 
 use case::{Case, case_of};
-use case_files::{CaseFault, Cases, Inputs, read_inputs, run_files};
+use case_files::{Cases, Difference, Inputs, exit_code, run_files};
 use rv_machine::Steps;
 use serde_json::Value;
 use std::alloc::{AllocError, Global};
@@ -26,39 +26,22 @@ use std::sync::ledger::{Blank, Ledger};
 use std::{env, io};
 
 fn main(rt: HostRuntime) -> ExitCode {
-    match run(&rt) {
-        Ok(true) => ExitCode::SUCCESS,
-        _ => ExitCode::FAILURE,
-    }
+    exit_code(run(&rt))
 }
 
-// Does what the arguments say.
+// Runs the sessions of the files that the arguments name.
 fn run(rt: &HostRuntime) -> io::Result<bool> {
     let words = env::args(rt)?.skip(1).collect::<Vec<String>>(rt.alloc())?;
-    match words.as_slice() {
-        [inputs, files @ ..] => run_cases(rt, inputs, files),
-        [] => Ok(false),
-    }
+    run_files(rt, &Sessions, words.as_slice())
 }
 
-// The sessions of cases.
-#[derive(Drop)]
-struct Sessions {
-    inputs: Inputs,
-}
+#[derive(Clone, Copy)]
+struct Sessions;
 
 impl Cases for Sessions {
-    fn difference(&self, alloc: Global, case: &Value) -> Result<Option<String>, CaseFault> {
-        let case = case_of(alloc, &self.inputs, case)?;
+    fn difference(&self, alloc: Global, inputs: &Inputs, case: &Value) -> Difference {
+        let case = case_of(alloc, inputs, case)?;
         Ok(wrong_of::<Brand>(alloc, case, Blank::new(1))?)
-    }
-}
-
-// Whether all cases of these files passed.
-fn run_cases(rt: &HostRuntime, name: &str, files: &[String]) -> io::Result<bool> {
-    match read_inputs(rt, name)? {
-        Some(inputs) => run_files(rt, &Sessions { inputs }, files),
-        None => Ok(false),
     }
 }
 

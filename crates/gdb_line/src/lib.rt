@@ -3,8 +3,6 @@
 
 mod line;
 mod memory_line;
-#[cfg(test)]
-mod tests;
 
 pub use crate::line::{Line, LineFault};
 pub use crate::memory_line::MemoryLine;

@@ -1,7 +1,6 @@
 // A line to a debugger.
 ghost use Rattle.std.specs.Prelude.{◌≡◌, ◌≤◌, ◌<◌, ℕ, [], take, length, Option, IfOk, OnOk, OnErr};
-ghost use Rattle.keepers.specs.Counts.{Rose};
-ghost use Rattle.keepers.specs.Claims.{Tells, WhereTold};
+ghost use Rattle.keepers.specs.Prelude.{Rose, Tells, WhereTold};
 ghost use Rattle.gdb_line.specs.Talk.{Talk, Comes, Goes, GoesPartly};
 
 use thiserror::Error;

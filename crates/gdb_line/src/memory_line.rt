@@ -1,6 +1,6 @@
 // A line in memory.
 ghost use Rattle.std.specs.Prelude.{◌≡◌, ◌≤◌, ◌<◌, ◌+◌, ◌↔◌, [], length, take, Contains, IfOk, IsOk, OnOk, OnErr};
-ghost use Rattle.keepers.specs.Counts.{raised};
+ghost use Rattle.keepers.specs.Prelude.{raised};
 ghost use Rattle.gdb_line.specs.Talk.{Comes};
 
 use crate::line::{Line, LineFault};

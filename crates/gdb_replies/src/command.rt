@@ -1,6 +1,6 @@
 // The commands after `monitor`.
 ghost use Rattle.std.specs.Prelude.{◌≡◌, ◌++◌, OnOk, MatchOption, ℕ, codes};
-ghost use Rattle.gdb_wire.specs.Requests.{Begins};
+ghost use Rattle.gdb_wire.specs.Prelude.{Begins};
 ghost use Rattle.gdb_replies.specs.Commands.{IsCommand, IsDecimal, help as help_text, hint as hint_text};
 
 use std::alloc::AllocError;

@@ -7,8 +7,6 @@ mod command;
 mod description;
 mod state_texts;
 mod state_words;
-#[cfg(test)]
-mod tests;
 
 pub use crate::command::{Command, push_help, push_hint, read_command};
 pub use crate::description::target_description;

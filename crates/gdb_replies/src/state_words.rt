@@ -1,6 +1,6 @@
 // The text about a state for the user.
 ghost use Rattle.std.specs.Prelude.{◌≡◌, ◌++◌, OnOk, codes};
-ghost use Rattle.state_image.specs.Line.{line};
+ghost use Rattle.state_image.specs.Prelude.{line};
 ghost use Rattle.gdb_replies.specs.StateWords.{hexadecimal, status_words, place_line, ending_words, ending_line, trap_words};
 
 use plan_types::Line;

@@ -1,12 +1,10 @@
 // How a server moves in its run.
 ghost use Rattle.std.specs.Prelude.{◌≡◌, ◌<◌, ◌≤◌, ◌++◌, ℕ, ⊤, List, [], map, take, true, Err, IfOk, OnErr, OnOk};
 ghost use Rattle.std.specs.List.{flat_map};
-ghost use Rattle.keepers.specs.Counts.{Rose};
-ghost use Rattle.keepers.specs.Claims.{Tells};
-ghost use Rattle.gdb_wire.specs.Replies.{reply_packet};
+ghost use Rattle.keepers.specs.Prelude.{Rose, Tells};
+ghost use Rattle.gdb_wire.specs.Prelude.{reply_packet};
+ghost use Rattle.run_timeline.specs.Prelude.{state, CameOn, EndsForward, MatchPart};
 ghost use Rattle.gdb_wire.specs.declared.request.Motion.TheVariants as motion;
-ghost use Rattle.run_timeline.specs.Moves.{state, CameOn, EndsForward};
-ghost use Rattle.run_timeline.specs.MoveParts.{MatchPart};
 ghost use Rattle.gdb_session.specs.declared.halt.Halt.TheVariants as halt;
 ghost use Rattle.gdb_session.specs.declared.server.TalkFault.TheVariants as talk;
 ghost use Rattle.gdb_session.specs.Debugger.{Debugger};

@@ -1,8 +1,7 @@
 // A server that answers what comes on a line.
 ghost use Rattle.std.specs.Prelude.{◌≡◌, ◌≢◌, ◌<◌, ◌≤◌, ◌^◌, ◌↔◌, ◌++◌, [], codes, length, Err, IsFalse, IsTrue, IfOk, OnErr, OnOk};
-ghost use Rattle.keepers.specs.Counts.{Rose};
-ghost use Rattle.keepers.specs.Claims.{Tells, WhereTold};
-ghost use Rattle.gdb_wire.specs.Items.{packet, IsPartial};
+ghost use Rattle.keepers.specs.Prelude.{Rose, Tells, WhereTold};
+ghost use Rattle.gdb_wire.specs.Prelude.{packet, IsPartial};
 ghost use Rattle.gdb_session.specs.declared.server.ServeFault.TheVariants as fault;
 ghost use Rattle.gdb_session.specs.declared.server.TalkFault.TheVariants as talk;
 ghost use Rattle.gdb_session.specs.Conversation.{if_acks, IsLast, IsTooLong, Serves, ServesPartly};

@@ -1,13 +1,11 @@
 // What a session is at, and what it answers to requests that don't move.
 ghost use Rattle.std.specs.Prelude.{◌≡◌, ◌<◌, ◌≤◌, ◌+◌, ℕ, List, ⊤, ◌∷◌, [], ◌++◌, IfOk, IfSome, MatchOption, OnOk, Some, codes, false, ◌^◌, slice_get};
 ghost use Rattle.std.specs.Option.{option_map_or};
-ghost use Rattle.input_journal.specs.Form.{IsRecorded};
-ghost use Rattle.rv_machine.specs.MachineState.{IsMachineState};
-ghost use Rattle.gdb_replies.specs.Commands.{IsCommand};
+ghost use Rattle.input_journal.specs.Prelude.{IsRecorded};
+ghost use Rattle.rv_machine.specs.Prelude.{IsMachineState};
+ghost use Rattle.run_timeline.specs.Prelude.{CameBack, CameOn, EndsBackward, EndsForward, step_ahead, step_behind, steps_of, MatchPart};
 ghost use Rattle.gdb_replies.specs.declared.command.Command.{Command};
-ghost use Rattle.gdb_replies.specs.StateWords.{ending_line, hexadecimal, place_line};
-ghost use Rattle.run_timeline.specs.Moves.{CameBack, CameOn, EndsBackward, EndsForward, step_ahead, step_behind, steps_of};
-ghost use Rattle.run_timeline.specs.MoveParts.{MatchPart};
+ghost use Rattle.gdb_replies.specs.Prelude.{IsCommand, ending_line, hexadecimal, place_line};
 ghost use Rattle.gdb_session.specs.Answers.{Answers, GoesTo, Obeys, piece_text, shown_text};
 ghost use Rattle.gdb_session.specs.Debugger.{new_debugger, shown as shown_state, inserted, removed, same_address, same_range, with_one, without_one};
 ghost use Rattle.gdb_session.specs.declared.halt.Halt.TheVariants.{AtWrite};

@@ -1,10 +1,8 @@
 // What came and isn't answered yet, and what waits to be sent.
 ghost use Rattle.std.specs.Prelude.{◌≡◌, ◌<◌, ◌≤◌, ◌++◌, ℕ, List, [], length, true, false, Err, IfOk, OnErr, OnOk, MatchOption};
-ghost use Rattle.keepers.specs.Counts.{Rose};
-ghost use Rattle.keepers.specs.Claims.{Tells, WhereTold};
-ghost use Rattle.gdb_line.specs.Talk.{Goes, GoesPartly};
-ghost use Rattle.gdb_wire.specs.Items.{IsItem, IsPartial, said_by as said_by_item};
-ghost use Rattle.gdb_wire.specs.Replies.{reply_packet};
+ghost use Rattle.keepers.specs.Prelude.{Rose, Tells, WhereTold};
+ghost use Rattle.gdb_wire.specs.Prelude.{IsItem, IsPartial, said_by as said_by_item, reply_packet};
+ghost use Rattle.gdb_line.specs.Prelude.{Goes, GoesPartly};
 ghost use Rattle.gdb_session.specs.declared.server.TalkFault.TheVariants as talk;
 ghost use Rattle.gdb_session.specs.Conversation.{interrupts};
 ghost use Rattle.gdb_session.specs.ServerState.{said_by, Holds, MayCome, OnlyHolds, OnlySends, SaysReply, TakesItem};

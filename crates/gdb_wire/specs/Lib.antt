@@ -5,3 +5,4 @@ pub mod Numbers
 pub mod Replies
 pub mod RequestParser
 pub mod Requests
+pub mod Prelude

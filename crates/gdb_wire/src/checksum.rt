@@ -1,5 +1,5 @@
 // The checksum of a packet.
-ghost use Rattle.std.specs.Prelude.{◌≡◌, ◌↔◌, length, sum, IsTrue};
+ghost use Rattle.std.specs.Prelude.{◌≡◌, ◌↔◌, length, IsTrue};
 ghost use Rattle.gdb_wire.specs.Items.{checksum, IsChecksum};
 
 use hex::FromHex;

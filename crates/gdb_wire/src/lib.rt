@@ -19,8 +19,6 @@ mod number;
 mod reading;
 mod replies;
 mod request;
-#[cfg(test)]
-mod tests;
 
 pub use crate::escapes::push_unescaped;
 pub use crate::framing::next_item;

@@ -1,13 +1,12 @@
 -- From tables whose entries are attained a list can be read.
-use Rattle.std.proofs.Common.{◌≡◌, ◌≢◌, ◌⊎◌, ℕ, zero, suc, ◌+◌, ◌-◌, ◌*◌, ◌<◌, ◌≤◌, Bool, true, false, List, [], ◌∷◌, length, refl, sym, ap, ◌∙◌, subst, arith, inl, inr}
+use Rattle.std.proofs.Common.{◌≡◌, ◌≢◌, ◌⊎◌, ℕ, zero, suc, ◌+◌, ◌-◌, ◌*◌, ◌<◌, ◌≤◌, true, false, [], ◌∷◌, length, refl, sym, ap, ◌∙◌, subst, arith, inl, inr}
 use Rattle.std.proofs.lemmas.Bool.{cases_lt, cases_order}
-use Rattle.plan_types.specs.declared.action.Action.{Action}
 use Rattle.plan_types.specs.declared.action.Action.TheVariants.{EndForward, EndReverse}
 use Rattle.level_book.specs.BookCosts.{BookCosts, room}
-use Rattle.level_book.specs.UnderTable.{Entry, number, never, Tables, sum_of, write_cost, read_cost, top_entry}
+use Rattle.level_book.specs.UnderTable.{Entry, number, never, Tables, sum_of, write_cost, read_cost}
 use Rattle.cost_tables.specs.ExactTables.{IsExactTo}
 use Rattle.hrevolve_gen.specs.Laws.{ListExists}
-use Rattle.hrevolve_gen.specs.HRevolveList.{Part, one, faster, split, IsFirst, Reads, whole}
+use Rattle.hrevolve_gen.specs.HRevolveList.{Part, one, faster, split, Reads, whole}
 use Rattle.hrevolve_gen.proofs.NoPlans.{top_none}
 
 -- ---- entries

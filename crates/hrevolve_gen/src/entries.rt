@@ -1,7 +1,7 @@
 // Which right side an entry of the tables is.
 ghost use Rattle.std.specs.Prelude.{◌≡◌, ◌≢◌, ◌↔◌, ℕ, suc, ◌+◌, ◌-◌, ◌*◌, ◌^◌, ◌<◌, ◌≤◌, true, false, length, slice_index};
-ghost use Rattle.level_book.specs.UnderTable.{number, sum_of};
-ghost use Rattle.cost_tables.specs.TableRows.{tables_in, value_of};
+ghost use Rattle.level_book.specs.Prelude.{number, sum_of};
+ghost use Rattle.cost_tables.specs.Prelude.{tables_in, value_of};
 ghost use Rattle.hrevolve_gen.specs.ReadableTables.{split_cost};
 
 use cost_tables::{Cost, Tables};

@@ -1,8 +1,7 @@
 // Laws over the lists that are read. Each function does nothing; its contract is the law.
 ghost use Rattle.std.specs.Prelude.{ℕ, List};
 ghost use Rattle.plan_types.specs.declared.action.Action.{Action};
-ghost use Rattle.level_book.specs.BookCosts.{BookCosts};
-ghost use Rattle.level_book.specs.UnderTable.{Tables};
+ghost use Rattle.level_book.specs.Prelude.{BookCosts, Tables};
 ghost use Rattle.hrevolve_gen.specs.Laws.{ListIsUnique, PlanIsUnique, ListExists, ListEndsForward};
 
 /// At most one list is read from tables.

@@ -1,10 +1,7 @@
 // The whole list.
-ghost use Rattle.std.specs.Prelude.{◌≡◌, ◌≢◌, ◌↔◌, ◌<◌, true, [], length, IfOk, IfErr, OnOk};
-ghost use Rattle.level_book.specs.BookCosts.{slots_of};
-ghost use Rattle.level_book.specs.CostFold.{cost};
-ghost use Rattle.level_book.specs.NestedClass.{Nested};
-ghost use Rattle.level_book.specs.UnderTable.{IsGreatest, number, never, top_entry};
-ghost use Rattle.cost_tables.specs.TableRows.{AreFor, TablesFit, tables_in};
+ghost use Rattle.std.specs.Prelude.{◌≡◌, ◌≢◌, ◌↔◌, ◌<◌, true, length, IfOk, IfErr, OnOk};
+ghost use Rattle.level_book.specs.Prelude.{slots_of, cost, Nested, IsGreatest, number, never, top_entry};
+ghost use Rattle.cost_tables.specs.Prelude.{AreFor, TablesFit, tables_in};
 ghost use Rattle.hrevolve_gen.specs.HRevolveList.{IsWritten};
 ghost use Rattle.hrevolve_gen.specs.Plans.{HasNestedPlan, IsFault};
 ghost use Rattle.hrevolve_gen.specs.ReadableTables.{CanRead};

@@ -1,7 +1,7 @@
 // The actions of a stretch, as they are read from the tables.
-ghost use Rattle.std.specs.Prelude.{◌≡◌, ◌≢◌, ◌+◌, ◌*◌, ◌<◌, ◌≤◌, true, false, ◌++◌, length, IfOk, slice_index};
-ghost use Rattle.level_book.specs.UnderTable.{never};
-ghost use Rattle.cost_tables.specs.TableRows.{tables_in};
+ghost use Rattle.std.specs.Prelude.{◌≡◌, ◌≢◌, ◌+◌, ◌<◌, ◌≤◌, true, false, ◌++◌, length, IfOk, slice_index};
+ghost use Rattle.level_book.specs.Prelude.{never};
+ghost use Rattle.cost_tables.specs.Prelude.{tables_in};
 ghost use Rattle.hrevolve_gen.specs.HRevolveList.{actions, one};
 ghost use Rattle.hrevolve_gen.specs.ReadableTables.{IsReadable, IsMore};
 

@@ -4,3 +4,4 @@ pub mod SlotAllocation
 pub mod Shelves
 pub mod StoredImages
 pub mod StoreCalls
+pub mod Prelude

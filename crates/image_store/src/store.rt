@@ -1,8 +1,8 @@
 // The pairs of all levels.
 ghost use Rattle.std.specs.Prelude.{◌≡◌, ℕ, ◌<◌, length, slice_set, Some, IfOk, OnErr};
 ghost use Rattle.std.specs.FinMap as finmap;
-ghost use Rattle.level_book.specs.BookCosts.{slots_of};
-ghost use Rattle.keepers.specs.Claims.{Images};
+ghost use Rattle.level_book.specs.Prelude.{slots_of};
+ghost use Rattle.keepers.specs.Prelude.{Images};
 ghost use Rattle.image_store.specs.Shelves.{level_of, no_pairs_on};
 ghost use Rattle.image_store.specs.StoredImages.{LevelStands, LevelAlone};
 ghost use Rattle.image_store.specs.StoreCalls.{CanKeep, HasPair, KeepsPair, FetchesPair, ReleasesPair};

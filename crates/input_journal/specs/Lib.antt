@@ -4,3 +4,4 @@ pub mod RecordedInput
 pub mod Parser
 pub mod Laws
 pub mod Parts
+pub mod Prelude

@@ -1,9 +1,9 @@
 // Bytes that are read as a journal.
 ghost use Rattle.std.specs.Prelude.{◌≡◌, ◌≢◌, ◌⊎◌, ◌+◌, ◌≤◌, ℕ, List, length, take, drop, MatchResult, IfOk, IfErr, OnOk};
+ghost use Rattle.std.specs.Vec.{vec_len};
 ghost use Rattle.input_journal.specs.Form.{IsJournal, IsShort};
 ghost use Rattle.input_journal.specs.Faults.{FirstFault};
 ghost use Rattle.input_journal.specs.RecordedInput.{text_of, AreItemsOf, HasJournalFault};
-ghost use Rattle.std.specs.Vec.{vec_len};
 ghost use Rattle.input_journal.specs.Parts.{items_in, AreParts};
 ghost use Rattle.input_journal.specs.Parser.{Gives, number_at, item_at, count_of, reading};
 

@@ -13,3 +13,4 @@ pub mod SinkState
 pub mod SlotFiles
 pub mod Claims
 pub mod LineWrites
+pub mod Prelude

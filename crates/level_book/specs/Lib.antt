@@ -12,3 +12,4 @@ pub mod NestedClass
 pub mod UnderTable
 pub mod DiskClass
 pub mod DiskUnderTable
+pub mod Prelude

@@ -1,8 +1,8 @@
 // The digests of the states of a unit, taken with workers in parallel.
 ghost use Rattle.std.specs.Prelude.{◌≡◌, ◌<◌, IfOk};
 ghost use Rattle.std.specs.List.{AllByRecursion};
-ghost use Rattle.unit_digests.specs.Digests.{states_of, AreDigests, HasPages};
-ghost use Rattle.unit_undo.specs.UndoTrail.{LeadsBack, led_back};
+ghost use Rattle.unit_undo.specs.Prelude.{LeadsBack, led_back};
+ghost use Rattle.unit_digests.specs.Prelude.{states_of, AreDigests, HasPages};
 
 use crate::meeting::Meeting;
 use crate::states::first_state;

@@ -4,7 +4,7 @@
 ghost use Rattle.std.specs.Prelude.{◌≡◌, ◌^◌, ◌<◌, ◌≤◌, vec_len, IfOk};
 ghost use Rattle.std.specs.List.{All};
 ghost use Rattle.std.specs.List.Sorted.{IsStrictlyIncreasing};
-ghost use Rattle.rv_pages.specs.Memory.{page_numbers};
+ghost use Rattle.rv_pages.specs.Prelude.{page_numbers};
 
 use crate::states::first_state;
 use input_journal::{Journal, read_journal, write_journal};

@@ -1,11 +1,10 @@
 // Questions on a program that stores a word twice, over a list of four steps.
 ghost use Rattle.std.specs.Prelude.{◌≡◌, ◌<◌, ◌≤◌, map, IfOk};
 ghost use Rattle.std.specs.Bool.{OnTrue};
-ghost use Rattle.level_book.specs.BookCosts.{slots_of};
-ghost use Rattle.level_book.specs.Valid.{Valid};
-ghost use Rattle.reverse_queries.specs.ListPerformance.{AwaitsList};
+ghost use Rattle.level_book.specs.Prelude.{slots_of, Valid};
+ghost use Rattle.reverse_queries.specs.Prelude.{AwaitsList};
 
-use crate::sessions::{LIST, STACK, have_room};
+use crate::sessions::{STACK, four, have_room};
 use crate::states::first_state;
 use input_journal::Journal;
 use keepers::{Keeper, MemoryKeeper, MemorySink};
@@ -123,7 +122,7 @@ fn answered(
     let (step, done) = performed::<MemoryKeeper, Brand>(
         rt,
         alloc,
-        &LIST,
+        &four(),
         Book::plain(2),
         &mut keepers,
         unit,

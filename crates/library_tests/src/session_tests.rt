@@ -1,14 +1,14 @@
 // Lists performed over four words, with working and failing keepers and writers.
 ghost use Rattle.std.specs.Prelude.{◌≡◌, ◌*◌, ◌<◌, ◌≤◌, map};
 ghost use Rattle.plan_types.specs.declared.limits.TheConstants.{MOST_STEPS};
-ghost use Rattle.reverse_runner.specs.KeepersSeen.{HaveRoom};
+ghost use Rattle.reverse_runner.specs.Prelude.{HaveRoom};
 
-use crate::sessions::{LIST, STACK, have_room};
+use crate::sessions::{STACK, four, have_room, three};
 use crate::states::first_state;
 use input_journal::Journal;
 use keepers::{FlipKeeper, Keeper, MemoryKeeper, MemorySink, Op};
 use level_book::{Book, read_book};
-use plan_types::{Action, Dest, Keep};
+use plan_types::{Action, Dest};
 use reverse_runner::{LineWriter, RunFault, Session, Visitor};
 use rv_machine::Steps;
 use std::alloc::{AllocError, Global};
@@ -31,101 +31,37 @@ const MAPPED: [u32; 17] = [
     0xbfffa, 0xbfffb, 0xbfffc, 0xbfffd, 0xbfffe, 0xbffff,
 ];
 
-// It reverses three steps over two slots.
-const THREE: [Action; 12] = [
-    Action::Forward {
-        from: 0,
-        to: 1,
-        keep: Keep::Store(0),
-    },
-    Action::Forward {
-        from: 1,
-        to: 2,
-        keep: Keep::Store(0),
-    },
-    Action::Forward {
-        from: 2,
-        to: 3,
-        keep: Keep::Tape,
-    },
-    Action::EndForward,
-    Action::Reverse { from: 3, to: 2 },
-    Action::Move {
-        n: 1,
-        from: 0,
-        dest: Dest::Work,
-    },
-    Action::Forward {
-        from: 1,
-        to: 2,
-        keep: Keep::Tape,
-    },
-    Action::Reverse { from: 2, to: 1 },
-    Action::Move {
-        n: 0,
-        from: 0,
-        dest: Dest::Work,
-    },
-    Action::Forward {
-        from: 0,
-        to: 1,
-        keep: Keep::Tape,
-    },
-    Action::Reverse { from: 1, to: 0 },
-    Action::EndReverse,
-];
-
 // Two levels with a slot each.
 const TWO_LEVELS: &[u8] =
     br#"{"forward":1,"reverse":1,"levels":[{"name":"RAM","slots":1,"write":0,"read":0},{"name":"DISK","slots":1,"write":1,"read":1}]}"#;
 
 // It reverses two steps over them. The image of state 0 is copied to level 1, moved back to level 0, and loaded from there.
-const TRAVELS: [Action; 12] = [
-    Action::Forward {
-        from: 0,
-        to: 1,
-        keep: Keep::Store(0),
-    },
-    Action::Copy {
+fn travels() -> [Action; 12] {
+    let copied = Action::Copy {
         n: 0,
         from: 0,
         dest: Dest::Level(1),
-    },
-    Action::Forward {
-        from: 1,
-        to: 2,
-        keep: Keep::Tape,
-    },
-    Action::EndForward,
-    Action::Reverse { from: 2, to: 1 },
-    Action::Move {
-        n: 0,
-        from: 0,
-        dest: Dest::Work,
-    },
-    Action::Forward {
-        from: 0,
-        to: 1,
-        keep: Keep::Nothing,
-    },
-    Action::Move {
+    };
+    let moved = Action::Move {
         n: 0,
         from: 1,
         dest: Dest::Level(0),
-    },
-    Action::Move {
-        n: 0,
-        from: 0,
-        dest: Dest::Work,
-    },
-    Action::Forward {
-        from: 0,
-        to: 1,
-        keep: Keep::Tape,
-    },
-    Action::Reverse { from: 1, to: 0 },
-    Action::EndReverse,
-];
+    };
+    [
+        Action::store(0, 1, 0),
+        copied,
+        Action::tape(1, 2),
+        Action::EndForward,
+        Action::reverse(2, 1),
+        Action::take(0, 0),
+        Action::advance(0, 1),
+        moved,
+        Action::take(0, 0),
+        Action::tape(0, 1),
+        Action::reverse(1, 0),
+        Action::EndReverse,
+    ]
+}
 
 // What a session showed: how many actions it performed, and how it refused others, in their order.
 #[derive(Drop)]
@@ -245,7 +181,7 @@ fn three_units<K: Keeper>(
     performed::<K, Brand>(
         rt,
         alloc,
-        &THREE,
+        &three(),
         3,
         unit,
         Book::plain(2),
@@ -308,7 +244,7 @@ fn line_ends(bytes: &[u8]) -> usize {
 fn damaged(rt: &impl Abort, alloc: Global) -> Result<(), Fail> {
     let mut keepers = vec![in alloc; FlipKeeper::new(alloc, 2, 1, 40)]?;
     let mut out = MemorySink::new(alloc, 4096)?;
-    let seen = four_steps(rt, alloc, &LIST, &mut keepers, &mut out)?;
+    let seen = four_steps(rt, alloc, &four(), &mut keepers, &mut out)?;
     assert_eq!(rt; seen.done, 5);
     let (first, later) = seen.faults.split_first().ok_or("nothing was refused")?;
     assert!(rt; is_damage(first), "the Copy is refused");
@@ -321,7 +257,7 @@ fn a_session_whose_visitor_failed_has_ended(rt: HostRuntime) -> Result<(), Fail>
     let failing = vec![in rt.alloc(); 2u64]?;
     let mut keepers = vec![in rt.alloc(); MemoryKeeper::new(rt.alloc(), 2)]?;
     let mut out = MemorySink::new(rt.alloc(), 4096)?.failing(failing);
-    let seen = four_steps(&rt, rt.alloc(), &LIST, &mut keepers, &mut out)?;
+    let seen = four_steps(&rt, rt.alloc(), &four(), &mut keepers, &mut out)?;
     assert_eq!(rt; seen.done, 4);
     // The rules allow a Copy and two Moves after the Reverse that was refused. None of them calls the keeper.
     assert_eq!(rt;
@@ -342,12 +278,12 @@ fn a_session_whose_visitor_failed_has_ended(rt: HostRuntime) -> Result<(), Fail>
 
 #[test]
 fn a_session_whose_keeper_failed_has_ended(rt: HostRuntime) -> Result<(), Fail> {
-    let stores = [LIST[0], LIST[0]];
+    let stores = [Action::store(0, 1, 0), Action::store(0, 1, 0)];
     let at_store = refused(&rt, rt.alloc(), &stores, Op::Put, 1)?;
     assert_eq!(rt; at_store, (0, Some((1, 0, 0, 0))));
-    let at_get = refused(&rt, rt.alloc(), &LIST, Op::Get, 2)?;
+    let at_get = refused(&rt, rt.alloc(), &four(), Op::Get, 2)?;
     assert_eq!(rt; at_get, (9, Some((2, 2, 0, 2))));
-    let at_free = refused(&rt, rt.alloc(), &LIST, Op::Free, 1)?;
+    let at_free = refused(&rt, rt.alloc(), &four(), Op::Free, 1)?;
     assert_eq!(rt; at_free, (9, Some((2, 2, 1, 2))));
     damaged(&rt, rt.alloc())
 }
@@ -362,7 +298,7 @@ fn travel(rt: &impl Abort, alloc: Global, out: &mut MemorySink) -> Result<(), Fa
     let seen = performed::<MemoryKeeper, Brand>(
         rt,
         alloc,
-        &TRAVELS,
+        &travels(),
         2,
         1,
         book,
@@ -380,7 +316,7 @@ fn travel(rt: &impl Abort, alloc: Global, out: &mut MemorySink) -> Result<(), Fa
 // The list of four steps gives five states.
 fn stay(rt: &impl Abort, alloc: Global, out: &mut MemorySink) -> Result<(), Fail> {
     let mut keepers = vec![in alloc; MemoryKeeper::new(alloc, 2)]?;
-    let seen = four_steps(rt, alloc, &LIST, &mut keepers, out)?;
+    let seen = four_steps(rt, alloc, &four(), &mut keepers, out)?;
     assert_eq!(rt;
         (seen.done, line_ends(out.bytes()), out.bytes().len()),
         (16, 5, 5 * LINE)

@@ -1,75 +1,55 @@
 // Shared by the tests of sessions and questions: a list of four steps, the stack's place, and a check of keepers.
 ghost use Rattle.std.specs.Prelude.{◌<◌, ◌≤◌, length, map, slice_index_or};
 ghost use Rattle.std.specs.Bool.{OnTrue};
-ghost use Rattle.level_book.specs.BookCosts.{slots_of, room};
-ghost use Rattle.reverse_runner.specs.KeepersSeen.{HaveRoom};
+ghost use Rattle.level_book.specs.Prelude.{slots_of, room};
+ghost use Rattle.reverse_runner.specs.Prelude.{HaveRoom};
 
 use keepers::Keeper;
 use level_book::Book;
-use plan_types::{Action, Dest, Keep};
+use plan_types::Action;
 
 // Where x2 points at the start.
 pub(crate) const STACK: u32 = 0xbffffff0;
 
-// It reverses four steps over one level with two slots.
-pub(crate) const LIST: [Action; 16] = [
-    Action::Forward {
-        from: 0,
-        to: 1,
-        keep: Keep::Store(0),
-    },
-    Action::Forward {
-        from: 1,
-        to: 3,
-        keep: Keep::Store(0),
-    },
-    Action::Forward {
-        from: 3,
-        to: 4,
-        keep: Keep::Tape,
-    },
-    Action::EndForward,
-    Action::Reverse { from: 4, to: 3 },
-    Action::Copy {
-        n: 1,
-        from: 0,
-        dest: Dest::Work,
-    },
-    Action::Forward {
-        from: 1,
-        to: 2,
-        keep: Keep::Nothing,
-    },
-    Action::Forward {
-        from: 2,
-        to: 3,
-        keep: Keep::Tape,
-    },
-    Action::Reverse { from: 3, to: 2 },
-    Action::Move {
-        n: 1,
-        from: 0,
-        dest: Dest::Work,
-    },
-    Action::Forward {
-        from: 1,
-        to: 2,
-        keep: Keep::Tape,
-    },
-    Action::Reverse { from: 2, to: 1 },
-    Action::Move {
-        n: 0,
-        from: 0,
-        dest: Dest::Work,
-    },
-    Action::Forward {
-        from: 0,
-        to: 1,
-        keep: Keep::Tape,
-    },
-    Action::Reverse { from: 1, to: 0 },
-    Action::EndReverse,
-];
+// A list that reverses four steps over one level with two slots. It loads one state twice.
+pub(crate) fn four() -> [Action; 16] {
+    [
+        Action::store(0, 1, 0),
+        Action::store(1, 3, 0),
+        Action::tape(3, 4),
+        Action::EndForward,
+        Action::reverse(4, 3),
+        Action::load(1, 0),
+        Action::advance(1, 2),
+        Action::tape(2, 3),
+        Action::reverse(3, 2),
+        Action::take(1, 0),
+        Action::tape(1, 2),
+        Action::reverse(2, 1),
+        Action::take(0, 0),
+        Action::tape(0, 1),
+        Action::reverse(1, 0),
+        Action::EndReverse,
+    ]
+}
+
+// A list that reverses three steps over two slots. It keeps each state.
+pub(crate) fn three() -> [Action; 12] {
+    [
+        Action::store(0, 1, 0),
+        Action::store(1, 2, 0),
+        Action::tape(2, 3),
+        Action::EndForward,
+        Action::reverse(3, 2),
+        Action::take(1, 0),
+        Action::tape(1, 2),
+        Action::reverse(2, 1),
+        Action::take(0, 0),
+        Action::tape(0, 1),
+        Action::reverse(1, 0),
+        Action::EndReverse,
+    ]
+}
 
 // Whether a level has a keeper with as many slots as a run of so many steps can use.
 fn has_room<K: Keeper>(keepers: &[K], book: &Book, k: u8, steps: u32) -> bool

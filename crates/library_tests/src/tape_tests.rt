@@ -1,8 +1,8 @@
 // Which digests are known of the states that a session hands out.
 ghost use Rattle.std.specs.Prelude.{◌≡◌, ◌<◌, ℕ, List, map};
 ghost use Rattle.std.specs.List.{AllByRecursion};
-ghost use Rattle.unit_digests.specs.Digests.{HasPages};
-ghost use Rattle.reverse_runner.specs.KeepersSeen.{HaveRoom};
+ghost use Rattle.unit_digests.specs.Prelude.{HasPages};
+ghost use Rattle.reverse_runner.specs.Prelude.{HaveRoom};
 
 use crate::sessions::have_room;
 use crate::states::first_state;

@@ -1,7 +1,7 @@
 // Units of one step, of two, and of more than a program takes before it stops.
 ghost use Rattle.std.specs.Prelude.{◌≡◌, ◌<◌, ◌≤◌};
-ghost use Rattle.rv_machine.specs.States.{state_number};
-ghost use Rattle.unit_undo.specs.UndoTrail.{LeadsBack, led_back, HasSteps, IsMadeFor};
+ghost use Rattle.rv_machine.specs.Prelude.{state_number};
+ghost use Rattle.unit_undo.specs.Prelude.{LeadsBack, led_back, HasSteps, IsMadeFor};
 
 use crate::states::first_state;
 use input_journal::{Journal, read_journal};

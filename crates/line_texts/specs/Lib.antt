@@ -3,3 +3,4 @@ pub mod Tokens
 pub mod Numbers
 pub mod Parsers
 pub mod Cursors
+pub mod Prelude

@@ -1,4 +1,5 @@
 // Where a text breaks a rule.
+ghost use Rattle.std.specs.Prelude.{◌≡◌, ℕ};
 
 use std::alloc::{AllocError, AllocFailed};
 use thiserror::Error;
@@ -34,5 +35,35 @@ impl<T: Drop> From<AllocFailed<T>> for Fault {
 
     fn from(_e: AllocFailed<T>) -> Fault {
         Fault::Memory
+    }
+}
+
+/// The rules of a line, each with its number.
+pub trait Rules {
+    ghost number_of: { Self → ℕ };
+
+    fn number(self) -> u8
+        ensures { result ≡ number_of self };
+}
+
+/// A fault within a line.
+#[derive(Clone, Copy)]
+pub struct LineFault<R> {
+    /// The broken rule.
+    pub rule: R,
+    /// Where, in bytes from 1.
+    pub column: u32,
+}
+
+impl<R: Rules + Copy> LineFault<R> {
+    /// The fault, as one of the text whose line has this number.
+    pub fn at(self, line: u32) -> Fault
+        ensures { result ≡ Fault.At (R.number_of self.rule) line self.column }
+    {
+        Fault::At {
+            rule: self.rule.number(),
+            line,
+            column: self.column,
+        }
     }
 }

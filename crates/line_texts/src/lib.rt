@@ -17,7 +17,7 @@ mod tokens;
 
 pub use crate::address::address_of;
 pub use crate::blank::{after_blanks, past};
-pub use crate::fault::Fault;
+pub use crate::fault::{Fault, LineFault, Rules};
 pub use crate::lines::{Lines, length_before, without_first};
 pub use crate::number::{number_at, number_of};
 pub use crate::tokens::{NoBlanks, RunBytes, Token, Tokens, Words, run_length};

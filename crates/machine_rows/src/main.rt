@@ -16,7 +16,7 @@ mod row;
 
 use came::{Seen, came_of, run};
 use case::{Case, case_of};
-use case_files::all_came;
+use case_files::{all_came, exit_code};
 use input_journal::Journal;
 use row::{Row, Stored, row_of};
 use rv_machine::{State, Status, Steps, step};
@@ -29,10 +29,7 @@ use std::sync::ledger::{Blank, Ledger};
 use std::{env, fs, io};
 
 fn main(rt: HostRuntime) -> ExitCode {
-    match run_files(&rt) {
-        Ok(true) => ExitCode::SUCCESS,
-        _ => ExitCode::FAILURE,
-    }
+    exit_code(run_files(&rt))
 }
 
 // Whether all lines of the files that the arguments name passed.

@@ -4,7 +4,7 @@
 
 ghost use Rattle.std.specs.Prelude.{◌≡◌, ◌≢◌, ℕ, List, [], None, Some, MatchOption, OnOk, OnErr};
 ghost use Rattle.std.specs.FinMap as finmap;
-ghost use Rattle.keepers.specs.DiskFaults.{FailsOnlyWhere};
+ghost use Rattle.keepers.specs.Prelude.{FailsOnlyWhere};
 ghost use Rattle.memory_disk.specs.Changes.{after_change, files_after};
 
 use keepers::{Disk, Whole};

@@ -5,3 +5,4 @@ pub mod MultistageList
 pub mod Ranks
 pub mod Threshold
 pub mod Plan
+pub mod Prelude

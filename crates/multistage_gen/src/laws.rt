@@ -1,7 +1,7 @@
 // Laws over the planned lists. Each function does nothing; its contract is the law.
 ghost use Rattle.std.specs.Prelude.{ℕ, List};
 ghost use Rattle.plan_types.specs.declared.action.Action.{Action};
-ghost use Rattle.level_book.specs.BookCosts.{BookCosts};
+ghost use Rattle.level_book.specs.Prelude.{BookCosts};
 ghost use Rattle.multistage_gen.specs.MultistageList.{PlansAreUnique, PlanExists};
 ghost use Rattle.multistage_gen.specs.Threshold.{LeastOfTheMultistage, PlannedIsLeast};
 

@@ -2,9 +2,7 @@
 ghost use Rattle.std.specs.Prelude.{◌≡◌, ℕ, ◌+◌, ◌*◌, ◌<◌, ◌≤◌, [], length, take, drop, IfOk, OnOk};
 ghost use Rattle.std.specs.List.{AllByRecursion};
 ghost use Rattle.plan_types.specs.declared.limits.TheConstants.{MOST_STEPS};
-ghost use Rattle.revolve_gen.specs.Plans.{HasPlan};
-ghost use Rattle.revolve_gen.specs.Stack.{written, read};
-ghost use Rattle.revolve_gen.specs.RevolveList.{revolve};
+ghost use Rattle.revolve_gen.specs.Prelude.{HasPlan, written, read, revolve};
 ghost use Rattle.multistage_gen.specs.Traffic.{IsTraffic};
 ghost use Rattle.multistage_gen.specs.Numbers.{weigh, steps_of, count_of, IsOf, AreOf, IsCountedOn, AreCounted, AreAscending};
 

@@ -1,6 +1,6 @@
 // An action with its image on another level.
 ghost use Rattle.std.specs.Prelude.{◌≡◌, ◌+◌, ◌<◌, ◌^◌, slice_index};
-ghost use Rattle.revolve_gen.specs.Stack.{stack_step, place, held_after, on_level};
+ghost use Rattle.revolve_gen.specs.Prelude.{stack_step, place, held_after, on_level};
 
 use plan_types::Action;
 use revolve_gen::{StackStep, on_level};

@@ -1,10 +1,10 @@
 // The levels of the places of a list, by what they save.
 ghost use Rattle.std.specs.Prelude.{◌≡◌, ◌+◌, ◌-◌, ◌*◌, ◌≤◌, All, List, [], ◌∷◌, length, map, IfOk};
+ghost use Rattle.plan_types.specs.declared.action.Action.{Action};
 ghost use Rattle.plan_types.specs.declared.limits.TheConstants.{MOST_ACTIONS};
 ghost use Rattle.level_book.specs.declared.book.Level.{Level};
-ghost use Rattle.level_book.specs.BookCosts.{room};
-ghost use Rattle.plan_types.specs.declared.action.Action.{Action};
-ghost use Rattle.revolve_gen.specs.Stack.{written, read};
+ghost use Rattle.level_book.specs.Prelude.{room};
+ghost use Rattle.revolve_gen.specs.Prelude.{written, read};
 ghost use Rattle.multistage_gen.specs.Traffic.{IsTraffic};
 ghost use Rattle.multistage_gen.specs.Threshold.{AreSavings};
 ghost use Rattle.multistage_gen.specs.Ranks.{IsCounted, saving_of, ranks_from, ArePlanned};

@@ -1,7 +1,7 @@
 // The multistage plan, one action at a time.
 ghost use Rattle.std.specs.Prelude.{◌≡◌, ◌≤◌, [], ◌∷◌, length, MatchOption, IfOk, IfErr};
 ghost use Rattle.plan_types.specs.declared.limits.TheConstants.{MOST_STEPS};
-ghost use Rattle.revolve_gen.specs.Multistage.{IsMultistage};
+ghost use Rattle.revolve_gen.specs.Prelude.{IsMultistage};
 ghost use Rattle.multistage_gen.specs.Plan.{IsPlaced};
 ghost use Rattle.multistage_gen.specs.MultistageList.{IsMultistageList, IsFault};
 

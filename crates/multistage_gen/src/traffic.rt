@@ -1,7 +1,7 @@
 // The traffic of the places of a stack.
 ghost use Rattle.std.specs.Prelude.{◌≡◌, ℕ, ◌+◌, ◌-◌, ◌^◌, ◌<◌, ◌≤◌, [], ◌∷◌, ◌++◌, List, length, slice_get, Some, IfOk, OnOk, vec_len};
 ghost use Rattle.plan_types.specs.declared.action.Action.{Action};
-ghost use Rattle.revolve_gen.specs.Stack.{written, read};
+ghost use Rattle.revolve_gen.specs.Prelude.{written, read};
 ghost use Rattle.multistage_gen.specs.TrafficCount.{HasCounted};
 ghost use Rattle.multistage_gen.specs.Traffic.{IsTraffic};
 

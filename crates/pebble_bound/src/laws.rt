@@ -1,7 +1,7 @@
 // Laws over all valid lists. Each function does nothing; its contract is the law.
 ghost use Rattle.std.specs.Prelude.{ℕ, List};
 ghost use Rattle.plan_types.specs.declared.action.Action.{Action};
-ghost use Rattle.level_book.specs.BookCosts.{BookCosts};
+ghost use Rattle.level_book.specs.Prelude.{BookCosts};
 ghost use Rattle.pebble_bound.specs.Laws.{FewAreAdvancedSeldom, EachIsTapedOnce, ForwardIsBounded, NoneIsBelowRevolve, NoneWithoutSlots};
 
 /// For every k, a valid list advances at most β(c, k) steps at most k times without tape.

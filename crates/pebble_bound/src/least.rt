@@ -1,10 +1,9 @@
 // The least number of forward steps.
 ghost use Rattle.std.specs.Prelude.{◌≡◌, ◌+◌, ◌≤◌, ◌↔◌, List, Some, IsNone, IsSomeAnd};
-ghost use Rattle.plan_types.specs.declared.limits.TheConstants.{MOST_STEPS};
 ghost use Rattle.plan_types.specs.declared.action.Action.{Action};
-ghost use Rattle.level_book.specs.BookCosts.{BookCosts};
-ghost use Rattle.level_book.specs.CostFold.{forward};
-ghost use Rattle.binomials.specs.Advances.{least_advances};
+ghost use Rattle.plan_types.specs.declared.limits.TheConstants.{MOST_STEPS};
+ghost use Rattle.level_book.specs.Prelude.{BookCosts, forward};
+ghost use Rattle.binomials.specs.Prelude.{least_advances};
 ghost use Rattle.pebble_bound.specs.Laws.{IsValidWithin};
 
 use binomials::least_advances;

@@ -3,7 +3,8 @@ use Rattle.std.specs.Prelude.{◌≡◌, ◌⊎◌, ℕ, ◌≤◌, ◌++◌, Li
 use Rattle.std.specs.List.{AllByRecursion, flat_map}
 use Rattle.endings.specs.declared.outcome.Outcome.{Outcome}
 use Rattle.requests.specs.declared.bounds.Bounded.{Bounded}
-use Rattle.requests.specs.Operands.{Limit, within, bounds_of, products_of}
+use Rattle.requests.specs.declared.bounds.Limit.{Limit}
+use Rattle.requests.specs.Operands.{within, bounds_of, products_of}
 use Rattle.requests.specs.Request.{Choice, raw, stack, workers, units, files, unit_count, Command, operands, Request, Says}
 use Rattle.endings.specs.Outcomes.{no_request, out_of_range}
 

@@ -9,3 +9,4 @@ pub mod ChoiceParser
 pub mod Forms
 pub mod RequestModel
 pub mod InputOutcome
+pub mod Prelude

@@ -6,6 +6,7 @@ use Rattle.plan_types.specs.declared.limits.TheConstants.{MOST_STEPS}
 use Rattle.hex.specs.Hex.{IsBytes, encode_lower}
 use Rattle.line_texts.specs.Numbers.{address_word}
 use Rattle.requests.specs.declared.bounds.Bounded.{Bounded}
+use Rattle.requests.specs.declared.bounds.Limit.{Limit}
 use Rattle.requests.specs.declared.input_kind.InputKind.{InputKind}
 use Rattle.requests.specs.declared.input_kind.InputKind.TheVariants as input
 use Rattle.requests.specs.declared.question.Question.{Question}
@@ -20,12 +21,6 @@ pub record Input : Type 0 where
 pub data Schedule : Type 0 where
   by_name : List ℕ → Schedule
   made : Schedule
-
--- the bounds of a number, and their rule
-pub record Limit : Type 0 where
-  pub least : ℕ
-  pub greatest : ℕ
-  pub rule : ℕ
 
 -- An operand with its value. A new kind is a case here, and a row in each of the definitions below.
 pub data Operand : Type 0 where

@@ -25,8 +25,9 @@ use Rattle.requests.specs.declared.kind.PlanKind.{PlanKind}
 use Rattle.requests.specs.declared.kind.PlanKind.TheVariants.{Revolve, Multistage, Disk, Hrevolve}
 use Rattle.requests.specs.declared.question.Question.{Question}
 use Rattle.requests.specs.declared.question.Question.TheVariants.{State, LastWrite, LastChange}
+use Rattle.requests.specs.declared.bounds.Limit.{Limit}
 pub use Rattle.requests.specs.Operands.{steps_limit}
-use Rattle.requests.specs.Operands.{Schedule, by_name, Limit, Operand, the_word, a_program, a_journal, a_book, a_schedule, a_certificate, run_steps, a_number, a_question, a_digest, a_source, some_words, a_script, word_of, IsName, IsNumber, CanStand}
+use Rattle.requests.specs.Operands.{Schedule, by_name, Operand, the_word, a_program, a_journal, a_book, a_schedule, a_certificate, run_steps, a_number, a_question, a_digest, a_source, some_words, a_script, word_of, IsName, IsNumber, CanStand}
 
 -- ---- options
 

@@ -1,9 +1,150 @@
-// The numbers of a request, and their bounds.
+// The numbers of a request, and their limits.
 ghost use Rattle.std.specs.Prelude.{◌≡◌, ◌↔◌, MatchOption, IsTrue};
 ghost use Rattle.std.specs.List.{AllByRecursion};
+ghost use Rattle.requests.specs.Operands.{within, question_bound};
+ghost use Rattle.requests.specs.Request.{plan_limit};
 ghost use Rattle.requests.specs.Bounds.{IsWithin, out_of_bounds, RefusesFirst};
 
+use crate::kind::PlanKind;
+use crate::question::Question;
 use endings::Outcome;
+use plan_types::{MOST_SLOTS, MOST_STEPS};
+
+/// The least and greatest accepted values of a number, and the number of its rule.
+#[derive(Clone, Copy, Debug)]
+pub struct Limit {
+    pub least: u64,
+    pub greatest: u64,
+    pub rule: u16,
+}
+
+/// Of the pages of the stack.
+pub(crate) const STACK_PAGES: Limit = Limit {
+    least: 1,
+    greatest: 1024,
+    rule: 4,
+};
+
+/// Of the number of workers.
+pub(crate) const WORKERS: Limit = Limit {
+    least: 1,
+    greatest: 64,
+    rule: 3,
+};
+
+/// Of the instructions in a step of a schedule.
+pub(crate) const UNIT: Limit = Limit {
+    least: 1,
+    greatest: 1024,
+    rule: 12,
+};
+
+/// Of the number of a level with files.
+pub(crate) const LEVEL: Limit = Limit {
+    least: 0,
+    greatest: 3,
+    rule: 5,
+};
+
+/// Of the number of steps.
+pub(crate) const STEPS: Limit = Limit {
+    least: 0,
+    greatest: MOST_STEPS as u64,
+    rule: 1,
+};
+
+/// Of the number of steps of a plan by DiskRevolve.
+const DISK_STEPS: Limit = Limit {
+    least: 0,
+    greatest: 8192,
+    rule: 1,
+};
+
+/// Of the number of steps of a plan by H-Revolve.
+const NESTED_STEPS: Limit = Limit {
+    least: 0,
+    greatest: 2048,
+    rule: 1,
+};
+
+/// Of the number of instructions in a run that a list goes over.
+pub(crate) const INSTRUCTIONS: Limit = Limit {
+    least: 0,
+    greatest: MOST_STEPS as u64,
+    rule: 13,
+};
+
+/// Of a period.
+pub(crate) const PERIOD: Limit = Limit {
+    least: 1,
+    greatest: MOST_STEPS as u64,
+    rule: 2,
+};
+
+/// Of the slots of a demonstration.
+pub(crate) const SLOTS: Limit = Limit {
+    least: 0,
+    greatest: MOST_SLOTS as u64,
+    rule: 10,
+};
+
+/// Of the number that a program is made from.
+pub(crate) const SEED: Limit = Limit {
+    least: 0,
+    greatest: u32::MAX as u64,
+    rule: 11,
+};
+
+/// Of the address of a word.
+const ADDRESS: Limit = Limit {
+    least: 0,
+    greatest: 0xffff_fffc,
+    rule: 7,
+};
+
+impl Limit {
+    /// A number with these bounds.
+    pub(crate) fn of(self, number: u64) -> Bounded
+        ensures { result ≡ within self number }
+    {
+        Bounded {
+            number,
+            least: self.least,
+            greatest: self.greatest,
+            rule: self.rule,
+        }
+    }
+}
+
+/// The limit of the number of a plan's steps.
+pub(crate) fn plan_limit(kind: PlanKind) -> Limit
+    ensures { result ≡ plan_limit kind }
+{
+    match kind {
+        PlanKind::Revolve | PlanKind::Multistage => STEPS,
+        PlanKind::Disk => DISK_STEPS,
+        PlanKind::Hrevolve => NESTED_STEPS,
+    }
+}
+
+/// The number of a question about a run whose last state has this number.
+pub(crate) fn question_bound(last: u64, question: Question) -> Bounded
+    ensures { result ≡ question_bound last question }
+{
+    match question {
+        Question::State(place) => {
+            let limit = Limit {
+                least: 0,
+                greatest: last,
+                rule: 6,
+            };
+            limit.of(place)
+        }
+        Question::LastWrite(address) | Question::LastChange(address) => {
+            ADDRESS.of(u64::from(address))
+        }
+    }
+}
 
 /// A number of a request, its least and greatest accepted values, and the number of its rule.
 #[derive(Clone, Copy, Debug)]

@@ -1,6 +1,6 @@
 // The words of a command, read one after the other.
 ghost use Rattle.std.specs.Prelude.{◌≡◌, ◌⊎◌, ℕ, List, ◌∷◌, [], map, None, Some, MatchOption, option_map};
-ghost use Rattle.line_texts.specs.Parsers.{GivesSome};
+ghost use Rattle.line_texts.specs.Prelude.{GivesSome};
 ghost use Rattle.requests.specs.RequestModel.{as_schedule};
 ghost use Rattle.requests.specs.Forms.{fixed, named, named_or_none, schedule_named, scheduled, numbered, addressed, digested, address_of, digest_of, finished, Takes};
 

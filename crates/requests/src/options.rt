@@ -1,8 +1,8 @@
 // The options of a command line.
 ghost use Rattle.std.specs.Prelude.{◌≡◌, map};
 ghost use Rattle.std.specs.List.{list_any};
+ghost use Rattle.line_texts.specs.Prelude.{GivesSome};
 ghost use Rattle.requests.specs.Request.{is_files, says_raw, stack_pages, worker_count, unit_count};
-ghost use Rattle.line_texts.specs.Parsers.{GivesSome};
 ghost use Rattle.requests.specs.ChoiceParser.{number_of, stack_of, workers_of, unit_of, files_of, choice_of, first_choice, options_at, behind_options, is_like, are_single, as_choice};
 
 use crate::text::after;

@@ -1,6 +1,6 @@
 // A command is read by its form: a line for each of its words and operands, in their order.
 ghost use Rattle.std.specs.Prelude.{◌≡◌, ℕ, List, Option, map, codes, option_map};
-ghost use Rattle.line_texts.specs.Parsers.{GivesSome};
+ghost use Rattle.line_texts.specs.Prelude.{GivesSome};
 ghost use Rattle.requests.specs.Request.{kind_word};
 ghost use Rattle.requests.specs.declared.question.Question.TheVariants as about;
 ghost use Rattle.requests.specs.Forms.{Place, Value, Takes, TakesAll, ask_places, numbered, addressed, run_form, plan_form, periodic_form, check_form, certify_form, cost_form, ask_form, find_form, asm_form, disasm_form, console_form, demo_form, form_taken, command_of};

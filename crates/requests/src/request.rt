@@ -1,27 +1,22 @@
 // What the words ask for: options and a command, as a value that borrows the names.
-ghost use Rattle.std.specs.Prelude.{◌≡◌, ◌≤◌, map, IfSome, IfNone, MatchOption};
+ghost use Rattle.std.specs.Prelude.{◌≤◌, map, IfSome, IfNone, MatchOption};
 ghost use Rattle.std.specs.List.{AllByRecursion, flat_map};
-ghost use Rattle.requests.specs.Operands.{steps_limit, instructions_limit, within, question_bound};
-ghost use Rattle.requests.specs.Request.{Request as ARequest, Says, plan_limit, period_limit, slots_limit, seed_limit};
-ghost use Rattle.requests.specs.Bounds.{stack_limit, workers_limit, unit_limit, level_limit, numbers, option_numbers, command_numbers, IsWithin, RefusesFirst};
-ghost use Rattle.line_texts.specs.Parsers.{GivesSome};
+ghost use Rattle.line_texts.specs.Prelude.{GivesSome};
+ghost use Rattle.requests.specs.Request.{Request as ARequest, Says};
+ghost use Rattle.requests.specs.Bounds.{numbers, option_numbers, command_numbers, IsWithin, RefusesFirst};
 ghost use Rattle.requests.specs.ChoiceParser.{options_at, as_choice};
 ghost use Rattle.requests.specs.RequestModel.{run_numbers, asked_numbers, request_read, as_command, request_of};
 
-use crate::bounds::{Bounded, first_outside};
+use crate::bounds::{
+    INSTRUCTIONS, LEVEL, PERIOD, SEED, SLOTS, STACK_PAGES, STEPS, UNIT, WORKERS, first_outside,
+    plan_limit, question_bound,
+};
 use crate::kind::PlanKind;
 use crate::options::{Choice, Options, next_option, read_options};
 use crate::question::Question;
 use crate::reading::read_command;
 use crate::schedule::Schedule;
 use endings::Outcome;
-use plan_types::{MOST_SLOTS, MOST_STEPS};
-
-// The address of the last word in the machine's memory.
-const LAST_WORD: u64 = 0xffff_fffc;
-
-// The most instructions in a step of a schedule.
-const MOST_UNIT: u64 = 1024;
 
 /// What the words ask for.
 #[derive(Debug, Drop)]
@@ -163,152 +158,6 @@ pub struct Demo {
     pub slots: u64,
 }
 
-// The bounds of the number of the stack's pages.
-fn stack_bound(pages: u64) -> Bounded
-    ensures { result ≡ within stack_limit pages }
-{
-    Bounded {
-        number: pages,
-        least: 1,
-        greatest: 1024,
-        rule: 4,
-    }
-}
-
-// The bounds of the number of workers.
-fn workers_bound(count: u64) -> Bounded
-    ensures { result ≡ within workers_limit count }
-{
-    Bounded {
-        number: count,
-        least: 1,
-        greatest: 64,
-        rule: 3,
-    }
-}
-
-fn unit_bound(count: u64) -> Bounded
-    ensures { result ≡ within unit_limit count }
-{
-    Bounded {
-        number: count,
-        least: 1,
-        greatest: MOST_UNIT,
-        rule: 12,
-    }
-}
-
-fn level_bound(level: u64) -> Bounded
-    ensures { result ≡ within level_limit level }
-{
-    Bounded {
-        number: level,
-        least: 0,
-        greatest: 3,
-        rule: 5,
-    }
-}
-
-// The bounds of the number of steps.
-fn steps_bound(steps: u64) -> Bounded
-    ensures { result ≡ within steps_limit steps }
-{
-    Bounded {
-        number: steps,
-        least: 0,
-        greatest: MOST_STEPS as u64,
-        rule: 1,
-    }
-}
-
-// The bounds of the number of instructions in a run that a list goes over.
-fn instructions_bound(instructions: u64) -> Bounded
-    ensures { result ≡ within instructions_limit instructions }
-{
-    Bounded {
-        number: instructions,
-        least: 0,
-        greatest: MOST_STEPS as u64,
-        rule: 13,
-    }
-}
-
-// The bounds of the number of a plan's steps.
-fn plan_bound(kind: PlanKind, steps: u64) -> Bounded
-    ensures { result ≡ within (plan_limit kind) steps }
-{
-    match kind {
-        PlanKind::Revolve | PlanKind::Multistage => steps_bound(steps),
-        PlanKind::Disk => Bounded {
-            number: steps,
-            least: 0,
-            greatest: 8192,
-            rule: 1,
-        },
-        PlanKind::Hrevolve => Bounded {
-            number: steps,
-            least: 0,
-            greatest: 2048,
-            rule: 1,
-        },
-    }
-}
-
-fn period_bound(period: u64) -> Bounded
-    ensures { result ≡ within period_limit period }
-{
-    Bounded {
-        number: period,
-        least: 1,
-        greatest: MOST_STEPS as u64,
-        rule: 2,
-    }
-}
-
-// The bounds of the number of a question about a run whose last state has this number.
-fn question_bound(last: u64, question: Question) -> Bounded
-    ensures { result ≡ question_bound last question }
-{
-    match question {
-        Question::State(place) => Bounded {
-            number: place,
-            least: 0,
-            greatest: last,
-            rule: 6,
-        },
-        Question::LastWrite(address) | Question::LastChange(address) => Bounded {
-            number: u64::from(address),
-            least: 0,
-            greatest: LAST_WORD,
-            rule: 7,
-        },
-    }
-}
-
-// The bounds of the number of a demonstration's slots.
-fn slots_bound(slots: u64) -> Bounded
-    ensures { result ≡ within slots_limit slots }
-{
-    Bounded {
-        number: slots,
-        least: 0,
-        greatest: MOST_SLOTS as u64,
-        rule: 10,
-    }
-}
-
-// The bounds of the number that a program is made from.
-fn seed_bound(number: u64) -> Bounded
-    ensures { result ≡ within seed_limit number }
-{
-    Bounded {
-        number,
-        least: 0,
-        greatest: u32::MAX as u64,
-        rule: 11,
-    }
-}
-
 impl Request<'_> {
     /// How a call ends for the request's first number out of bounds.
     pub fn refusal(&self) -> Option<Outcome>
@@ -343,10 +192,10 @@ impl Choice<'_> {
     {
         match self {
             Choice::Raw => None,
-            Choice::Stack(pages) => first_outside(&[stack_bound(*pages)]),
-            Choice::Workers(count) => first_outside(&[workers_bound(*count)]),
-            Choice::Unit(count) => first_outside(&[unit_bound(*count)]),
-            Choice::Files(level, _) => first_outside(&[level_bound(*level)]),
+            Choice::Stack(pages) => first_outside(&[STACK_PAGES.of(*pages)]),
+            Choice::Workers(count) => first_outside(&[WORKERS.of(*count)]),
+            Choice::Unit(count) => first_outside(&[UNIT.of(*count)]),
+            Choice::Files(level, _) => first_outside(&[LEVEL.of(*level)]),
         }
     }
 }
@@ -360,21 +209,21 @@ impl Command<'_> {
     {
         match self {
             Command::Run(backward) => run_refusal(unit, backward.run.steps),
-            Command::Plan(plan) => first_outside(&[plan_bound(plan.kind, plan.steps)]),
+            Command::Plan(plan) => first_outside(&[plan_limit(plan.kind).of(plan.steps)]),
             Command::PlanPeriodic(plan) => {
-                first_outside(&[steps_bound(plan.steps), period_bound(plan.period)])
+                first_outside(&[STEPS.of(plan.steps), PERIOD.of(plan.period)])
             }
-            Command::Check(check) => first_outside(&[steps_bound(check.steps)]),
-            Command::Certify(certify) => first_outside(&[steps_bound(certify.steps)]),
-            Command::Cost(cost) => first_outside(&[steps_bound(cost.steps)]),
+            Command::Check(check) => first_outside(&[STEPS.of(check.steps)]),
+            Command::Certify(certify) => first_outside(&[STEPS.of(certify.steps)]),
+            Command::Cost(cost) => first_outside(&[STEPS.of(cost.steps)]),
             Command::Ask(ask) => question_refusal(unit, ask.run.steps, ask.question),
-            Command::Find(find) => first_outside(&[steps_bound(find.steps)]),
+            Command::Find(find) => first_outside(&[STEPS.of(find.steps)]),
             Command::Asm(_) | Command::Disasm(_) => None,
-            Command::Console(console) => first_outside(&[steps_bound(console.steps)]),
+            Command::Console(console) => first_outside(&[STEPS.of(console.steps)]),
             Command::Demo(demo) => first_outside(&[
-                seed_bound(demo.number),
-                steps_bound(demo.steps),
-                slots_bound(demo.slots),
+                SEED.of(demo.number),
+                STEPS.of(demo.steps),
+                SLOTS.of(demo.slots),
             ]),
         }
     }
@@ -385,9 +234,9 @@ fn run_refusal(unit: u64, steps: u64) -> Option<Outcome>
     requires { unit ≤ 1024 }
     ensures { MatchOption result (AllByRecursion IsWithin (run_numbers unit steps)) (RefusesFirst (run_numbers unit steps)) }
 {
-    match first_outside(&[steps_bound(steps)]) {
+    match first_outside(&[STEPS.of(steps)]) {
         Some(refusal) => Some(refusal),
-        None => first_outside(&[instructions_bound(unit * steps)]),
+        None => first_outside(&[INSTRUCTIONS.of(unit * steps)]),
     }
 }
 
@@ -396,11 +245,11 @@ fn question_refusal(unit: u64, steps: u64, question: Question) -> Option<Outcome
     requires { unit ≤ 1024 }
     ensures { MatchOption result (AllByRecursion IsWithin (asked_numbers unit steps question)) (RefusesFirst (asked_numbers unit steps question)) }
 {
-    match first_outside(&[steps_bound(steps)]) {
+    match first_outside(&[STEPS.of(steps)]) {
         Some(refusal) => Some(refusal),
         None => {
             let last = unit * steps;
-            first_outside(&[question_bound(last, question), instructions_bound(last)])
+            first_outside(&[question_bound(last, question), INSTRUCTIONS.of(last)])
         }
     }
 }

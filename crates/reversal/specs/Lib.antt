@@ -31,3 +31,4 @@ pub mod NoPlans
 pub mod WrittenPlans
 pub mod Contents
 pub mod LinesWritten
+pub mod Prelude

@@ -1,17 +1,16 @@
 // A question about a run, and how it is answered.
 ghost use Rattle.std.specs.Prelude.{◌≡◌, ◌≢◌, ◌⊎◌, ◌≤◌, ◌<◌, ◌+◌, ◌*◌, map};
-ghost use Rattle.keepers.specs.Claims.{Tells, AddsPrefix};
-ghost use Rattle.keepers.specs.Counts.{Rose, raised};
-ghost use Rattle.level_book.specs.BookCosts.{slots_of};
+ghost use Rattle.level_book.specs.Prelude.{slots_of};
 ghost use Rattle.rv_pages.specs.declared.pages.TheConstants.{LAST_WORD};
-ghost use Rattle.reverse_runner.specs.KeepersSeen.{HaveRoom};
+ghost use Rattle.keepers.specs.Prelude.{Tells, AddsPrefix, Rose, raised};
+ghost use Rattle.reverse_runner.specs.Prelude.{HaveRoom};
+ghost use Rattle.endings.specs.Prelude.{done, stopped};
 ghost use Rattle.reverse_runner.specs.declared.fault.RunFault.TheVariants as fault_is;
+ghost use Rattle.requests.specs.declared.question.Question.TheVariants as about;
 ghost use Rattle.reversal.specs.Output.{Adds};
 ghost use Rattle.reversal.specs.Job.{ask};
 ghost use Rattle.reversal.specs.CommandAsk.{answer_text};
-ghost use Rattle.endings.specs.Outcomes.{done, stopped};
 ghost use Rattle.reversal.specs.JobModel.{run_over, run_from, CanBeAsked, Does, DoesBegun, IsBegun, fault_ending};
-ghost use Rattle.requests.specs.declared.question.Question.TheVariants as about;
 
 use crate::job::fault_ending;
 use endings::Outcome;

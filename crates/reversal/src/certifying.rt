@@ -1,12 +1,11 @@
 // Whether a list is the least by its certificate: of all valid lists, or of its class.
 ghost use Rattle.std.specs.Prelude.{◌≡◌, ℕ, ◌≤◌, List, length, IfOk, IfErr};
 ghost use Rattle.plan_types.specs.declared.limits.TheConstants.{MOST_ACTIONS, MOST_STEPS};
-ghost use Rattle.level_book.specs.Valid.{Valid};
-ghost use Rattle.cert_text.specs.Meaning.{IsCertificateText};
-ghost use Rattle.cert_text.specs.Faults.{HasFirstFault};
-ghost use Rattle.bound_cert.specs.Acceptance.{class_of, IsAccepted};
+ghost use Rattle.level_book.specs.Prelude.{Valid};
+ghost use Rattle.cert_text.specs.Prelude.{IsCertificateText, HasFirstFault};
+ghost use Rattle.bound_cert.specs.Prelude.{class_of, IsAccepted};
+ghost use Rattle.endings.specs.Prelude.{bad_certificate};
 ghost use Rattle.reversal.specs.CommandCertify.{least_line, DecidesCertify};
-ghost use Rattle.endings.specs.Outcomes.{bad_certificate};
 ghost use Rattle.reversal.specs.JobModel.{IsRefusal, IsUnweighed, IsDecided};
 
 use crate::decision::{book_in, judge, list_in};

@@ -2,18 +2,14 @@
 ghost use Rattle.std.specs.Prelude.{◌≡◌, ◌<◌, ◌≤◌, ◌^◌, ℕ, map, max, length, slice_get, Some, IfOk, IfErr, OnOk};
 ghost use Rattle.std.specs.Vec.{vec_len};
 ghost use Rattle.plan_types.specs.declared.limits.TheConstants.{MOST_STEPS};
-ghost use Rattle.level_book.specs.BookCosts.{slots_of, total_room};
-ghost use Rattle.reverse_runner.specs.KeepersSeen.{HaveRoom};
+ghost use Rattle.level_book.specs.Prelude.{slots_of, total_room};
+ghost use Rattle.reverse_runner.specs.Prelude.{HaveRoom};
 ghost use Rattle.reverse_console.specs.declared.order.Order.{Order as AnOrder};
-ghost use Rattle.reverse_console.specs.Answer.{IsOrder};
-ghost use Rattle.reverse_console.specs.Script.{IsScript};
-ghost use Rattle.reverse_console.specs.ScriptFaults.{HasFirstFault};
-ghost use Rattle.requests.specs.Request.{stack_pages};
-ghost use Rattle.endings.specs.Outcomes.{no_plan, bad_script};
+ghost use Rattle.reverse_console.specs.Prelude.{IsOrder, IsScript, HasFirstFault};
+ghost use Rattle.endings.specs.Prelude.{no_plan, bad_script};
+ghost use Rattle.requests.specs.Prelude.{stack_pages, IsWithinLimits, contents_of};
 ghost use Rattle.reversal.specs.CommandConsole.{DecidesConsole};
 ghost use Rattle.reversal.specs.JobModel.{moves, CanAnswerOrders, IsRefusal, Does, text_of, IsDecided};
-ghost use Rattle.requests.specs.Loaded.{IsWithinLimits};
-ghost use Rattle.requests.specs.InputOutcome.{contents_of};
 
 use crate::decision::{book_in, journal_in, keep, start_of};
 use crate::job::{Job, fault_ending};

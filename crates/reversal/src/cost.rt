@@ -1,10 +1,9 @@
 // What a schedule costs.
 ghost use Rattle.std.specs.Prelude.{◌≡◌, ℕ, ◌*◌, ◌^◌, ◌<◌, ◌≤◌, List, length};
 ghost use Rattle.plan_types.specs.declared.limits.TheConstants.{MOST_ACTIONS, MOST_COST, MOST_STEPS};
-ghost use Rattle.level_book.specs.BookCosts.{slots_of};
-ghost use Rattle.level_book.specs.Valid.{Valid};
-ghost use Rattle.cost_fold.specs.CountsOf.{all_of};
-ghost use Rattle.cost_report.specs.Report.{report_lines};
+ghost use Rattle.level_book.specs.Prelude.{slots_of, Valid};
+ghost use Rattle.cost_fold.specs.Prelude.{all_of};
+ghost use Rattle.cost_report.specs.Prelude.{report_lines};
 ghost use Rattle.reversal.specs.Job.{write};
 ghost use Rattle.reversal.specs.Moment.{Moment, beside};
 ghost use Rattle.reversal.specs.Course.{EndsShowing};

@@ -1,11 +1,10 @@
 // The list of DiskRevolve for memory and an unlimited disk, and its tables, as text.
 ghost use Rattle.std.specs.Prelude.{◌≡◌, ◌⊎◌, ℕ, ◌≤◌, List, IfOk, IfErr, OnOk};
-ghost use Rattle.level_book.specs.DiskUnderTable.{IsGreatestDisk};
-ghost use Rattle.cost_tables.specs.TableRows.{FastestTablesFit};
-ghost use Rattle.disk_gen.specs.DiskPlans.{HasDiskPlan};
-ghost use Rattle.disk_gen.specs.DiskRows.{AreDiskFor, disk_tables_in};
+ghost use Rattle.level_book.specs.Prelude.{IsGreatestDisk};
+ghost use Rattle.cost_tables.specs.Prelude.{FastestTablesFit};
+ghost use Rattle.disk_gen.specs.Prelude.{HasDiskPlan, AreDiskFor, disk_tables_in};
+ghost use Rattle.endings.specs.Prelude.{no_memory};
 ghost use Rattle.reversal.specs.CommandPlan.{DecidesPlanDisk};
-ghost use Rattle.endings.specs.Outcomes.{no_memory};
 ghost use Rattle.reversal.specs.JobModel.{IsDecided};
 ghost use Rattle.reversal.specs.NoPlans.{IsUndisked};
 

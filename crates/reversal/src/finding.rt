@@ -1,7 +1,7 @@
 // The search of a run for the last state with a digest.
 ghost use Rattle.std.specs.Prelude.{ℕ, ◌≤◌, List};
 ghost use Rattle.plan_types.specs.declared.limits.TheConstants.{MOST_STEPS};
-ghost use Rattle.requests.specs.Request.{stack_pages, worker_count};
+ghost use Rattle.requests.specs.Prelude.{stack_pages, worker_count};
 ghost use Rattle.reversal.specs.Job.{seek};
 ghost use Rattle.reversal.specs.Moment.{Moment, beside};
 ghost use Rattle.reversal.specs.Table.{Decided};

@@ -1,14 +1,11 @@
 // The list of H-Revolve for the levels of a book, and its tables, as text.
 ghost use Rattle.std.specs.Prelude.{◌≡◌, ◌⊎◌, ℕ, ◌<◌, ◌≤◌, List, length, IfOk, IfErr, OnOk, MatchOption};
-ghost use Rattle.level_book.specs.BookCosts.{room, slots_of};
-ghost use Rattle.level_book.specs.NestedClass.{Nested};
-ghost use Rattle.level_book.specs.UnderTable.{IsGreatest};
-ghost use Rattle.cost_tables.specs.TableRows.{AreFor, TablesFit, tables_in};
-ghost use Rattle.hrevolve_gen.specs.HRevolveList.{IsWritten};
-ghost use Rattle.hrevolve_gen.specs.Plans.{HasNestedPlan};
+ghost use Rattle.level_book.specs.Prelude.{room, slots_of, Nested, IsGreatest};
+ghost use Rattle.cost_tables.specs.Prelude.{AreFor, TablesFit, tables_in};
+ghost use Rattle.hrevolve_gen.specs.Prelude.{IsWritten, HasNestedPlan};
+ghost use Rattle.endings.specs.Prelude.{no_memory};
 ghost use Rattle.reversal.specs.Table.{IsFirstWide};
 ghost use Rattle.reversal.specs.CommandPlan.{DecidesPlanHrevolve};
-ghost use Rattle.endings.specs.Outcomes.{no_memory};
 ghost use Rattle.reversal.specs.JobModel.{IsDecided};
 ghost use Rattle.reversal.specs.NoPlans.{IsUnnested};
 

@@ -1,12 +1,10 @@
 // What an accepted call is to do.
 ghost use Rattle.std.specs.Prelude.{◌≡◌, ◌≢◌, ℕ, [], ◌∷◌, length, map, Option};
 ghost use Rattle.std.specs.List.{AllByRecursion};
-ghost use Rattle.keepers.specs.Claims.{Images};
-ghost use Rattle.level_book.specs.BookCosts.{slots_of};
-ghost use Rattle.unit_digests.specs.Digests.{HasPages};
-ghost use Rattle.reverse_runner.specs.KeepersSeen.{HaveRoom};
-ghost use Rattle.reverse_runner.specs.SessionState.{levels_of};
-ghost use Rattle.reverse_runner.specs.HoldingsOfRun.{AreAlone};
+ghost use Rattle.level_book.specs.Prelude.{slots_of};
+ghost use Rattle.unit_digests.specs.Prelude.{HasPages};
+ghost use Rattle.keepers.specs.Prelude.{Images};
+ghost use Rattle.reverse_runner.specs.Prelude.{HaveRoom, levels_of, AreAlone};
 ghost use Rattle.reverse_runner.specs.declared.fault.RunFault.TheVariants as fault_is;
 ghost use Rattle.reversal.specs.Job.{perform, write};
 ghost use Rattle.reversal.specs.Moment.{Moment, beside, AllEmpty};

@@ -1,8 +1,8 @@
 // The visitor that hashes lines.
 ghost use Rattle.std.specs.Prelude.{◌≡◌, ℕ, List, [], ◌∷◌, ◌++◌};
+ghost use Rattle.state_image.specs.Prelude.{line};
 ghost use Rattle.sha2.specs.Sha256.{sha256};
 ghost use Rattle.sha2.specs.Hashers.{Holds256};
-ghost use Rattle.state_image.specs.Line.{line};
 
 use input_journal::Journal;
 use plan_types::Line;

@@ -1,13 +1,11 @@
 // The multistage plan for the two levels of a book, as text.
 ghost use Rattle.std.specs.Prelude.{◌≡◌, ◌⊎◌, ℕ, ◌≤◌, List, length, IfOk, IfErr};
 ghost use Rattle.plan_types.specs.declared.limits.TheConstants.{MOST_STEPS};
-ghost use Rattle.level_book.specs.BookCosts.{total_room};
-ghost use Rattle.revolve_gen.specs.Plans.{HasPlan};
-ghost use Rattle.revolve_gen.specs.Multistage.{IsMultistage};
-ghost use Rattle.multistage_gen.specs.Plan.{IsPlaced};
-ghost use Rattle.multistage_gen.specs.MultistageList.{IsMultistageList};
+ghost use Rattle.level_book.specs.Prelude.{total_room};
+ghost use Rattle.revolve_gen.specs.Prelude.{HasPlan, IsMultistage};
+ghost use Rattle.multistage_gen.specs.Prelude.{IsPlaced, IsMultistageList};
+ghost use Rattle.endings.specs.Prelude.{no_memory, no_plan};
 ghost use Rattle.reversal.specs.CommandPlan.{DecidesPlanMultistage};
-ghost use Rattle.endings.specs.Outcomes.{no_memory, no_plan};
 ghost use Rattle.reversal.specs.JobModel.{IsDecided};
 
 use crate::actions::Actions;

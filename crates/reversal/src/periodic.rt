@@ -1,11 +1,10 @@
 // The periodic list for the two levels of a book, as text.
 ghost use Rattle.std.specs.Prelude.{◌≡◌, ◌⊎◌, ℕ, ◌≤◌, List, IfOk, IfErr, OnOk};
 ghost use Rattle.plan_types.specs.declared.limits.TheConstants.{MOST_STEPS};
-ghost use Rattle.level_book.specs.BookCosts.{total_room};
-ghost use Rattle.disk_gen.specs.PeriodicList.{periodic_list};
-ghost use Rattle.disk_gen.specs.Plans.{HasPeriodicPlan};
+ghost use Rattle.level_book.specs.Prelude.{total_room};
+ghost use Rattle.disk_gen.specs.Prelude.{periodic_list, HasPeriodicPlan};
+ghost use Rattle.endings.specs.Prelude.{no_memory};
 ghost use Rattle.reversal.specs.CommandPlan.{DecidesPlanPeriodic};
-ghost use Rattle.endings.specs.Outcomes.{no_memory};
 ghost use Rattle.reversal.specs.JobModel.{IsDecided};
 ghost use Rattle.reversal.specs.NoPlans.{IsUnperiodic};
 

@@ -1,8 +1,6 @@
 // The decisions on requests for plans.
 ghost use Rattle.std.specs.Prelude.{ℕ, ◌≤◌, List};
-ghost use Rattle.requests.specs.Request.{plan_limit};
-ghost use Rattle.requests.specs.Operands.{within};
-ghost use Rattle.requests.specs.Bounds.{IsWithin};
+ghost use Rattle.requests.specs.Prelude.{plan_limit, within, IsWithin};
 ghost use Rattle.reversal.specs.CommandPlan.{DecidesPlan};
 ghost use Rattle.reversal.specs.JobModel.{IsDecided};
 

@@ -1,21 +1,17 @@
 // The top call.
 ghost use Rattle.std.specs.Prelude.{◌≡◌, ◌≢◌, ◌⊎◌, ◌↔◌, ℕ, ◌++◌, map, take, IfOk, IfErr};
 ghost use Rattle.std.specs.List.{AllByRecursion};
-ghost use Rattle.keepers.specs.Counts.{Rose};
-ghost use Rattle.requests.specs.Request.{Request as ARequest, Says, words_of};
-ghost use Rattle.requests.specs.Bounds.{numbers, IsWithin, RefusesWords, Asks};
-ghost use Rattle.requests.specs.Inputs.{inputs_of, names, FailsAtInput};
+ghost use Rattle.keepers.specs.Prelude.{Rose};
+ghost use Rattle.reverse_runner.specs.Prelude.{rooms_by};
+ghost use Rattle.endings.specs.declared.outcome.Outcome.{Outcome as AnOutcome};
+ghost use Rattle.endings.specs.Prelude.{no_memory, unreadable, ended_of, status_of};
+ghost use Rattle.requests.specs.Prelude.{Request as ARequest, Says, words_of, numbers, IsWithin, RefusesWords, Asks, inputs_of, names, FailsAtInput, request_of};
 ghost use Rattle.reversal.specs.Table.{Decision, accept, refuse};
-ghost use Rattle.reverse_runner.specs.Rooms.{rooms_by};
 ghost use Rattle.reversal.specs.RunStart.{Begins, BeginsBy};
 ghost use Rattle.reversal.specs.Decision.{course_of, Comes, StayInPlace, KeepsOthers, HaveRoomsFor, EndsBy, IsOfJob};
 ghost use Rattle.reversal.specs.Job.{Job as AJob};
 ghost use Rattle.reversal.specs.Moment.{moment};
 ghost use Rattle.reversal.specs.Course.{HaltsShowing};
-ghost use Rattle.endings.specs.declared.outcome.Outcome.{Outcome as AnOutcome};
-ghost use Rattle.endings.specs.Outcomes.{no_memory, unreadable};
-ghost use Rattle.endings.specs.Endings.{ended_of, status_of};
-ghost use Rattle.requests.specs.RequestModel.{request_of};
 ghost use Rattle.reversal.specs.JobModel.{job_of, CanBeDone, KeepersHaveRoom};
 
 use crate::decision::decide;

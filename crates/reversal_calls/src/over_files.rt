@@ -2,14 +2,12 @@
 ghost use Rattle.std.specs.Prelude.{◌≡◌, ◌<◌, ℕ, List, [], Some, IfOk, Vec, None};
 ghost use Rattle.std.specs.declared.alloc.Global.{Global as AGlobal};
 ghost use Rattle.std.specs.FinMap as finmap;
-ghost use Rattle.keepers.specs.AnyKeeper.{told_of};
-ghost use Rattle.keepers.specs.ExternalState.{asked_of, input_faults_of, fresh};
 ghost use Rattle.keepers.specs.declared.any_keeper.AnyKeeper.{AnyKeeper as AnAnyKeeper};
+ghost use Rattle.keepers.specs.Prelude.{told_of, asked_of, input_faults_of, fresh};
 ghost use Rattle.memory_disk.specs.declared.MemoryDisk.{MemoryDisk as AMemoryDisk};
-ghost use Rattle.requests.specs.Bounds.{Asks};
-ghost use Rattle.requests.specs.Request.{Request, words_of};
-ghost use Rattle.reverse_runner.specs.KeepersSeen.{by_number};
-ghost use Rattle.reversal_program.specs.Run.{IsRun};
+ghost use Rattle.reverse_runner.specs.Prelude.{by_number};
+ghost use Rattle.requests.specs.Prelude.{Asks, Request, words_of};
+ghost use Rattle.reversal_program.specs.Prelude.{IsRun};
 
 use crate::bytes::bytes_of;
 use crate::came::{Seen, SeenKeeper};

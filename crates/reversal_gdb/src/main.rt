@@ -4,8 +4,8 @@
 #![tactic(auto)]
 
 ghost use Rattle.std.specs.Prelude.{◌≡◌, ◌≢◌, ◌<◌};
+ghost use Rattle.endings.specs.Prelude.{no_memory, stopped};
 ghost use Rattle.gdb_session.specs.declared.server.ServeFault.TheVariants as fault_is;
-ghost use Rattle.endings.specs.Outcomes.{no_memory, stopped};
 
 mod loading;
 mod options;

@@ -1,7 +1,7 @@
 // The line to gdb over standard input and output.
 
 ghost use Rattle.std.specs.Prelude.{◌≡◌, ◌≤◌, length, IfOk, OnErr, OnOk};
-ghost use Rattle.keepers.specs.Counts.{Rose};
+ghost use Rattle.keepers.specs.Prelude.{Rose};
 
 use gdb_line::{Line, LineFault};
 use std::alloc::{AllocError, Global};

@@ -1,3 +1,4 @@
 pub mod LevelStart
 pub mod Files
 pub mod Run
+pub mod Prelude

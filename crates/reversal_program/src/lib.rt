@@ -4,11 +4,9 @@
 #![tactic(auto)]
 
 ghost use Rattle.std.specs.Prelude.{◌≡◌, List, [], ◌∷◌, map, drop, string_bytes, IfOk, OnErr};
-ghost use Rattle.requests.specs.Request.{Request, words_of};
-ghost use Rattle.requests.specs.Bounds.{Asks};
-ghost use Rattle.requests.specs.Places.{levels, folder_said, folder_at};
 ghost use Rattle.keepers.specs.declared.any_keeper.AnyKeeper.{AnyKeeper as AnAnyKeeper};
-ghost use Rattle.keepers.specs.ExternalState.{asked_of, input_faults_of, fresh};
+ghost use Rattle.keepers.specs.Prelude.{asked_of, input_faults_of, fresh};
+ghost use Rattle.requests.specs.Prelude.{Request, words_of, Asks, levels, folder_said, folder_at};
 ghost use Rattle.reversal_program.specs.LevelStart.{KeeperBegins, AllBegin};
 ghost use Rattle.reversal_program.specs.Run.{IsRun};
 

@@ -4,7 +4,6 @@ pub mod Collision
 pub mod MarkStates
 pub mod MarkGets
 pub mod OrderEffects
-pub mod Levels
 pub mod Numbers
 pub mod MarkPuts
 pub mod ScriptCommands

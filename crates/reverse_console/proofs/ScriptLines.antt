@@ -2,7 +2,8 @@
 use Rattle.std.proofs.Common.{◌≡◌, ◌≢◌, ℕ, Bool, true, false, cond, List, [], ◌∷◌, map, Option, Some, None, Result, Ok, Err, refl, sym, ◌∙◌, ap, subst, inl, inr, true≢false}
 use Rattle.reverse_console.specs.declared.command.Command.{Command}
 use Rattle.reverse_console.specs.declared.order.Order.{Order}
-use Rattle.reverse_console.specs.declared.fault.LineFault.{LineFault}
+use Rattle.reverse_console.specs.declared.fault.Rule.{Rule}
+use Rattle.line_texts.specs.declared.fault.LineFault.{LineFault}
 use Rattle.reverse_console.specs.declared.fault.Rule.TheVariants as rule
 use Rattle.reverse_console.specs.Answer.{IsOrder}
 use Rattle.reverse_console.specs.ScriptWords.{begins_comment}
@@ -15,7 +16,7 @@ use Rattle.line_texts.proofs.Steps.{which}
 
 -- ---- what is read is said, or it is the fault
 
-abbrev pub IsAnswerOf : ℕ → ℕ → List Token → Result (Option Order) LineFault → Type 0
+abbrev pub IsAnswerOf : ℕ → ℕ → List Token → Result (Option Order) (LineFault Rule) → Type 0
 IsAnswerOf count end ws (Ok None) = SayNothing ws
 IsAnswerOf count end ws (Ok (Some order)) = Says count (map (λ w. w.text) ws) order
 IsAnswerOf count end ws (Err fault) = (SayNothing ws → ⊥) × IsFault count end ws fault
@@ -62,10 +63,10 @@ line_answer count end (w ∷ ws) = by_first count end w ws (begins_comment w.tex
 
 -- ---- what is said is read, and so is the fault
 
-abbrev read_as : Option Order → Result (Option Order) LineFault
+abbrev read_as : Option Order → Result (Option Order) (LineFault Rule)
 read_as found = Ok found
 
-abbrev refused_for : LineFault → Result (Option Order) LineFault
+abbrev refused_for : LineFault Rule → Result (Option Order) (LineFault Rule)
 refused_for fault = Err fault
 
 pub passed_read : (count end : ℕ) (ws : List Token) → SayNothing ws → line_of count end ws ≡ Ok None
@@ -123,7 +124,7 @@ other_read count end c w v vs is others =
     by_number None e = e
     by_number (Some n) e = absurd (others n (operand_is c v.text n e))
 
-pub fault_read : (count end : ℕ) (ws : List Token) (fault : LineFault) → (SayNothing ws → ⊥) → IsFault count end ws fault → line_of count end ws ≡ Err fault
+pub fault_read : (count end : ℕ) (ws : List Token) (fault : LineFault Rule) → (SayNothing ws → ⊥) → IsFault count end ws fault → line_of count end ws ≡ Err fault
 fault_read count end ws fault some (IsFault.no_command w others parts none is) =
     ap (line_of count end) parts ∙ no_command_read count end w others (λ say. some (subst SayNothing (sym parts) say)) none ∙ ap refused_for (sym is)
 fault_read count end ws fault some (IsFault.no_operand c w parts word is) =

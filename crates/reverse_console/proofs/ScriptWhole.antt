@@ -6,7 +6,8 @@ use Rattle.std.specs.Option.{option_to_list}
 use Rattle.std.proofs.lemmas.List.{append-nil}
 use Rattle.std.proofs.lemmas.Option.{none-some, same_Some}
 use Rattle.reverse_console.specs.declared.order.Order.{Order}
-use Rattle.reverse_console.specs.declared.fault.LineFault.{LineFault}
+use Rattle.reverse_console.specs.declared.fault.Rule.{Rule}
+use Rattle.line_texts.specs.declared.fault.LineFault.{LineFault}
 use Rattle.line_texts.specs.declared.fault.Fault.{Fault}
 use Rattle.line_texts.specs.declared.fault.Fault.TheVariants.{At, Memory}
 use Rattle.reverse_console.specs.Answer.{IsOrder}
@@ -23,10 +24,10 @@ use Rattle.reverse_console.proofs.ScriptLines.{IsAnswerOf, line_answer, passed_r
 
 -- ---- lines
 
-abbrev pub reading : ℕ → List ℕ → Result (Option Order) LineFault
+abbrev pub reading : ℕ → List ℕ → Result (Option Order) (LineFault Rule)
 reading count l = line_of count (length l + 1) (words 1 l)
 
-abbrev IsLineAnswer : ℕ → List ℕ → Result (Option Order) LineFault → Type 0
+abbrev IsLineAnswer : ℕ → List ℕ → Result (Option Order) (LineFault Rule) → Type 0
 IsLineAnswer count l r = IsAnswerOf count (length l + 1) (words 1 l) r
 
 next_ok : (count : ℕ) (orders : List Order) (line : ℕ) (l : List ℕ) (ls : List (List ℕ)) (found : Option Order) → reading count l ≡ Ok found →
@@ -34,7 +35,7 @@ next_ok : (count : ℕ) (orders : List Order) (line : ℕ) (l : List ℕ) (ls : 
 unfolding orders_from
 next_ok count orders line l ls found e = rw e refl
 
-next_err : (count : ℕ) (orders : List Order) (line : ℕ) (l : List ℕ) (ls : List (List ℕ)) (fault : LineFault) → reading count l ≡ Err fault →
+next_err : (count : ℕ) (orders : List Order) (line : ℕ) (l : List ℕ) (ls : List (List ℕ)) (fault : LineFault Rule) → reading count l ≡ Err fault →
     orders_from count orders line (l ∷ ls) ≡ Err (fault_at line fault)
 unfolding orders_from
 next_err count orders line l ls fault e = rw e refl
@@ -71,7 +72,7 @@ said_read count orders line (l ∷ ls) (o ∷ more) (inr say) =
     ∙ ap (done Fault) (regroup orders o more)
 
 -- and a fault behind it is met
-fault_met : (count : ℕ) (orders : List Order) (line : ℕ) (before : List (List ℕ)) (here : List ℕ) (after : List (List ℕ)) (more : List Order) (f : LineFault) →
+fault_met : (count : ℕ) (orders : List Order) (line : ℕ) (before : List (List ℕ)) (here : List ℕ) (after : List (List ℕ)) (more : List Order) (f : LineFault Rule) →
     LinesSay count before more → reading count here ≡ Err f → orders_from count orders line (before ++ here ∷ after) ≡ Err (fault_at (length before + line) f)
 fault_met count orders line [] here after [] f say met =
     let numbers : line ≡ 0 + line = omega arith in
@@ -109,7 +110,7 @@ record IsReadUpTo (count line : ℕ) (ls : List (List ℕ)) (e : Fault) : Type 0
   parts : ls ≡ before ++ here ∷ after
   more : List Order
   says : LinesSay count before more
-  fault : LineFault
+  fault : LineFault Rule
   met : FaultIn count here fault
   answer : e ≡ fault_at (length before + line) fault
 
@@ -155,7 +156,7 @@ one_more_some count line l ls orders o (Err f) e read =
       answer = read.answer ∙ ap (λ (n : ℕ). fault_at n read.fault) numbers;
     }
 
-fault_here : (count line : ℕ) (l : List ℕ) (ls : List (List ℕ)) (f : LineFault) → FaultIn count l f → IsReadUpTo count line (l ∷ ls) (fault_at line f)
+fault_here : (count line : ℕ) (l : List ℕ) (ls : List (List ℕ)) (f : LineFault Rule) → FaultIn count l f → IsReadUpTo count line (l ∷ ls) (fault_at line f)
 fault_here count line l ls f met =
     let numbers : line ≡ 0 + line = omega arith in
     record { before = []; here = l; after = ls; parts = refl; more = []; says = tt; fault = f; met = met; answer = ap (λ (n : ℕ). fault_at n f) numbers }
@@ -167,7 +168,7 @@ are_read count orders line [] =
 are_read count orders line (l ∷ ls) =
     by_line (reading count l) refl (line_answer count (length l + 1) (words 1 l)) (are_read count orders (line + 1) ls) (λ o. are_read count (orders ++ o ∷ []) (line + 1) ls)
   where
-    by_line : (r : Result (Option Order) LineFault) → reading count l ≡ r → IsLineAnswer count l r →
+    by_line : (r : Result (Option Order) (LineFault Rule)) → reading count l ≡ r → IsLineAnswer count l r →
         AreRead count (line + 1) ls orders (orders_from count orders (line + 1) ls) →
         ((o : Order) → AreRead count (line + 1) ls (orders ++ o ∷ []) (orders_from count (orders ++ o ∷ []) (line + 1) ls)) →
         AreRead count line (l ∷ ls) orders (orders_from count orders line (l ∷ ls))
@@ -273,7 +274,7 @@ step_ok count orders more line l ls old order is read added =
     ∙ sym (next_ok count orders line l ls order (sym read))
     ∙ ap (orders_from count orders line) (sym is)
 
-pub step_err : (count : ℕ) (orders : List Order) (line : ℕ) (l : List ℕ) (ls old : List (List ℕ)) (fault : LineFault) → old ≡ l ∷ ls → Err fault ≡ reading count l →
+pub step_err : (count : ℕ) (orders : List Order) (line : ℕ) (l : List ℕ) (ls old : List (List ℕ)) (fault : LineFault Rule) → old ≡ l ∷ ls → Err fault ≡ reading count l →
     orders_from count orders line old ≡ Err (fault_at line fault)
 step_err count orders line l ls old fault is read = ap (orders_from count orders line) is ∙ next_err count orders line l ls fault (sym read)
 

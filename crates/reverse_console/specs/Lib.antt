@@ -19,3 +19,4 @@ pub mod ScriptWords
 pub mod SearchTargets
 pub mod StateSources
 pub mod MarksOfRun
+pub mod Prelude

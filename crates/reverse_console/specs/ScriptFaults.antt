@@ -7,14 +7,14 @@ use Rattle.reverse_console.specs.declared.command.Command.TheVariants as command
 use Rattle.reverse_console.specs.declared.order.Order.{Order}
 use Rattle.reverse_console.specs.declared.fault.Rule.{Rule}
 use Rattle.reverse_console.specs.declared.fault.Rule.TheVariants as rule
-use Rattle.reverse_console.specs.declared.fault.LineFault.{LineFault}
+use Rattle.line_texts.specs.declared.fault.LineFault.{LineFault}
 use Rattle.line_texts.specs.declared.fault.Fault.{Fault}
 use Rattle.line_texts.specs.declared.fault.Fault.TheVariants.{At, Memory}
 use Rattle.reverse_console.specs.Answer.{IsOrder}
 use Rattle.reverse_console.specs.Script.{command_word, order_with, IsOperand, LinesSay, IsPassed}
 
 -- a rule is broken in this column
-abbrev pub broken : Rule → ℕ → LineFault
+abbrev pub broken : Rule → ℕ → LineFault Rule
 broken r column = record { rule = r; column = column }
 
 -- the rule that a wrong operand of this command breaks
@@ -26,7 +26,7 @@ rule_of _ = rule.Address
 
 -- The first of a line's words that doesn't fit, in a run of so many steps. `end` is the column one past the line's
 -- bytes.
-pub data IsFault (count end : ℕ) (ws : List Token) (fault : LineFault) : Type 0 where
+pub data IsFault (count end : ℕ) (ws : List Token) (fault : LineFault Rule) : Type 0 where
   -- the first word is no command
   no_command : (first : Token) (others : List Token) → ws ≡ first ∷ others → ((c : Command) → first.text ≢ command_word c) →
       fault ≡ broken rule.NotCommand first.column → IsFault count end ws fault
@@ -44,7 +44,7 @@ pub data IsFault (count end : ℕ) (ws : List Token) (fault : LineFault) : Type 
       (n : ℕ) → IsOperand c second.text n → IsOrder count (order_with c n) → fault ≡ broken rule.NotCommand third.column → IsFault count end ws fault
 
 -- the fault of a line that isn't ignored
-abbrev pub FaultIn : ℕ → List ℕ → LineFault → Type 0
+abbrev pub FaultIn : ℕ → List ℕ → LineFault Rule → Type 0
 FaultIn count line fault = (IsPassed line → ⊥) × IsFault count (length line + 1) (words 1 line) fault
 
 -- a rule has a number, and a fault of a line has the line's number too
@@ -54,7 +54,7 @@ number_of_rule rule.Number = 2
 number_of_rule rule.Address = 3
 number_of_rule rule.Range = 4
 
-abbrev pub fault_at : ℕ → LineFault → Fault
+abbrev pub fault_at : ℕ → LineFault Rule → Fault
 fault_at line fault = At (number_of_rule fault.rule) line fault.column
 
 -- The lines before this one mean orders or nothing, and this one has the fault. Lines are counted from 1.
@@ -65,7 +65,7 @@ pub record IsFirstFault (count : ℕ) (bytes : List ℕ) (fault : Fault) : Type 
   pub parts : lines bytes ≡ before ++ here ∷ after
   pub orders : List Order
   pub says : LinesSay count before orders
-  pub of_line : LineFault
+  pub of_line : LineFault Rule
   pub met : FaultIn count here of_line
   pub is : fault ≡ fault_at (length before + 1) of_line
 

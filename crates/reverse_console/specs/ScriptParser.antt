@@ -13,7 +13,8 @@ use Rattle.reverse_console.specs.declared.command.Command.TheVariants as command
 use Rattle.reverse_console.specs.declared.order.Order.{Order}
 use Rattle.reverse_console.specs.declared.order.Order.TheVariants.{Goto, BackChange, BackWrite}
 use Rattle.reverse_console.specs.declared.fault.Rule.TheVariants as rule
-use Rattle.reverse_console.specs.declared.fault.LineFault.{LineFault}
+use Rattle.reverse_console.specs.declared.fault.Rule.{Rule}
+use Rattle.line_texts.specs.declared.fault.LineFault.{LineFault}
 use Rattle.line_texts.specs.declared.fault.Fault.{Fault}
 use Rattle.reverse_console.specs.Script.{order_with}
 use Rattle.reverse_console.specs.ScriptFaults.{broken, rule_of, fault_at}
@@ -49,44 +50,44 @@ is_given count _ = true
 
 -- ---- lines
 
-abbrev pub not_command : ℕ → LineFault
+abbrev pub not_command : ℕ → LineFault Rule
 not_command column = broken rule.NotCommand column
 
 -- the order of a command, with the operand that a text is in this column
-abbrev pub in_range : ℕ → Order → ℕ → Result Order LineFault
+abbrev pub in_range : ℕ → Order → ℕ → Result Order (LineFault Rule)
 in_range count order column = if is_given count order then Ok order else Err (broken rule.Range column)
 
-abbrev pub given_by : ℕ → Command → ℕ → Option ℕ → Result Order LineFault
+abbrev pub given_by : ℕ → Command → ℕ → Option ℕ → Result Order (LineFault Rule)
 given_by count c column None = Err (broken (rule_of c) column)
 given_by count c column (Some n) = in_range count (order_with c n) column
 
-unfoldable pub given : ℕ → Command → ℕ → List ℕ → Result Order LineFault
+unfoldable pub given : ℕ → Command → ℕ → List ℕ → Result Order (LineFault Rule)
 given count c column text = given_by count c column (operand_of c text)
 
 -- the order of a command and its operand, if no word comes after the operand
-abbrev pub alone : List Token → Result Order LineFault → Result (Option Order) LineFault
+abbrev pub alone : List Token → Result Order (LineFault Rule) → Result (Option Order) (LineFault Rule)
 alone ws (Err fault) = Err fault
 alone [] (Ok order) = Ok (Some order)
 alone (w ∷ ws) (Ok order) = Err (not_command w.column)
 
 -- a command with the words after it
-abbrev pub behind_command : ℕ → ℕ → Command → List Token → Result (Option Order) LineFault
+abbrev pub behind_command : ℕ → ℕ → Command → List Token → Result (Option Order) (LineFault Rule)
 behind_command count end c [] = Err (not_command end)
 behind_command count end c (w ∷ ws) = alone ws (given count c w.column w.text)
 
-abbrev pub with_command : ℕ → ℕ → ℕ → List Token → Option Command → Result (Option Order) LineFault
+abbrev pub with_command : ℕ → ℕ → ℕ → List Token → Option Command → Result (Option Order) (LineFault Rule)
 with_command count end column ws None = Err (not_command column)
 with_command count end column ws (Some c) = behind_command count end c ws
 
 -- the order of a line, or none
-unfoldable pub line_of : ℕ → ℕ → List Token → Result (Option Order) LineFault
+unfoldable pub line_of : ℕ → ℕ → List Token → Result (Option Order) (LineFault Rule)
 line_of count end [] = Ok None
 line_of count end (w ∷ ws) = if begins_comment w.text then Ok None else with_command count end w.column ws (command_of w.text)
 
 -- ---- the text
 
 -- a fault of the line with this number
-abbrev pub in_line : {A : Type 0} → ℕ → Result A LineFault → Result A Fault
+abbrev pub in_line : {A : Type 0} → ℕ → Result A (LineFault Rule) → Result A Fault
 in_line line (Ok x) = Ok x
 in_line line (Err fault) = Err (fault_at line fault)
 

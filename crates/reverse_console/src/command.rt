@@ -1,7 +1,7 @@
 // The words of an order: its command and its operand.
 ghost use Rattle.std.specs.Prelude.{◌≡◌};
 ghost use Rattle.plan_types.specs.declared.limits.TheConstants.{MOST_STEPS};
-ghost use Rattle.line_texts.specs.Parsers.{number_of as number_in};
+ghost use Rattle.line_texts.specs.Prelude.{number_of as number_in};
 ghost use Rattle.reverse_console.specs.Script.{order_with as order_of_command};
 ghost use Rattle.reverse_console.specs.ScriptFaults.{rule_of as rule_of_command};
 ghost use Rattle.reverse_console.specs.ScriptParser.{command_of as command_in, operand_of as operand_in, is_given};

@@ -1,14 +1,10 @@
 // A console.
 ghost use Rattle.std.specs.Prelude.{◌≡◌, ◌≢◌, ◌<◌, ◌≤◌, ◌↔◌, ℕ, List, true, false, length, map, max, Option, Err, IfOk, OnErr, IsErrOf};
 ghost use Rattle.plan_types.specs.declared.limits.TheConstants.{MOST_STEPS};
-ghost use Rattle.keepers.specs.Claims.{Images};
-ghost use Rattle.level_book.specs.BookCosts.{slots_of, total_room};
-ghost use Rattle.rv_machine.specs.MachineState.{MachineState, IsMachineState};
-ghost use Rattle.rv_machine.specs.States.{state_number};
-ghost use Rattle.reverse_runner.specs.CallOutcome.{VisitorAfter};
-ghost use Rattle.reverse_runner.specs.Desks.{KeepersAre};
-ghost use Rattle.reverse_runner.specs.KeepersSeen.{told_by, calls_to, HaveRoom};
-ghost use Rattle.reverse_runner.specs.Rooms.{image_room, rooms_by, AreRoomy};
+ghost use Rattle.level_book.specs.Prelude.{slots_of, total_room};
+ghost use Rattle.rv_machine.specs.Prelude.{MachineState, IsMachineState, state_number};
+ghost use Rattle.keepers.specs.Prelude.{Images};
+ghost use Rattle.reverse_runner.specs.Prelude.{VisitorAfter, KeepersAre, told_by, calls_to, HaveRoom, image_room, rooms_by, AreRoomy};
 ghost use Rattle.reverse_console.specs.Answer.{IsAnswer, IsOrder};
 ghost use Rattle.reverse_console.specs.ConsoleState.{plan_of, source_of};
 ghost use Rattle.reverse_console.specs.Costs.{PutsMarks, looking, BreaksLooking};

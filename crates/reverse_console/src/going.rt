@@ -1,10 +1,7 @@
 // Setting marks, and reaching a state from its mark.
 ghost use Rattle.std.specs.Prelude.{◌≡◌, ◌≢◌, ◌+◌, ◌<◌, ◌≤◌, [], ◌∷◌, map, Ok, Err, OnOk, IfErr};
-ghost use Rattle.rv_machine.specs.MachineState.{MachineState};
-ghost use Rattle.rv_machine.specs.States.{state_number};
-ghost use Rattle.reverse_runner.specs.CallOutcome.{VisitorAfter};
-ghost use Rattle.reverse_runner.specs.KeepersSeen.{told_by, calls_to};
-ghost use Rattle.reverse_runner.specs.SessionState.{SamePages};
+ghost use Rattle.rv_machine.specs.Prelude.{MachineState, state_number};
+ghost use Rattle.reverse_runner.specs.Prelude.{VisitorAfter, told_by, calls_to, SamePages};
 ghost use Rattle.reverse_console.specs.Costs.{PutsMarks, way};
 ghost use Rattle.reverse_console.specs.Marks.{stride, marked, mark_count, mark_of};
 ghost use Rattle.reverse_console.specs.MarkInvariant.{AreSet, AreKept, StandAt, PutsMark, SetsMark, MaySet, LeavesDesk, IsReady, source, Gets};

@@ -1,9 +1,8 @@
 // Laws of the marks and of scripts. Each function does nothing; its contract is the law.
 ghost use Rattle.std.specs.Prelude.{◌≡◌, ◌⊎◌, ◌≤◌, ℕ, max, List, Option};
-ghost use Rattle.level_book.specs.BookCosts.{BookCosts, slots_of, total_room};
-ghost use Rattle.input_journal.specs.Form.{IsRecorded};
-ghost use Rattle.rv_machine.specs.MachineState.{MachineState, IsMachineState};
-ghost use Rattle.rv_machine.specs.States.{state_number};
+ghost use Rattle.level_book.specs.Prelude.{BookCosts, slots_of, total_room};
+ghost use Rattle.input_journal.specs.Prelude.{IsRecorded};
+ghost use Rattle.rv_machine.specs.Prelude.{MachineState, IsMachineState, state_number};
 ghost use Rattle.reverse_console.specs.declared.order.Order.{Order as AnOrder};
 ghost use Rattle.reverse_console.specs.Answer.{IsAnswer};
 ghost use Rattle.reverse_console.specs.Collision.{Collides, AnswerCollides, TextCollides};

@@ -1,17 +1,17 @@
 // What a line of a script means.
 ghost use Rattle.std.specs.Prelude.{◌≡◌, ◌<◌, ◌^◌, ◌+◌, length};
+ghost use Rattle.line_texts.specs.Prelude.{words as words_of};
 ghost use Rattle.reverse_console.specs.ScriptWords.{begins_comment as comment_begins};
-ghost use Rattle.line_texts.specs.Tokens.{words as words_of};
 ghost use Rattle.reverse_console.specs.ScriptParser.{line_of, not_command as not_a_command, given as given_with};
 
 use crate::command::{Command, command_of, may_be_given, operand_of, order_with, rule_of};
-use crate::fault::{LineFault, Rule};
+use crate::fault::Rule;
 use crate::order::Order;
-use line_texts::{Token, Words};
+use line_texts::{LineFault, Token, Words};
 
 // The order of a line, if any, in a run of so many steps.
 #[tactic(auto, unfolding(crate::specs::ScriptParser::line_of))]
-pub(crate) fn line(bytes: &[u8], count: u32) -> Result<Option<Order>, LineFault>
+pub(crate) fn line(bytes: &[u8], count: u32) -> Result<Option<Order>, LineFault<Rule>>
     requires { length bytes.now < 2 ^ 31 }
     ensures { result ≡ line_of count (length bytes.now + 1) (words_of 1 bytes.now) }
 {
@@ -50,7 +50,7 @@ fn begins_comment(word: &[u8]) -> bool
 }
 
 // The fault of a word that doesn't fit or is missing, in this column.
-fn not_command(column: u32) -> LineFault
+fn not_command(column: u32) -> LineFault<Rule>
     ensures { result ≡ not_a_command column }
 {
     LineFault {
@@ -61,7 +61,7 @@ fn not_command(column: u32) -> LineFault
 
 // The order of a command with its operand.
 #[tactic(auto, unfolding(crate::specs::ScriptParser::given))]
-fn given(command: Command, operand: Token, count: u32) -> Result<Order, LineFault>
+fn given(command: Command, operand: Token, count: u32) -> Result<Order, LineFault<Rule>>
     ensures { result ≡ given_with count command operand.entry.column operand.entry.text.now }
 {
     let column = operand.column;

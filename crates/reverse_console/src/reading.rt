@@ -3,13 +3,13 @@ ghost use Rattle.std.specs.Prelude.{◌≡◌, ◌≢◌, ◌⊎◌, ◌≤◌, 
 ghost use Rattle.std.specs.Vec.{vec_len};
 ghost use Rattle.std.specs.Option.{option_to_list};
 ghost use Rattle.plan_types.specs.declared.limits.TheConstants.{MOST_STEPS};
-ghost use Rattle.reverse_console.specs.declared.order.Order.{Order as AnOrder};
 ghost use Rattle.line_texts.specs.declared.fault.Fault.{Fault as AFault};
+ghost use Rattle.line_texts.specs.Prelude.{GivesUnlessMemory};
+ghost use Rattle.reverse_console.specs.declared.order.Order.{Order as AnOrder};
 ghost use Rattle.reverse_console.specs.Answer.{IsOrder};
 ghost use Rattle.reverse_console.specs.Script.{IsScript};
 ghost use Rattle.reverse_console.specs.ScriptFaults.{HasFirstFault};
 ghost use Rattle.reverse_console.specs.ScriptParser.{script_of};
-ghost use Rattle.line_texts.specs.Parsers.{GivesUnlessMemory};
 
 use crate::line::line;
 use crate::order::Order;

@@ -1,9 +1,8 @@
 // How the orders of a script are answered in a sink.
 ghost use Rattle.std.specs.Prelude.{◌≡◌, ◌++◌, ℕ, List, false, length, map, Option, IfOk, OnOk};
-ghost use Rattle.keepers.specs.Claims.{Tells};
-ghost use Rattle.rv_machine.specs.MachineState.{MachineState, IsMachineState};
-ghost use Rattle.reverse_runner.specs.CallOutcome.{FaultsAfter};
-ghost use Rattle.reverse_runner.specs.KeepersSeen.{told_by, calls_to};
+ghost use Rattle.rv_machine.specs.Prelude.{MachineState, IsMachineState};
+ghost use Rattle.keepers.specs.Prelude.{Tells};
+ghost use Rattle.reverse_runner.specs.Prelude.{FaultsAfter, told_by, calls_to};
 ghost use Rattle.reverse_console.specs.Causes.{fault_of};
 ghost use Rattle.reverse_console.specs.ConsoleState.{GoesOn, source_of};
 ghost use Rattle.reverse_console.specs.OrderResults.{LeavesKeepers, AreSpared};

@@ -1,10 +1,8 @@
 // Searching a run for a state from its marks.
 ghost use Rattle.std.specs.Prelude.{◌≡◌, ◌+◌, ◌-◌, ◌<◌, ◌≤◌, ◌↔◌, map, unwrap_or, IfOk, IsTrue};
-ghost use Rattle.rv_machine.specs.States.{state_number};
-ghost use Rattle.rv_machine.specs.StepTable.{next};
-ghost use Rattle.reverse_runner.specs.KeepersSeen.{told_by};
-ghost use Rattle.reverse_runner.specs.SessionState.{SamePages};
-ghost use Rattle.reverse_queries.specs.Queries.{IsLast};
+ghost use Rattle.rv_machine.specs.Prelude.{state_number, next};
+ghost use Rattle.reverse_runner.specs.Prelude.{told_by, SamePages};
+ghost use Rattle.reverse_queries.specs.Prelude.{IsLast};
 ghost use Rattle.reverse_console.specs.Answer.{IsFirst};
 ghost use Rattle.reverse_console.specs.Costs.{looking_back, looking_on, BreaksBack, BreaksOn};
 ghost use Rattle.reverse_console.specs.MarkInvariant.{IsReady, source, Looks};

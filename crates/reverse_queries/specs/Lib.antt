@@ -5,3 +5,4 @@ pub mod HoldingsTrace
 pub mod ListPerformance
 pub mod PickVisitor
 pub mod Queries
+pub mod Prelude

@@ -1,19 +1,12 @@
 // Laws of performed lists. Each function does nothing; its contract is the law.
 ghost use Rattle.std.specs.Prelude.{◌≡◌, ◌⊎◌, ℕ, ◌*◌, ◌≤◌, List, Option, Contains};
-ghost use Rattle.keepers.specs.Claims.{Images};
 ghost use Rattle.plan_types.specs.declared.action.Action.{Action};
 ghost use Rattle.level_book.specs.declared.book.Slots.{Slots};
-ghost use Rattle.level_book.specs.Configuration.{Configuration, start};
-ghost use Rattle.level_book.specs.Valid.{Leads, Valid};
-ghost use Rattle.input_journal.specs.Form.{IsRecorded};
-ghost use Rattle.rv_machine.specs.MachineState.{MachineState, IsMachineState};
-ghost use Rattle.rv_machine.specs.States.{state_number};
-ghost use Rattle.reverse_runner.specs.ActionEffects.{Holdings};
-ghost use Rattle.reverse_runner.specs.Collision.{StandsByDigests};
-ghost use Rattle.reverse_runner.specs.StateOrder.{handed};
-ghost use Rattle.reverse_runner.specs.SessionState.{holdings_of};
-ghost use Rattle.reverse_runner.specs.SessionOfRun.{begun};
-ghost use Rattle.reverse_runner.specs.Units.{unit_states};
+ghost use Rattle.level_book.specs.Prelude.{Configuration, start, Leads, Valid};
+ghost use Rattle.input_journal.specs.Prelude.{IsRecorded};
+ghost use Rattle.rv_machine.specs.Prelude.{MachineState, IsMachineState, state_number};
+ghost use Rattle.keepers.specs.Prelude.{Images};
+ghost use Rattle.reverse_runner.specs.Prelude.{Holdings, StandsByDigests, handed, holdings_of, begun, unit_states};
 ghost use Rattle.reverse_queries.specs.Collision.{CollidesOn};
 ghost use Rattle.reverse_queries.specs.Queries.{WritesIn, ChangesIn, WritesWord, ChangesWord, IsLast, front_to, up_to};
 ghost use Rattle.reverse_queries.specs.HoldingsTrace.{GoesThrough};

@@ -1,11 +1,7 @@
 // The questions on a run.
 ghost use Rattle.std.specs.Prelude.{◌*◌, ◌≤◌, ◌<◌, length, map, IfErr, OnOk};
 ghost use Rattle.rv_pages.specs.declared.pages.TheConstants.{LAST_WORD};
-ghost use Rattle.reverse_runner.specs.CallOutcome.{Stays, VisitorAfter};
-ghost use Rattle.reverse_runner.specs.Desks.{KeepersAre};
-ghost use Rattle.reverse_runner.specs.KeepersSeen.{told_by, calls_to};
-ghost use Rattle.reverse_runner.specs.Rooms.{rooms_by};
-ghost use Rattle.reverse_runner.specs.SessionState.{holdings_of};
+ghost use Rattle.reverse_runner.specs.Prelude.{Stays, VisitorAfter, KeepersAre, told_by, calls_to, rooms_by, holdings_of};
 ghost use Rattle.reverse_queries.specs.Queries.{WritesIn, ChangesIn, front_to};
 ghost use Rattle.reverse_queries.specs.QuestionEffects.{Performed, IsSpared, FindsLast};
 ghost use Rattle.reverse_queries.specs.HoldingsTrace.{IsFoundOn};

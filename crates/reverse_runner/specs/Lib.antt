@@ -19,3 +19,4 @@ pub mod SessionOfRun
 pub mod KeeperCallEffects
 pub mod Workspaces
 pub mod Units
+pub mod Prelude

@@ -1,8 +1,6 @@
 // What an action does to the states and the images of a session.
 ghost use Rattle.std.specs.Prelude.{◌≡◌, ◌≢◌, ℕ, List, map, Err, OnOk, OnErr, IfErr, IsTrue};
-ghost use Rattle.level_book.specs.Configuration.{Configuration};
-ghost use Rattle.level_book.specs.Moves.{Goes};
-ghost use Rattle.level_book.specs.Rules.{rule};
+ghost use Rattle.level_book.specs.Prelude.{Configuration, Goes, rule};
 ghost use Rattle.reverse_runner.specs.CallOutcome.{VisitorAfter};
 ghost use Rattle.reverse_runner.specs.StateOrder.{handed_by};
 ghost use Rattle.reverse_runner.specs.VisitorCalls.{states_out, HandsOut, calls_keepers};

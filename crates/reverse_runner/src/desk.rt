@@ -1,9 +1,9 @@
 // What a session or a console works with: a state of the machine, and the images on its levels.
 ghost use Rattle.std.specs.Prelude.{◌≡◌, ◌+◌, IfOk, IfErr, OnOk, IsSome};
+ghost use Rattle.level_book.specs.Prelude.{slots_of};
+ghost use Rattle.rv_machine.specs.Prelude.{state_number};
+ghost use Rattle.image_store.specs.Prelude.{kept_at, no_pairs_on};
 ghost use Rattle.sha2.specs.Sha256.{sha256};
-ghost use Rattle.level_book.specs.BookCosts.{slots_of};
-ghost use Rattle.rv_machine.specs.States.{state_number};
-ghost use Rattle.image_store.specs.Shelves.{kept_at, no_pairs_on};
 ghost use Rattle.reverse_runner.specs.ActionEffects.{IsDecoded};
 ghost use Rattle.reverse_runner.specs.DeskGives.{IsOnLevel, MayKeep, KeepGives, FetchGives, ReleaseGives};
 ghost use Rattle.reverse_runner.specs.SessionState.{SamePages};

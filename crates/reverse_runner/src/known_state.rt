@@ -1,15 +1,11 @@
 // A state, and the digest of its image where it is known.
 ghost use Rattle.std.specs.Prelude.{◌≡◌, ◌↔◌, ℕ, ◌+◌, ◌≤◌, ◌∷◌, length, slice_get, IfSome, None, Some, Err, OnOk, OnErr};
-ghost use Rattle.rv_machine.specs.States.{state_number};
-ghost use Rattle.rv_machine.specs.Watchers.{CanNote, AreNoted};
-ghost use Rattle.rv_pages.specs.Memory.{page_numbers};
+ghost use Rattle.rv_pages.specs.Prelude.{page_numbers};
+ghost use Rattle.rv_machine.specs.Prelude.{state_number, CanNote, AreNoted};
+ghost use Rattle.state_image.specs.Prelude.{image, first_wrong, first_unmapped, line};
+ghost use Rattle.unit_undo.specs.Prelude.{Entry, undone, CanGoBack};
+ghost use Rattle.unit_digests.specs.Prelude.{states_of, AreDigests};
 ghost use Rattle.sha2.specs.Sha256.{sha256};
-ghost use Rattle.state_image.specs.Image.{image};
-ghost use Rattle.state_image.specs.ImageForm.{first_wrong, first_unmapped};
-ghost use Rattle.state_image.specs.Line.{line};
-ghost use Rattle.unit_undo.specs.Entry.{Entry, undone};
-ghost use Rattle.unit_undo.specs.UndoState.{CanGoBack};
-ghost use Rattle.unit_digests.specs.Digests.{states_of, AreDigests};
 ghost use Rattle.reverse_runner.specs.ActionEffects.{IsDecoded};
 ghost use Rattle.reverse_runner.specs.SessionOfRun.{IsNoImage};
 

@@ -1,8 +1,7 @@
 // The visitor that writes lines.
 ghost use Rattle.std.specs.Prelude.{◌≡◌, ◌≤◌, [], ◌∷◌, ◌++◌, OnOk, OnErr};
-ghost use Rattle.keepers.specs.Counts.{raised, Rose};
-ghost use Rattle.keepers.specs.Claims.{Tells, AddsPrefix};
-ghost use Rattle.state_image.specs.Line.{line};
+ghost use Rattle.state_image.specs.Prelude.{line};
+ghost use Rattle.keepers.specs.Prelude.{raised, Rose, Tells, AddsPrefix};
 
 use crate::known_state::KnownState;
 use crate::visitor::{VisitFault, Visitor};

@@ -2,11 +2,10 @@
 ghost use Rattle.std.specs.Prelude.{◌≡◌, ◌*◌, ◌<◌, ◌≤◌, ◌↔◌, ℕ, true, false, length, map, Option, Some, Err, IfOk, OnOk, IsErrOf, IsSome, Contains};
 ghost use Rattle.std.specs.FinMap as finmap;
 ghost use Rattle.std.specs.List.{AllByRecursion};
-ghost use Rattle.unit_digests.specs.Digests.{HasPages};
 ghost use Rattle.plan_types.specs.declared.limits.TheConstants.{MOST_STEPS};
-ghost use Rattle.level_book.specs.BookCosts.{slots_of};
-ghost use Rattle.level_book.specs.Rules.{rule, levels_named};
-ghost use Rattle.keepers.specs.Claims.{Images};
+ghost use Rattle.level_book.specs.Prelude.{slots_of, rule, levels_named};
+ghost use Rattle.unit_digests.specs.Prelude.{HasPages};
+ghost use Rattle.keepers.specs.Prelude.{Images};
 ghost use Rattle.reverse_runner.specs.ActionOutcome.{ActionEnds, HasReason, IsSafe};
 ghost use Rattle.reverse_runner.specs.CallOutcome.{Stays, VisitorAfter};
 ghost use Rattle.reverse_runner.specs.Desks.{KeepersAre};

@@ -1,7 +1,7 @@
 // The trait of visitors, which get the states of a session.
 ghost use Rattle.std.specs.Prelude.{◌≡◌, ℕ, ◌≤◌, List, Err, OnOk, OnErr};
-ghost use Rattle.keepers.specs.Counts.{Rose};
-ghost use Rattle.rv_machine.specs.MachineState.{MachineState};
+ghost use Rattle.rv_machine.specs.Prelude.{MachineState};
+ghost use Rattle.keepers.specs.Prelude.{Rose};
 
 use crate::fault::RunFault;
 use crate::known_state::KnownState;

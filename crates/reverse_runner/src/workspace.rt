@@ -1,13 +1,12 @@
 // What a session works with: its desk, and its tape.
 ghost use Rattle.std.specs.Prelude.{◌≡◌, ◌+◌, ◌<◌, ◌≤◌, ◌^◌, ◌∷◌, ℕ, [], length, Err, IfOk, OnOk, OnErr};
 ghost use Rattle.std.specs.Vec.{vec_capacity};
-ghost use Rattle.level_book.specs.BookCosts.{slots_of};
-ghost use Rattle.rv_machine.specs.States.{state_number};
-ghost use Rattle.unit_undo.specs.UndoState.{begun as begun_undo};
 ghost use Rattle.std.specs.List.{AllByRecursion};
-ghost use Rattle.unit_undo.specs.UndoTrail.{IsMadeFor, LeadsBack, states_below};
-ghost use Rattle.unit_digests.specs.Digests.{states_of, AreDigests, IsKnown, HasPages};
-ghost use Rattle.image_store.specs.Shelves.{no_pairs_on};
+ghost use Rattle.level_book.specs.Prelude.{slots_of};
+ghost use Rattle.rv_machine.specs.Prelude.{state_number};
+ghost use Rattle.unit_undo.specs.Prelude.{begun as begun_undo, IsMadeFor, LeadsBack, states_below};
+ghost use Rattle.unit_digests.specs.Prelude.{states_of, AreDigests, IsKnown, HasPages};
+ghost use Rattle.image_store.specs.Prelude.{no_pairs_on};
 ghost use Rattle.reverse_runner.specs.StateOrder.{numbers_from};
 ghost use Rattle.reverse_runner.specs.CallOutcome.{VisitorAfter};
 ghost use Rattle.reverse_runner.specs.VisitorCalls.{HandsOut};

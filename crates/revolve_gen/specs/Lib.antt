@@ -6,3 +6,4 @@ pub mod Laws
 pub mod Remainder
 pub mod Stack
 pub mod Multistage
+pub mod Prelude

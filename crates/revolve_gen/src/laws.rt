@@ -1,7 +1,7 @@
 // Laws over the written lists. Each function does nothing; its contract is the law.
 ghost use Rattle.std.specs.Prelude.{ℕ, List};
 ghost use Rattle.level_book.specs.declared.book.Slots.{Slots};
-ghost use Rattle.level_book.specs.BookCosts.{BookCosts};
+ghost use Rattle.level_book.specs.Prelude.{BookCosts};
 ghost use Rattle.revolve_gen.specs.Laws.{WrittenByRules, RevolveIsValid, LevelAtIsFirst, BookIsRoomy, RevolveIsCounted, BookListIsRight};
 ghost use Rattle.revolve_gen.specs.Multistage.{LevelsAreFree, UsesItsSlots, MultistageIsValid, CostIsByPlaces};
 

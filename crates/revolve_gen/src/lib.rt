@@ -23,6 +23,7 @@ mod stretch;
 
 pub use crate::fault::GenFault;
 pub use crate::part::StretchStream;
+pub use crate::places::Places;
 pub use crate::stack::{StackStep, on_level};
 pub use crate::stream::{Revolve, revolve_list};
 pub use crate::stretch::Stretch;

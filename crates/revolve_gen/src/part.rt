@@ -2,7 +2,7 @@
 ghost use Rattle.std.specs.Prelude.{◌≡◌, ◌+◌, ◌≤◌, [], ◌∷◌, MatchOption, vec_capacity};
 ghost use Rattle.plan_types.specs.declared.limits.TheConstants.{MOST_SLOTS, MOST_STEPS};
 ghost use Rattle.level_book.specs.declared.book.Slots.TheVariants.{Unlimited};
-ghost use Rattle.level_book.specs.BookCosts.{slots_of};
+ghost use Rattle.level_book.specs.Prelude.{slots_of};
 ghost use Rattle.revolve_gen.specs.Places.{level_at};
 ghost use Rattle.revolve_gen.specs.Part.{stretch};
 ghost use Rattle.revolve_gen.specs.Plans.{HasPlan};

@@ -1,8 +1,7 @@
 // One action, and what is to be written after it.
 ghost use Rattle.std.specs.Prelude.{◌≡◌, ℕ, ◌+◌, ◌<◌, ◌≤◌, ◌-◌, [], ◌∷◌, ◌++◌, length, vec_capacity, MatchOption, IfSome};
 ghost use Rattle.plan_types.specs.declared.limits.TheConstants.{MOST_SLOTS, MOST_STEPS};
-ghost use Rattle.binomials.specs.Advances.{split};
-ghost use Rattle.binomials.specs.Laws.{IsSplit};
+ghost use Rattle.binomials.specs.Prelude.{split, IsSplit};
 ghost use Rattle.revolve_gen.specs.Places.{level_at};
 ghost use Rattle.revolve_gen.specs.Part.{stretch};
 ghost use Rattle.revolve_gen.specs.Plans.{HasPlan};

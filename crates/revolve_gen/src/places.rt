@@ -1,15 +1,15 @@
 // The levels of a book's slots, in their order.
 ghost use Rattle.std.specs.Prelude.{◌≡◌, [], ◌∷◌};
 ghost use Rattle.level_book.specs.declared.book.Slots.TheVariants.{Unlimited};
-ghost use Rattle.level_book.specs.BookCosts.{slots_of};
+ghost use Rattle.level_book.specs.Prelude.{slots_of};
 ghost use Rattle.revolve_gen.specs.Places.{level_at};
 
 use level_book::{Book, Slots};
 use std::marker::Model;
 
-// The slots of each level.
+/// The slots of each level of a book. What stands on the levels fills one after the other.
 #[derive(Drop)]
-pub(crate) struct Places {
+pub struct Places {
     slots: [Slots; 4],
     count: u8,
 }
@@ -26,8 +26,8 @@ impl Model for Places {
 }
 
 impl Places {
-    // The slots of a book.
-    pub(crate) fn of(book: &Book) -> Places
+    /// The slots of a book.
+    pub fn of(book: &Book) -> Places
         ensures { result ≡ slots_of book.now }
     {
         let mut slots = [Slots::Count(0); 4];
@@ -48,8 +48,8 @@ impl Places {
         }
     }
 
-    // The level of a place of the stack.
-    pub(crate) fn level(&self, place: u32) -> u8
+    /// The level of a place, counted from 0 over all slots.
+    pub fn level(&self, place: u32) -> u8
         ensures { result ≡ level_at self.now place }
     {
         let mut rest = place;

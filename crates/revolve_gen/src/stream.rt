@@ -1,7 +1,7 @@
 // The written list, one action at a time.
 ghost use Rattle.std.specs.Prelude.{◌≡◌, ◌≤◌, [], ◌∷◌, MatchOption, IfOk, IfErr, OnOk, vec_len, vec_capacity};
 ghost use Rattle.plan_types.specs.declared.limits.TheConstants.{MOST_STEPS};
-ghost use Rattle.level_book.specs.BookCosts.{total_room};
+ghost use Rattle.level_book.specs.Prelude.{total_room};
 ghost use Rattle.revolve_gen.specs.RevolveList.{revolve_list};
 ghost use Rattle.revolve_gen.specs.Plans.{HasPlan, IsFault};
 

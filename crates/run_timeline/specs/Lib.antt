@@ -12,3 +12,4 @@ pub mod WalkFields
 pub mod UndoTrail
 pub mod TimelineState
 pub mod TimelineFields
+pub mod Prelude

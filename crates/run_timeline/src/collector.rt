@@ -1,6 +1,6 @@
 // How the output of a run is collected.
 ghost use Rattle.std.specs.Prelude.{◌≡◌, ℕ, List, ◌++◌, [], false, IfOk, OnOk, Some};
-ghost use Rattle.rv_pages.specs.Memory.{bytes_at, IsMapped};
+ghost use Rattle.rv_pages.specs.Prelude.{bytes_at, IsMapped};
 
 use input_journal::Journal;
 use rv_machine::{Next, Span, State, Watch};

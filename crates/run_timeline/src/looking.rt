@@ -1,7 +1,6 @@
 // How the steps of a run are observed.
 ghost use Rattle.std.specs.Prelude.{◌≡◌, ℕ, ◌+◌, ◌<◌, ◌≤◌, ◌^◌, false, is_some};
-ghost use Rattle.rv_machine.specs.States.{state_number};
-ghost use Rattle.rv_machine.specs.Watchers.{Ends, GoesOn};
+ghost use Rattle.rv_machine.specs.Prelude.{state_number, Ends, GoesOn};
 ghost use Rattle.run_timeline.specs.StepObservations.{breaks_at, is_hit, seen, writes_from, IsLastSeen};
 
 use crate::stops::{Hit, Stops};

@@ -1,8 +1,8 @@
 // A kept state of a run.
 ghost use Rattle.std.specs.Prelude.{◌≡◌, ◌*◌, ◌≤◌, ◌<◌, IfOk, length};
 ghost use Rattle.std.specs.Vec.{vec_capacity};
-ghost use Rattle.rv_pages.specs.Memory.{Memory, page_numbers, IsMemory};
-ghost use Rattle.rv_machine.specs.MachineState.{MachineState};
+ghost use Rattle.rv_pages.specs.Prelude.{Memory, page_numbers, IsMemory};
+ghost use Rattle.rv_machine.specs.Prelude.{MachineState};
 ghost use Rattle.run_timeline.specs.KeptPages.{AreZero, HaveSamePages, KeepsFrom};
 
 use rv_machine::{State, Status};

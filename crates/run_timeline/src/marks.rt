@@ -1,7 +1,7 @@
 // The marks of a run: states at equal distances.
 ghost use Rattle.std.specs.Prelude.{◌≡◌, ℕ, ◌+◌, ◌-◌, ◌*◌, ◌<◌, ◌≤◌, ◌^◌, IfOk, length, max, min, slice_index_or, vec_len};
-ghost use Rattle.rv_pages.specs.Memory.{page_numbers};
-ghost use Rattle.rv_machine.specs.MachineState.{MachineState};
+ghost use Rattle.rv_pages.specs.Prelude.{page_numbers};
+ghost use Rattle.rv_machine.specs.Prelude.{MachineState};
 ghost use Rattle.run_timeline.specs.Mark.{HaveRoom};
 
 use crate::mark::Mark;

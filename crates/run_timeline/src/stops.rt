@@ -1,10 +1,7 @@
 // What ends a move over a run.
 ghost use Rattle.std.specs.Prelude.{◌≡◌, ◌==◌, if◌then◌else◌, [], position};
 ghost use Rattle.std.specs.List.{list_any};
-ghost use Rattle.rv_machine.specs.StateChanges.{addresses};
-ghost use Rattle.rv_machine.specs.StepTable.{written};
-ghost use Rattle.rv_machine.specs.SystemCalls.{are_mapped};
-ghost use Rattle.rv_machine.specs.Watchers.{IsNext};
+ghost use Rattle.rv_machine.specs.Prelude.{addresses, written, are_mapped, IsNext};
 ghost use Rattle.run_timeline.specs.Ranges.{writes_in};
 
 use input_journal::Journal;

@@ -1,10 +1,9 @@
 // A timeline over a run.
 ghost use Rattle.std.specs.Prelude.{◌≡◌, ◌⊎◌, ℕ, ◌+◌, ◌*◌, ◌<◌, ◌≤◌, ⊤, max, length, IfOk, IfSome, MatchOption, Some, true};
-ghost use Rattle.rv_pages.specs.Memory.{page_numbers};
+ghost use Rattle.rv_pages.specs.Prelude.{page_numbers};
+ghost use Rattle.input_journal.specs.Prelude.{IsRecorded};
+ghost use Rattle.rv_machine.specs.Prelude.{IsMachineState, outputs};
 ghost use Rattle.run_timeline.specs.declared.stops.Step.TheVariants.{Went};
-ghost use Rattle.input_journal.specs.Form.{IsRecorded};
-ghost use Rattle.rv_machine.specs.MachineState.{IsMachineState};
-ghost use Rattle.rv_machine.specs.Output.{outputs};
 ghost use Rattle.run_timeline.specs.Moves.{state as state_of, IsPlace, is_end as is_end_of, EndsForward, EndsBackward, CameOn, CameBack, step_ahead, step_behind, steps_of, watched as watched_of};
 ghost use Rattle.run_timeline.specs.MoveParts.{MatchPart};
 ghost use Rattle.run_timeline.specs.TimelineState.{IsFew, marks_for as marks_of_budget};

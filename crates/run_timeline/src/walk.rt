@@ -1,12 +1,9 @@
 // A place in a run, and marks to go back to.
 ghost use Rattle.std.specs.Prelude.{◌≡◌, ℕ, ◌+◌, ◌*◌, ◌^◌, ◌<◌, ◌≤◌, ◌⊎◌, ◌++◌, max, [], length, Option, IfOk, IsTrue, IsFalse, false, true};
 ghost use Rattle.std.specs.Option.{option_map, option_or};
-ghost use Rattle.input_journal.specs.Form.{IsRecorded};
-ghost use Rattle.rv_machine.specs.MachineState.{IsMachineState};
-ghost use Rattle.rv_machine.specs.Output.{outputs};
-ghost use Rattle.rv_machine.specs.StepTable.{is_running};
-ghost use Rattle.rv_machine.specs.Watchers.{Ends, GoesOn};
-ghost use Rattle.unit_undo.specs.UndoTrail.{IsMadeFor};
+ghost use Rattle.input_journal.specs.Prelude.{IsRecorded};
+ghost use Rattle.rv_machine.specs.Prelude.{IsMachineState, outputs, is_running, Ends, GoesOn};
+ghost use Rattle.unit_undo.specs.Prelude.{IsMadeFor};
 ghost use Rattle.run_timeline.specs.declared.stops.Hit.TheVariants.{Watch};
 ghost use Rattle.run_timeline.specs.Moves.{state as state_of, IsPlace, is_end as is_end_of, broken, watched as watched_of};
 ghost use Rattle.run_timeline.specs.StepObservations.{is_hit, seen, IsLastSeen};

@@ -10,7 +10,7 @@ use Rattle.std.proofs.lemmas.Bool.Decides.{nat_tests}
 use Rattle.std.proofs.lemmas.Fmt.{decimal_digit}
 use Rattle.rv_decode.specs.Ranges.{IsSigned}
 use Rattle.rv_asm.specs.declared.fault.Rule.{Rule}
-use Rattle.rv_asm.specs.declared.fault.LineFault.{LineFault}
+use Rattle.line_texts.specs.declared.fault.LineFault.{LineFault}
 use Rattle.rv_asm.specs.declared.number.Signed.{Signed}
 use Rattle.rv_asm.specs.declared.number.Signed.TheVariants.{Plus, Minus}
 use Rattle.rv_asm.specs.declared.table.Field.{Field}
@@ -472,6 +472,6 @@ row_read names line place name row w is room fit other =
     let t = operands_tokens o (wants row.format) name (name_runs name row is) in
     let read : operands_of names place (length text + 1) (wants row.format) (tokens t.0 (printed o (wants row.format))) no_operands ≡ Ok o =
     printed_read names place (length text + 1) o (wants row.format) t.0 no_operands hold (formats_apart row.format)
-    ∙ ap (λ (p : Operands). let r : Result Operands LineFault = Ok p in r) (copied_whole row.format w) in
+    ∙ ap (λ (p : Operands). let r : Result Operands (LineFault Rule) = Ok p in r) (copied_whole row.format w) in
     line_read names line place (length text + 1) (tokens 1 text) (token_of 1 name) (tokens t.0 (printed o (wants row.format))) row o t.1
     (printed_no_colon o (wants row.format) t.0 hold (formats_apart row.format) (formats_run row.format)) is room read

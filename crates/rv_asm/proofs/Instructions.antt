@@ -6,7 +6,8 @@ use Rattle.std.specs.Option.{option_or}
 use Rattle.rv_asm.specs.declared.label.Label.{Label}
 use Rattle.rv_asm.specs.Numbers.{is_name}
 use Rattle.line_texts.proofs.Steps.{which, same_bytes, itself, other_bytes}
-use Rattle.rv_asm.specs.declared.fault.LineFault.{LineFault}
+use Rattle.rv_asm.specs.declared.fault.Rule.{Rule}
+use Rattle.line_texts.specs.declared.fault.LineFault.{LineFault}
 use Rattle.rv_asm.specs.declared.table.Code.{Code}
 use Rattle.rv_asm.specs.declared.table.Operands.{Operands}
 use Rattle.rv_asm.specs.declared.table.Want.TheVariants.{Mark}
@@ -54,9 +55,9 @@ unlabelled_none names place end t ts read = elim (which (is_name t.text)) [
 pub unnamed : (labelled : Bool) (names : Names) (place end column : ℕ) (t : Token) (ts : List Token) → coded t.text ≡ None →
     column ≡ cond (not labelled && is_name t.text) (column_in end ts) t.column → Err (not_instruction column) ≡ behind labelled names place end (t ∷ ts)
 unnamed true names place end column t ts read at =
-    ap (λ (k : ℕ). let r : Result (Option ℕ) LineFault = Err (not_instruction k) in r) at ∙ sym (by_name names place end t ts None read)
+    ap (λ (k : ℕ). let r : Result (Option ℕ) (LineFault Rule) = Err (not_instruction k) in r) at ∙ sym (by_name names place end t ts None read)
 unnamed false names place end column t ts read at =
-    ap (λ (k : ℕ). let r : Result (Option ℕ) LineFault = Err (not_instruction k) in r) at ∙ sym (unlabelled_none names place end t ts read)
+    ap (λ (k : ℕ). let r : Result (Option ℕ) (LineFault Rule) = Err (not_instruction k) in r) at ∙ sym (unlabelled_none names place end t ts read)
 
 and_not : (b : Bool) → (b && false) ≡ false
 and_not true = refl
@@ -98,7 +99,7 @@ line_label names number place end seen t ts after b e is label goes some earlier
 
 -- ---- a byte that is wanted
 
-pub mark_next : (names : Names) (place end byte : ℕ) (ts : List Token) (o : Operands) (r : Result Operands LineFault) → r ≡ cond (bytes_eq (text_in ts) (byte ∷ [])) (Ok o) (Err (not_instruction (column_in end ts))) →
+pub mark_next : (names : Names) (place end byte : ℕ) (ts : List Token) (o : Operands) (r : Result Operands (LineFault Rule)) → r ≡ cond (bytes_eq (text_in ts) (byte ∷ [])) (Ok o) (Err (not_instruction (column_in end ts))) →
     r ≡ next_of names place end (Mark byte) ts o
 unfolding taken
 mark_next names place end byte [] o r is = is

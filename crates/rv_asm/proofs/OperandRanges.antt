@@ -8,7 +8,7 @@ use borrow.Author.Tests.{ltb-true}
 use Rattle.rv_decode.specs.Ranges.{IsSigned}
 use Rattle.rv_asm.specs.declared.fault.Rule.{Rule}
 use Rattle.rv_asm.specs.declared.fault.Rule.TheVariants as rule
-use Rattle.rv_asm.specs.declared.fault.LineFault.{LineFault}
+use Rattle.line_texts.specs.declared.fault.LineFault.{LineFault}
 use Rattle.rv_asm.specs.declared.number.Signed.{Signed}
 use Rattle.rv_asm.specs.declared.number.Signed.TheVariants.{Plus, Minus}
 use Rattle.rv_asm.specs.declared.table.Field.{Field}
@@ -224,7 +224,7 @@ said_writable names place end column ts (Some r) (Some k) s alike e =
           subst IsWritable same (record { has = alike.ranges b.0 fit; low = alike.low b.0 fit })
     ]
   where
-    some_is : (x y : Statement) → done LineFault (Some x) ≡ done LineFault (Some y) → x ≡ y
+    some_is : (x y : Statement) → done (LineFault Rule) (Some x) ≡ done (LineFault Rule) (Some y) → x ≡ y
     some_is x y e = cc
 
 instruction_writable : (names : Names) (place end : ℕ) (ts : List Token) (s : Statement) → instruction_of rows names place end ts ≡ Ok (Some s) → IsWritable s

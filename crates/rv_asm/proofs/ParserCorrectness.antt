@@ -2,7 +2,8 @@
 use Rattle.std.proofs.Common.{◌≡◌, ◌≢◌, ℕ, suc, ◌+◌, List, [], ◌∷◌, ◌++◌, length, Option, Some, None, Result, Ok, Err, refl, sym, ap, subst, ◌∙◌, arith, inl, inr, append_assoc, length-append}
 use Rattle.std.specs.Option.{option_to_list}
 use Rattle.std.proofs.lemmas.List.{append-nil}
-use Rattle.rv_asm.specs.declared.fault.LineFault.{LineFault}
+use Rattle.rv_asm.specs.declared.fault.Rule.{Rule}
+use Rattle.line_texts.specs.declared.fault.LineFault.{LineFault}
 use Rattle.line_texts.specs.declared.fault.Fault.{Fault}
 use Rattle.rv_asm.specs.Tokens.{tokens}
 use Rattle.line_texts.specs.Lines.{lines}
@@ -15,7 +16,7 @@ use Rattle.rv_asm.proofs.TableEquivalence.{step_ok, step_err, step_end}
 use Rattle.line_texts.proofs.Steps.{failed}
 
 -- a line at a place that is the length of the list
-at_place : (names : Names) (list : List Statement) (place line : ℕ) (l : List ℕ) (r : Result (Option Statement) LineFault) → length list ≡ place → reading names line place l ≡ r →
+at_place : (names : Names) (list : List Statement) (place line : ℕ) (l : List ℕ) (r : Result (Option Statement) (LineFault Rule)) → length list ≡ place → reading names line place l ≡ r →
     line_of rows names line (length list) (length l + 1) (tokens 1 l) ≡ r
 at_place names list place line l r is e = ap (λ (n : ℕ). line_of rows names line n (length l + 1) (tokens 1 l)) is ∙ e
 
@@ -54,7 +55,7 @@ said_read names list place line (l ∷ ls) (s ∷ more) is (inr say) =
     ∙ ap read_all (regroup list s more)
 
 -- and a fault behind it is met
-pub fault_met : (names : Names) (list : List Statement) (place line : ℕ) (before : List (List ℕ)) (here : List ℕ) (after : List (List ℕ)) (more : List Statement) (f : LineFault) →
+pub fault_met : (names : Names) (list : List Statement) (place line : ℕ) (before : List (List ℕ)) (here : List ℕ) (after : List (List ℕ)) (more : List Statement) (f : LineFault Rule) →
     length list ≡ place → LinesSay names line place before more → reading names (length before + line) (length more + place) here ≡ Err f →
     lines_from rows names list line (before ++ here ∷ after) ≡ Err (fault_at (length before + line) f)
 fault_met names list place line [] here after [] f is say met =
@@ -97,7 +98,7 @@ pub record IsReadUpTo (names : Names) (place line : ℕ) (ls : List (List ℕ)) 
   pub parts : ls ≡ before ++ here ∷ after
   pub more : List Statement
   pub says : LinesSay names line place before more
-  pub fault : LineFault
+  pub fault : LineFault Rule
   pub met : reading names (length before + line) (length more + place) here ≡ Err fault
   pub answer : e ≡ fault_at (length before + line) fault
 
@@ -146,7 +147,7 @@ one_more_some names place line l ls list s (Err f) e read =
       answer = read.answer ∙ ap (λ (n : ℕ). fault_at n read.fault) numbers;
     }
 
-fault_here : (names : Names) (place line : ℕ) (l : List ℕ) (ls : List (List ℕ)) (f : LineFault) → reading names line place l ≡ Err f → IsReadUpTo names place line (l ∷ ls) (fault_at line f)
+fault_here : (names : Names) (place line : ℕ) (l : List ℕ) (ls : List (List ℕ)) (f : LineFault Rule) → reading names line place l ≡ Err f → IsReadUpTo names place line (l ∷ ls) (fault_at line f)
 fault_here names place line l ls f e =
     let numbers : 0 + line ≡ line = omega arith in
     let places : 0 + place ≡ place = omega arith in
@@ -169,7 +170,7 @@ are_read names list place line [] is =
 are_read names list place line (l ∷ ls) is =
     by_line (reading names line place l) refl (are_read names list place (line + 1) ls is) (λ s. are_read names (list ++ s ∷ []) (place + 1) (line + 1) ls (longer_by_one list s place is))
   where
-    by_line : (r : Result (Option Statement) LineFault) → reading names line place l ≡ r →
+    by_line : (r : Result (Option Statement) (LineFault Rule)) → reading names line place l ≡ r →
         AreRead names place (line + 1) ls list (lines_from rows names list (line + 1) ls) →
         ((s : Statement) → AreRead names (place + 1) (line + 1) ls (list ++ s ∷ []) (lines_from rows names (list ++ s ∷ []) (line + 1) ls)) →
         AreRead names place line (l ∷ ls) list (lines_from rows names list line (l ∷ ls))

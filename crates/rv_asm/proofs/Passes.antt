@@ -1,7 +1,8 @@
 -- A line of the second pass.
 use Rattle.std.proofs.Common.{◌≡◌, ℕ, ◌+◌, ◌≤◌, Bool, true, false, cond, is_some, List, [], ◌∷◌, ◌++◌, length, Option, Some, None, Ok, Err, sym, ap, ◌∙◌, arith, length-append}
 use Rattle.std.specs.Option.{option_to_list}
-use Rattle.rv_asm.specs.declared.fault.LineFault.{LineFault}
+use Rattle.rv_asm.specs.declared.fault.Rule.{Rule}
+use Rattle.line_texts.specs.declared.fault.LineFault.{LineFault}
 use Rattle.rv_asm.specs.Tokens.{tokens}
 use Rattle.line_texts.specs.Tokens.{Token}
 use Rattle.rv_asm.specs.Table.{named}
@@ -19,7 +20,7 @@ pass_ok names words more number place bytes ls old found is places read added =
     ∙ sym (step_ok code_table names words number bytes ls found (ap (λ (n : ℕ). line_of code_table names number n (length bytes + 1) (tokens 1 bytes)) (sym places) ∙ sym read))
     ∙ ap (lines_from code_table names words number) (sym is)
 
-pub pass_err : (names : Names) (words : List ℕ) (number place : ℕ) (bytes : List ℕ) (ls old : List (List ℕ)) (fault : LineFault) → old ≡ bytes ∷ ls → place ≡ length words →
+pub pass_err : (names : Names) (words : List ℕ) (number place : ℕ) (bytes : List ℕ) (ls old : List (List ℕ)) (fault : LineFault Rule) → old ≡ bytes ∷ ls → place ≡ length words →
     Err fault ≡ line_of code_table names number place (length bytes + 1) (tokens 1 bytes) → lines_from code_table names words number old ≡ Err (fault_at number fault)
 pass_err names words number place bytes ls old fault is places read =
     ap (lines_from code_table names words number) is

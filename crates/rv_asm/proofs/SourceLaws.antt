@@ -5,7 +5,7 @@ use Rattle.std.specs.List.{AllByRecursion}
 use Rattle.std.proofs.lemmas.List.{append-nil}
 use Rattle.std.proofs.lemmas.Bool.Decides.{nat_tests}
 use Rattle.line_texts.specs.declared.fault.Fault.{Fault}
-use Rattle.rv_asm.specs.declared.fault.LineFault.{LineFault}
+use Rattle.line_texts.specs.declared.fault.LineFault.{LineFault}
 use Rattle.rv_asm.specs.declared.table.Field.{Field}
 use Rattle.rv_asm.specs.declared.table.Field.TheVariants as fields
 use Rattle.rv_asm.specs.declared.table.Want.{Want}
@@ -110,7 +110,7 @@ canonical_line_read names line place w l room small (inl s) = (
   instruction s.inst,
   ap (reading names line place) s.text
       ∙ row_read names line place s.name s.row w s.there room (unpacked_in s.row.format w small) (row_format w l s)
-      ∙ ap (λ (x : Statement). let r : Result (Option Statement) LineFault = Ok (Some x) in r) s.says,
+      ∙ ap (λ (x : Statement). let r : Result (Option Statement) (LineFault Rule) = Ok (Some x) in r) s.says,
   (small, s.word),
 )
 canonical_line_read names line place w l room small (inr n) =

@@ -3,7 +3,8 @@ use Rattle.std.proofs.Common.{◌≡◌, ℕ, suc, ◌+◌, Bool, cond, eqb, ◌
 use Rattle.std.specs.Str.{bytes_eq}
 use Rattle.std.specs.Map.{lookup}
 use Rattle.std.specs.Option.{option_to_list}
-use Rattle.rv_asm.specs.declared.fault.LineFault.{LineFault}
+use Rattle.rv_asm.specs.declared.fault.Rule.{Rule}
+use Rattle.line_texts.specs.declared.fault.LineFault.{LineFault}
 use Rattle.line_texts.specs.declared.fault.Fault.{Fault}
 use Rattle.rv_asm.specs.declared.label.Label.{Label}
 use Rattle.rv_asm.specs.declared.table.Format.{Format}
@@ -63,8 +64,8 @@ said_alike names place end column ts (Some r) (Some k) alike = elim (which (eqb 
       ∙ with_operands (operands_of names place end (wants r.format) ts no_operands))
 ]
   where
-    with_operands : (x : Result Operands LineFault) → (x >>= λ o. Ok (Some (k.says o))) ≡ encoded_line (x >>= λ o. Ok (Some (r.says o)))
-    with_operands (Ok o) = ap (λ (w : ℕ). let y : Result (Option ℕ) LineFault = Ok (Some w) in y) (sym (alike.word o))
+    with_operands : (x : Result Operands (LineFault Rule)) → (x >>= λ o. Ok (Some (k.says o))) ≡ encoded_line (x >>= λ o. Ok (Some (r.says o)))
+    with_operands (Ok o) = ap (λ (w : ℕ). let y : Result (Option ℕ) (LineFault Rule) = Ok (Some w) in y) (sym (alike.word o))
     with_operands (Err fault) = refl
 
 instruction_alike : (names : Names) (place end : ℕ) (ts : List Token) → instruction_of code_table names place end ts ≡ encoded_line (instruction_of rows names place end ts)
@@ -96,7 +97,7 @@ pub step_ok : {A : Type 0} (table : Table A) (names : Names) (list : List A) (li
 unfolding lines_from
 step_ok table names list line l ls found e = rw e refl
 
-pub step_err : {A : Type 0} (table : Table A) (names : Names) (list : List A) (line : ℕ) (l : List ℕ) (ls : List (List ℕ)) (fault : LineFault) →
+pub step_err : {A : Type 0} (table : Table A) (names : Names) (list : List A) (line : ℕ) (l : List ℕ) (ls : List (List ℕ)) (fault : LineFault Rule) →
     line_of table names line (length list) (length l + 1) (tokens 1 l) ≡ Err fault → lines_from table names list line (l ∷ ls) ≡ Err (fault_at line fault)
 unfolding lines_from
 step_err table names list line l ls fault e = rw e refl
@@ -118,7 +119,7 @@ pub lines_alike : (names : Names) (list : List Statement) (line : ℕ) (ls : Lis
 lines_alike names list line [] = step_end code_table names (map encoded list) line ∙ sym (ap encoded_list (step_end rows names list line))
 lines_alike names list line (l ∷ ls) = by_line (line_of rows names line (length list) (length l + 1) (tokens 1 l)) refl (λ found. lines_alike names (list ++ option_to_list found) (line + 1) ls)
   where
-    by_line : (r : Result (Option Statement) LineFault) → line_of rows names line (length list) (length l + 1) (tokens 1 l) ≡ r →
+    by_line : (r : Result (Option Statement) (LineFault Rule)) → line_of rows names line (length list) (length l + 1) (tokens 1 l) ≡ r →
         ((found : Option Statement) → lines_from code_table names (map encoded (list ++ option_to_list found)) (line + 1) ls ≡ encoded_list (lines_from rows names (list ++ option_to_list found) (line + 1) ls)) →
         lines_from code_table names (map encoded list) line (l ∷ ls) ≡ encoded_list (lines_from rows names list line (l ∷ ls))
     by_line (Ok found) e others =

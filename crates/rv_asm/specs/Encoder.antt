@@ -5,7 +5,8 @@ use Rattle.std.specs.Str.{bytes_eq}
 use Rattle.std.specs.Map.{lookup}
 use Rattle.std.specs.Option.{option_to_list}
 use Rattle.rv_decode.specs.Words.{word_of}
-use Rattle.rv_asm.specs.declared.fault.LineFault.{LineFault}
+use Rattle.rv_asm.specs.declared.fault.Rule.{Rule}
+use Rattle.line_texts.specs.declared.fault.LineFault.{LineFault}
 use Rattle.line_texts.specs.declared.fault.Fault.{Fault}
 use Rattle.line_texts.specs.declared.fault.Fault.TheVariants.{At}
 use Rattle.rv_asm.specs.declared.number.Signed.{Signed}
@@ -43,7 +44,7 @@ unfoldable pub code_table : Table ℕ
 code_table = map (λ e. (e.0, code_row e.1)) entries
 
 -- a line after a label, or one without a label
-abbrev pub behind : Bool → Names → ℕ → ℕ → List Token → Result (Option ℕ) LineFault
+abbrev pub behind : Bool → Names → ℕ → ℕ → List Token → Result (Option ℕ) (LineFault Rule)
 behind labelled names place end ts =
     if labelled then instruction_of code_table names place end ts else unlabelled_of code_table names place end ts
 
@@ -53,7 +54,7 @@ encoded (instruction inst) = word_of inst
 encoded (bare n) = n
 
 -- a fault of the line with this number
-abbrev pub in_line : {A : Type 0} → ℕ → Result A LineFault → Result A Fault
+abbrev pub in_line : {A : Type 0} → ℕ → Result A (LineFault Rule) → Result A Fault
 in_line line (Ok x) = Ok x
 in_line line (Err fault) = Err (fault_at line fault)
 
@@ -73,7 +74,7 @@ unfoldable pub source_of : {A : Type 0} → Table A → List ℕ → Result (Lis
 source_of table text = lines_from table (names_in table text) [] 1 (lines text) >>= λ list. unless_empty list
 
 -- the operands with the next token's value
-abbrev pub next_of : Names → ℕ → ℕ → Want → List Token → Operands → Result Operands LineFault
+abbrev pub next_of : Names → ℕ → ℕ → Want → List Token → Operands → Result Operands (LineFault Rule)
 next_of names place end w [] o = Err (not_instruction end)
 next_of names place end w (t ∷ ts) o = in_column t.column (taken names place w t.text o)
 
@@ -100,7 +101,7 @@ abbrev pub encoded_option : Option Statement → Option ℕ
 encoded_option None = None
 encoded_option (Some s) = Some (encoded s)
 
-abbrev pub encoded_line : Result (Option Statement) LineFault → Result (Option ℕ) LineFault
+abbrev pub encoded_line : Result (Option Statement) (LineFault Rule) → Result (Option ℕ) (LineFault Rule)
 encoded_line (Ok found) = Ok (encoded_option found)
 encoded_line (Err fault) = Err fault
 

@@ -5,7 +5,7 @@ use Rattle.std.specs.Prelude.{◌-◌, ◌*◌, ◌%◌, ◌^◌, ◌==◌, ◌&
 use Rattle.std.specs.Str.{bytes_eq}
 use Rattle.rv_asm.specs.declared.fault.Rule.{Rule}
 use Rattle.rv_asm.specs.declared.fault.Rule.TheVariants as rule
-use Rattle.rv_asm.specs.declared.fault.LineFault.{LineFault}
+use Rattle.line_texts.specs.declared.fault.LineFault.{LineFault}
 use Rattle.rv_asm.specs.declared.number.Signed.{Signed}
 use Rattle.rv_asm.specs.declared.number.Signed.TheVariants.{Plus, Minus}
 use Rattle.rv_asm.specs.declared.label.Label.{Label}
@@ -80,15 +80,15 @@ taken names place (Number low high) text o = number_in text >>= λ n. put_number
 taken names place (Target low high) text o = target_in names place text >>= λ n. put_number (is_within low high n && is_even n) o n
 
 -- a rule that is broken in this column
-abbrev pub in_column : {A : Type 0} → ℕ → Result A Rule → Result A LineFault
+abbrev pub in_column : {A : Type 0} → ℕ → Result A Rule → Result A (LineFault Rule)
 in_column column (Ok x) = Ok x
 in_column column (Err r) = Err (record { rule = r; column = column })
 
-abbrev pub not_instruction : ℕ → LineFault
+abbrev pub not_instruction : ℕ → LineFault Rule
 not_instruction column = record { rule = rule.NotInstruction; column = column }
 
 -- the operands that tokens mean, one for each want; end is the column one past the line's bytes
-unfoldable pub operands_of : Names → ℕ → ℕ → List Want → List Token → Operands → Result Operands LineFault
+unfoldable pub operands_of : Names → ℕ → ℕ → List Want → List Token → Operands → Result Operands (LineFault Rule)
 operands_of names place end [] [] o = Ok o
 operands_of names place end [] (t ∷ ts) o = Err (not_instruction t.column)
 operands_of names place end (w ∷ ws) [] o = Err (not_instruction end)
@@ -98,14 +98,14 @@ operands_of names place end (w ∷ ws) (t ∷ ts) o =
 -- ---- lines
 
 -- What a row means with the operands after its name, which is in this column. A source has at most 1,048,576 words.
-abbrev pub said : {A : Type 0} → Names → ℕ → ℕ → ℕ → List Token → Option (Row A) → Result (Option A) LineFault
+abbrev pub said : {A : Type 0} → Names → ℕ → ℕ → ℕ → List Token → Option (Row A) → Result (Option A) (LineFault Rule)
 said names place end column ts None = Err (not_instruction column)
 said names place end column ts (Some row) =
     if place == 1048576 then Err (record { rule = rule.TooLong; column = column })
     else (operands_of names place end (wants row.format) ts no_operands >>= λ o. Ok (Some (row.says o)))
 
 -- an instruction, or none
-unfoldable pub instruction_of : {A : Type 0} → Table A → Names → ℕ → ℕ → List Token → Result (Option A) LineFault
+unfoldable pub instruction_of : {A : Type 0} → Table A → Names → ℕ → ℕ → List Token → Result (Option A) (LineFault Rule)
 instruction_of table names place end [] = Ok None
 instruction_of table names place end (t ∷ ts) = said names place end t.column ts (named table t.text)
 
@@ -125,7 +125,7 @@ is_bare_name table [] = false
 is_bare_name table (t ∷ ts) = is_name t.text && is_none (named table t.text)
 
 -- a line without a label
-abbrev pub unlabelled_of : {A : Type 0} → Table A → Names → ℕ → ℕ → List Token → Result (Option A) LineFault
+abbrev pub unlabelled_of : {A : Type 0} → Table A → Names → ℕ → ℕ → List Token → Result (Option A) (LineFault Rule)
 unlabelled_of table names place end ts =
     if is_bare_name table ts then Err (not_instruction (column_in end (drop 1 ts)))
     else instruction_of table names place end ts
@@ -136,7 +136,7 @@ is_earlier line None = false
 is_earlier line (Some label) = nat_lt label.line line
 
 -- the line with this number, after so many words
-unfoldable pub line_of : {A : Type 0} → Table A → Names → ℕ → ℕ → ℕ → List Token → Result (Option A) LineFault
+unfoldable pub line_of : {A : Type 0} → Table A → Names → ℕ → ℕ → ℕ → List Token → Result (Option A) (LineFault Rule)
 line_of table names line place end ts =
     if begins_label ts
     then (if is_earlier line (names (text_in ts)) then Err (record { rule = rule.Twice; column = column_in end ts })

@@ -5,7 +5,7 @@ use Rattle.std.specs.Str.{bytes_eq}
 use Rattle.std.specs.Map.{lookup}
 use Rattle.rv_asm.specs.declared.fault.Rule.{Rule}
 use Rattle.rv_asm.specs.declared.fault.Rule.TheVariants.{NotInstruction, Number, Register, Label, Twice, TooLong}
-use Rattle.rv_asm.specs.declared.fault.LineFault.{LineFault}
+use Rattle.line_texts.specs.declared.fault.LineFault.{LineFault}
 use Rattle.line_texts.specs.declared.fault.Fault.{Fault}
 use Rattle.line_texts.specs.declared.fault.Fault.TheVariants.{At}
 use Rattle.rv_asm.specs.declared.label.Label as labels
@@ -42,7 +42,7 @@ names_of = names_in rows
 -- ---- the meaning
 
 -- what the line with this number means, after so many words: a statement, nothing, or a fault
-abbrev pub reading : Names → ℕ → ℕ → List ℕ → Result (Option Statement) LineFault
+abbrev pub reading : Names → ℕ → ℕ → List ℕ → Result (Option Statement) (LineFault Rule)
 reading names line place bytes = line_of rows names line place (length bytes + 1) (tokens 1 bytes)
 
 -- lines from this one on say these statements, each of them one or none
@@ -79,7 +79,7 @@ number_of_rule Label = 4
 number_of_rule Twice = 5
 number_of_rule TooLong = 6
 
-abbrev pub fault_at : ℕ → LineFault → Fault
+abbrev pub fault_at : ℕ → LineFault Rule → Fault
 fault_at line fault = At (number_of_rule fault.rule) line fault.column
 
 -- the lines before one say some statements or none, and it has a fault
@@ -90,7 +90,7 @@ pub record IsFirstFault (text : List ℕ) (fault : Fault) : Type 0 where
   pub parts : lines text ≡ before ++ here ∷ after
   pub statements : List Statement
   pub says : LinesSay (names_of text) 1 0 before statements
-  pub of_line : LineFault
+  pub of_line : LineFault Rule
   pub met : reading (names_of text) (length before + 1) (length statements) here ≡ Err of_line
   pub is : fault ≡ fault_at (length before + 1) of_line
 

@@ -4,12 +4,11 @@ ghost use Rattle.std.specs.Str.{bytes_eq};
 ghost use Rattle.std.specs.Map.{lookup};
 ghost use Rattle.std.specs.Option.{option_or, option_to_list};
 ghost use Rattle.line_texts.specs.declared.fault.Fault.{Fault};
+ghost use Rattle.line_texts.specs.Prelude.{lines as lines_in, GivesUnlessMemory};
 ghost use Rattle.rv_asm.specs.Tokens.{tokens as tokens_of};
-ghost use Rattle.line_texts.specs.Lines.{lines as lines_in};
 ghost use Rattle.rv_asm.specs.Source.{label_in, words_in, names_in, Means, HasFault};
 ghost use Rattle.rv_asm.specs.LabelMap.{names_at};
 ghost use Rattle.rv_asm.specs.Encoder.{code_table, lines_from, source_of};
-ghost use Rattle.line_texts.specs.Parsers.{GivesUnlessMemory};
 
 use crate::label::{Label, Labels};
 use crate::line::{line, take_colon, words};

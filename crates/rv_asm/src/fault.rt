@@ -1,13 +1,11 @@
-// A fault within a line of a source.
-ghost use Rattle.std.specs.Prelude.{◌≡◌};
-ghost use Rattle.rv_asm.specs.Source.{fault_at};
+// The rules of a line of a source.
 
-use line_texts::Fault;
+use line_texts::Rules;
 
-// The rules of a line, by their names.
+// By their numbers.
 #[derive(Clone, Copy)]
 pub(crate) enum Rule {
-    NotInstruction,
+    NotInstruction = 1,
     Number,
     Register,
     Label,
@@ -15,30 +13,12 @@ pub(crate) enum Rule {
     TooLong,
 }
 
-// A fault within a line.
-#[derive(Clone, Copy)]
-pub(crate) struct LineFault {
-    pub rule: Rule,
-    pub column: u32,
-}
+impl Rules for Rule {
+    ghost use Rattle.rv_asm.specs.Source.{number_of_rule};
 
-impl LineFault {
-    // A fault of a line, as one of the source whose line has this number.
-    pub(crate) fn at(self, line: u32) -> Fault
-        ensures { result ≡ fault_at line self }
-    {
-        let rule = match self.rule {
-            Rule::NotInstruction => 1,
-            Rule::Number => 2,
-            Rule::Register => 3,
-            Rule::Label => 4,
-            Rule::Twice => 5,
-            Rule::TooLong => 6,
-        };
-        Fault::At {
-            rule,
-            line,
-            column: self.column,
-        }
+    ghost number_of = { number_of_rule };
+
+    fn number(self) -> u8 {
+        self as u8
     }
 }

@@ -27,6 +27,3 @@ mod unpacking;
 
 pub use crate::assembling::assemble;
 pub use crate::printing::disassemble;
-
-#[cfg(test)]
-mod tests;

@@ -1,22 +1,22 @@
 // What a line of a source means.
 ghost use Rattle.std.specs.Prelude.{◌≡◌, ◌<◌, ◌^◌, ◌+◌, ◌&&◌, ◌∷◌, Some, not, drop, length, is_some, if◌then◌else◌};
+ghost use Rattle.line_texts.specs.Prelude.{column_in, token_of};
 ghost use Rattle.rv_asm.specs.Tokens.{tokens as tokens_of};
 ghost use Rattle.rv_asm.specs.Numbers.{is_name as is_a_name};
 ghost use Rattle.rv_asm.specs.Table.{named as row_named};
 ghost use Rattle.rv_asm.specs.LineMeaning.{begins_label, is_earlier as earlier, said as said_of, line_of};
-ghost use Rattle.line_texts.specs.Cursors.{column_in, token_of};
 ghost use Rattle.rv_asm.specs.LabelMap.{names_at};
 ghost use Rattle.rv_asm.specs.PackedWords.{IsBase};
 ghost use Rattle.rv_asm.specs.Encoder.{code_row, code_table, behind};
 
-use crate::fault::{LineFault, Rule};
+use crate::fault::Rule;
 use crate::label::Labels;
 use crate::number::is_name;
 use crate::operands::operands;
 use crate::packing::packed;
 use crate::table::{Code, named, wants};
 use crate::tokens::{SourceTokens, line_tokens};
-use line_texts::Token;
+use line_texts::{LineFault, Token};
 
 // The most words of a source.
 const MOST_WORDS: u32 = 1_048_576;
@@ -28,7 +28,7 @@ pub(crate) fn line(
     labels: &Labels,
     number: u32,
     place: u32,
-) -> Result<Option<u32>, LineFault>
+) -> Result<Option<u32>, LineFault<Rule>>
     requires { length bytes.now < 2 ^ 31 }
     ensures { result ≡ line_of code_table (names_at labels.now.by_name) number place (length bytes.now + 1) (tokens_of 1 bytes.now) }
 {
@@ -84,7 +84,7 @@ fn instruction(
     end: u32,
     place: u32,
     labels: &Labels,
-) -> Result<Option<u32>, LineFault>
+) -> Result<Option<u32>, LineFault<Rule>>
     ensures { result ≡ behind is_labelled (names_at labels.now.by_name) place end (token_of name.entry.column name.entry.text.now ∷ tokens.old) }
 {
     match named(name.text) {
@@ -116,7 +116,7 @@ fn said(
     end: u32,
     place: u32,
     labels: &Labels,
-) -> Result<Option<u32>, LineFault>
+) -> Result<Option<u32>, LineFault<Rule>>
     requires { IsBase code.format code.base }
     ensures { result ≡ said_of (names_at labels.now.by_name) place end column tokens.old (Some (code_row code)) }
 {

@@ -1,7 +1,7 @@
 // Numbers, registers and names, by their spelling.
 ghost use Rattle.std.specs.Prelude.{◌≡◌, option_map};
-ghost use Rattle.rv_asm.specs.Numbers.{negative, digit as digit_of, value_behind, decimal_of as decimal_value, hex_of as hex_value, number_of as number_value, register_of as register_value, begins_number as number_begins, begins_letter as letter_begins, is_name_byte, is_name as is_a_name};
 ghost use Rattle.std.specs.List.{list_all};
+ghost use Rattle.rv_asm.specs.Numbers.{negative, digit as digit_of, value_behind, decimal_of as decimal_value, hex_of as hex_value, number_of as number_value, register_of as register_value, begins_number as number_begins, begins_letter as letter_begins, is_name_byte, is_name as is_a_name};
 ghost use Rattle.rv_asm.specs.declared.number.Signed.TheVariants.{Plus};
 
 use line_texts::without_first;

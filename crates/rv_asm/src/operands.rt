@@ -2,18 +2,19 @@
 ghost use Rattle.std.specs.Prelude.{◌≡◌, IsTrue, [], ◌∷◌, drop, Ok, Err, OnOk, if◌then◌else◌};
 ghost use Rattle.std.specs.List.{AllByRecursion};
 ghost use Rattle.std.specs.Str.{bytes_eq};
+ghost use Rattle.line_texts.specs.Prelude.{text_in, column_in};
 ghost use Rattle.rv_asm.specs.Numbers.{begins_letter as letter_begins, register_of as register_value};
 ghost use Rattle.rv_asm.specs.LineMeaning.{put as put_in, bits_of as number_bits, is_within as within, is_even as even, distance as distance_of, number_in as number_said, target_in as target_said, put_number as number_put, put_register as register_put, taken as taken_of, operands_of, no_operands, not_instruction};
-ghost use Rattle.line_texts.specs.Cursors.{text_in, column_in};
 ghost use Rattle.rv_asm.specs.Bytes.{IsMark};
 ghost use Rattle.rv_asm.specs.LabelMap.{names_at};
 ghost use Rattle.rv_asm.specs.Encoder.{next_of, IsOf32Bits, IsNarrow, IsOperand};
 
-use crate::fault::{LineFault, Rule};
+use crate::fault::Rule;
 use crate::label::Labels;
 use crate::number::{Signed, begins_letter, begins_number, is_name, number_of, register_of};
 use crate::table::{Field, Operands, Want};
 use crate::tokens::SourceTokens;
+use line_texts::LineFault;
 
 // The operands that the tokens of a line mean, one for each want, in the word with this number.
 #[tactic(auto, unfolding(crate::specs::LineMeaning::operands_of))]
@@ -23,7 +24,7 @@ pub(crate) fn operands(
     end: u32,
     place: u32,
     labels: &Labels,
-) -> Result<Operands, LineFault>
+) -> Result<Operands, LineFault<Rule>>
     requires { AllByRecursion IsNarrow wants.now }
     ensures { result ≡ operands_of (names_at labels.now.by_name) place end wants.now tokens.old no_operands }
 {
@@ -58,7 +59,7 @@ fn next_operand(
     place: u32,
     labels: &Labels,
     operands: Operands,
-) -> Result<Operands, LineFault>
+) -> Result<Operands, LineFault<Rule>>
     requires { IsNarrow want }
     ensures value { result ≡ next_of (names_at labels.now.by_name) place end want tokens.old operands }
     ensures goes { OnOk result (tokens.new ≡ drop 1 tokens.old) }
@@ -88,7 +89,7 @@ fn mark(
     tokens: &mut SourceTokens,
     end: u32,
     operands: Operands,
-) -> Result<Operands, LineFault>
+) -> Result<Operands, LineFault<Rule>>
     requires { IsMark byte }
     ensures value { result ≡ (if bytes_eq (text_in tokens.old) (byte ∷ []) then Ok operands else Err (not_instruction (column_in end tokens.old))) }
     ensures goes { OnOk result (tokens.new ≡ drop 1 tokens.old) }

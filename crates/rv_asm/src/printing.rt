@@ -1,7 +1,7 @@
 // The canonical line of a word.
 ghost use Rattle.std.specs.Prelude.{◌≡◌, ◌≤◌, ◌+◌, ◌++◌, length, find, Some, None, MatchOption};
+ghost use Rattle.line_texts.specs.Prelude.{hex_word};
 ghost use Rattle.rv_asm.specs.Canonical.{IsCanonical, register_in, printed_want, signed_text, operands_text};
-ghost use Rattle.line_texts.specs.Numbers.{hex_word};
 ghost use Rattle.rv_asm.specs.PackedWords.{takes};
 ghost use Rattle.rv_asm.specs.Encoder.{entries};
 

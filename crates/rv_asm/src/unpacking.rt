@@ -1,6 +1,6 @@
 // The operands of a word, by the formats.
 ghost use Rattle.std.specs.Prelude.{◌≡◌, ◌+◌, ◌*◌, ◌^◌};
-ghost use Rattle.rv_decode.specs.Formats.{opcode as opcode_of, funct3 as funct3_of, funct7 as funct7_of};
+ghost use Rattle.rv_decode.specs.Prelude.{opcode as opcode_of, funct3 as funct3_of, funct7 as funct7_of};
 ghost use Rattle.rv_asm.specs.Canonical.{unpacked as unpacked_of};
 ghost use Rattle.rv_asm.specs.PackedWords.{takes};
 

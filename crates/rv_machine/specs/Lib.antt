@@ -14,3 +14,4 @@ pub mod StepChanges
 pub mod Output
 pub mod Memo
 pub mod CodePage
+pub mod Prelude

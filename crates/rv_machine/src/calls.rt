@@ -1,7 +1,7 @@
 // How a system call changes a state.
 ghost use Rattle.std.specs.Prelude.{◌≡◌, ◌+◌, ◌<◌, ◌^◌, if◌then◌else◌, [], length, slice_get, Some};
-ghost use Rattle.input_journal.specs.Form.{IsShort};
-ghost use Rattle.rv_pages.specs.Memory.{bytes_at, page_numbers};
+ghost use Rattle.rv_pages.specs.Prelude.{bytes_at, page_numbers};
+ghost use Rattle.input_journal.specs.Prelude.{IsShort};
 ghost use Rattle.rv_machine.specs.StateChanges.{addresses};
 ghost use Rattle.rv_machine.specs.SystemCalls.{are_mapped, bytes_read, moved, read_from, sent, exited, called, written_by_call};
 ghost use Rattle.rv_machine.specs.Output.{output_of_call};

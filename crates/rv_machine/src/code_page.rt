@@ -1,7 +1,7 @@
 // The page that instructions are fetched from.
 ghost use Rattle.std.specs.Prelude.{◌≡◌, ℕ, ◌%◌, List, IfSome};
 ghost use Rattle.std.specs.Option.{option_map};
-ghost use Rattle.rv_pages.specs.Memory.{page_numbers, word_at};
+ghost use Rattle.rv_pages.specs.Prelude.{page_numbers, word_at};
 ghost use Rattle.rv_machine.specs.CodePage.{IsFound};
 
 use rv_pages::Pages;

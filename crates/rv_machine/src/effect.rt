@@ -1,7 +1,7 @@
 // What an instruction does to a state.
 ghost use Rattle.std.specs.Prelude.{◌≡◌, ◌+◌, ◌<◌, slice_index};
-ghost use Rattle.rv_pages.specs.Memory.{wrapped};
-ghost use Rattle.rv_decode.specs.Ranges.{HasRanges};
+ghost use Rattle.rv_decode.specs.Prelude.{HasRanges};
+ghost use Rattle.rv_pages.specs.Prelude.{wrapped};
 ghost use Rattle.rv_machine.specs.Numbers.{signed_lt, shifted_right_signed as shifted_right_signed_of};
 ghost use Rattle.rv_machine.specs.Effects.{effect_of as effect_table, NamesRegister};
 

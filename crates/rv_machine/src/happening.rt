@@ -1,8 +1,8 @@
 // How an effect changes a state.
 ghost use Rattle.std.specs.Prelude.{◌≡◌, ◌*◌, ◌<◌, cond, is_some, IsTrue, IsFalse};
 ghost use Rattle.std.specs.Option.{option_map};
-ghost use Rattle.rv_pages.specs.Memory.{number_at, with_number, page_numbers};
-ghost use Rattle.rv_decode.specs.Formats.{sign_extended};
+ghost use Rattle.rv_decode.specs.Prelude.{sign_extended};
+ghost use Rattle.rv_pages.specs.Prelude.{number_at, with_number, page_numbers};
 ghost use Rattle.rv_machine.specs.Effects.{bytes_of, NamesRegister};
 ghost use Rattle.rv_machine.specs.StepTable.{happened, jumped};
 

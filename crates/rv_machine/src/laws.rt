@@ -1,6 +1,6 @@
 // Laws of products and quotients, and of the states of a run. Each function does nothing; its contract is the law.
 ghost use Rattle.std.specs.Prelude.{◌≡◌, ℕ, ◌+◌, ◌%◌, ◌^◌, ◌<◌, List, length};
-ghost use Rattle.input_journal.specs.Form.{IsRecorded};
+ghost use Rattle.input_journal.specs.Prelude.{IsRecorded};
 ghost use Rattle.rv_machine.specs.MachineState.{MachineState, IsMachineState};
 ghost use Rattle.rv_machine.specs.ProductLaws.{AreProducts, AreQuotients};
 ghost use Rattle.rv_machine.specs.Output.{outputs};

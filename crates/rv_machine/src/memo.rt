@@ -1,7 +1,6 @@
 // Instructions that were decoded.
 ghost use Rattle.std.specs.Prelude.{◌≡◌, ◌<◌, length, slice_index, Some, None, IfSome, IsTrue, IsFalse};
-ghost use Rattle.rv_decode.specs.Rows.{decoded};
-ghost use Rattle.rv_decode.specs.Ranges.{HasRanges};
+ghost use Rattle.rv_decode.specs.Prelude.{decoded, HasRanges};
 ghost use Rattle.rv_machine.specs.Memo.{AreDecoded};
 
 use rv_decode::Inst::Ecall;

@@ -1,6 +1,6 @@
 // What the next step of a state does, and what it may change.
 ghost use Rattle.std.specs.Prelude.{◌≡◌, ◌<◌, cond, if◌then◌else◌, [], Some, None, IfSome, IsFalse};
-ghost use Rattle.rv_pages.specs.Memory.{bytes_at, page_numbers};
+ghost use Rattle.rv_pages.specs.Prelude.{bytes_at, page_numbers};
 ghost use Rattle.rv_machine.specs.Effects.{bytes_of, NamesRegister};
 ghost use Rattle.rv_machine.specs.StateChanges.{addresses};
 ghost use Rattle.rv_machine.specs.StepTable.{effect_at_pc, is_running, register_of, register_changed, written_by, written};

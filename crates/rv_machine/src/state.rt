@@ -1,7 +1,7 @@
 // A state of the machine.
 ghost use Rattle.std.specs.Prelude.{◌≡◌, ◌<◌, ◌^◌};
 ghost use Rattle.std.specs.List.{All};
-ghost use Rattle.rv_pages.specs.Memory.{page_numbers};
+ghost use Rattle.rv_pages.specs.Prelude.{page_numbers};
 ghost use Rattle.rv_machine.specs.MachineState.{IsMachineState};
 ghost use Rattle.rv_machine.specs.StateChanges.{with_register};
 

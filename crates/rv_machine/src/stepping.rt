@@ -1,7 +1,7 @@
 // One step of the machine.
 ghost use Rattle.std.specs.Prelude.{◌≡◌, ◌+◌, ◌≤◌, ◌<◌, ◌↔◌, ℕ, Any, IsTrue, List, None, Some, cond, not};
-ghost use Rattle.rv_pages.specs.Memory.{bytes_at, page_numbers};
 ghost use Rattle.rv_pages.specs.declared.pages.TheConstants.{LAST_WORD};
+ghost use Rattle.rv_pages.specs.Prelude.{bytes_at, page_numbers};
 ghost use Rattle.rv_machine.specs.StateChanges.{addresses};
 ghost use Rattle.rv_machine.specs.States.{state_number};
 ghost use Rattle.rv_machine.specs.StepTable.{next, effect_at_pc, is_running, register_changed, written};

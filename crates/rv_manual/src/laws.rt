@@ -1,11 +1,9 @@
 // The manual's listing and the step table of the machine are equal. Each function does nothing; its contract is the
 // law.
 ghost use Rattle.std.specs.Prelude.{◌≡◌, ℕ, ◌^◌, ◌<◌, ◌≤◌, List, is_some, count_by};
-ghost use Rattle.input_journal.specs.Form.{IsRecorded};
-ghost use Rattle.rv_decode.specs.Rows.{decoded};
-ghost use Rattle.rv_machine.specs.MachineState.{MachineState, IsMachineState};
-ghost use Rattle.rv_machine.specs.States.{state_number};
-ghost use Rattle.rv_machine.specs.StepTable.{next};
+ghost use Rattle.rv_decode.specs.Prelude.{decoded};
+ghost use Rattle.input_journal.specs.Prelude.{IsRecorded};
+ghost use Rattle.rv_machine.specs.Prelude.{MachineState, IsMachineState, state_number, next};
 ghost use Rattle.rv_manual.specs.Formats.{takes};
 ghost use Rattle.rv_manual.specs.Listing.{listing};
 ghost use Rattle.rv_manual.specs.NextState.{is_listed, next_by_manual, state_by_manual};

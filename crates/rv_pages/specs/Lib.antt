@@ -2,3 +2,4 @@ pub mod Memory
 pub mod Tables
 pub mod Marks
 pub mod PageLayout
+pub mod Prelude

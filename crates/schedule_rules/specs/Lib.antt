@@ -8,3 +8,4 @@ pub mod BitRoom
 pub mod Reachability
 pub mod VerdictMeaning
 pub mod Laws
+pub mod Prelude

@@ -1,12 +1,9 @@
 // A configuration, which action may be done at it, and what the action does to it.
 ghost use Rattle.std.specs.Prelude.{◌≡◌, ◌<◌, ◌≤◌, ℕ, ◌+◌, ◌==◌, ◌||◌, not, true, false, is_some, length, map, slice_index_or, slice_set, nat_lt, vec_len, MatchResult, IfOk, cond, Option};
 ghost use Rattle.std.specs.FinSet as set;
-ghost use Rattle.level_book.specs.BookCosts.{slots_of};
-ghost use Rattle.level_book.specs.Configuration.{start, held_on};
-ghost use Rattle.level_book.specs.Moves.{Goes};
-ghost use Rattle.level_book.specs.Rules.{rule, is_full, target};
 ghost use Rattle.std.specs.List.{AllByRecursion};
 ghost use Rattle.plan_types.specs.declared.limits.TheConstants.{MOST_STEPS};
+ghost use Rattle.level_book.specs.Prelude.{slots_of, start, held_on, Goes, rule, is_full, target};
 ghost use Rattle.schedule_rules.specs.Levels.{slots_kept, images_kept, HasBit};
 ghost use Rattle.schedule_rules.specs.Reachability.{IsReached, IsSound};
 ghost use Rattle.schedule_rules.specs.Verdicts.{refusal};

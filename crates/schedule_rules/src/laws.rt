@@ -2,8 +2,7 @@
 ghost use Rattle.std.specs.Prelude.{ℕ, ◌<◌, List, length};
 ghost use Rattle.plan_types.specs.declared.action.Action.{Action};
 ghost use Rattle.level_book.specs.declared.book.Slots.{Slots};
-ghost use Rattle.level_book.specs.Configuration.{Configuration};
-ghost use Rattle.level_book.specs.Valid.{Valid};
+ghost use Rattle.level_book.specs.Prelude.{Configuration, Valid};
 ghost use Rattle.schedule_rules.specs.Laws.{RulesAreMoves, MovesAreUnique, ReachedIsSound, EndReverseIsLast, FirstBrokenIsUnique, ValidIsUnbroken, IsValidOrBroken};
 
 /// Let no more be left to reverse than there are steps. Then an action breaks no rule exactly if it leads somewhere.

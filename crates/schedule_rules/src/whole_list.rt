@@ -1,7 +1,7 @@
 // Whether a whole list is valid.
 ghost use Rattle.std.specs.Prelude.{◌≡◌, ◌≤◌, ℕ, IfOk};
 ghost use Rattle.plan_types.specs.declared.limits.TheConstants.{MOST_STEPS};
-ghost use Rattle.level_book.specs.BookCosts.{slots_of};
+ghost use Rattle.level_book.specs.Prelude.{slots_of};
 ghost use Rattle.schedule_rules.specs.VerdictMeaning.{Judges};
 
 use crate::config::{Broken, Config};

@@ -8,8 +8,6 @@
 pub mod laws;
 mod marks;
 mod search;
-#[cfg(test)]
-mod tests;
 mod worker;
 
 pub use crate::marks::Marks;

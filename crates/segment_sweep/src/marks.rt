@@ -1,8 +1,7 @@
 // The states with which segments begin.
 ghost use Rattle.std.specs.Prelude.{◌≡◌, ℕ, ◌+◌, ◌/◌, ◌<◌, ◌≤◌, IfOk, OnOk, length, slice_get, Some};
 ghost use Rattle.plan_types.specs.declared.limits.TheConstants.{MOST_STEPS};
-ghost use Rattle.rv_machine.specs.MachineState.{MachineState};
-ghost use Rattle.rv_machine.specs.States.{state_number};
+ghost use Rattle.rv_machine.specs.Prelude.{MachineState, state_number};
 ghost use Rattle.segment_sweep.specs.MarkedRun.{StandFor, segment_width, last_start};
 
 use input_journal::Journal;

@@ -1,7 +1,7 @@
 // The search, by one worker for each segment.
 ghost use Rattle.std.specs.Prelude.{ℕ, ◌*◌, ◌<◌, ◌≤◌, IfOk, length, slice_index_or};
 ghost use Rattle.plan_types.specs.declared.limits.TheConstants.{MOST_STEPS};
-ghost use Rattle.rv_machine.specs.MachineState.{MachineState};
+ghost use Rattle.rv_machine.specs.Prelude.{MachineState};
 ghost use Rattle.segment_sweep.specs.LastMatch.{Quest, Found};
 ghost use Rattle.segment_sweep.specs.MarkedRun.{StandFor};
 ghost use Rattle.segment_sweep.specs.SegmentResults.{Covers, CoversSegment, IsQuest};

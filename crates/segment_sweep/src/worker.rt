@@ -2,9 +2,9 @@
 ghost use Rattle.std.specs.Prelude.{◌≡◌, ◌+◌, ◌<◌, ◌≤◌, length};
 ghost use Rattle.std.specs.Bool.{Decides};
 ghost use Rattle.plan_types.specs.declared.limits.TheConstants.{MOST_STEPS};
+ghost use Rattle.rv_machine.specs.Prelude.{state_number};
+ghost use Rattle.state_image.specs.Prelude.{image};
 ghost use Rattle.sha2.specs.Sha256.{sha256};
-ghost use Rattle.rv_machine.specs.States.{state_number};
-ghost use Rattle.state_image.specs.Image.{image};
 ghost use Rattle.segment_sweep.specs.LastMatch.{Quest};
 ghost use Rattle.segment_sweep.specs.SegmentResults.{Covers, CoversSegment, IsWord, IsQuest, no_quest};
 

@@ -4,3 +4,4 @@ pub mod ImageForm
 pub mod StoredPages
 pub mod Line
 pub mod HashInput
+pub mod Prelude

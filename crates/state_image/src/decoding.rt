@@ -1,7 +1,7 @@
 // The state of an image.
 ghost use Rattle.std.specs.Prelude.{◌≡◌, ◌↔◌, ℕ, ◌+◌, ◌≤◌, ◌<◌, false, true, length, slice_index, slice_index_or, None, Some, IfNone, Ok, Err, OnOk, OnErr};
-ghost use Rattle.rv_pages.specs.Memory.{page_numbers, page_bytes, IsZeroPage};
-ghost use Rattle.rv_machine.specs.MachineState.{MachineState, IsMachineState, IsStatus};
+ghost use Rattle.rv_pages.specs.Prelude.{page_numbers, page_bytes, IsZeroPage};
+ghost use Rattle.rv_machine.specs.Prelude.{MachineState, IsMachineState, IsStatus};
 ghost use Rattle.state_image.specs.declared.layout.TheConstants.{KIND, VALUE, ITEM};
 ghost use Rattle.state_image.specs.Image.{image, status_kind, status_value};
 ghost use Rattle.state_image.specs.ImageForm.{number_at, first_wrong, first_unmapped, is_value, page_count, page_number, page_part, page_start};

@@ -3,7 +3,7 @@ ghost use Rattle.std.specs.Prelude.{◌≡◌, ◌+◌, ◌*◌, ◌≤◌, ◌+
 ghost use Rattle.std.specs.List.{flat_map};
 ghost use Rattle.std.specs.Int.{to_le_bytes, w32};
 ghost use Rattle.std.specs.Vec.{vec_len, vec_capacity};
-ghost use Rattle.rv_pages.specs.Memory.{page_numbers};
+ghost use Rattle.rv_pages.specs.Prelude.{page_numbers};
 ghost use Rattle.state_image.specs.declared.layout.TheConstants.{REGISTER_BYTES, PAGES, PAGE_FIELD};
 ghost use Rattle.state_image.specs.StoredPages.{MarksStored};
 ghost use Rattle.state_image.specs.Image.{image, header, pages_stored, page_field};

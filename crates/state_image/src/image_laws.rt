@@ -1,7 +1,7 @@
 // What bytes are images. Each function does nothing; its contract is the law.
 ghost use Rattle.std.specs.Prelude.{◌≡◌, ℕ, ◌<◌, List, take, None, Some};
 ghost use Rattle.std.specs.List.{All};
-ghost use Rattle.rv_machine.specs.MachineState.{MachineState, IsMachineState};
+ghost use Rattle.rv_machine.specs.Prelude.{MachineState, IsMachineState};
 ghost use Rattle.state_image.specs.Image.{image};
 ghost use Rattle.state_image.specs.ImageForm.{first_wrong, HasNumbersLeft};
 

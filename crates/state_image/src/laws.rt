@@ -1,9 +1,8 @@
 // Laws of images. Each function does nothing; its contract is the law.
 ghost use Rattle.std.specs.Prelude.{◌≡◌, ℕ, List};
-ghost use Rattle.input_journal.specs.Form.{IsRecorded};
-ghost use Rattle.rv_pages.specs.Memory.{page_numbers};
-ghost use Rattle.rv_machine.specs.MachineState.{MachineState, IsMachineState};
-ghost use Rattle.rv_machine.specs.States.{state_number};
+ghost use Rattle.rv_pages.specs.Prelude.{page_numbers};
+ghost use Rattle.input_journal.specs.Prelude.{IsRecorded};
+ghost use Rattle.rv_machine.specs.Prelude.{MachineState, IsMachineState, state_number};
 ghost use Rattle.state_image.specs.Image.{image};
 
 /// Two machine states with the same mapped pages and the same image are equal.

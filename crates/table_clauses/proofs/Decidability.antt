@@ -1,9 +1,9 @@
 -- Tables are an under-table, or there is a first place at which a clause fails.
-use Rattle.std.proofs.Common.{◌≡◌, ◌⊎◌, ℕ, zero, suc, ◌+◌, ◌-◌, ◌*◌, ◌<◌, ◌≤◌, length, slice_index_or, refl, sym, ap, subst, inl, inr, arith}
+use Rattle.std.proofs.Common.{◌≡◌, ◌⊎◌, ℕ, zero, suc, ◌+◌, ◌-◌, ◌*◌, ◌<◌, ◌≤◌, length, slice_index_or, refl, subst, inl, inr, arith}
 use Rattle.std.proofs.lemmas.Bool.{cases_lt, cases_eq}
 use Rattle.level_book.specs.declared.book.Slots.TheVariants.{Count}
 use Rattle.level_book.specs.BookCosts.{BookCosts, slots_of, room}
-use Rattle.level_book.specs.UnderTable.{Entry, number, never, Tables, IsAtMost, sum_of, write_cost, read_cost}
+use Rattle.level_book.specs.UnderTable.{Entry, number, never, Tables, sum_of, write_cost, read_cost}
 use Rattle.level_book.specs.DiskUnderTable.{DiskTables}
 use Rattle.cost_tables.proofs.AllLevels.{room_le}
 use Rattle.table_clauses.specs.declared.entry.Entry.{Entry as Place}

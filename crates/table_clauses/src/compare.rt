@@ -1,7 +1,7 @@
 // Exact comparisons of entries.
 ghost use Rattle.std.specs.Prelude.{◌≡◌, ◌↔◌, true};
-ghost use Rattle.level_book.specs.UnderTable.{number, IsAtMost, sum_of};
-ghost use Rattle.cost_tables.specs.TableRows.{value_of};
+ghost use Rattle.level_book.specs.Prelude.{number, IsAtMost, sum_of};
+ghost use Rattle.cost_tables.specs.Prelude.{value_of};
 
 use cost_tables::Cost;
 

@@ -1,7 +1,7 @@
 // Tables over memory and an unlimited disk.
 ghost use Rattle.std.specs.Prelude.{◌^◌, ◌<◌, ◌≤◌, IfOk, MatchOption};
-ghost use Rattle.level_book.specs.DiskUnderTable.{IsDiskUnderTable};
-ghost use Rattle.disk_gen.specs.DiskRows.{AreDiskSized, disk_tables_in};
+ghost use Rattle.level_book.specs.Prelude.{IsDiskUnderTable};
+ghost use Rattle.disk_gen.specs.Prelude.{AreDiskSized, disk_tables_in};
 ghost use Rattle.table_clauses.specs.ClauseFailures.{DiskBreaks, IsFirst};
 ghost use Rattle.table_clauses.specs.Columns.{AreCheap, AreCosts, IsFirstClause, Finds};
 ghost use Rattle.table_clauses.specs.Splits.{IsColumn};

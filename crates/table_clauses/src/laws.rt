@@ -1,8 +1,6 @@
 // Laws over tables. Each function does nothing; its contract is the law.
 ghost use Rattle.std.specs.Prelude.{ℕ};
-ghost use Rattle.level_book.specs.BookCosts.{BookCosts};
-ghost use Rattle.level_book.specs.UnderTable.{Tables};
-ghost use Rattle.level_book.specs.DiskUnderTable.{DiskTables};
+ghost use Rattle.level_book.specs.Prelude.{BookCosts, Tables, DiskTables};
 ghost use Rattle.table_clauses.specs.Laws.{UnderWhereNoneFails, DiskUnderWhereNoneFails, UnderOrFirst, DiskUnderOrFirst};
 
 /// Tables are an under-table exactly where no clause fails at any place.

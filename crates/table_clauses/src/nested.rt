@@ -1,8 +1,7 @@
 // Tables over the levels of a book.
 ghost use Rattle.std.specs.Prelude.{◌≡◌, ℕ, ◌-◌, ◌^◌, ◌<◌, ◌≤◌, IfOk, MatchOption, length, slice_index, slice_index_or};
-ghost use Rattle.level_book.specs.BookCosts.{room};
-ghost use Rattle.level_book.specs.UnderTable.{IsUnderTable};
-ghost use Rattle.cost_tables.specs.TableRows.{AreFor, tables_in};
+ghost use Rattle.level_book.specs.Prelude.{room, IsUnderTable};
+ghost use Rattle.cost_tables.specs.Prelude.{AreFor, tables_in};
 ghost use Rattle.table_clauses.specs.ClauseFailures.{Breaks, IsFirst};
 ghost use Rattle.table_clauses.specs.Columns.{AreCosts, AreFreshColumns, AreHeldColumns, AreSplits, AreSplitsAt, AreSplitsOf, IsFaster, IsPair, IsPairBefore, Finds, InTable, InLevel};
 ghost use Rattle.table_clauses.specs.Splits.{IsColumn};

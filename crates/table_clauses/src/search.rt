@@ -1,7 +1,7 @@
 // The clauses of one entry, and of the entries of one column.
 ghost use Rattle.std.specs.Prelude.{◌≡◌, ◌↔◌, ◌+◌, ◌<◌, ◌≤◌, true, IfSome, length};
-ghost use Rattle.level_book.specs.UnderTable.{number};
-ghost use Rattle.cost_tables.specs.TableRows.{value_of};
+ghost use Rattle.level_book.specs.Prelude.{number};
+ghost use Rattle.cost_tables.specs.Prelude.{value_of};
 ghost use Rattle.table_clauses.specs.ClauseFailures.{IsAbove};
 ghost use Rattle.table_clauses.specs.Splits.{at_step, AreBelowSplits};
 ghost use Rattle.table_clauses.specs.Columns.{AreCheap, AreLong, AreLongHeld, FasterFails, MovedFails, BeforeSplitFails, StoredFails, FreshColumnFails, HeldColumnFails, IsFirstClause, Finds, InFreshColumn, InHeldColumn};

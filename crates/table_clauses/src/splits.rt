@@ -1,6 +1,6 @@
 // What the splits of a stretch cost.
 ghost use Rattle.std.specs.Prelude.{◌≡◌, ◌↔◌, ℕ, ◌+◌, ◌-◌, ◌*◌, ◌^◌, ◌<◌, ◌≤◌, true, All, IfOk, length, slice_index};
-ghost use Rattle.cost_tables.specs.TableRows.{value_of};
+ghost use Rattle.cost_tables.specs.Prelude.{value_of};
 ghost use Rattle.table_clauses.specs.Splits.{at_step, AreBelowSplits, IsBelowSplits, SplitFails};
 
 use crate::column::{ahead, backward};

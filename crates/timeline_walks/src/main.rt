@@ -21,7 +21,7 @@ mod speed;
 mod sum;
 mod walk;
 
-use case_files::{CaseFault, Cases, Inputs, read_inputs, run_files};
+use case_files::{Cases, Difference, Inputs, exit_code, run_files};
 use rv_machine::Steps;
 use serde_json::Value;
 use speed::measure;
@@ -33,10 +33,7 @@ use std::{env, io};
 use walk::{Walk, walk_of};
 
 fn main(rt: HostRuntime) -> ExitCode {
-    match run(&rt) {
-        Ok(true) => ExitCode::SUCCESS,
-        _ => ExitCode::FAILURE,
-    }
+    exit_code(run(&rt))
 }
 
 // Does what the arguments ask for.
@@ -46,29 +43,17 @@ fn run(rt: &HostRuntime) -> io::Result<bool> {
         [flag, how, file, count, marks] if flag.as_str() == "--speed" => measure(
             rt, how, file, count, marks,
         ),
-        [inputs, files @ ..] => run_walks(rt, inputs, files),
-        [] => Ok(false),
+        files => run_files(rt, &Walks, files),
     }
 }
 
-// The runs of walks.
-#[derive(Drop)]
-struct Runs {
-    inputs: Inputs,
-}
+#[derive(Clone, Copy)]
+struct Walks;
 
-impl Cases for Runs {
-    fn difference(&self, alloc: Global, case: &Value) -> Result<Option<String>, CaseFault> {
-        let walk = walk_of(alloc, &self.inputs, case)?;
+impl Cases for Walks {
+    fn difference(&self, alloc: Global, inputs: &Inputs, case: &Value) -> Difference {
+        let walk = walk_of(alloc, inputs, case)?;
         Ok(first_wrong::<Brand>(alloc, walk, case, Blank::new(1))?)
-    }
-}
-
-// Whether all walks of these files passed.
-fn run_walks(rt: &HostRuntime, name: &str, files: &[String]) -> io::Result<bool> {
-    match read_inputs(rt, name)? {
-        Some(inputs) => run_files(rt, &Runs { inputs }, files),
-        None => Ok(false),
     }
 }
 

@@ -1,7 +1,7 @@
 // Moves that consist of others.
 ghost use Rattle.std.specs.Prelude.{◌≡◌, ◌+◌, ◌≤◌};
-ghost use Rattle.run_timeline.specs.Moves.{EndsForward, EndsBackward};
 ghost use Rattle.run_timeline.specs.declared.stops.Step.TheVariants.{Went};
+ghost use Rattle.run_timeline.specs.Prelude.{EndsForward, EndsBackward};
 
 use run_timeline::{Hit, Part, Step, Stops, Timeline};
 use rv_machine::Steps;

@@ -1,2 +1,3 @@
 pub mod WorkDivision
 pub mod Digests
+pub mod Prelude

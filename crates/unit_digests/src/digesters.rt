@@ -2,8 +2,8 @@
 ghost use Rattle.std.specs.Prelude.{◌≡◌, ◌⊎◌, ℕ, ◌*◌, ◌≤◌, ◌<◌, IfOk, length};
 ghost use Rattle.std.specs.Vec.{vec_capacity};
 ghost use Rattle.std.specs.List.{AllByRecursion};
-ghost use Rattle.state_image.specs.ImageForm.{memory_room};
-ghost use Rattle.unit_undo.specs.UndoTrail.{LeadsBack, led_back};
+ghost use Rattle.state_image.specs.Prelude.{memory_room};
+ghost use Rattle.unit_undo.specs.Prelude.{LeadsBack, led_back};
 ghost use Rattle.unit_digests.specs.declared.digesters.TheConstants.{STATE_BYTES};
 ghost use Rattle.unit_digests.specs.Digests.{states_of, AreDigests, IsKnown, HasPages};
 

@@ -3,11 +3,11 @@
 ghost use Rattle.std.specs.Prelude.{◌≡◌, ℕ, ◌+◌, min, ◌≤◌, ◌<◌, [], ◌∷◌, ◌++◌, List, Some, IfOk, length, map, slice_get};
 ghost use Rattle.std.specs.Vec.{vec_len, vec_capacity};
 ghost use Rattle.std.specs.List.{AllByRecursion};
-ghost use denote.Param.Send.{IsSync};
-ghost use Rattle.rv_pages.specs.Memory.{page_numbers};
-ghost use Rattle.rv_machine.specs.MachineState.{MachineState};
+ghost use Rattle.rv_pages.specs.Prelude.{page_numbers};
+ghost use Rattle.rv_machine.specs.Prelude.{MachineState};
 ghost use Rattle.unit_undo.specs.declared.undo.TheConstants.{MOST_ENTRIES};
-ghost use Rattle.unit_undo.specs.UndoTrail.{LeadsBack, led_back};
+ghost use Rattle.unit_undo.specs.Prelude.{LeadsBack, led_back};
+ghost use denote.Param.Send.{IsSync};
 ghost use Rattle.unit_digests.specs.Digests.{states_of, AreDigests, IsKnown, HasPages};
 ghost use Rattle.unit_digests.specs.WorkDivision.{mapped, IsTaken, HasTaken, HasShare, HasRoom, part_of, IsDealtOut};
 

@@ -1,6 +1,6 @@
 // A walk back over an undo list, which doesn't change.
 ghost use Rattle.std.specs.Prelude.{◌≡◌, ◌∷◌, length};
-ghost use Rattle.rv_pages.specs.Memory.{page_numbers};
+ghost use Rattle.rv_pages.specs.Prelude.{page_numbers};
 ghost use Rattle.unit_undo.specs.Entry.{Entry, undone};
 ghost use Rattle.unit_undo.specs.UndoState.{CanGoBack};
 

@@ -1,4 +1,4 @@
-use Rattle.std.proofs.Common.{◌≡◌, ℕ, ◌<◌, length, get_or, true≢false, sym, ap, ◌∙◌, arith}
+use Rattle.std.proofs.Common.{◌≡◌, length, get_or, true≢false, sym, ap, ◌∙◌, arith}
 use Rattle.revolve_gen.specs.Places.{places_on}
 use Rattle.class_rules.proofs.ClassByLevels.{fits, fits_at}
 use Rattle.class_rules.proofs.multistage.fit.Goals as goal

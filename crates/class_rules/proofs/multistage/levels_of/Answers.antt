@@ -1,11 +1,10 @@
-use Rattle.std.proofs.Common.{◌≡◌, ◌↔◌, ◌+◌, List, [], Bool, true, false, slice_index_or, Option, Some, None, MatchOption, Vec, Global, ℕ, sym, ap, subst, ◌∙◌, arith, true≢false}
+use Rattle.std.proofs.Common.{◌≡◌, ◌↔◌, ◌+◌, true, false, Option, Some, None, MatchOption, Vec, Global, ℕ, sym, ap, subst, ◌∙◌, arith, true≢false}
 use Rattle.std.specs.Option.{is_some}
 use Rattle.std.proofs.lemmas.List.{get_or_default}
 use Rattle.plan_types.specs.declared.action.Action.{Action}
-use Rattle.revolve_gen.specs.declared.stack.StackStep.{StackStep}
 use Rattle.revolve_gen.specs.declared.stack.StackStep.TheVariants.{Stay}
 use Rattle.revolve_gen.specs.Stack.{stack_step, held_after, place, on_level}
-use Rattle.class_rules.specs.LevelInference.{level_named, Agrees}
+use Rattle.class_rules.specs.LevelInference.{Agrees}
 use Rattle.class_rules.proofs.RevolveComparison.{Walked, walk_start, too_long, walk_end, walk_noted, walk_stayed}
 use Rattle.class_rules.proofs.multistage.levels_of.Goals.{else-not-stays-via-then-not-stays+in_ok-note+else-not-branch, else-not-stays-via-else-not-stays}
 use Rattle.class_rules.proofs.multistage.levels_of.Goals as goal

@@ -1,4 +1,3 @@
-use Rattle.std.proofs.Common.{drop}
 use Rattle.class_rules.proofs.RevolveComparison.{Walked}
 use Rattle.class_rules.proofs.multistage.levels_of.Given as goal
 

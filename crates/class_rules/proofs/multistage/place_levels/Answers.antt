@@ -1,4 +1,4 @@
-use Rattle.std.proofs.Common.{◌≡◌, ◌⊎◌, ℕ, zero, suc, ◌<◌, ◌≤◌, true, [], length, refl, subst, sym, ap, ◌∙◌, inl, inr, arith, true≢false}
+use Rattle.std.proofs.Common.{◌≡◌, ◌⊎◌, ℕ, zero, suc, ◌<◌, ◌≤◌, true, [], length, refl, subst, sym, ◌∙◌, inl, inr, arith, true≢false}
 use Rattle.level_book.specs.BookCosts.{slots_of, total_room}
 use Rattle.revolve_gen.specs.Plans.{HasPlan}
 use Rattle.class_rules.specs.LevelInference.{Fit}

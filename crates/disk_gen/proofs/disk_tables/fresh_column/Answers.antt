@@ -1,4 +1,4 @@
-use Rattle.std.proofs.Common.{◌≡◌, ℕ, List, ◌+◌, ◌≤◌, ◌^◌, min, length, get_or, arith, sym, ap, ◌∙◌, subst}
+use Rattle.std.proofs.Common.{ℕ, List, ◌+◌, ◌≤◌, ◌^◌, min, arith, sym, ap, ◌∙◌, subst}
 use Rattle.cost_tables.specs.Entries.{never_in_memory, least_split}
 use Rattle.cost_tables.proofs.RowExtension.{pushed}
 use Rattle.cost_tables.proofs.Splits.{split_never}

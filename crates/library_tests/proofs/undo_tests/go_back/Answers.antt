@@ -1,5 +1,4 @@
-use Rattle.std.proofs.Common.{◌≡◌, ◌+◌, length, sym, ap, ◌∙◌, arith}
-use Rattle.unit_undo.specs.Entry.{Entry}
+use Rattle.std.proofs.Common.{sym, ap, ◌∙◌, arith}
 use Rattle.unit_undo.specs.UndoState.{UndoState}
 use Rattle.unit_undo.proofs.UndoTrail.{can_go, gone}
 use Rattle.library_tests.proofs.undo_tests.go_back.Goals as goal

@@ -1,6 +1,5 @@
-use Rattle.std.proofs.Common.{◌≡◌, ◌+◌, ◌∷◌, ap, sym, subst, ◌∙◌, arith}
+use Rattle.std.proofs.Common.{◌+◌, ap, sym, subst, ◌∙◌, arith}
 use Rattle.rv_machine.specs.MachineState.{MachineState}
-use Rattle.rv_machine.specs.States.{state_number}
 use Rattle.rv_machine.specs.StepTable.{next}
 use Rattle.rv_machine.proofs.Runs.{state_number-add-one}
 use Rattle.unit_undo.specs.Entry.{Undoes}

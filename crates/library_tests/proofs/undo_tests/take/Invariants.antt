@@ -1,4 +1,4 @@
-use Rattle.std.proofs.Common.{◌≡◌, ◌∷◌}
+use Rattle.std.proofs.Common.{◌≡◌}
 use Rattle.rv_machine.specs.States.{state_number}
 use Rattle.unit_undo.specs.UndoTrail.{HasSteps}
 use Rattle.library_tests.proofs.undo_tests.take.Given as goal

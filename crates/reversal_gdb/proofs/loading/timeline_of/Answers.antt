@@ -1,4 +1,4 @@
-use Rattle.std.proofs.Common.{◌≡◌, ◌∙◌, ℕ, List, refl, Option, Some, None, Result, Ok, Err, IfErr, length, rules, sym, ap, subst}
+use Rattle.std.proofs.Common.{◌≡◌, ◌∙◌, ℕ, refl, Option, Some, None, Result, Ok, Err, IfErr, length, rules, sym, ap, subst}
 use Rattle.std.specs.Prelude.{IsErrAnd}
 use Rattle.keepers.specs.Claims.{Files}
 use Rattle.rv_pages.specs.Memory.{page_numbers}

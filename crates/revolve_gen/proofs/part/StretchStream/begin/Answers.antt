@@ -1,4 +1,4 @@
-use Rattle.std.proofs.Common.{◌≤◌, List, sym, ap, subst, arith}
+use Rattle.std.proofs.Common.{List, sym, ap, subst, arith}
 use Rattle.revolve_gen.specs.declared.stretch.Stretch.{Stretch}
 use Rattle.revolve_gen.specs.Part.{Coming}
 use Rattle.revolve_gen.specs.Remainder.{IsOwing}

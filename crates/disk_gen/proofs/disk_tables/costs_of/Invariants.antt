@@ -1,7 +1,0 @@
-use Rattle.std.proofs.Common.{◌≡◌, map, take}
-use Rattle.cost_tables.specs.TableRows.{value_of}
-use Rattle.cost_tables.specs.Entries.{entry}
-use Rattle.disk_gen.proofs.disk_tables.costs_of.Given as goal
-
-abbrev pub invariant-loop-n : goal.invariant-loop-n
-invariant-loop-n l = map value_of l.costs.items ≡ map entry (take l.n-index l.numbers)

@@ -1,0 +1,2 @@
+-- The names that the clauses of other crates cite, passed on from one place. Declares nothing.
+pub use Rattle.reversal_program.specs.Run.{IsRun}
